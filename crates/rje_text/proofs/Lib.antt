@@ -1,0 +1,11 @@
+pub mod Blanks
+pub mod Expanding
+pub mod Lifting
+pub mod Fronts
+pub mod Selections
+pub mod ActionCodes
+pub mod ShortSpelling
+pub mod TheCut
+pub mod ReadBack
+pub mod Prefixes
+pub mod OneFault

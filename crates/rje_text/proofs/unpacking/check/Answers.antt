@@ -1,0 +1,36 @@
+use Rattle.std.proofs.Common.{ap, ◌++◌, ◌∷◌, []}
+use Rattle.std.specs.Option.{is_some}
+use Rattle.rje_text.specs.RecordText.{reads_record, reads_records}
+use Rattle.rje_text.proofs.Lifting.{lift_fault}
+use Rattle.rje_text.proofs.Fronts.{piece_is_part, checked_step, checked_end, some_of, front_whole}
+use Rattle.rje_text.proofs.unpacking.check.Goals as goal
+
+pub returns-in-Err-clause-fault : goal.returns-in-Err-clause-fault
+returns-in-Err-clause-fault c =
+    let front = c.loop-start.invariant.front in
+    let end = c.record_end-end.ensures in
+    let part = piece_is_part c.args.text.now c.split_at.result.1.now c.split_at-in-loop-start.result.0.now c.loop-start.start c.record_end-end.result
+    c.split_at.ensures.back c.split_at-in-loop-start.ensures.front c.loop-start-test.true end.within end.before end.at front.0 front.1 in
+    lift_fault reads_records reads_record c.args.text.now c.split_at-in-loop-start.result.0.now c.loop-start.start part c.args.base c.in-Err.fault c.in-Err.ensures.fault
+
+pub returns-then-end-rest-clause-read : goal.returns-then-end-rest-clause-read
+returns-then-end-rest-clause-read c =
+    let front = c.loop-start.invariant.front in
+    let end = c.record_end-end.ensures in
+    let (r, read) = some_of _ c.in_default.ensures.read in
+    ap is_some (checked_end c.args.text.now c.split_at.result.1.now c.split_at-in-loop-start.result.0.now c.loop-start.start c.record_end-end.result
+    c.split_at.ensures.back c.split_at-in-loop-start.ensures.front c.loop-start-test.true end.within end.before end.at front.0 r front.1 c.if-end-rest.true read)
+
+pub loop-start-preserved : goal.loop-start-preserved
+loop-start-preserved c =
+    let front = c.loop-start.invariant.front in
+    let end = c.record_end-end.ensures in
+    let (r, read) = some_of _ c.in_default.ensures.read in
+    let step = checked_step c.args.text.now c.split_at.result.1.now c.split_at-in-loop-start.result.0.now c.loop-start.start c.record_end-end.result
+    c.split_at.ensures.back c.split_at-in-loop-start.ensures.front c.loop-start-test.true end.within end.before end.at front.0 r front.1 c.if-end-rest.false read in
+    record { within = step.0; front = (front.0 ++ r ∷ [], step.1) }
+
+pub returns-clause-read : goal.returns-clause-read
+returns-clause-read c =
+    let front = c.loop-start.invariant.front in
+    ap is_some (front_whole c.args.text.now c.loop-start.start front.0 c.loop-start-test.false front.1)

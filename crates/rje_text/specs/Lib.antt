@@ -1,0 +1,9 @@
+pub mod Action
+pub mod Spelling
+pub mod Reading
+pub mod TextFault
+pub mod RecordText
+pub mod PackFault
+pub mod Cut
+pub mod Packing
+pub mod Laws

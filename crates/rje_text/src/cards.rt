@@ -1,0 +1,66 @@
+//! Transparent text: cards of 80 bytes, as they are.
+ghost use Rattle.std.specs.Prelude.{◌≡◌, ◌≤◌, ◌%◌, ◌/◌, IfOk, IfErr, Some, length};
+ghost use Rattle.rje_text.specs.Reading.{cards, card_reading, Agrees};
+ghost use Rattle.rje_text.specs.RecordText.{IsCardFault};
+
+use crate::spelling::append;
+use crate::unpacking::agrees;
+use crate::{Action, Mode, Record, Records, Select, TextFault, Unpacked};
+use arrayvec::ArrayVec;
+use std::alloc::{AllocError, Global};
+
+/// The bytes of a card.
+const CARD: usize = 80;
+
+/// What a transparent text stands for.
+pub(crate) fn unpack_cards(
+    alloc: Global,
+    text: &[u8],
+    so_far: Option<Mode>,
+) -> Result<Unpacked, TextFault>
+    requires { length text.now ≤ 512 }
+    ensures read { IfOk result (λ u. (card_reading text.now ≡ Some u) × Agrees Mode.Transparent so_far) }
+    ensures told { IfErr result (λ fault. IsCardFault so_far text.now fault) }
+{
+    if text.len() % CARD != 0 {
+        return Err(TextFault::CardsNot80);
+    }
+    if !agrees(Mode::Transparent, so_far) {
+        return Err(TextFault::MixedModes);
+    }
+    match collect_cards(alloc, text) {
+        Ok(records) => Ok(Unpacked {
+            select: Select::Punch,
+            mode: Mode::Transparent,
+            records: Records::from_vec(records),
+        }),
+        Err(AllocError) => Err(TextFault::OutOfMemory),
+    }
+}
+
+fn collect_cards(alloc: Global, text: &[u8]) -> Result<Vec<Record>, AllocError>
+    requires { length text.now % 80 ≡ 0 }
+    ensures { IfOk result (λ records. records.items ≡ cards (length text.now / 80) text.now) }
+{
+    let mut records = Vec::new(alloc);
+    let mut rest = text;
+    while !rest.is_empty() {
+        let (card, others) = rest.split_at(CARD);
+        records.push(card_record(card))?;
+        rest = others;
+    }
+    Ok(records)
+}
+
+fn card_record(card: &[u8]) -> Record
+    requires { length card.now ≤ 80 }
+    ensures action { result.action ≡ Action.Plain }
+    ensures bytes { result.bytes.items ≡ card.now }
+{
+    let mut bytes = ArrayVec::new();
+    append(&mut bytes, card);
+    Record {
+        action: Action::Plain,
+        bytes,
+    }
+}

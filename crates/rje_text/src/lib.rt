@@ -1,0 +1,34 @@
+//! Records, and the texts of blocks that carry them.
+#![tactic(auto)]
+
+mod action;
+mod cards;
+mod laws;
+mod mode;
+mod pack_fault;
+mod packer;
+mod pushed;
+mod record;
+mod record_text;
+mod records;
+mod select;
+mod spelling;
+mod text_fault;
+mod unpacked;
+mod unpacking;
+
+pub use action::Action;
+pub use laws::{
+    action_codes_are_inverse, cut_is_canonical, cut_reads_back, one_fault, packing_is_the_cut,
+    spelling_is_short,
+};
+pub use mode::Mode;
+pub use pack_fault::PackFault;
+pub use packer::{MAX_TEXT_SENT, Packer};
+pub use pushed::Pushed;
+pub use record::{MAX_RECORD, Record};
+pub use records::Records;
+pub use select::Select;
+pub use text_fault::TextFault;
+pub use unpacked::Unpacked;
+pub use unpacking::unpack;

@@ -1,0 +1,94 @@
+//! Why a record can't be sent.
+ghost use Rattle.std.specs.Prelude.{◌≡◌, position};
+ghost use Rattle.rje_text.specs.PackFault.{
+  pack_fault,
+  bad_byte as bad_byte_of,
+  is_no_data_byte,
+  card_length as card_length_of,
+  is_of_cards as of_cards,
+  action_here as action_fault,
+};
+
+use crate::{Action, Mode, Record, Select};
+use thiserror::Error;
+
+/// Why a record can't be sent in a job.
+#[derive(Debug, PartialEq, Eq, Error, Clone, Copy)]
+pub enum PackFault {
+    /// A normal text can't carry this byte of the data; its place counts from 0.
+    #[error("no text byte at {0}")]
+    BadByte(usize),
+    /// A card of so many bytes: a transparent job's have 80, a punch job's 80 at most.
+    #[error("a card of {0} bytes")]
+    CardLength(usize),
+    /// Carriage control in a job of cards.
+    #[error("carriage control in a job of cards")]
+    ActionHere,
+}
+
+impl PackFault {
+    /// Why a record can't be sent in a job of this selection and mode, if it can't: the first cause that holds.
+    pub fn of(item: &Record, select: Select, mode: Mode) -> Option<PackFault>
+        ensures { result ≡ pack_fault select mode item.now }
+    {
+        let bytes = item.bytes.as_slice();
+        let length = card_length(bytes.len(), select, mode);
+        let action = action_here(item.action, is_of_cards(select, mode));
+        bad_byte(bytes, mode).or(length.or(action))
+    }
+}
+
+/// The first byte that a normal text can't carry for data.
+fn bad_byte(bytes: &[u8], mode: Mode) -> Option<PackFault>
+    ensures { result ≡ bad_byte_of mode bytes.now }
+{
+    match mode {
+        Mode::Normal => match no_data_byte(bytes) {
+            Some(place) => Some(PackFault::BadByte(place)),
+            None => None,
+        },
+        Mode::Transparent => None,
+    }
+}
+
+fn no_data_byte(bytes: &[u8]) -> Option<usize>
+    ensures { result ≡ position is_no_data_byte bytes.now }
+{
+    bytes.iter().position(|b| *b < 0x40 || 0xFE < *b)
+}
+
+/// A card of another length than the job's cards have.
+fn card_length(length: usize, select: Select, mode: Mode) -> Option<PackFault>
+    ensures { result ≡ card_length_of select mode length }
+{
+    let fits = match (mode, select) {
+        (Mode::Transparent, _) => length == 80,
+        (Mode::Normal, Select::Punch) => length <= 80,
+        (Mode::Normal, Select::Unset | Select::Printer) => true,
+    };
+    if fits {
+        None
+    } else {
+        Some(PackFault::CardLength(length))
+    }
+}
+
+/// Carriage control in a job of cards.
+fn action_here(action: Action, of_cards: bool) -> Option<PackFault>
+    ensures { result ≡ action_fault of_cards action }
+{
+    if of_cards && action != Action::Plain {
+        Some(PackFault::ActionHere)
+    } else {
+        None
+    }
+}
+
+fn is_of_cards(select: Select, mode: Mode) -> bool
+    ensures { result ≡ of_cards select mode }
+{
+    match (mode, select) {
+        (Mode::Transparent, _) | (Mode::Normal, Select::Punch) => true,
+        (Mode::Normal, Select::Unset | Select::Printer) => false,
+    }
+}

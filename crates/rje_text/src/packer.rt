@@ -1,0 +1,109 @@
+//! Records into blocks.
+ghost use Rattle.std.specs.Prelude.{◌≡◌, ◌≤◌, length, IfOk};
+
+use crate::spelling::{append, spelled};
+use crate::{Mode, PackFault, Pushed, Record, Select};
+use arrayvec::ArrayVec;
+use bsc_codes::{Block, Closing, DC1, DC2};
+use std::marker::Model;
+use std::mem;
+
+/// The most bytes that a text which is sent holds.
+pub const MAX_TEXT_SENT: usize = 510;
+
+/// Packs the records of jobs of one selection and mode into blocks. It takes no memory.
+#[derive(Drop)]
+pub struct Packer {
+    select: Select,
+    mode: Mode,
+    text: ArrayVec<u8, 512>,
+}
+
+impl Model for Packer {
+    ghost use Rattle.std.specs.Prelude.{◌≤◌, length};
+    ghost use Rattle.rje_text.specs.Packing.{Packing};
+
+    ghost Value = { Packing };
+
+    ghost view = { λ p. record { select = p.select; mode = p.mode; text = p.text.items } };
+
+    ghost invariant = { λ p. length p.text.items ≤ 510 };
+}
+
+impl Packer {
+    ghost use Rattle.rje_text.specs.Packing.{new_packing, Pushes, block_in_hand, after_close};
+
+    /// A packer for jobs of this selection and mode, at the beginning of a job.
+    pub fn new(select: Select, mode: Mode) -> Self
+        ensures { result ≡ new_packing select mode }
+    {
+        Packer {
+            select,
+            mode,
+            text: first_text(select, mode),
+        }
+    }
+
+    /// Puts a record into the block in hand, if it can be sent and there is room for it. A record that can't be sent is dropped,
+    /// and the packer stays as it was.
+    pub fn push(&mut self, item: Record) -> Result<Pushed, PackFault>
+        ensures pushes { Pushes self.old item result self.new }
+
+        // Into a text of at most 363 bytes goes every record that can be sent: no spelling is longer than 147.
+        ensures room { length self.old.text ≤ 363 → IfOk result (λ pushed. pushed ≡ Pushed.Taken) }
+    {
+        if let Some(fault) = PackFault::of(&item, self.select, self.mode) {
+            return Err(fault);
+        }
+        let spelling = spelled(&item, self.mode);
+        if MAX_TEXT_SENT < self.text.len() + spelling.len() {
+            return Ok(Pushed::Full(item));
+        }
+        append(&mut self.text, spelling.as_slice());
+        Ok(Pushed::Taken)
+    }
+
+    /// The block of what was taken since the last one: a job's last block, or one that more blocks follow. After a last block the
+    /// packer is as new.
+    pub fn close(&mut self, last: bool) -> Block
+        ensures block { result ≡ block_in_hand self.old last }
+        ensures after { self.new ≡ after_close self.old last }
+    {
+        let next = if last {
+            first_text(self.select, self.mode)
+        } else {
+            ArrayVec::new()
+        };
+        Block {
+            text: mem::replace(&mut self.text, next),
+            closing: if last { Closing::Etx } else { Closing::Etb },
+            transparent: is_transparent(self.mode),
+        }
+    }
+}
+
+ghost use Rattle.rje_text.specs.Spelling.{selection};
+ghost use Rattle.rje_text.specs.Cut.{is_transparent as transparent};
+
+/// What stands in front of a job's first text: the byte that selects the device.
+fn first_text(select: Select, mode: Mode) -> ArrayVec<u8, 512>
+    ensures text { result.items ≡ selection select mode }
+    ensures short { length result.items ≤ 1 }
+{
+    let mut text = ArrayVec::new();
+    match (mode, select) {
+        (Mode::Normal, Select::Printer) => text.push(DC1),
+        (Mode::Normal, Select::Punch) => text.push(DC2),
+        (Mode::Normal, Select::Unset) | (Mode::Transparent, _) => {}
+    }
+    text
+}
+
+fn is_transparent(mode: Mode) -> bool
+    ensures { result ≡ transparent mode }
+{
+    match mode {
+        Mode::Normal => false,
+        Mode::Transparent => true,
+    }
+}

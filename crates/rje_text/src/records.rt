@@ -1,0 +1,77 @@
+//! Records in order.
+ghost use Rattle.std.specs.Prelude.{◌≡◌, ◌==◌, ◌∷◌, [], ◌++◌, length, OnOk, OnErr};
+
+use crate::Record;
+use std::alloc::{AllocError, Global};
+use std::marker::Model;
+
+/// Records in order: a vector of them, which contracts see as a list.
+#[derive(Drop)]
+pub struct Records {
+    items: Vec<Record>,
+}
+
+impl Model for Records {
+    ghost use Rattle.std.specs.Prelude.{List};
+    ghost use Rattle.rje_text.specs.declared.record.Record.{Record as Item};
+
+    ghost Value = { List Item };
+
+    ghost view = { λ r. r.items.items };
+}
+
+impl Records {
+    /// No records yet. Takes no memory.
+    pub fn new(alloc: Global) -> Self
+        ensures { result ≡ [] }
+    {
+        Records {
+            items: Vec::new(alloc),
+        }
+    }
+
+    /// The records of this vector.
+    pub fn from_vec(items: Vec<Record>) -> Self
+        ensures { result ≡ items.items }
+    {
+        Records { items }
+    }
+
+    /// The vector of these records.
+    pub fn into_vec(self) -> Vec<Record>
+        ensures { result.items ≡ self }
+    {
+        let Records { items } = self;
+        items
+    }
+
+    /// Puts a record behind these. Without memory for it nothing changes.
+    pub fn push(&mut self, item: Record) -> Result<(), AllocError>
+        ensures ok { OnOk result (self.new ≡ self.old ++ item ∷ []) }
+        ensures err { OnErr result (self.new ≡ self.old) }
+    {
+        self.items.push(item)?;
+        Ok(())
+    }
+
+    /// The records as a slice.
+    pub fn as_slice(&self) -> &[Record]
+        ensures { result.now ≡ self.now }
+    {
+        self.items.as_slice()
+    }
+
+    /// How many records there are.
+    pub fn len(&self) -> usize
+        ensures { result ≡ length self.now }
+    {
+        self.items.len()
+    }
+
+    /// Whether there is no record.
+    pub fn is_empty(&self) -> bool
+        ensures { result ≡ (length self.now == 0) }
+    {
+        self.items.is_empty()
+    }
+}

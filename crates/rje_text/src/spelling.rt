@@ -1,0 +1,91 @@
+//! How a record is written in a text.
+ghost use Rattle.std.specs.Prelude.{◌≡◌, ◌+◌, ◌≤◌, ◌++◌, length};
+ghost use Rattle.arrayvec.specs.ArrayVec.{array_vec_len};
+ghost use Rattle.rje_text.specs.Spelling.{action_escape, compressed, run_text, spelling};
+ghost use Rattle.rje_text.specs.Spelling.Run.{Blanks};
+ghost use Rattle.rje_text.specs.Action.{code_of};
+
+use crate::{Action, Mode, Record};
+use arrayvec::ArrayVec;
+use bsc_codes::{BLANK, ESC, IGS, IRS};
+
+/// The most bytes of a spelling: an action's two, 144 data bytes and the IRS.
+pub(crate) const MAX_SPELLING: usize = 147;
+
+/// How a record stands in a text of this mode.
+pub(crate) fn spelled(item: &Record, mode: Mode) -> ArrayVec<u8, 147>
+    ensures { result.items ≡ spelling mode item.now }
+{
+    let mut out = ArrayVec::new();
+    match mode {
+        Mode::Normal => {
+            escape(item.action, &mut out);
+            compress(item.bytes.as_slice(), &mut out);
+            out.push(IRS);
+        }
+        Mode::Transparent => append(&mut out, item.bytes.as_slice()),
+    }
+    out
+}
+
+/// Appends ESC and the action's code, if it has one.
+fn escape(action: Action, out: &mut ArrayVec<u8, 147>)
+    requires { array_vec_len out.old ≤ 145 }
+    ensures text { out.new.items ≡ out.old.items ++ action_escape (code_of action) }
+    ensures room { array_vec_len out.new ≤ array_vec_len out.old + 2 }
+{
+    if let Some(code) = action.code() {
+        out.push(ESC);
+        out.push(code);
+    }
+}
+
+/// Appends the data with its runs of blanks replaced by counts.
+fn compress(bytes: &[u8], out: &mut ArrayVec<u8, 147>)
+    requires { array_vec_len out.old + length bytes.now ≤ 146 }
+    ensures text { out.new.items ≡ out.old.items ++ compressed bytes.now }
+    ensures room { array_vec_len out.new ≤ array_vec_len out.old + length bytes.now }
+{
+    let mut run: usize = 0;
+    for byte in bytes {
+        if *byte == BLANK {
+            run += 1;
+        } else {
+            push_blanks(out, run);
+            out.push(*byte);
+            run = 0;
+        }
+    }
+    let trailing = run;
+    push_blanks(out, trailing);
+}
+
+/// Appends a run of blanks: a count for each 63 of them, and the rest.
+fn push_blanks(out: &mut ArrayVec<u8, 147>, run: usize)
+    requires { array_vec_len out.old + run ≤ 147 }
+    ensures text { out.new.items ≡ out.old.items ++ run_text (Blanks run) }
+    ensures room { array_vec_len out.new ≤ array_vec_len out.old + run }
+{
+    for _i in 0..run / 63 {
+        out.push(IGS);
+        out.push(0x7F);
+    }
+    match run % 63 {
+        0 => {}
+        1 => out.push(BLANK),
+        rest => {
+            out.push(IGS);
+            out.push(BLANK + rest as u8);
+        }
+    }
+}
+
+/// Appends bytes for which there is room.
+pub(crate) fn append<const N: usize>(text: &mut ArrayVec<u8, N>, bytes: &[u8])
+    requires { array_vec_len text.old + length bytes.now ≤ N }
+    ensures { text.new.items ≡ text.old.items ++ bytes.now }
+{
+    let Ok(()) = text.try_extend_from_slice(bytes) else {
+        unreachable!()
+    };
+}
