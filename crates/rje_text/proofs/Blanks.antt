@@ -59,3 +59,10 @@ byte_join out w r x = simp append_assoc
 pub length-full_counts : (n : ℕ) → length (full_counts n) ≡ 2 * n
 length-full_counts zero = refl
 length-full_counts (suc n) = omega (arith, length-full_counts n)
+
+pub full_counts-more : (n : ℕ) → full_counts (n + 1) ≡ full_counts n ++ IGS ∷ 0x7F ∷ []
+full_counts-more n = ap full_counts (add-one n) ∙ at_end n
+  where
+    at_end : (n : ℕ) → full_counts (suc n) ≡ full_counts n ++ IGS ∷ 0x7F ∷ []
+    at_end zero = refl
+    at_end (suc n) = ap (λ xs. IGS ∷ 0x7F ∷ xs) (at_end n)

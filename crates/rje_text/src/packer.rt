@@ -1,12 +1,11 @@
 //! Records into blocks.
-ghost use Rattle.std.specs.Prelude.{◌≡◌, ◌≤◌, length, IfOk};
+ghost use Rattle.std.specs.Prelude.{◌≡◌, ◌≤◌, [], length, IfOk};
 
-use crate::spelling::{append, spelled};
+use crate::spelling::{TextInHand, append, spell};
 use crate::{Mode, PackFault, Pushed, Record, Select};
 use arrayvec::ArrayVec;
 use bsc_codes::{Block, Closing, DC1, DC2};
 use std::marker::Model;
-use std::mem;
 
 /// The most bytes that a text which is sent holds.
 pub const MAX_TEXT_SENT: usize = 510;
@@ -16,7 +15,7 @@ pub const MAX_TEXT_SENT: usize = 510;
 pub struct Packer {
     select: Select,
     mode: Mode,
-    text: ArrayVec<u8, 512>,
+    text: TextInHand,
 }
 
 impl Model for Packer {
@@ -37,11 +36,9 @@ impl Packer {
     pub fn new(select: Select, mode: Mode) -> Self
         ensures { result ≡ new_packing select mode }
     {
-        Packer {
-            select,
-            mode,
-            text: first_text(select, mode),
-        }
+        let mut text = ArrayVec::new();
+        select_device(select, mode, &mut text);
+        Packer { select, mode, text }
     }
 
     /// Puts a record into the block in hand, if it can be sent and there is room for it. A record that can't be sent is dropped,
@@ -55,11 +52,12 @@ impl Packer {
         if let Some(fault) = PackFault::of(&item, self.select, self.mode) {
             return Err(fault);
         }
-        let spelling = spelled(&item, self.mode);
-        if MAX_TEXT_SENT < self.text.len() + spelling.len() {
+        let before = self.text.len();
+        spell(&item, self.mode, &mut self.text);
+        if MAX_TEXT_SENT < self.text.len() {
+            self.text.truncate(before);
             return Ok(Pushed::Full(item));
         }
-        append(&mut self.text, spelling.as_slice());
         Ok(Pushed::Taken)
     }
 
@@ -69,13 +67,14 @@ impl Packer {
         ensures block { result ≡ block_in_hand self.old last }
         ensures after { self.new ≡ after_close self.old last }
     {
-        let next = if last {
-            first_text(self.select, self.mode)
-        } else {
-            ArrayVec::new()
-        };
+        let mut text = ArrayVec::new();
+        append(&mut text, self.text.as_slice());
+        self.text.clear();
+        if last {
+            select_device(self.select, self.mode, &mut self.text);
+        }
         Block {
-            text: mem::replace(&mut self.text, next),
+            text,
             closing: if last { Closing::Etx } else { Closing::Etb },
             transparent: is_transparent(self.mode),
         }
@@ -85,18 +84,17 @@ impl Packer {
 ghost use Rattle.rje_text.specs.Spelling.{selection};
 ghost use Rattle.rje_text.specs.Cut.{is_transparent as transparent};
 
-/// What stands in front of a job's first text: the byte that selects the device.
-fn first_text(select: Select, mode: Mode) -> ArrayVec<u8, 512>
-    ensures text { result.items ≡ selection select mode }
-    ensures short { length result.items ≤ 1 }
+/// Puts into an empty text what stands in front of a job's first one: the byte that selects the device.
+fn select_device(select: Select, mode: Mode, text: &mut TextInHand)
+    requires { text.old.items ≡ [] }
+    ensures text { text.new.items ≡ selection select mode }
+    ensures short { length text.new.items ≤ 1 }
 {
-    let mut text = ArrayVec::new();
     match (mode, select) {
         (Mode::Normal, Select::Printer) => text.push(DC1),
         (Mode::Normal, Select::Punch) => text.push(DC2),
         (Mode::Normal, Select::Unset) | (Mode::Transparent, _) => {}
     }
-    text
 }
 
 fn is_transparent(mode: Mode) -> bool

@@ -7,6 +7,7 @@ ghost use Rattle.rje_text.specs.RecordText.{HasHead, reads_record, IsFaultFrom};
 use crate::{Action, MAX_RECORD, Record, TextFault};
 use arrayvec::ArrayVec;
 use bsc_codes::{BLANK, ESC, IGS, IRS};
+use memchr::memchr;
 
 /// Whether this text is a record's. Its place in the block's text is `start`.
 pub(crate) fn check_record(text: &[u8], start: usize) -> Result<(), TextFault>
@@ -94,10 +95,8 @@ pub(crate) fn record_end(text: &[u8]) -> usize
     ensures before { (k : ℕ) → k < result → slice_index text.now k ≢ IRS }
     ensures at { result < length text.now → slice_index text.now result ≡ IRS }
 {
-    for (i, byte) in text.iter().enumerate() {
-        if *byte == IRS {
-            return i;
-        }
+    match memchr(IRS, text) {
+        Some(end) => end,
+        None => text.len(),
     }
-    text.len()
 }

@@ -12,25 +12,28 @@ use bsc_codes::{BLANK, ESC, IGS, IRS};
 /// The most bytes of a spelling: an action's two, 144 data bytes and the IRS.
 pub(crate) const MAX_SPELLING: usize = 147;
 
-/// How a record stands in a text of this mode.
-pub(crate) fn spelled(item: &Record, mode: Mode) -> ArrayVec<u8, 147>
-    ensures { result.items ≡ spelling mode item.now }
+/// A text while records are spelled into it: the most that is sent, and one spelling more.
+pub(crate) type TextInHand = ArrayVec<u8, 657>;
+
+/// Puts behind the text how a record stands in a text of this mode.
+pub(crate) fn spell(item: &Record, mode: Mode, text: &mut TextInHand)
+    requires { array_vec_len text.old ≤ 510 }
+    ensures text { text.new.items ≡ text.old.items ++ spelling mode item.now }
+    ensures short { array_vec_len text.new ≤ array_vec_len text.old + MAX_SPELLING }
 {
-    let mut out = ArrayVec::new();
     match mode {
         Mode::Normal => {
-            escape(item.action, &mut out);
-            compress(item.bytes.as_slice(), &mut out);
-            out.push(IRS);
+            escape(item.action, text);
+            compress(item.bytes.as_slice(), text);
+            text.push(IRS);
         }
-        Mode::Transparent => append(&mut out, item.bytes.as_slice()),
+        Mode::Transparent => append(text, item.bytes.as_slice()),
     }
-    out
 }
 
 /// Appends ESC and the action's code, if it has one.
-fn escape(action: Action, out: &mut ArrayVec<u8, 147>)
-    requires { array_vec_len out.old ≤ 145 }
+fn escape(action: Action, out: &mut TextInHand)
+    requires { array_vec_len out.old + 2 ≤ 657 }
     ensures text { out.new.items ≡ out.old.items ++ action_escape (code_of action) }
     ensures room { array_vec_len out.new ≤ array_vec_len out.old + 2 }
 {
@@ -41,8 +44,8 @@ fn escape(action: Action, out: &mut ArrayVec<u8, 147>)
 }
 
 /// Appends the data with its runs of blanks replaced by counts.
-fn compress(bytes: &[u8], out: &mut ArrayVec<u8, 147>)
-    requires { array_vec_len out.old + length bytes.now ≤ 146 }
+fn compress(bytes: &[u8], out: &mut TextInHand)
+    requires { array_vec_len out.old + length bytes.now ≤ 656 }
     ensures text { out.new.items ≡ out.old.items ++ compressed bytes.now }
     ensures room { array_vec_len out.new ≤ array_vec_len out.old + length bytes.now }
 {
@@ -61,11 +64,14 @@ fn compress(bytes: &[u8], out: &mut ArrayVec<u8, 147>)
 }
 
 /// Appends a run of blanks: a count for each 63 of them, and the rest.
-fn push_blanks(out: &mut ArrayVec<u8, 147>, run: usize)
-    requires { array_vec_len out.old + run ≤ 147 }
+fn push_blanks(out: &mut TextInHand, run: usize)
+    requires { array_vec_len out.old + run ≤ 657 }
     ensures text { out.new.items ≡ out.old.items ++ run_text (Blanks run) }
     ensures room { array_vec_len out.new ≤ array_vec_len out.old + run }
 {
+    if run == 0 {
+        return;
+    }
     for _i in 0..run / 63 {
         out.push(IGS);
         out.push(0x7F);

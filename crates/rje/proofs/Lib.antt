@@ -1,0 +1,2 @@
+pub mod BlocksWords
+pub mod Listings

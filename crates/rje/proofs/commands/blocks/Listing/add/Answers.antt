@@ -1,0 +1,12 @@
+use Rattle.std.proofs.Common.{◌≡◌, ap}
+use Rattle.std.specs.Option.{is_some}
+use Rattle.rje_text.specs.declared.text_fault.TextFault.TheVariants.{OutOfMemory}
+use Rattle.rje.proofs.commands.blocks.Listing.add.Goals as goal
+use Rattle.rje.proofs.commands.blocks.Listing.add.Goals.{in-OutOfMemory, in_default}
+
+pub prove-unreachable-requires : goal.prove-unreachable-requires
+prove-unreachable-requires c =
+    let (u, read, fits) = c.requires.reads in
+    let memory : c.in-Err.fault ≡ OutOfMemory =
+    c.one_fault.ensures c.args.block.now c.args.self.now.so_far c.in-Err.fault OutOfMemory c.in-Err.ensures.told (ap is_some read.0, read.1) in
+    elim c.match-matches.branch [ in-OutOfMemory w ↦ (let h = w.matches-is in cc) | in_default w ↦ w.in_default.not-OutOfMemory memory ]

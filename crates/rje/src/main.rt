@@ -1,0 +1,51 @@
+//! The program `rje`: jobs of cards and lines over a Binary Synchronous line.
+#![tactic(auto)]
+
+mod command;
+mod command_fault;
+mod commands;
+mod file_store;
+mod memory_store;
+mod printing;
+mod reading;
+mod store;
+mod words;
+
+use command::command;
+use command_fault::CommandFault;
+use file_store::FileStore;
+use std::process::ExitCode;
+use std::{env, io};
+
+fn main(rt: HostRuntime) -> ExitCode {
+    match run(&rt) {
+        Ok(status) => ExitCode::from(status),
+        Err(error) => ExitCode::from(told(&rt, &error)),
+    }
+}
+
+/// Runs the command of the program's words.
+fn run(rt: &HostRuntime) -> io::Result<u8> {
+    let alloc = rt.alloc();
+    let words: Vec<String> = env::args(rt)?.skip(1).collect(alloc)?;
+    let words: Vec<&str> = words.iter().map(|word| word.as_str()).collect(alloc)?;
+    let mut store = FileStore::new(rt);
+    Ok(command(
+        alloc,
+        words.as_slice(),
+        &mut store,
+        &mut rt.stdin(),
+        &mut rt.stdout(),
+        &mut rt.stderr(),
+    ))
+}
+
+/// Tells why the words can't be had: there is no memory for them, or they are no text.
+fn told(rt: &HostRuntime, error: &io::Error) -> u8 {
+    if error.kind() == io::ErrorKind::OutOfMemory {
+        let _ = eprintln!(rt; "rje: {}", CommandFault::OutOfMemory);
+        return CommandFault::OutOfMemory.status();
+    }
+    let _ = eprintln!(rt; "rje: the command line is no text");
+    2
+}

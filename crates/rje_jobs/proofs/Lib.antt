@@ -1,0 +1,3 @@
+pub mod FirstLine
+pub mod Faults
+pub mod SoundCards

@@ -1,0 +1,55 @@
+-- What a deck stands for (own profile).
+use Rattle.std.specs.Prelude.{◌≡◌, ℕ, ◌+◌, ◌-◌, true, List, [], ◌∷◌, ◌++◌, length, map, replicate, Option, Some, None, option_map, is_none, position, nat_lt, if◌then◌else◌}
+use Rattle.std.specs.List.{filter_map}
+use Rattle.std.specs.Option.{option_or}
+use Rattle.std.specs.Str.Lines.{lines}
+use Rattle.bsc_codes.specs.declared.bytes.TheConstants.{BLANK}
+use Rattle.bsc_codes.specs.CodePage.{ebcdic_of}
+use Rattle.rje_text.specs.declared.mode.Mode.{Mode}
+use Rattle.rje_text.specs.declared.mode.Mode.TheVariants.{Normal, Transparent}
+use Rattle.rje_text.specs.declared.select.Select.{Select}
+use Rattle.rje_text.specs.declared.select.Select.TheVariants.{Punch}
+use Rattle.rje_text.specs.declared.action.Action.TheVariants.{Plain}
+use Rattle.rje_text.specs.declared.record.Record.{Record}
+use Rattle.rje_jobs.specs.declared.job.Job.{Job}
+use Rattle.rje_jobs.specs.declared.deck_fault.DeckFault.{DeckFault}
+use Rattle.rje_jobs.specs.declared.deck_fault.DeckFault.TheVariants.{OutOfMemory, LongLine, BadCharacter}
+
+-- why the line of this number makes no card: it is longer than a card, or a character has no EBCDIC code
+abbrev pub line_fault : ℕ → List ℕ → Option DeckFault
+line_fault number line =
+    if nat_lt 80 (length line) then Some (LongLine number)
+    else option_map (λ i. BadCharacter number (i + 1)) (position (λ c. is_none (ebcdic_of c)) line)
+
+-- the fault of the first line that has one, where the lines are numbered from here on
+abbrev pub first_fault : ℕ → List (List ℕ) → Option DeckFault
+first_fault number [] = None
+first_fault number (line ∷ rest) = option_or (line_fault number line) (first_fault (number + 1) rest)
+
+-- the first fault of a deck
+abbrev pub deck_fault : List ℕ → Option DeckFault
+deck_fault deck = first_fault 1 (lines deck)
+
+-- a card's bytes in this mode: filled with blanks to 80 where the job is transparent
+abbrev pub filled : Mode → List ℕ → List ℕ
+filled Normal bytes = bytes
+filled Transparent bytes = bytes ++ replicate (80 - length bytes) BLANK
+
+-- the card of a line: the EBCDIC codes of its characters
+abbrev pub card_of : Mode → List ℕ → Record
+card_of mode line = record { action = Plain; bytes = record { items = filled mode (filter_map ebcdic_of line) } }
+
+-- the device of a deck's job: the one that was asked for, and the punch for a transparent job
+abbrev pub deck_select : Select → Mode → Select
+deck_select select Normal = select
+deck_select select Transparent = Punch
+
+-- the job of a deck: a card for each line
+abbrev pub job_of : Select → Mode → List ℕ → Job
+job_of select mode deck = record { select = deck_select select mode; mode = mode; records = map (card_of mode) (lines deck); whole = true }
+
+-- what is told of a deck that makes no job: its first fault, and memory only where it has none
+abbrev pub IsTold : List ℕ → DeckFault → Type 0
+IsTold deck OutOfMemory = deck_fault deck ≡ None
+IsTold deck (LongLine number) = deck_fault deck ≡ Some (LongLine number)
+IsTold deck (BadCharacter number column) = deck_fault deck ≡ Some (BadCharacter number column)

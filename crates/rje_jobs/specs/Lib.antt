@@ -1,0 +1,2 @@
+pub mod Deck
+pub mod Laws

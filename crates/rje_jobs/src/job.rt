@@ -1,0 +1,11 @@
+//! A job.
+use rje_text::{Mode, Records, Select};
+
+/// A job: its device, how its texts are written, its records, and whether it is there to its end.
+#[derive(Drop)]
+pub struct Job {
+    pub select: Select,
+    pub mode: Mode,
+    pub records: Records,
+    pub whole: bool,
+}

@@ -1,0 +1,12 @@
+//! Jobs: what makes one, and what it is written as.
+#![tactic(auto)]
+
+mod deck;
+mod deck_fault;
+mod job;
+mod laws;
+
+pub use deck::job_of_deck;
+pub use deck_fault::DeckFault;
+pub use job::Job;
+pub use laws::deck_jobs_fit;
