@@ -9,6 +9,8 @@ mod memory_store;
 mod printing;
 mod reading;
 mod store;
+#[cfg(test)]
+mod tests;
 mod words;
 
 use command::command;

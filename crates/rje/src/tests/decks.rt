@@ -1,0 +1,56 @@
+//! Decks and their jobs.
+use rje_jobs::{DeckFault, job_of_deck};
+use rje_text::{Action, Mode, Select};
+use std::process::Abort;
+use std::test::Fail;
+
+/// The deck's normal job for the default device has these cards.
+fn assert_cards(rt: &(impl Abort + AllocGlobal), deck: &[u8], cards: &[&[u8]]) -> Result<(), Fail> {
+    let job = job_of_deck(rt.alloc(), deck, Select::Unset, Mode::Normal)?;
+    assert!(rt; job.select == Select::Unset);
+    assert!(rt; job.mode == Mode::Normal);
+    assert!(rt; job.whole);
+    assert!(rt; job.records.len() == cards.len());
+    for (found, bytes) in job.records.as_slice().iter().zip(cards) {
+        assert!(rt; found.action == Action::Plain);
+        assert!(rt; found.bytes.as_slice() == *bytes);
+    }
+    Ok(())
+}
+
+#[test]
+fn lines_are_cards(rt: HostRuntime) -> Result<(), Fail> {
+    assert_cards(&rt, b"A\nB\n", &[&[0xC1], &[0xC2]])?;
+    assert_cards(&rt, b"A\nB", &[&[0xC1], &[0xC2]])?;
+    assert_cards(&rt, b"A\r\n\r\nB\r\n", &[&[0xC1], &[], &[0xC2]])?;
+    assert_cards(&rt, b"A  \n", &[&[0xC1, 0x40, 0x40]])?;
+    assert_cards(&rt, b"\n", &[&[]])?;
+    assert_cards(&rt, b"", &[])
+}
+
+/// The deck makes no job for this cause.
+fn assert_refused(rt: &(impl Abort + AllocGlobal), deck: &[u8], fault: DeckFault) {
+    let job = job_of_deck(rt.alloc(), deck, Select::Unset, Mode::Normal);
+    assert!(rt; job.err() == Some(fault));
+}
+
+#[test]
+fn the_first_bad_line_is_told(rt: HostRuntime) {
+    assert_refused(&rt, b"AB\tC\n", DeckFault::BadCharacter(1, 3));
+    assert_refused(&rt, b"A\nB\r", DeckFault::BadCharacter(2, 2));
+    assert_refused(&rt, b"A\r\r\n", DeckFault::BadCharacter(1, 2));
+    assert_refused(&rt, &[b'A'; 81], DeckFault::LongLine(1));
+    assert_refused(&rt, &[b'\t'; 81], DeckFault::LongLine(1));
+}
+
+#[test]
+fn transparent_jobs_are_filled_cards_for_the_punch(rt: HostRuntime) -> Result<(), Fail> {
+    let job = job_of_deck(rt.alloc(), b"A\n", Select::Printer, Mode::Transparent)?;
+    assert!(rt; job.select == Select::Punch);
+    assert!(rt; job.mode == Mode::Transparent);
+    let mut card = [0x40; 80];
+    card[0] = 0xC1;
+    assert!(rt; job.records.len() == 1);
+    assert!(rt; job.records.as_slice()[0].bytes.as_slice() == card.as_slice());
+    Ok(())
+}

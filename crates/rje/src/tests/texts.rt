@@ -1,0 +1,201 @@
+//! Records, and the texts that carry them.
+use super::{block, record};
+use bsc_codes::{Closing, is_normal_text, to_ascii, to_ebcdic};
+use rje_text::{Action, Mode, PackFault, Packer, Pushed, Select, TextFault, unpack};
+use std::process::Abort;
+use std::test::Fail;
+
+/// A card of 80 bytes C1.
+const CARD: [u8; 80] = [0xC1; 80];
+
+/// The text of the one block of a job of one record.
+fn assert_spelled(rt: &impl Abort, bytes: &[u8], text: &[u8]) {
+    let mut packer = Packer::new(Select::Unset, Mode::Normal);
+    assert!(rt; packer.push(record(rt, Action::Plain, bytes)) == Ok(Pushed::Taken));
+    let block = packer.close(true);
+    assert!(rt; block.text.as_slice() == text);
+    assert!(rt; block.closing == Closing::Etx);
+    assert!(rt; !block.transparent);
+}
+
+#[test]
+fn blanks_are_counted(rt: HostRuntime) {
+    let mut spaced = [0x40; 80];
+    spaced[0] = 0xC1;
+    spaced[79] = 0xC2;
+    assert_spelled(&rt, &spaced, b"\xC1\x1D\x7F\x1D\x4F\xC2\x1E");
+    assert_spelled(&rt, &[0x40; 64], b"\x1D\x7F\x40\x1E");
+    assert_spelled(&rt, &[0x40], b"\x40\x1E");
+    assert_spelled(&rt, &[], b"\x1E");
+}
+
+/// Pushes six cards of 80 bytes, each of which is taken, and then a record of `length` bytes.
+fn push_cards(rt: &impl Abort, packer: &mut Packer, length: usize) -> bool {
+    for _ in 0..6 {
+        assert!(rt; packer.push(record(rt, Action::Plain, &CARD)) == Ok(Pushed::Taken));
+    }
+    let last = record(rt, Action::Plain, &CARD[..length.min(80)]);
+    packer.push(last) == Ok(Pushed::Taken)
+}
+
+#[test]
+fn a_text_holds_510_bytes(rt: HostRuntime) {
+    let mut packer = Packer::new(Select::Unset, Mode::Normal);
+    assert!(rt; push_cards(&rt, &mut packer, 23));
+    assert!(rt; packer.close(true).text.len() == 510);
+
+    assert!(rt; !push_cards(&rt, &mut packer, 24));
+    let first = packer.close(false);
+    assert!(rt; first.text.len() == 486);
+    assert!(rt; first.closing == Closing::Etb);
+    assert!(rt; packer.push(record(&rt, Action::Plain, &CARD[..24])) == Ok(Pushed::Taken));
+    let last = packer.close(true);
+    assert!(rt; last.text.len() == 25);
+    assert!(rt; last.closing == Closing::Etx);
+}
+
+#[test]
+fn the_selection_counts_against_the_510(rt: HostRuntime) {
+    let mut packer = Packer::new(Select::Printer, Mode::Normal);
+    assert!(rt; !push_cards(&rt, &mut packer, 23));
+    let first = packer.close(false);
+    assert!(rt; first.text.len() == 487);
+    assert!(rt; first.text.as_slice().first() == Some(&0x11));
+    assert!(rt; packer.push(record(&rt, Action::Plain, &CARD[..23])) == Ok(Pushed::Taken));
+    assert!(rt; packer.close(true).text.len() == 24);
+}
+
+#[test]
+fn a_job_without_records_has_one_block(rt: HostRuntime) {
+    let mut packer = Packer::new(Select::Printer, Mode::Normal);
+    let block = packer.close(true);
+    assert!(rt; block.text.as_slice() == b"\x11".as_slice());
+    assert!(rt; block.closing == Closing::Etx);
+}
+
+#[test]
+fn an_action_stands_behind_an_escape(rt: HostRuntime) -> Result<(), Fail> {
+    let mut packer = Packer::new(Select::Printer, Mode::Normal);
+    assert!(rt; packer.push(record(&rt, Action::Ch1, &[0xE7])) == Ok(Pushed::Taken));
+    let printed = packer.close(true);
+    assert!(rt; printed.text.as_slice() == b"\x11\x27\xC1\xE7\x1E".as_slice());
+
+    let read = unpack(rt.alloc(), &printed, None)?;
+    assert!(rt; read.select == Select::Printer);
+    assert!(rt; read.mode == Mode::Normal);
+    assert!(rt; read.records.as_slice() == [record(&rt, Action::Ch1, &[0xE7])].as_slice());
+
+    let unknown = unpack(rt.alloc(), &block(&rt, b"\x27\xF0\xE7\x1E", false), None)?;
+    let data = record(&rt, Action::Plain, &[0x27, 0xF0, 0xE7]);
+    assert!(rt; unknown.records.as_slice() == [data].as_slice());
+    Ok(())
+}
+
+#[test]
+fn actions_have_their_codes(rt: HostRuntime) {
+    assert!(rt; Action::of(0x61) == Some(Action::Single));
+    assert!(rt; Action::of(0xD3) == Some(Action::Ch12));
+    assert!(rt; Action::of(0x00).is_none());
+    assert!(rt; Action::Suppress.code() == Some(0xD4));
+    assert!(rt; Action::Plain.code().is_none());
+}
+
+#[test]
+fn records_that_cannot_be_sent_are_refused(rt: HostRuntime) {
+    let mut punch = Packer::new(Select::Punch, Mode::Normal);
+    assert!(rt;
+        punch.push(record(&rt, Action::Plain, &[0xC1; 81])) == Err(PackFault::CardLength(81))
+    );
+    assert!(rt; punch.push(record(&rt, Action::Single, &[0xC1])) == Err(PackFault::ActionHere));
+    let mut unset = Packer::new(Select::Unset, Mode::Normal);
+    assert!(rt; unset.push(record(&rt, Action::Plain, &[0x27])) == Err(PackFault::BadByte(0)));
+    let cards = PackFault::of(
+        &record(&rt, Action::Plain, &[0x00; 79]),
+        Select::Punch,
+        Mode::Transparent,
+    );
+    assert!(rt; cards == Some(PackFault::CardLength(79)));
+}
+
+/// The text of a job's first normal block is refused so.
+fn assert_refused(rt: &(impl Abort + AllocGlobal), text: &[u8], fault: TextFault) {
+    let read = unpack(rt.alloc(), &block(rt, text, false), None);
+    assert!(rt; read.err() == Some(fault));
+}
+
+#[test]
+fn texts_that_do_not_read_are_refused_with_their_place(rt: HostRuntime) {
+    assert_refused(&rt, b"\x1D\x40\x1E", TextFault::BadCount(1));
+    assert_refused(&rt, b"\xC1\x1D", TextFault::BadCount(2));
+    assert_refused(&rt, b"\x1D\x80", TextFault::BadCount(1));
+    assert_refused(&rt, &[0xC1; 145], TextFault::RecordTooLong(144));
+    assert_refused(
+        &rt,
+        b"\x1D\x7F\x1D\x7F\x1D\x53",
+        TextFault::RecordTooLong(4),
+    );
+}
+
+/// The text of a job's first normal block is these records of plain data.
+fn assert_reads(
+    rt: &(impl Abort + AllocGlobal),
+    text: &[u8],
+    records: &[&[u8]],
+) -> Result<(), Fail> {
+    let read = unpack(rt.alloc(), &block(rt, text, false), None)?;
+    assert!(rt; read.select == Select::Unset);
+    assert!(rt; read.records.len() == records.len());
+    for (found, bytes) in read.records.as_slice().iter().zip(records) {
+        assert!(rt; found.action == Action::Plain);
+        assert!(rt; found.bytes.as_slice() == *bytes);
+    }
+    Ok(())
+}
+
+#[test]
+fn texts_read(rt: HostRuntime) -> Result<(), Fail> {
+    assert_reads(&rt, b"\xC1", &[&[0xC1]])?;
+    assert_reads(&rt, b"\x1D\x41", &[&[0x40]])?;
+    assert_reads(&rt, b"\x1D\x7F\x1D\x7F\x1D\x52", &[&[0x40; 144]])?;
+    assert_reads(&rt, b"\x1E\xC1\x1E", &[&[], &[0xC1]])?;
+    assert_reads(&rt, b"", &[])
+}
+
+#[test]
+fn transparent_texts_are_cards(rt: HostRuntime) -> Result<(), Fail> {
+    let alloc = rt.alloc();
+    assert!(rt;
+        unpack(alloc, &block(&rt, &[0x10], true), None).err() == Some(TextFault::CardsNot80)
+    );
+    let short = block(&rt, &[0xC1; 79], true);
+    assert!(rt; unpack(alloc, &short, None).err() == Some(TextFault::CardsNot80));
+    assert!(rt; unpack(alloc, &short, Some(Mode::Normal)).err() == Some(TextFault::CardsNot80));
+    let one = block(&rt, &CARD, true);
+    assert!(rt; unpack(alloc, &one, Some(Mode::Normal)).err() == Some(TextFault::MixedModes));
+
+    let six = unpack(
+        alloc,
+        &block(&rt, &[0xC1; 480], true),
+        Some(Mode::Transparent),
+    )?;
+    assert!(rt; six.select == Select::Punch);
+    assert!(rt; six.records.len() == 6);
+    assert!(rt;
+        six.records
+            .as_slice()
+            .iter()
+            .all(|card| card.bytes.as_slice() == CARD.as_slice())
+    );
+    Ok(())
+}
+
+#[test]
+fn characters_have_their_codes(rt: HostRuntime) {
+    assert!(rt; to_ebcdic(b'A') == Some(0xC1));
+    assert!(rt; to_ebcdic(b'~') == Some(0xA1));
+    assert!(rt; to_ebcdic(b'\t').is_none());
+    assert!(rt; to_ascii(0x4F) == Some(b'|'));
+    assert!(rt; to_ascii(0x00).is_none());
+    assert!(rt; is_normal_text(0x11));
+    assert!(rt; !is_normal_text(0x1F));
+}
