@@ -1,6 +1,6 @@
 -- A listing of blocks as it grows.
 use Rattle.std.proofs.Common.{◌≡◌, ℕ, ◌+◌, ◌<◌, ◌≤◌, ◌^◌, List, [], ◌∷◌, ◌++◌, length, Option, Some, None, Result, Ok, Err, IfOk, Vec, Global, true, refl, ap, ap₂, sym, ◌∙◌, subst, arith}
-use Rattle.std.specs.Prelude.{sum_by, option_to_list}
+use Rattle.std.specs.Prelude.{sum_by, option_to_list, decimal, codes}
 use Rattle.std.specs.List.{AllByRecursion, flat_map}
 use Rattle.std.proofs.lemmas.List.{append_assoc, append-nil, length-append}
 use Rattle.std.proofs.lemmas.List.Sums.{sum_by-cons}
@@ -15,7 +15,7 @@ use Rattle.rje_text.specs.Cut.{cut}
 use Rattle.rje_text.specs.PackFault.{pack_fault, Fits}
 use Rattle.rje_text.specs.Packing.{Packing, packed, new_packing, block_in_hand}
 use Rattle.rje_text.specs.Laws.{AreRead, IsJobRead, CutReadsBack, PackingIsTheCut}
-use Rattle.rje.specs.Printing.{block_line, block_lines, back_line}
+use Rattle.rje.specs.Printing.{block_line, block_lines, back_line, closing_name, hex_or_hyphen}
 use Rattle.rje.specs.Blocks.{record_count, CanAdd, AddsBlock, CountsBlock, ListsBlocks}
 
 -- what the listing has, and what the blocks that are left will give, is the listing of the records
@@ -27,14 +27,13 @@ pub record IsListed (all : List Record) (left : List Block) (text : List ℕ) (n
   pub all_read : AreRead None (cut Unset Normal all) first
   pub counted : count + record_count us ≡ record_count first
   pub whole : record_count first ≡ length all
-  pub small : length all < 2 ^ 63
+  pub small : length all < 2 ^ 64
 
 -- the loop over the records: the blocks that are left are those of the records that are left
 pub record IsOnTheWay (all : List Record) (p : Packing) (rest : List Record) (text : List ℕ) (number : ℕ) (so_far : Option Mode) (count : ℕ) : Type 0 where
   pub select : p.select ≡ Unset
   pub mode : p.mode ≡ Normal
   pub sent : AllByRecursion (λ r. pack_fault Unset Normal r ≡ None) rest
-  pub few : number + length rest ≤ 1 + length all
   pub listed : IsListed all (packed p rest) text number so_far count
 
 count_first : (u : Unpacked) (us : List Unpacked) → record_count (u ∷ us) ≡ length u.records + record_count us
@@ -46,7 +45,7 @@ record_count_is (u ∷ us) =
     count_first u us ∙ ap (λ n. length u.records + n) (record_count_is us) ∙ sym (length-append u.records (flat_map (λ v. v.records) us))
 
 pub begun : (all : List Record) (p : Packing) (rest : List Record) (text : List ℕ) (number : ℕ) (so_far : Option Mode) (count : ℕ)
-    → CutReadsBack → PackingIsTheCut → Fits Unset Normal all → length all < 2 ^ 63
+    → CutReadsBack → PackingIsTheCut → Fits Unset Normal all → length all < 2 ^ 64
     → p ≡ new_packing Unset Normal → rest ≡ all → text ≡ [] → number ≡ 1 → so_far ≡ None → count ≡ 0
     → IsOnTheWay all p rest text number so_far count
 begun all p rest text number so_far count reads_back packs fits small p_is rest_is text_is number_is so_far_is count_is =
@@ -57,7 +56,6 @@ begun all p rest text number so_far count reads_back packs fits small p_is rest_
       select = ap (λ (v : Packing). v.select) p_is;
       mode = ap (λ (v : Packing). v.mode) p_is;
       sent = subst (AllByRecursion (λ r. pack_fault Unset Normal r ≡ None)) (sym rest_is) fits.sent;
-      few = omega (arith, number_is, ap length rest_is);
       listed = record {
         lines = ap₂ (λ (xs : List ℕ) (n : ℕ). xs ++ block_lines n (packed p rest)) text_is number_is ∙ ap (block_lines 1) blocks;
         us = us;
@@ -69,6 +67,12 @@ begun all p rest text number so_far count reads_back packs fits small p_is rest_
         small = small;
       };
     }
+
+-- no block's line is empty
+pub line_some : (number : ℕ) (b : Block) → 0 < length (block_line number b)
+unfolding block_line
+line_some number b =
+    omega (arith, length-append (decimal number ++ codes " " ++ closing_name b.closing ++ codes " " ++ decimal (length b.text.items) ++ codes " " ++ hex_or_hyphen b.text.items) (codes "\n"))
 
 -- what is read of the first block, and of those behind it
 first_read : (so_far : Option Mode) (b : Block) (bs : List Block) (us : List Unpacked) → AreRead so_far (b ∷ bs) us
@@ -118,10 +122,6 @@ next_blocks all p q r rest items o text number so_far count h items_are blocks =
 pub sent_first : (r : Record) (rest items : List Record) → items ≡ r ∷ rest → AllByRecursion (λ x. pack_fault Unset Normal x ≡ None) items
     → (pack_fault Unset Normal r ≡ None) × AllByRecursion (λ x. pack_fault Unset Normal x ≡ None) rest
 sent_first r rest items e h = subst (AllByRecursion (λ x. pack_fault Unset Normal x ≡ None)) e h
-
-pub nothing_left : (items : List Record) → length items ≡ 0 → items ≡ []
-nothing_left [] h = refl
-nothing_left (r ∷ rs) h = absurd (omega (arith, h))
 
 -- where no record is left, the last block is
 pub last_block : (all : List Record) (p : Packing) (items : List Record) (b : Block) (text : List ℕ) (number : ℕ) (so_far : Option Mode) (count : ℕ)

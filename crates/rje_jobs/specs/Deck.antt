@@ -44,12 +44,20 @@ abbrev pub deck_select : Select → Mode → Select
 deck_select select Normal = select
 deck_select select Transparent = Punch
 
--- the job of a deck: a card for each line
+-- the cards of a deck: one for each line
+abbrev pub cards_of : Mode → List ℕ → List Record
+cards_of mode deck = map (card_of mode) (lines deck)
+
+-- the job of a deck: its cards
 abbrev pub job_of : Select → Mode → List ℕ → Job
-job_of select mode deck = record { select = deck_select select mode; mode = mode; records = map (card_of mode) (lines deck); whole = true }
+job_of select mode deck = record { select = deck_select select mode; mode = mode; records = cards_of mode deck; whole = true }
 
 -- what is told of a deck that makes no job: its first fault, and memory only where it has none
 abbrev pub IsTold : List ℕ → DeckFault → Type 0
 IsTold deck OutOfMemory = deck_fault deck ≡ None
 IsTold deck (LongLine number) = deck_fault deck ≡ Some (LongLine number)
 IsTold deck (BadCharacter number column) = deck_fault deck ≡ Some (BadCharacter number column)
+
+-- no line of this part of a deck has a fault; a private type's invariant cites it
+abbrev pub AreSound : List ℕ → Type 0
+AreSound rest = (number : ℕ) × (first_fault number (lines rest) ≡ None)

@@ -1,5 +1,5 @@
 //! `blocks`: the blocks of a deck's job, and how many records come back.
-ghost use Rattle.std.specs.Prelude.{◌≡◌, ◌+◌, ◌<◌, ◌^◌, ◌++◌, ◌∷◌, [], List, None, IfOk, IfErr, OnOk, option_to_list};
+ghost use Rattle.std.specs.Prelude.{◌≡◌, ◌+◌, ◌<◌, ◌≤◌, ◌^◌, ◌++◌, ◌∷◌, [], length, List, None, IfOk, IfErr, OnOk, option_to_list};
 ghost use Rattle.rje_jobs.specs.Deck.{IsTold};
 ghost use Rattle.rje_text.specs.PackFault.{Fits, pack_fault};
 ghost use Rattle.rje_text.specs.Packing.{packed};
@@ -9,7 +9,7 @@ ghost use Rattle.rje.specs.Printing.{back_line};
 
 use crate::printing::{PrintedLine, push_back, push_block};
 use bsc_codes::Block;
-use rje_jobs::{DeckFault, Job, deck_jobs_fit, job_of_deck};
+use rje_jobs::{Cards, DeckFault, cards_of_deck, deck_jobs_fit};
 use rje_text::{
     Mode, Packer, Pushed, Record, Records, Select, TextFault, cut_reads_back, one_fault,
     packing_is_the_cut, unpack,
@@ -21,25 +21,25 @@ pub fn block_listing(alloc: Global, deck: &[u8]) -> Result<Vec<u8>, DeckFault>
     ensures listing { IfOk result (λ text. IsBlockListing deck.now text.items) }
     ensures told { IfErr result (λ fault. IsTold deck.now fault) }
 {
-    let job = job_of_deck(alloc, deck, Select::Unset, Mode::Normal)?;
-    let Job { records, .. } = job;
+    let cards = cards_of_deck(deck, Mode::Normal)?;
     deck_jobs_fit();
-    match list_blocks(alloc, records) {
+    match list_blocks(alloc, cards) {
         Ok(text) => Ok(text),
         Err(AllocError) => Err(DeckFault::OutOfMemory),
     }
 }
 
 /// The lines of the blocks of a normal job for the default device.
-fn list_blocks(alloc: Global, records: Records) -> Result<Vec<u8>, AllocError>
-    requires { Fits Select.Unset Mode.Normal records }
-    ensures { IfOk result (λ text. ListsBlocks records text.items) }
+fn list_blocks(alloc: Global, cards: Cards) -> Result<Vec<u8>, AllocError>
+    requires fits { Fits Select.Unset Mode.Normal cards }
+    requires few { length cards < 2 ^ 64 }
+    ensures { IfOk result (λ text. ListsBlocks cards.entry text.items) }
 {
     packing_is_the_cut();
     cut_reads_back();
     let mut listing = Listing::new(alloc);
     let mut packer = Packer::new(Select::Unset, Mode::Normal);
-    for item in records.into_vec() {
+    for item in cards {
         if let Some(block) = pack(&mut packer, item) {
             listing.add(&block)?;
         }
@@ -74,6 +74,7 @@ struct Listing {
     number: usize,
     so_far: Option<Mode>,
     count: usize,
+    ghost numbered: { number ≤ length text.items + 1 },
 }
 
 impl Listing {
@@ -94,8 +95,7 @@ impl Listing {
 
     /// Puts the line of the next block behind the others, and counts the block's records.
     fn add(&mut self, block: &Block) -> Result<(), AllocError>
-        requires reads { CanAdd block.now self.old.so_far self.old.count }
-        requires number { self.old.number + 1 < 2 ^ 64 }
+        requires { CanAdd block.now self.old.so_far self.old.count }
         ensures lines { OnOk result (AddsBlock block.now self.old.text.items self.new.text.items self.old.number self.new.number) }
         ensures reads { OnOk result (CountsBlock block.now self.old.so_far self.new.so_far self.old.count self.new.count) }
     {

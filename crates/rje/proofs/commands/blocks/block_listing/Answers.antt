@@ -1,12 +1,11 @@
-use Rattle.std.proofs.Common.{None, ap, sym, subst, List}
+use Rattle.std.proofs.Common.{sym, subst, List}
 use Rattle.rje_text.specs.declared.mode.Mode.TheVariants.{Normal}
 use Rattle.rje_text.specs.declared.select.Select.TheVariants.{Unset}
 use Rattle.rje_text.specs.declared.record.Record.{Record}
 use Rattle.rje_text.specs.PackFault.{Fits}
-use Rattle.rje_jobs.specs.declared.job.Job.{Job}
 use Rattle.rje.proofs.commands.blocks.block_listing.Goals as goal
 
-pub list_blocks-requires : goal.list_blocks-requires
-list_blocks-requires c =
-    let (good, job) = c.in_ok-job.ensures.job in
-    subst (λ (j : Job). Fits Unset Normal j.records) (sym job) (c.deck_jobs_fit.ensures c.args.deck.now Unset Normal good)
+pub list_blocks-requires-clause-fits : goal.list_blocks-requires-clause-fits
+list_blocks-requires-clause-fits c =
+    let (good, cards) = c.in_ok-cards.ensures.cards in
+    subst (λ (rs : List Record). Fits Unset Normal rs) (sym cards) (c.deck_jobs_fit.ensures c.args.deck.now Unset Normal good)

@@ -4,7 +4,7 @@ use Rattle.std.specs.List.{position, prefix_len}
 use Rattle.std.proofs.lemmas.Bool.{lt-ltb, le-ltb}
 use Rattle.std.proofs.lemmas.Bool.Decides.{nat_tests}
 use Rattle.memchr.specs.Find.{IsFirstByte, is_byte}
-use Rattle.rje_jobs.proofs.deck.place_of_lf.Goals as goal
+use Rattle.rje_jobs.proofs.lines.place_of_lf.Goals as goal
 
 not_byte : (a x : ℕ) → (eqb x a ≡ true → ⊥) → eqb x a ≡ false
 not_byte a x h = other (eqb x a) h

@@ -1,6 +1,6 @@
 use Rattle.std.proofs.lemmas.Result.{err_from_is_err_and}
 use Rattle.rje_jobs.proofs.Faults.{told}
-use Rattle.rje_jobs.proofs.deck.job_of_deck.Goals as goal
+use Rattle.rje_jobs.proofs.deck.cards_of_deck.Goals as goal
 
 pub returns-in_err-count-clause-told : goal.returns-in_err-count-clause-told
 returns-in_err-count-clause-told c =

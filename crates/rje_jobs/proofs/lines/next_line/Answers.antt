@@ -1,7 +1,7 @@
 use Rattle.std.proofs.Common.{arith}
 use Rattle.std.proofs.lemmas.Grind.{common_steps}
 use Rattle.rje_jobs.proofs.FirstLine.{line_at, line_alone}
-use Rattle.rje_jobs.proofs.deck.next_line.Goals as goal
+use Rattle.rje_jobs.proofs.lines.next_line.Goals as goal
 
 pub returns-in-Some-clause-line : goal.returns-in-Some-clause-line
 returns-in-Some-clause-line c =

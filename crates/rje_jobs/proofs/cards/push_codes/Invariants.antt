@@ -1,7 +1,7 @@
 use Rattle.std.proofs.Common.{◌≡◌, ◌≤◌, ◌++◌, length, drop}
 use Rattle.std.specs.List.{filter_map}
 use Rattle.bsc_codes.specs.CodePage.{ebcdic_of}
-use Rattle.rje_jobs.proofs.deck.push_codes.Given as goal
+use Rattle.rje_jobs.proofs.cards.push_codes.Given as goal
 
 abbrev pub invariant-loop-character : goal.invariant-loop-character
 invariant-loop-character l = record {
