@@ -1,5 +1,5 @@
 -- Code page 037 for the printable ASCII characters.
-use Rattle.std.specs.Prelude.{ℕ, ◌+◌, ◌-◌, List, [], ◌∷◌, Option, Some, None, slice_get, position, option_map, nat_lt, ◌==◌, if◌then◌else◌}
+use Rattle.std.specs.Prelude.{ℕ, ◌+◌, ◌-◌, List, [], ◌∷◌, Option, None, slice_get, position, option_map, nat_lt, ◌==◌, if◌then◌else◌}
 
 -- the EBCDIC codes of the 95 printable ASCII characters, in the order of ASCII from the blank (20) to the tilde (7E)
 unfoldable pub page_037 : List ℕ

@@ -1,6 +1,6 @@
 -- A listing of blocks as it grows.
-use Rattle.std.proofs.Common.{◌≡◌, ℕ, ◌+◌, ◌<◌, ◌≤◌, ◌^◌, List, [], ◌∷◌, ◌++◌, length, Option, Some, None, Result, Ok, Err, IfOk, Vec, Global, true, refl, ap, ap₂, sym, ◌∙◌, subst, arith}
-use Rattle.std.specs.Prelude.{sum_by, option_to_list, decimal, codes}
+use Rattle.std.proofs.Common.{◌≡◌, ℕ, ◌+◌, ◌<◌, ◌^◌, List, [], ◌∷◌, ◌++◌, length, Option, Some, None, Result, Ok, Err, IfOk, Vec, Global, true, refl, ap, ap₂, sym, ◌∙◌, subst, arith}
+use Rattle.std.specs.Prelude.{option_to_list, decimal, codes}
 use Rattle.std.specs.List.{AllByRecursion, flat_map}
 use Rattle.std.proofs.lemmas.List.{append_assoc, append-nil, length-append}
 use Rattle.std.proofs.lemmas.List.Sums.{sum_by-cons}
@@ -10,11 +10,11 @@ use Rattle.rje_text.specs.declared.mode.Mode.TheVariants.{Normal}
 use Rattle.rje_text.specs.declared.select.Select.TheVariants.{Unset}
 use Rattle.rje_text.specs.declared.record.Record.{Record}
 use Rattle.rje_text.specs.declared.unpacked.Unpacked.{Unpacked}
-use Rattle.rje_text.specs.Reading.{IsRead, reading}
+use Rattle.rje_text.specs.Reading.{IsRead}
 use Rattle.rje_text.specs.Cut.{cut}
 use Rattle.rje_text.specs.PackFault.{pack_fault, Fits}
 use Rattle.rje_text.specs.Packing.{Packing, packed, new_packing, block_in_hand}
-use Rattle.rje_text.specs.Laws.{AreRead, IsJobRead, CutReadsBack, PackingIsTheCut}
+use Rattle.rje_text.specs.Laws.{AreRead, CutReadsBack, PackingIsTheCut}
 use Rattle.rje.specs.Printing.{block_line, block_lines, back_line, closing_name, hex_or_hyphen}
 use Rattle.rje.specs.Blocks.{record_count, CanAdd, AddsBlock, CountsBlock, ListsBlocks}
 

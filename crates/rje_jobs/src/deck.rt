@@ -22,7 +22,7 @@ pub fn job_of_deck(alloc: Global, deck: &[u8], select: Select, mode: Mode) -> Re
     Ok(Job {
         select: device(select, mode),
         mode,
-        records: Records::from_vec(records),
+        records: Records::from(records),
         whole: true,
     })
 }

@@ -1,10 +1,10 @@
 -- Runs of blanks, and what is written for them.
-use Rattle.std.proofs.Common.{◌≡◌, ◌≢◌, ℕ, zero, suc, ◌+◌, ◌*◌, ◌-◌, ◌/◌, ◌%◌, ◌<◌, ◌≤◌, Bool, true, false, List, [], ◌∷◌, ◌++◌, length, drop, get_or, refl, ap, sym, ◌∙◌, arith, add-one, cond, eqb}
-use Rattle.std.proofs.lemmas.List.{append_assoc, length-append, append-nil, drop_more}
+use Rattle.std.proofs.Common.{◌≡◌, ◌≢◌, ℕ, zero, suc, ◌+◌, ◌*◌, ◌<◌, true, false, List, [], ◌∷◌, ◌++◌, length, drop, get_or, refl, ap, ◌∙◌, arith, add-one, eqb}
+use Rattle.std.proofs.lemmas.List.{append_assoc, append-nil, drop_more}
 use Rattle.std.proofs.lemmas.Bool.Decides.{nat_tests}
 use Rattle.std.specs.List.{flat_map}
 use Rattle.bsc_codes.specs.declared.bytes.TheConstants.{BLANK, IGS}
-use Rattle.rje_text.specs.Spelling.{Run, full_counts, rest_of_blanks, run_text, with_blank, runs_of, compressed}
+use Rattle.rje_text.specs.Spelling.{Run, full_counts, run_text, with_blank, runs_of}
 use Rattle.rje_text.specs.Spelling.Run.{Blanks, Byte}
 
 -- m blanks in front of the pieces

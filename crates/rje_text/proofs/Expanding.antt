@@ -1,15 +1,13 @@
 -- What the texts of records stand for, byte by byte.
-use Rattle.std.proofs.Common.{◌≡◌, ◌≢◌, ℕ, zero, suc, ◌+◌, ◌-◌, ◌<◌, ◌≤◌, Bool, true, false, leb, eqb, List, [], ◌∷◌, ◌++◌, length, take, drop, replicate, get_or, Option, Some, None, refl, ap, sym, ◌∙◌, subst, arith, IsSome, IsNone, is_some, cond, ap₂, ⊎_elim, inl, inr, ◌⊎◌}
-use Rattle.std.specs.Option.{option_map, option_and_then, option_map_or}
-use Rattle.std.specs.List.{slice_get}
-use Rattle.std.proofs.lemmas.List.{append_assoc, length-append, append-nil, take_more, get_or_past, length-replicate, drop-append-le, length-take-le, take_all, drop_all, drop_more, get_or-drop, drop-drop, length-drop}
+use Rattle.std.proofs.Common.{◌≡◌, ◌≢◌, ℕ, zero, suc, ◌+◌, ◌-◌, ◌<◌, ◌≤◌, Bool, true, false, leb, eqb, List, [], ◌∷◌, ◌++◌, length, take, drop, replicate, get_or, Option, Some, None, refl, ap, sym, ◌∙◌, subst, arith, IsSome, is_some, cond, ap₂, ⊎_elim, inl, inr, ◌⊎◌}
+use Rattle.std.specs.Option.{option_map, option_and_then}
+use Rattle.std.proofs.lemmas.List.{append_assoc, length-append, append-nil, take_more, length-replicate, drop-append-le, length-take-le, take_all, drop_all, drop_more, get_or-drop, drop-drop, length-drop}
 use Rattle.std.proofs.lemmas.Option.{slice_get-get_or, slice_get_past}
 use Rattle.std.proofs.lemmas.Bool.{cases_lt}
 use Rattle.std.proofs.lemmas.Bool.Decides.{nat_tests}
 use Rattle.bsc_codes.specs.declared.bytes.TheConstants.{BLANK, IGS, ESC}
 use Rattle.rje_text.specs.declared.action.Action.{Action}
 use Rattle.rje_text.specs.declared.action.Action.TheVariants.{Plain}
-use Rattle.rje_text.specs.declared.record.Record.{Record}
 use Rattle.rje_text.specs.Action.{action_of}
 use Rattle.rje_text.specs.Reading.{is_count, expanded, record_with, action_in, record_of}
 use Rattle.rje_text.specs.RecordText.{HasHead, reads_record}

@@ -1,12 +1,11 @@
 -- The records of a text that is read from the front, record by record.
-use Rattle.std.proofs.Common.{◌≡◌, ◌≢◌, ℕ, zero, suc, ◌+◌, ◌-◌, ◌<◌, ◌≤◌, Bool, true, false, eqb, List, [], ◌∷◌, ◌++◌, length, take, drop, get_or, Option, Some, None, refl, ap, sym, ◌∙◌, subst, arith, IsSome, is_some, ⊎_elim}
+use Rattle.std.proofs.Common.{◌≡◌, ◌≢◌, ℕ, zero, suc, ◌+◌, ◌-◌, ◌<◌, ◌≤◌, true, false, List, [], ◌∷◌, ◌++◌, length, take, drop, get_or, Option, Some, None, refl, ap, sym, ◌∙◌, subst, arith, IsSome, is_some, ⊎_elim}
 use Rattle.std.proofs.lemmas.Bool.{cases_lt, cases_eq}
 use Rattle.std.specs.Option.{option_map, option_and_then}
 use Rattle.std.proofs.lemmas.List.{append_assoc, append-nil, take_more, get_or-take, get_or-drop, take_all, drop_all, length-take-le, length-drop, take-append-drop, take-take, drop-take, drop-drop}
 use Rattle.bsc_codes.specs.declared.bytes.TheConstants.{IRS}
-use Rattle.rje_text.specs.declared.action.Action.TheVariants.{Plain}
 use Rattle.rje_text.specs.declared.record.Record.{Record}
-use Rattle.rje_text.specs.Reading.{is_count, record_of, record_texts, onto_first, all_records, records_in}
+use Rattle.rje_text.specs.Reading.{is_count, record_of, record_texts, onto_first, records_in}
 use Rattle.rje_text.specs.RecordText.{reads_record, reads_records}
 use Rattle.rje_text.specs.TextFault.{HasNoCount}
 use Rattle.rje_text.proofs.Expanding.{not_equal, no_count_past, no_count_at}

@@ -1,19 +1,18 @@
 -- How a text begins, and what follows for its faults: the selection of a normal text, the cards of a transparent one.
-use Rattle.std.proofs.Common.{◌≡◌, ◌≢◌, ◌⊎◌, inl, inr, ℕ, zero, suc, ◌+◌, ◌-◌, ◌*◌, ◌/◌, ◌%◌, ◌<◌, ◌≤◌, Bool, true, false, cond, eqb, leb, ◌&&◌, ◌||◌, List, [], ◌∷◌, ◌++◌, length, take, drop, get_or, Option, Some, None, refl, ap, ap₂, sym, ◌∙◌, subst, arith, IsSome, IsNone, is_some}
+use Rattle.std.proofs.Common.{◌≡◌, ◌≢◌, ◌⊎◌, inl, inr, ℕ, zero, suc, ◌+◌, ◌-◌, ◌/◌, ◌%◌, ◌<◌, ◌≤◌, true, false, cond, eqb, leb, ◌||◌, List, [], ◌∷◌, length, take, drop, get_or, Option, Some, None, refl, ap, ap₂, sym, ◌∙◌, subst, arith, IsSome, IsNone, is_some}
 use Rattle.std.specs.Option.{option_map}
-use Rattle.std.proofs.lemmas.List.{take_all, length-drop, append_assoc}
+use Rattle.std.proofs.lemmas.List.{take_all, length-drop}
 use Rattle.std.proofs.lemmas.Bool.Decides.{nat_tests}
 use Rattle.bsc_codes.specs.declared.bytes.TheConstants.{DC1, DC2, DC3}
 use Rattle.rje_text.specs.declared.mode.Mode.{Mode}
-use Rattle.rje_text.specs.declared.mode.Mode.TheVariants.{Normal, Transparent}
+use Rattle.rje_text.specs.declared.mode.Mode.TheVariants.{Transparent}
 use Rattle.rje_text.specs.declared.select.Select.{Select}
 use Rattle.rje_text.specs.declared.select.Select.TheVariants.{Unset, Printer, Punch}
 use Rattle.rje_text.specs.declared.action.Action.TheVariants.{Plain}
 use Rattle.rje_text.specs.declared.record.Record.{Record}
-use Rattle.rje_text.specs.declared.unpacked.Unpacked.{Unpacked}
 use Rattle.rje_text.specs.declared.text_fault.TextFault.{TextFault}
 use Rattle.rje_text.specs.declared.text_fault.TextFault.TheVariants.{OutOfMemory, BadCount, RecordTooLong, CardsNot80, MixedModes}
-use Rattle.rje_text.specs.Reading.{records_in, selection_in, normal_reading, is_cards, cards, card_reading}
+use Rattle.rje_text.specs.Reading.{records_in, selection_in, normal_reading, cards, card_reading}
 use Rattle.rje_text.specs.TextFault.{LacksCount, PassesLimit, reads_normal}
 use Rattle.rje_text.specs.RecordText.{HasFront, unpacked, reads_records, IsFaultFrom, IsNormalFault}
 use Rattle.rje_text.proofs.Expanding.{not_equal}

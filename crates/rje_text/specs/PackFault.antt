@@ -5,7 +5,7 @@ use Rattle.std.specs.List.{AllByRecursion}
 use Rattle.rje_text.specs.declared.mode.Mode.{Mode}
 use Rattle.rje_text.specs.declared.mode.Mode.TheVariants.{Normal, Transparent}
 use Rattle.rje_text.specs.declared.select.Select.{Select}
-use Rattle.rje_text.specs.declared.select.Select.TheVariants.{Unset, Printer, Punch}
+use Rattle.rje_text.specs.declared.select.Select.TheVariants.{Punch}
 use Rattle.rje_text.specs.declared.action.Action.{Action}
 use Rattle.rje_text.specs.declared.action.Action.TheVariants.{Plain}
 use Rattle.rje_text.specs.declared.record.Record.{Record}

@@ -32,7 +32,7 @@ pub(crate) fn unpack_cards(
         Ok(records) => Ok(Unpacked {
             select: Select::Punch,
             mode: Mode::Transparent,
-            records: Records::from_vec(records),
+            records: Records::from(records),
         }),
         Err(AllocError) => Err(TextFault::OutOfMemory),
     }

@@ -1,12 +1,14 @@
 //! Records in order.
 ghost use Rattle.std.specs.Prelude.{◌≡◌, ◌==◌, ◌∷◌, [], ◌++◌, length, OnOk, OnErr};
+ghost use Rattle.std.specs.Slice.Iter.{iter_rest};
 
 use crate::Record;
 use std::alloc::{AllocError, Global};
 use std::marker::Model;
+use std::slice::Iter;
 
 /// Records in order: a vector of them, which contracts see as a list.
-#[derive(Drop)]
+#[derive(Debug, Drop)]
 pub struct Records {
     items: Vec<Record>,
 }
@@ -28,13 +30,6 @@ impl Records {
         Records {
             items: Vec::new(alloc),
         }
-    }
-
-    /// The records of this vector.
-    pub fn from_vec(items: Vec<Record>) -> Self
-        ensures { result ≡ items.items }
-    {
-        Records { items }
     }
 
     /// The vector of these records.
@@ -61,6 +56,13 @@ impl Records {
         self.items.as_slice()
     }
 
+    /// The records, one after another.
+    pub fn iter(&self) -> Iter<'_, Record>
+        ensures { iter_rest result ≡ self.now }
+    {
+        self.items.iter()
+    }
+
     /// How many records there are.
     pub fn len(&self) -> usize
         ensures { result ≡ length self.now }
@@ -73,5 +75,13 @@ impl Records {
         ensures { result ≡ (length self.now == 0) }
     {
         self.items.is_empty()
+    }
+}
+
+impl From<Vec<Record>> for Records {
+    ghost from_gives = { λ items records. records ≡ items.items };
+
+    fn from(items: Vec<Record>) -> Self {
+        Records { items }
     }
 }

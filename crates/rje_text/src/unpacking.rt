@@ -41,7 +41,7 @@ fn unpack_normal(alloc: Global, text: &[u8], so_far: Option<Mode>) -> Result<Unp
         Ok(records) => Ok(Unpacked {
             select,
             mode: Mode::Normal,
-            records: Records::from_vec(records),
+            records: Records::from(records),
         }),
         Err(AllocError) => Err(TextFault::OutOfMemory),
     }

@@ -1,4 +1,4 @@
-use Rattle.std.proofs.Common.{◌≡◌, codes, refl, sym, ◌∙◌, subst}
+use Rattle.std.proofs.Common.{◌≡◌, codes, refl, subst}
 use Rattle.rje.specs.declared.words.Order.{Order}
 use Rattle.rje.specs.CommandLine.{IsBlocks}
 use Rattle.rje.proofs.command.command.Goals as goal

@@ -15,7 +15,7 @@ returns-then-not-agrees-clause-told c =
 pub returns-in-Ok-clause-read : goal.returns-in-Ok-clause-read
 returns-in-Ok-clause-read c = (
   whole_cards c.args.text.now c.requires c.if-text-ne0.false
-      ∙ ap (λ rs. Some (record { select = Punch; mode = Transparent; records = rs })) (sym c.in-Ok.ensures ∙ sym c.from_vec.ensures),
+      ∙ ap (λ rs. Some (record { select = Punch; mode = Transparent; records = rs })) (sym c.in-Ok.ensures ∙ sym c.from.ensures),
   c.agrees.ensures.0 c.if-not-agrees.false,
 )
 

@@ -2,7 +2,7 @@ use Rattle.std.proofs.Common.{◌≡◌, ◌++◌, List, [], ◌∷◌, length, 
 use Rattle.bsc_codes.specs.declared.block.Block.{Block}
 use Rattle.bsc_codes.specs.declared.block.Closing.TheVariants.{Etb}
 use Rattle.rje_text.specs.declared.record.Record.{Record}
-use Rattle.rje_text.specs.Spelling.{spelling, selection}
+use Rattle.rje_text.specs.Spelling.{spelling}
 use Rattle.rje_text.specs.Cut.{block, cut_behind, cut}
 use Rattle.rje_text.specs.Packing.{Packing, new_packing, with_record, after_close, packed}
 use Rattle.rje_text.proofs.laws.packing_is_the_cut.Goals as goal

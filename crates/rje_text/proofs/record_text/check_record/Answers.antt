@@ -1,4 +1,4 @@
-use Rattle.std.proofs.Common.{◌≡◌, ◌+◌, ◌-◌, ◌++◌, ◌∷◌, [], false, length, drop, take, get_or, replicate, ap, sym, ◌∙◌, arith, IsSome, Some}
+use Rattle.std.proofs.Common.{◌+◌, ◌-◌, ◌++◌, ◌∷◌, [], get_or, replicate, ap, sym, ◌∙◌, arith}
 use Rattle.std.specs.Option.{is_some}
 use Rattle.std.proofs.lemmas.List.{length-append, length-replicate}
 use Rattle.bsc_codes.specs.declared.bytes.TheConstants.{BLANK}

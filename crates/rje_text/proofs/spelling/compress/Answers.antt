@@ -1,5 +1,5 @@
-use Rattle.std.proofs.Common.{◌≡◌, ◌≢◌, ◌+◌, ◌<◌, [], ◌∷◌, ◌++◌, get_or, length, drop, arith, ap, sym, ◌∙◌, rules}
-use Rattle.std.proofs.lemmas.List.{drop_all, append-nil}
+use Rattle.std.proofs.Common.{◌+◌, ◌<◌, get_or, length, drop, arith, ap, ◌∙◌, rules}
+use Rattle.std.proofs.lemmas.List.{drop_all}
 use Rattle.arrayvec.specs.ArrayVec.{array_vec_len}
 use Rattle.rje_text.specs.Spelling.{compressed, run_text}
 use Rattle.rje_text.specs.Spelling.Run.{Blanks}

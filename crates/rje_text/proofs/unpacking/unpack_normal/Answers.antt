@@ -1,6 +1,5 @@
 use Rattle.std.proofs.Common.{ap, sym, ◌∙◌, Some}
-use Rattle.std.specs.Option.{is_some, option_map}
-use Rattle.std.proofs.lemmas.Grind.{common_steps}
+use Rattle.std.specs.Option.{option_map}
 use Rattle.rje_text.specs.RecordText.{unpacked}
 use Rattle.rje_text.proofs.Selections.{whole_reading, whole_reads, rest_fault}
 use Rattle.rje_text.proofs.unpacking.unpack_normal.Goals as goal
@@ -20,7 +19,7 @@ returns-then-not-agrees-clause-told c = (
 pub returns-in-Ok-clause-read : goal.returns-in-Ok-clause-read
 returns-in-Ok-clause-read c = (
   whole_reading c.args.so_far c.args.text.now c.split_at.result.1.now c.front_of-select.result.1 c.front_of-select.result.0 c.front_of-select.ensures c.split_at.ensures.back
-      ∙ ap (option_map (unpacked c.front_of-select.result.0)) c.in-Ok.ensures ∙ ap (λ rs. Some (unpacked c.front_of-select.result.0 rs)) (sym c.from_vec.ensures),
+      ∙ ap (option_map (unpacked c.front_of-select.result.0)) c.in-Ok.ensures ∙ ap (λ rs. Some (unpacked c.front_of-select.result.0 rs)) (sym c.from.ensures),
   c.agrees.ensures.0 c.if-not-agrees.false,
 )
 
