@@ -1,5 +1,5 @@
 //! Decks and their jobs.
-use rje_jobs::{DeckFault, job_of_deck};
+use rje_jobs::{DeckFault, cards_of_deck, job_of_deck};
 use rje_text::{Action, Mode, Select};
 use std::process::Abort;
 use std::test::Fail;
@@ -52,5 +52,24 @@ fn transparent_jobs_are_filled_cards_for_the_punch(rt: HostRuntime) -> Result<()
     card[0] = 0xC1;
     assert!(rt; job.records.len() == 1);
     assert!(rt; job.records.as_slice()[0].bytes.as_slice() == card.as_slice());
+    Ok(())
+}
+
+#[test]
+fn cards_come_one_after_another(rt: HostRuntime) -> Result<(), Fail> {
+    let mut cards = cards_of_deck(b"A\nB\n", Mode::Normal)?;
+    assert!(rt; cards.len() == 2);
+    assert!(rt;
+        cards
+            .next()
+            .is_some_and(|card| card.bytes.as_slice() == [0xC1].as_slice())
+    );
+    assert!(rt;
+        cards
+            .next()
+            .is_some_and(|card| card.bytes.as_slice() == [0xC2].as_slice())
+    );
+    assert!(rt; cards.next().is_none());
+    assert!(rt; cards_of_deck(b"\t", Mode::Normal).err() == Some(DeckFault::BadCharacter(1, 1)));
     Ok(())
 }

@@ -1,7 +1,7 @@
 //! Records, and the texts that carry them.
 use super::{block, record};
 use bsc_codes::{Closing, is_normal_text, to_ascii, to_ebcdic};
-use rje_text::{Action, Mode, PackFault, Packer, Pushed, Select, TextFault, unpack};
+use rje_text::{Action, Mode, PackFault, Packer, Pushed, Records, Select, TextFault, unpack};
 use std::process::Abort;
 use std::test::Fail;
 
@@ -198,4 +198,25 @@ fn characters_have_their_codes(rt: HostRuntime) {
     assert!(rt; to_ascii(0x00).is_none());
     assert!(rt; is_normal_text(0x11));
     assert!(rt; !is_normal_text(0x1F));
+}
+
+#[test]
+fn records_are_a_list(rt: HostRuntime) -> Result<(), Fail> {
+    let mut records = Records::new(rt.alloc());
+    assert!(rt; records.is_empty());
+    records.push(record(&rt, Action::Plain, &[0xC1]))?;
+    records.push(record(&rt, Action::Double, &[]))?;
+    assert!(rt; records.len() == 2);
+    assert!(rt; records.iter().count() == 2);
+    let items = records.into_vec();
+    assert!(rt;
+        items.as_slice()
+            == [
+                record(&rt, Action::Plain, &[0xC1]),
+                record(&rt, Action::Double, &[])
+            ]
+            .as_slice()
+    );
+    assert!(rt; Records::from(items).len() == 2);
+    Ok(())
 }
