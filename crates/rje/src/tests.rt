@@ -1,6 +1,7 @@
 //! What no clause says: worked examples from the field, printed texts, statuses, and that calls succeed where memory is ample.
 mod commands;
 mod decks;
+mod frames;
 mod texts;
 
 use crate::memory_store::MemoryStore;

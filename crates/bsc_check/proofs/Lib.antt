@@ -1,0 +1,4 @@
+pub mod Division
+pub mod Shifts
+pub mod Quotients
+pub mod ByTable

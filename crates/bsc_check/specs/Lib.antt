@@ -1,0 +1,4 @@
+pub mod Polynomials
+pub mod Check
+pub mod Shifts
+pub mod Laws

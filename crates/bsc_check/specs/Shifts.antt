@@ -1,0 +1,12 @@
+-- Shifts of a register that holds a remainder, its highest coefficient in the low bit. Private functions alone are stated by them; no
+-- promise rests on this file.
+use Rattle.std.specs.Prelude.{ℕ, suc, zero, ◌/◌, ◌%◌, ◌==◌, if◌then◌else◌, bit_xor}
+
+-- one shift: the highest coefficient goes, and where it isn't zero the generator is subtracted
+abbrev pub shift : ℕ → ℕ
+shift register = if register % 2 == 1 then bit_xor (register / 2) 0xA001 else register / 2
+
+-- so many shifts
+unfoldable pub shifts : ℕ → ℕ → ℕ
+shifts zero register = register
+shifts (suc n) register = shifts n (shift register)

@@ -1,0 +1,10 @@
+pub mod NormalBytes
+pub mod FirstBad
+pub mod Hearing
+pub mod Found
+pub mod Kept
+pub mod TextStarts
+pub mod Silence
+pub mod Quiet
+pub mod Feeding
+pub mod Sending

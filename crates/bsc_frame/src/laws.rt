@@ -1,0 +1,22 @@
+//! What the definitions of the line promise beyond the calls.
+ghost use Rattle.bsc_frame.specs.Laws.{OneTransmission, OneHearing, EveryHearing, WrittenIsTransmission};
+
+/// Of any bytes at most one prefix is a transmission, and of at most one frame.
+pub fn one_transmission()
+    ensures { OneTransmission }
+{}
+
+/// Of any bytes at most one thing is heard.
+pub fn one_hearing()
+    ensures { OneHearing }
+{}
+
+/// Of any bytes something is heard.
+pub fn every_hearing()
+    ensures { EveryHearing }
+{}
+
+/// What is written of a frame is a transmission of it, and one pad.
+pub fn written_is_transmission()
+    ensures { WrittenIsTransmission }
+{}

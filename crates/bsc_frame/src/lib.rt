@@ -1,0 +1,20 @@
+//! Frames of the line: a writer, and a listener that hears them in bytes that come in any pieces.
+#![tactic(auto)]
+
+mod closing;
+mod fed;
+mod frame;
+mod frame_fault;
+mod heard;
+mod laws;
+mod listener;
+mod normal_text;
+mod writer;
+
+pub use fed::Fed;
+pub use frame::Frame;
+pub use frame_fault::FrameFault;
+pub use heard::Heard;
+pub use laws::{every_hearing, one_hearing, one_transmission, written_is_transmission};
+pub use listener::Listener;
+pub use writer::write_frame;

@@ -1,0 +1,170 @@
+//! Bytes of a text and of a block's end.
+ghost use Rattle.std.specs.Prelude.{◌≡◌, true, false};
+ghost use Rattle.bsc_check.specs.Check.{IsCheckOf};
+ghost use Rattle.bsc_frame.specs.Body.{covered};
+ghost use Rattle.bsc_frame.specs.Listening.HeardSoFar.{
+  next,
+  Text,
+  TextDle,
+  AwaitsSecondCheck,
+  On,
+  with_byte,
+  closed,
+  frame_of_enq as enq_frame,
+};
+ghost use Rattle.bsc_frame.specs.Listening.Stage.{so_far_of, progress_of, CheckRuns};
+
+use super::stage::Stage;
+use crate::Frame;
+use crate::closing::closing_byte;
+use crate::normal_text::is_normal;
+use arrayvec::ArrayVec;
+use bsc_check::Check;
+use bsc_codes::{Block, Closing, DLE, ENQ, ETB, ETX, MAX_TEXT, SYN};
+
+/// Takes a byte in normal text.
+pub(crate) fn at_normal(
+    stage: &mut Stage,
+    text: &mut ArrayVec<u8, 512>,
+    check: &mut Check,
+    byte: u8,
+) -> Option<Frame>
+    requires { IsCheckOf check.old text.old.items }
+    ensures next { progress_of result (so_far_of stage.new text.new.items) ≡ next (Text false text.old.items) byte }
+    ensures runs { CheckRuns stage.new text.new.items check.new }
+{
+    if is_normal(byte) {
+        keep(stage, text, check, false, byte);
+        return None;
+    }
+    match byte {
+        SYN => *stage = Stage::Text(false),
+        ENQ => {
+            *stage = Stage::Pads;
+            return Some(frame_of_enq(false, text));
+        }
+        ETB => close(stage, text, check, false, Closing::Etb),
+        ETX => close(stage, text, check, false, Closing::Etx),
+        _ => *stage = Stage::BadText,
+    }
+    None
+}
+
+/// Takes a byte in transparent text.
+pub(crate) fn at_transparent(
+    stage: &mut Stage,
+    text: &mut ArrayVec<u8, 512>,
+    check: &mut Check,
+    byte: u8,
+)
+    requires { IsCheckOf check.old text.old.items }
+    ensures next { On (so_far_of stage.new text.new.items) ≡ next (Text true text.old.items) byte }
+    ensures runs { CheckRuns stage.new text.new.items check.new }
+{
+    if byte == DLE {
+        *stage = Stage::TextDle;
+    } else {
+        keep(stage, text, check, true, byte);
+    }
+}
+
+/// Takes the byte behind a DLE in transparent text.
+pub(crate) fn at_text_dle(
+    stage: &mut Stage,
+    text: &mut ArrayVec<u8, 512>,
+    check: &mut Check,
+    byte: u8,
+) -> Option<Frame>
+    requires { IsCheckOf check.old text.old.items }
+    ensures next { progress_of result (so_far_of stage.new text.new.items) ≡ next (TextDle text.old.items) byte }
+    ensures runs { CheckRuns stage.new text.new.items check.new }
+{
+    match byte {
+        DLE => keep(stage, text, check, true, byte),
+        SYN => *stage = Stage::Text(true),
+        ENQ => {
+            *stage = Stage::Pads;
+            return Some(frame_of_enq(true, text));
+        }
+        ETB => close(stage, text, check, true, Closing::Etb),
+        ETX => close(stage, text, check, true, Closing::Etx),
+        _ => *stage = Stage::BadText,
+    }
+    None
+}
+
+/// Keeps one more data byte, where there is room for it.
+fn keep(
+    stage: &mut Stage,
+    text: &mut ArrayVec<u8, 512>,
+    check: &mut Check,
+    transparent: bool,
+    byte: u8,
+)
+    requires { IsCheckOf check.old text.old.items }
+    ensures next { On (so_far_of stage.new text.new.items) ≡ with_byte transparent text.old.items byte }
+    ensures runs { CheckRuns stage.new text.new.items check.new }
+{
+    if text.len() < MAX_TEXT {
+        text.push(byte);
+        check.add(byte);
+        *stage = Stage::Text(transparent);
+    } else {
+        *stage = Stage::BadText;
+    }
+}
+
+/// The frame of a text that an ENQ ends.
+fn frame_of_enq(transparent: bool, text: &ArrayVec<u8, 512>) -> Frame
+    ensures { result ≡ enq_frame transparent text.now.items }
+{
+    if transparent || !text.is_empty() {
+        Frame::Abort
+    } else {
+        Frame::Ttd
+    }
+}
+
+/// Closes a text.
+fn close(
+    stage: &mut Stage,
+    text: &ArrayVec<u8, 512>,
+    check: &mut Check,
+    transparent: bool,
+    closing: Closing,
+)
+    requires { IsCheckOf check.old text.now.items }
+    ensures next { On (so_far_of stage.new text.now.items) ≡ closed transparent text.now.items closing }
+    ensures runs { CheckRuns stage.new text.now.items check.new }
+{
+    check.add(closing_byte(closing));
+    *stage = Stage::AwaitsCheck(transparent, closing);
+}
+
+/// Takes the second byte of a check.
+pub(crate) fn at_second_check(
+    stage: &mut Stage,
+    text: &mut ArrayVec<u8, 512>,
+    check: &Check,
+    transparent: bool,
+    closing: Closing,
+    first: u8,
+    byte: u8,
+) -> Option<Frame>
+    requires { IsCheckOf check.now (covered text.old.items closing) }
+    ensures next { progress_of result (so_far_of stage.new text.new.items)
+        ≡ next (AwaitsSecondCheck (record { text = text.old; closing = closing; transparent = transparent }) first) byte }
+    ensures runs { CheckRuns stage.new text.new.items check.now }
+{
+    if check.bytes() == [first, byte] {
+        *stage = Stage::Pads;
+        Some(Frame::Block(Block {
+            text: text.take(),
+            closing,
+            transparent,
+        }))
+    } else {
+        *stage = Stage::BadText;
+        None
+    }
+}

@@ -1,0 +1,14 @@
+//! The test for a normal text byte.
+ghost use Rattle.std.specs.Prelude.{◌≡◌, Contains};
+ghost use Rattle.std.specs.Bool.{MatchBool};
+ghost use Rattle.bsc_codes.specs.Bytes.{control_bytes};
+ghost use Rattle.bsc_frame.specs.Body.{IsNormalText};
+ghost use Rattle.bsc_frame.specs.Listening.NormalText.{is_normal_text};
+
+/// Whether a byte may stand in normal text.
+pub(crate) fn is_normal(byte: u8) -> bool
+    ensures means { MatchBool result (IsNormalText byte) (Contains control_bytes byte) }
+    ensures test { result ≡ is_normal_text byte }
+{
+    bsc_codes::is_normal_text(byte)
+}
