@@ -2,6 +2,7 @@
 mod commands;
 mod decks;
 mod frames;
+mod links;
 mod texts;
 
 use crate::memory_store::MemoryStore;

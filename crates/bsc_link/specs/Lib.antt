@@ -1,0 +1,4 @@
+pub mod Sender
+pub mod Receiver
+pub mod Runs
+pub mod Laws

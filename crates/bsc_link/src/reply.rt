@@ -1,0 +1,16 @@
+//! What a receiver answers.
+
+/// What the receiver answers.
+#[derive(Clone, Copy, Debug, PartialEq, Eq)]
+pub enum Reply {
+    /// An even number of blocks was accepted; the bid is granted.
+    Ack0,
+    /// An odd number of blocks was accepted.
+    Ack1,
+    /// Send that again.
+    Nak,
+    /// Accepted, but wait before going on.
+    Wack,
+    /// Accepted, and please stop.
+    Rvi,
+}

@@ -1,0 +1,676 @@
+//! The link cores: short histories, and each line of both tables.
+ghost use Rattle.std.specs.Prelude.{◌≤◌};
+
+use bsc_link::{Next, Outcome, Receiver, Reply, Say, Sender, Sound, Wish};
+use std::process::Abort;
+
+/// A state of a sender from which lines of its table are tried. The number is that of the outstanding block.
+#[derive(Clone, Copy, Debug)]
+enum Sending {
+    Bid,
+    Block1,
+    Again1,
+    Ask1,
+    Block2,
+    Again2,
+    Ask2,
+    Block2AfterRvi,
+    Ask2AfterRvi,
+    Delay,
+    PausedDelay,
+    End,
+    Over,
+}
+
+const ALL_SENDING: [Sending; 13] = [
+    Sending::Bid,
+    Sending::Block1,
+    Sending::Again1,
+    Sending::Ask1,
+    Sending::Block2,
+    Sending::Again2,
+    Sending::Ask2,
+    Sending::Block2AfterRvi,
+    Sending::Ask2AfterRvi,
+    Sending::Delay,
+    Sending::PausedDelay,
+    Sending::End,
+    Sending::Over,
+];
+
+/// What the sender's table says; a try and a hold name what is due then.
+#[derive(Clone, Copy, Debug)]
+enum Follows {
+    Progress,
+    Counted,
+    Try(Say),
+    Hold(Say),
+    OverEnded,
+    NothingChanges,
+}
+
+/// A line of the sender's table: the state, the sounds, and what follows.
+#[derive(Clone, Copy, Debug)]
+struct SenderLine(Sending, &'static [Sound], Follows);
+
+const ACK0: &[Sound] = &[Sound::Ack0];
+
+const ACK1: &[Sound] = &[Sound::Ack1];
+
+const NAK: &[Sound] = &[Sound::Nak];
+
+const WACK: &[Sound] = &[Sound::Wack];
+
+const RVI: &[Sound] = &[Sound::Rvi];
+
+const ENQ: &[Sound] = &[Sound::Enq];
+
+const BLOCK: &[Sound] = &[Sound::Block];
+
+const EOT: &[Sound] = &[Sound::Eot];
+
+/// The sounds that no line of the sender's table names.
+const OTHERS: &[Sound] = &[
+    Sound::Enq,
+    Sound::Ttd,
+    Sound::Abort,
+    Sound::Block,
+    Sound::Bad,
+    Sound::Noise,
+    Sound::Quiet,
+];
+
+/// The replies that are no answer to a bid.
+const NO_GRANT: &[Sound] = &[Sound::Ack1, Sound::Nak, Sound::Rvi];
+
+/// The replies that are no answer to a delay.
+const NO_DELAY: &[Sound] = &[Sound::Ack0, Sound::Ack1, Sound::Rvi];
+
+const ALL_SOUNDS: &[Sound] = &[
+    Sound::Enq,
+    Sound::Ack0,
+    Sound::Ack1,
+    Sound::Nak,
+    Sound::Wack,
+    Sound::Rvi,
+    Sound::Ttd,
+    Sound::Abort,
+    Sound::Eot,
+    Sound::Block,
+    Sound::Bad,
+    Sound::Noise,
+    Sound::Quiet,
+];
+
+static SENDER_TABLE: [SenderLine; 51] = [
+    SenderLine(Sending::Bid, ACK0, Follows::Progress),
+    SenderLine(Sending::Bid, WACK, Follows::Hold(Say::Bid)),
+    SenderLine(Sending::Bid, EOT, Follows::OverEnded),
+    SenderLine(Sending::Bid, OTHERS, Follows::Try(Say::Bid)),
+    SenderLine(Sending::Bid, NO_GRANT, Follows::Try(Say::Bid)),
+    SenderLine(Sending::Block1, ACK1, Follows::Counted),
+    SenderLine(Sending::Block1, RVI, Follows::Counted),
+    SenderLine(Sending::Block1, NAK, Follows::Try(Say::Again)),
+    SenderLine(Sending::Block1, WACK, Follows::Hold(Say::Ask)),
+    SenderLine(Sending::Block1, EOT, Follows::OverEnded),
+    SenderLine(Sending::Block1, OTHERS, Follows::Try(Say::Ask)),
+    SenderLine(Sending::Block1, ACK0, Follows::Try(Say::Ask)),
+    SenderLine(Sending::Again1, ACK1, Follows::Counted),
+    SenderLine(Sending::Again1, RVI, Follows::Counted),
+    SenderLine(Sending::Again1, NAK, Follows::Try(Say::Again)),
+    SenderLine(Sending::Again1, WACK, Follows::Hold(Say::Ask)),
+    SenderLine(Sending::Again1, EOT, Follows::OverEnded),
+    SenderLine(Sending::Again1, OTHERS, Follows::Try(Say::Ask)),
+    SenderLine(Sending::Again1, ACK0, Follows::Try(Say::Ask)),
+    SenderLine(Sending::Block2, ACK0, Follows::Counted),
+    SenderLine(Sending::Block2, RVI, Follows::Counted),
+    SenderLine(Sending::Block2, ACK1, Follows::Try(Say::Ask)),
+    SenderLine(Sending::Again2, ACK0, Follows::Counted),
+    SenderLine(Sending::Again2, ACK1, Follows::Try(Say::Ask)),
+    SenderLine(Sending::Block2AfterRvi, ACK0, Follows::Counted),
+    SenderLine(Sending::Block2AfterRvi, RVI, Follows::Try(Say::Ask)),
+    SenderLine(Sending::Ask1, ACK1, Follows::Counted),
+    SenderLine(Sending::Ask1, RVI, Follows::Counted),
+    SenderLine(Sending::Ask1, NAK, Follows::Try(Say::Again)),
+    SenderLine(Sending::Ask1, ACK0, Follows::Try(Say::Again)),
+    SenderLine(Sending::Ask1, WACK, Follows::Hold(Say::Ask)),
+    SenderLine(Sending::Ask1, EOT, Follows::OverEnded),
+    SenderLine(Sending::Ask1, OTHERS, Follows::Try(Say::Ask)),
+    SenderLine(Sending::Ask2, ACK0, Follows::Counted),
+    SenderLine(Sending::Ask2, RVI, Follows::Counted),
+    SenderLine(Sending::Ask2, ACK1, Follows::Try(Say::Again)),
+    SenderLine(Sending::Ask2AfterRvi, ACK0, Follows::Counted),
+    SenderLine(Sending::Ask2AfterRvi, ACK1, Follows::Try(Say::Again)),
+    SenderLine(Sending::Ask2AfterRvi, RVI, Follows::Try(Say::Again)),
+    SenderLine(Sending::PausedDelay, NAK, Follows::Hold(Say::Delay)),
+    SenderLine(Sending::PausedDelay, WACK, Follows::Hold(Say::Delay)),
+    SenderLine(Sending::PausedDelay, EOT, Follows::OverEnded),
+    SenderLine(Sending::PausedDelay, OTHERS, Follows::Try(Say::Delay)),
+    SenderLine(Sending::PausedDelay, NO_DELAY, Follows::Try(Say::Delay)),
+    SenderLine(Sending::Delay, NAK, Follows::Hold(Say::Block)),
+    SenderLine(Sending::Delay, WACK, Follows::Hold(Say::Delay)),
+    SenderLine(Sending::Delay, EOT, Follows::OverEnded),
+    SenderLine(Sending::Delay, OTHERS, Follows::Try(Say::Delay)),
+    SenderLine(Sending::Delay, NO_DELAY, Follows::Try(Say::Delay)),
+    SenderLine(Sending::End, ALL_SOUNDS, Follows::NothingChanges),
+    SenderLine(Sending::Over, ALL_SOUNDS, Follows::NothingChanges),
+];
+
+/// Where progress leads.
+#[derive(Clone, Copy, Debug)]
+enum Leads {
+    Block,
+    Delay,
+    Done,
+    Turned,
+}
+
+/// A progress: the state, the sound, what follows the outstanding block, whether there is a pause, and where it leads.
+#[derive(Clone, Copy, Debug)]
+struct ProgressLine(Sending, Sound, Next, bool, Leads);
+
+static PROGRESS_TABLE: [ProgressLine; 12] = [
+    ProgressLine(Sending::Bid, Sound::Ack0, Next::Done, true, Leads::Done),
+    ProgressLine(Sending::Bid, Sound::Ack0, Next::NewJob, true, Leads::Delay),
+    ProgressLine(Sending::Bid, Sound::Ack0, Next::NewJob, false, Leads::Block),
+    ProgressLine(Sending::Block1, Sound::Ack1, Next::Done, true, Leads::Done),
+    ProgressLine(
+        Sending::Block1,
+        Sound::Ack1,
+        Next::NewJob,
+        true,
+        Leads::Delay,
+    ),
+    ProgressLine(
+        Sending::Block1,
+        Sound::Ack1,
+        Next::NewJob,
+        false,
+        Leads::Block,
+    ),
+    ProgressLine(
+        Sending::Block1,
+        Sound::Rvi,
+        Next::NewJob,
+        false,
+        Leads::Turned,
+    ),
+    ProgressLine(
+        Sending::Block1,
+        Sound::Rvi,
+        Next::Block,
+        false,
+        Leads::Block,
+    ),
+    ProgressLine(Sending::Block1, Sound::Rvi, Next::Done, false, Leads::Done),
+    ProgressLine(
+        Sending::Block2AfterRvi,
+        Sound::Ack0,
+        Next::NewJob,
+        true,
+        Leads::Turned,
+    ),
+    ProgressLine(
+        Sending::Ask2AfterRvi,
+        Sound::Ack0,
+        Next::Block,
+        true,
+        Leads::Delay,
+    ),
+    ProgressLine(
+        Sending::Ask2AfterRvi,
+        Sound::Ack0,
+        Next::Done,
+        true,
+        Leads::Done,
+    ),
+];
+
+/// A new sender that came to this state, where it can with a try and a hold counted.
+fn sender_at(at: Sending) -> Sender {
+    let mut sender = Sender::new();
+    let heard: &[Sound] = match at {
+        Sending::Bid => &[Sound::Wack, Sound::Quiet],
+        Sending::Block1 => &[Sound::Ack0],
+        Sending::Again1 => &[Sound::Ack0, Sound::Wack, Sound::Nak],
+        Sending::Ask1 => &[Sound::Ack0, Sound::Wack, Sound::Quiet],
+        Sending::Block2 => &[Sound::Ack0, Sound::Ack1],
+        Sending::Again2 => &[Sound::Ack0, Sound::Ack1, Sound::Wack, Sound::Nak],
+        Sending::Ask2 => &[Sound::Ack0, Sound::Ack1, Sound::Wack, Sound::Quiet],
+        Sending::Block2AfterRvi => &[Sound::Ack0, Sound::Rvi],
+        Sending::Ask2AfterRvi => &[Sound::Ack0, Sound::Rvi, Sound::Wack, Sound::Quiet],
+        Sending::Delay | Sending::PausedDelay | Sending::End | Sending::Over => &[],
+    };
+    for sound in heard {
+        sender.hear(*sound, Next::Block, false);
+    }
+    match at {
+        Sending::Delay | Sending::PausedDelay => {
+            sender.hear(Sound::Ack0, Next::NewJob, true);
+            sender.hear(Sound::Wack, Next::NewJob, true);
+            sender.hear(Sound::Quiet, Next::NewJob, true);
+        }
+        Sending::End => {
+            sender.hear(Sound::Ack0, Next::Done, false);
+        }
+        Sending::Over => {
+            sender.hear(Sound::Ack0, Next::Done, false);
+            sender.sent_end();
+        }
+        _ => {}
+    }
+    sender
+}
+
+/// The tries that a sender keeps while it waits for an answer: silence makes it give up at the seventh.
+fn tries_of(sender: Sender) -> usize
+    ensures { result ≤ 7 }
+{
+    let mut sender = sender;
+    for more in 0..7 {
+        if sender.say() == Say::End {
+            return 7 - more;
+        }
+        sender.hear(Sound::Quiet, Next::Block, false);
+    }
+    0
+}
+
+/// The holds that a sender keeps while it waits for an answer: WACK makes it give up at the three hundredth.
+fn holds_of(sender: Sender) -> usize
+    ensures { result ≤ 300 }
+{
+    let mut sender = sender;
+    for more in 0..300 {
+        if sender.say() == Say::End {
+            return 300 - more;
+        }
+        sender.hear(Sound::Wack, Next::Block, false);
+    }
+    0
+}
+
+/// A state of a receiver from which lines of its table are tried. The number is that of the last block accepted.
+#[derive(Clone, Copy, Debug)]
+enum Receiving {
+    Idle,
+    Granted,
+    BidHeld,
+    Block1,
+    Held1,
+    Held2,
+    Refused,
+    RviMade,
+    Ended,
+}
+
+const ALL_RECEIVING: [Receiving; 9] = [
+    Receiving::Idle,
+    Receiving::Granted,
+    Receiving::BidHeld,
+    Receiving::Block1,
+    Receiving::Held1,
+    Receiving::Held2,
+    Receiving::Refused,
+    Receiving::RviMade,
+    Receiving::Ended,
+];
+
+/// What the receiver's table says.
+#[derive(Clone, Copy, Debug)]
+enum Answers {
+    With(Reply),
+    Accepts(Reply),
+    Ends,
+    NothingChanges,
+}
+
+/// A line of the receiver's table: the state, the sounds, the wishes, and what follows.
+#[derive(Clone, Copy, Debug)]
+struct ReceiverLine(Receiving, &'static [Sound], &'static [Wish], Answers);
+
+const ANY: &[Wish] = &[Wish::Go, Wish::Hold, Wish::Turn];
+
+const GO: &[Wish] = &[Wish::Go];
+
+const HOLD: &[Wish] = &[Wish::Hold];
+
+const TURN: &[Wish] = &[Wish::Turn];
+
+const NO_HOLD: &[Wish] = &[Wish::Go, Wish::Turn];
+
+/// The sounds that an idle receiver doesn't answer.
+const NO_BID: &[Sound] = &[
+    Sound::Ack0,
+    Sound::Ack1,
+    Sound::Nak,
+    Sound::Wack,
+    Sound::Rvi,
+    Sound::Ttd,
+    Sound::Abort,
+    Sound::Block,
+    Sound::Bad,
+    Sound::Noise,
+    Sound::Quiet,
+];
+
+/// The sounds that a receiver in a transmission doesn't answer.
+const UNANSWERED: &[Sound] = &[
+    Sound::Ack0,
+    Sound::Ack1,
+    Sound::Nak,
+    Sound::Wack,
+    Sound::Rvi,
+    Sound::Noise,
+    Sound::Quiet,
+];
+
+const SPOILED: &[Sound] = &[Sound::Bad, Sound::Ttd, Sound::Abort];
+
+static RECEIVER_TABLE: [ReceiverLine; 26] = [
+    ReceiverLine(Receiving::Idle, ENQ, HOLD, Answers::With(Reply::Wack)),
+    ReceiverLine(Receiving::Idle, ENQ, NO_HOLD, Answers::With(Reply::Ack0)),
+    ReceiverLine(Receiving::Idle, EOT, ANY, Answers::Ends),
+    ReceiverLine(Receiving::Idle, NO_BID, ANY, Answers::NothingChanges),
+    ReceiverLine(
+        Receiving::Granted,
+        BLOCK,
+        HOLD,
+        Answers::Accepts(Reply::Wack),
+    ),
+    ReceiverLine(
+        Receiving::Granted,
+        BLOCK,
+        TURN,
+        Answers::Accepts(Reply::Rvi),
+    ),
+    ReceiverLine(Receiving::Granted, BLOCK, GO, Answers::Accepts(Reply::Ack1)),
+    ReceiverLine(
+        Receiving::Block1,
+        BLOCK,
+        HOLD,
+        Answers::Accepts(Reply::Wack),
+    ),
+    ReceiverLine(Receiving::Block1, BLOCK, TURN, Answers::Accepts(Reply::Rvi)),
+    ReceiverLine(Receiving::Block1, BLOCK, GO, Answers::Accepts(Reply::Ack0)),
+    ReceiverLine(
+        Receiving::RviMade,
+        BLOCK,
+        NO_HOLD,
+        Answers::Accepts(Reply::Ack0),
+    ),
+    ReceiverLine(
+        Receiving::RviMade,
+        BLOCK,
+        HOLD,
+        Answers::Accepts(Reply::Wack),
+    ),
+    ReceiverLine(Receiving::BidHeld, ENQ, HOLD, Answers::With(Reply::Wack)),
+    ReceiverLine(Receiving::BidHeld, ENQ, NO_HOLD, Answers::With(Reply::Ack0)),
+    ReceiverLine(Receiving::Held1, ENQ, HOLD, Answers::With(Reply::Wack)),
+    ReceiverLine(Receiving::Held1, ENQ, NO_HOLD, Answers::With(Reply::Ack1)),
+    ReceiverLine(Receiving::Held2, ENQ, NO_HOLD, Answers::With(Reply::Ack0)),
+    ReceiverLine(Receiving::Granted, ENQ, ANY, Answers::With(Reply::Ack0)),
+    ReceiverLine(Receiving::Block1, ENQ, ANY, Answers::With(Reply::Ack1)),
+    ReceiverLine(Receiving::Refused, ENQ, ANY, Answers::With(Reply::Nak)),
+    ReceiverLine(Receiving::RviMade, ENQ, ANY, Answers::With(Reply::Rvi)),
+    ReceiverLine(Receiving::Block1, SPOILED, ANY, Answers::With(Reply::Nak)),
+    ReceiverLine(Receiving::BidHeld, SPOILED, ANY, Answers::With(Reply::Nak)),
+    ReceiverLine(Receiving::Block1, EOT, ANY, Answers::Ends),
+    ReceiverLine(Receiving::Block1, UNANSWERED, ANY, Answers::NothingChanges),
+    ReceiverLine(Receiving::Ended, ALL_SOUNDS, ANY, Answers::NothingChanges),
+];
+
+/// A new receiver that came to this state.
+fn receiver_at(at: Receiving) -> Receiver {
+    let mut receiver = Receiver::new();
+    let heard: &[(Sound, Wish)] = match at {
+        Receiving::Idle => &[],
+        Receiving::Granted => &[(Sound::Enq, Wish::Go)],
+        Receiving::BidHeld => &[(Sound::Enq, Wish::Hold)],
+        Receiving::Block1 => &[(Sound::Enq, Wish::Go), (Sound::Block, Wish::Go)],
+        Receiving::Held1 => &[(Sound::Enq, Wish::Go), (Sound::Block, Wish::Hold)],
+        Receiving::Held2 => &[
+            (Sound::Enq, Wish::Go),
+            (Sound::Block, Wish::Go),
+            (Sound::Block, Wish::Hold),
+        ],
+        Receiving::Refused => &[
+            (Sound::Enq, Wish::Go),
+            (Sound::Block, Wish::Go),
+            (Sound::Bad, Wish::Go),
+        ],
+        Receiving::RviMade => &[(Sound::Enq, Wish::Go), (Sound::Block, Wish::Turn)],
+        Receiving::Ended => &[(Sound::Enq, Wish::Go), (Sound::Eot, Wish::Go)],
+    };
+    for (sound, wish) in heard {
+        receiver.hear(*sound, *wish);
+    }
+    receiver
+}
+
+/// One line of the sender's table, at one of its sounds.
+fn assert_sender_line(rt: &impl Abort, line: SenderLine, sound: Sound) {
+    let SenderLine(at, _, follows) = line;
+    let pause = matches!(at, Sending::PausedDelay);
+    let before = sender_at(at);
+    let mut sender = before;
+    let news = sender.hear(sound, Next::Block, pause);
+    let counted = matches!(follows, Follows::Counted);
+    assert_eq!(rt; news.counted, counted, "counted at {at:?} {sound:?}");
+    match follows {
+        Follows::Progress | Follows::Counted => {
+            assert_eq!(rt; sender.say(), Say::Block, "due at {at:?} {sound:?}");
+            assert_eq!(rt; tries_of(sender), 0, "tries at {at:?} {sound:?}");
+            assert_eq!(rt; holds_of(sender), 0, "holds at {at:?} {sound:?}");
+        }
+        Follows::Try(due) => {
+            assert_eq!(rt; sender.say(), due, "due at {at:?} {sound:?}");
+            assert_eq!(rt;
+                tries_of(sender),
+                tries_of(before) + 1,
+                "tries at {at:?} {sound:?}"
+            );
+            assert_eq!(rt;
+                holds_of(sender),
+                holds_of(before),
+                "holds at {at:?} {sound:?}"
+            );
+        }
+        Follows::Hold(due) => {
+            assert_eq!(rt; sender.say(), due, "due at {at:?} {sound:?}");
+            assert_eq!(rt;
+                tries_of(sender),
+                tries_of(before),
+                "tries at {at:?} {sound:?}"
+            );
+            assert_eq!(rt;
+                holds_of(sender),
+                holds_of(before) + 1,
+                "holds at {at:?} {sound:?}"
+            );
+        }
+        Follows::OverEnded => {
+            assert_eq!(rt; sender.say(), Say::Nothing, "due at {at:?} {sound:?}");
+            assert_eq!(rt;
+                sender.outcome(),
+                Some(Outcome::Ended),
+                "outcome at {at:?} {sound:?}"
+            );
+        }
+        Follows::NothingChanges => {
+            assert_eq!(rt; sender, before, "state at {at:?} {sound:?}");
+        }
+    }
+}
+
+/// One line of the receiver's table, at one of its sounds and wishes.
+fn assert_receiver_line(rt: &impl Abort, line: ReceiverLine, sound: Sound, wish: Wish) {
+    let ReceiverLine(at, _, _, answers) = line;
+    let before = receiver_at(at);
+    let mut receiver = before;
+    let news = receiver.hear(sound, wish);
+    let accepted = matches!(answers, Answers::Accepts(_));
+    assert_eq!(rt;
+        news.accepted,
+        accepted,
+        "accepted at {at:?} {sound:?} {wish:?}"
+    );
+    let ended = matches!(answers, Answers::Ends);
+    assert_eq!(rt; news.ended, ended, "ended at {at:?} {sound:?} {wish:?}");
+    match answers {
+        Answers::With(reply) | Answers::Accepts(reply) => {
+            assert_eq!(rt;
+                news.reply,
+                Some(reply),
+                "reply at {at:?} {sound:?} {wish:?}"
+            );
+            let again = receiver.hear(Sound::Enq, Wish::Hold).reply;
+            assert_eq!(rt;
+                again,
+                Some(reply),
+                "last reply at {at:?} {sound:?} {wish:?}"
+            );
+        }
+        Answers::Ends => {
+            assert_eq!(rt; news.reply, None, "reply at {at:?} {sound:?} {wish:?}");
+            let again = receiver.hear(Sound::Enq, Wish::Go).reply;
+            assert_eq!(rt; again, None, "a bid at {at:?} {sound:?} {wish:?}");
+        }
+        Answers::NothingChanges => {
+            assert_eq!(rt; news.reply, None, "reply at {at:?} {sound:?} {wish:?}");
+            assert_eq!(rt; receiver, before, "state at {at:?} {sound:?} {wish:?}");
+        }
+    }
+}
+
+fn assert_sender_table(rt: &impl Abort) {
+    for line in &SENDER_TABLE {
+        for sound in line.1 {
+            assert_sender_line(rt, *line, *sound);
+        }
+    }
+}
+
+fn assert_progress_table(rt: &impl Abort) {
+    for line in &PROGRESS_TABLE {
+        let ProgressLine(at, sound, next, pause, leads) = *line;
+        let (due, outcome) = match leads {
+            Leads::Block => (Say::Block, None),
+            Leads::Delay => (Say::Delay, None),
+            Leads::Done => (Say::End, Some(Outcome::Done)),
+            Leads::Turned => (Say::End, Some(Outcome::Turned)),
+        };
+        let mut sender = sender_at(at);
+        sender.hear(sound, next, pause);
+        assert_eq!(rt; sender.say(), due, "due at {line:?}");
+        assert_eq!(rt; sender.outcome(), outcome, "outcome at {line:?}");
+    }
+}
+
+fn assert_receiver_table(rt: &impl Abort) {
+    for line in &RECEIVER_TABLE {
+        for sound in line.1 {
+            for wish in line.2 {
+                assert_receiver_line(rt, *line, *sound, *wish);
+            }
+        }
+    }
+}
+
+#[test]
+fn each_line_of_both_tables_holds(rt: HostRuntime) {
+    assert_sender_table(&rt);
+    assert_progress_table(&rt);
+    assert_receiver_table(&rt);
+}
+
+#[test]
+fn sent_end_moves_from_end_alone(rt: HostRuntime) {
+    for at in ALL_SENDING {
+        let before = sender_at(at);
+        let mut sender = before;
+        sender.sent_end();
+        if let Sending::End = at {
+            assert_eq!(rt; sender.say(), Say::Nothing);
+            assert_eq!(rt; sender.outcome(), Some(Outcome::Done));
+        } else {
+            assert_eq!(rt; sender, before, "at {at:?}");
+        }
+    }
+}
+
+#[test]
+fn a_long_quiet_ends_a_receiver_at_every_place(rt: HostRuntime) {
+    for at in ALL_RECEIVING {
+        let mut receiver = receiver_at(at);
+        receiver.quiet_long();
+        let news = receiver.hear(Sound::Enq, Wish::Go);
+        assert_eq!(rt; news.reply, None, "reply at {at:?}");
+        let news = receiver.hear(Sound::Block, Wish::Go);
+        assert_eq!(rt; news.accepted, false, "accepted at {at:?}");
+    }
+}
+
+#[test]
+fn six_quiet_bids_are_made_up_for_and_a_seventh_gives_up(rt: HostRuntime) {
+    let mut sender = Sender::new();
+    for _ in 0..6 {
+        sender.hear(Sound::Quiet, Next::NewJob, false);
+    }
+    assert_eq!(rt; sender.say(), Say::Bid);
+    let mut granted = sender;
+    granted.hear(Sound::Ack0, Next::NewJob, false);
+    assert_eq!(rt; granted.say(), Say::Block);
+    assert_eq!(rt; granted.outcome(), None);
+    sender.hear(Sound::Quiet, Next::NewJob, false);
+    assert_eq!(rt; sender.say(), Say::End);
+    assert_eq!(rt; sender.outcome(), Some(Outcome::GaveUp));
+}
+
+#[test]
+fn a_bid_is_held_299_times_and_no_more(rt: HostRuntime) {
+    let mut sender = Sender::new();
+    for _ in 0..299 {
+        sender.hear(Sound::Wack, Next::NewJob, false);
+    }
+    assert_eq!(rt; sender.say(), Say::Bid);
+    assert_eq!(rt; sender.outcome(), None);
+    sender.hear(Sound::Wack, Next::NewJob, false);
+    assert_eq!(rt; sender.say(), Say::End);
+    assert_eq!(rt; sender.outcome(), Some(Outcome::GaveUp));
+}
+
+#[test]
+fn a_receiver_answers_turn_by_turn(rt: HostRuntime) {
+    let mut receiver = Receiver::new();
+    for (sound, wish, reply) in [
+        (Sound::Enq, Wish::Go, Reply::Ack0),
+        (Sound::Block, Wish::Turn, Reply::Rvi),
+        (Sound::Enq, Wish::Go, Reply::Rvi),
+        (Sound::Block, Wish::Turn, Reply::Ack0),
+        (Sound::Block, Wish::Hold, Reply::Wack),
+        (Sound::Enq, Wish::Hold, Reply::Wack),
+        (Sound::Enq, Wish::Go, Reply::Ack1),
+    ] {
+        let news = receiver.hear(sound, wish);
+        assert_eq!(rt; news.reply, Some(reply), "at {sound:?} {wish:?}");
+        assert_eq!(rt;
+            news.accepted,
+            sound == Sound::Block,
+            "at {sound:?} {wish:?}"
+        );
+        assert_eq!(rt; news.ended, false, "at {sound:?} {wish:?}");
+    }
+}
+
+#[test]
+fn a_block_before_a_bid_is_not_accepted(rt: HostRuntime) {
+    let mut receiver = Receiver::new();
+    let news = receiver.hear(Sound::Block, Wish::Go);
+    assert_eq!(rt; news.accepted, false);
+    assert_eq!(rt; news.reply, None);
+    let news = receiver.hear(Sound::Enq, Wish::Turn);
+    assert_eq!(rt; news.accepted, false);
+    assert_eq!(rt; news.reply, Some(Reply::Ack0));
+}
