@@ -1,6 +1,7 @@
 //! What no clause says: worked examples from the field, printed texts, statuses, and that calls succeed where memory is ample.
 mod commands;
 mod decks;
+mod files;
 mod frames;
 mod links;
 mod texts;

@@ -1,11 +1,32 @@
--- What holds of the jobs of decks.
+-- What holds of jobs beyond the calls that make, write and read them.
 use Rattle.std.specs.Prelude.{◌≡◌, ℕ, List, None}
+use Rattle.bsc_codes.specs.declared.block.Block.{Block}
 use Rattle.rje_text.specs.declared.mode.Mode.{Mode}
 use Rattle.rje_text.specs.declared.select.Select.{Select}
 use Rattle.rje_text.specs.PackFault.{Fits}
+use Rattle.rje_text.specs.Cut.{IsCut, cut}
+use Rattle.rje_jobs.specs.declared.job.Job.{Job}
+use Rattle.rje_jobs.specs.declared.file_fault.FileFault.{FileFault}
 use Rattle.rje_jobs.specs.Deck.{deck_fault, job_of}
+use Rattle.rje_jobs.specs.JobFile.{IsFileOf, IsJobFile}
+use Rattle.rje_jobs.specs.FileFault.{IsTold}
+use Rattle.rje_jobs.specs.Fitting.{JobFits}
 
 -- the job of a deck without a fault can be sent
 abbrev pub DeckJobsFit : Type 0
 DeckJobsFit = (deck : List ℕ) (select : Select) (mode : Mode) → deck_fault deck ≡ None
     → Fits (job_of select mode deck).select (job_of select mode deck).mode (job_of select mode deck).records
+
+-- bytes are the file of one list of jobs at most
+abbrev pub FileIsOfOneList : Type 0
+FileIsOfOneList = (bytes : List ℕ) (jobs others : List Job) → IsFileOf jobs bytes → IsFileOf others bytes → jobs ≡ others
+
+-- at most one fault is told of bytes
+abbrev pub OneFileFault : Type 0
+OneFileFault = (bytes : List ℕ) (f g : FileFault) → IsTold IsJobFile bytes f → IsTold IsJobFile bytes g → f ≡ g
+
+-- a job that can be sent has a canonical cut, and no other
+abbrev pub FittingJobsAreCut : Type 0
+FittingJobsAreCut = (job : Job) → JobFits job
+    → IsCut job.select job.mode job.records (cut job.select job.mode job.records)
+    × ((blocks : List Block) → IsCut job.select job.mode job.records blocks → blocks ≡ cut job.select job.mode job.records)

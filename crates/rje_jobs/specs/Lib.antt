@@ -1,2 +1,9 @@
 pub mod Deck
+pub mod JobFile
+pub mod FileFault
+pub mod Ascii
+pub mod Listing
+pub mod Punch
+pub mod Fitting
 pub mod Laws
+pub mod Reading

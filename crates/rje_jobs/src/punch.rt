@@ -1,0 +1,57 @@
+//! Jobs as punched cards.
+ghost use Rattle.std.specs.Prelude.{◌≡◌, ◌++◌, ◌-◌, replicate, IfOk, IfErr, OnOk};
+ghost use Rattle.rje_jobs.specs.Punch.{card, punched};
+
+use crate::ascii::push_ascii;
+use crate::cards::CARD;
+use crate::{FileFault, Job};
+use bsc_codes::BLANK;
+use rje_text::Record;
+use std::alloc::{AllocError, Global};
+
+/// How cards are punched.
+#[derive(Clone, Copy, Debug, PartialEq, Eq)]
+pub enum Form {
+    /// Each card a line of ASCII.
+    Ascii,
+    /// Each card's data as they are, filled with blanks to 80 bytes where they are fewer.
+    Raw,
+}
+
+/// The punched cards of a job, one for each record. Nothing is cut off.
+pub fn punch_job(alloc: Global, job: &Job, form: Form) -> Result<Vec<u8>, FileFault>
+    ensures cards { IfOk result (λ bytes. bytes.items ≡ punched form job.now) }
+    ensures memory { IfErr result (λ fault. fault ≡ FileFault.OutOfMemory) }
+{
+    let mut out = Vec::new(alloc);
+    for item in job.records.as_slice() {
+        punch_record(item, form, &mut out)?;
+    }
+    Ok(out)
+}
+
+fn punch_record(item: &Record, form: Form, out: &mut Vec<u8>) -> Result<(), AllocError>
+    ensures { OnOk result (out.new.items ≡ out.old.items ++ card form item.now) }
+{
+    let bytes = item.bytes.as_slice();
+    match form {
+        Form::Ascii => {
+            push_ascii(bytes, out)?;
+            out.extend_from_slice(b"\n")
+        }
+        Form::Raw => {
+            out.extend_from_slice(bytes)?;
+            fill(bytes.len(), out)
+        }
+    }
+}
+
+/// Appends the blanks that fill a card of so many bytes.
+fn fill(length: usize, out: &mut Vec<u8>) -> Result<(), AllocError>
+    ensures { OnOk result (out.new.items ≡ out.old.items ++ replicate (80 - length) BLANK) }
+{
+    for _ in 0..CARD.saturating_sub(length) {
+        out.push(BLANK)?;
+    }
+    Ok(())
+}
