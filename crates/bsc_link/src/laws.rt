@@ -17,7 +17,7 @@ pub fn counts_stay_below_their_limits()
     ensures { CountsStayBelowLimits }
 {}
 
-/// After six turns without progress a sender has not given up, and after the seventh it has.
+/// After six tries in a row a sender has not given up, and with the seventh it has. A turn that ends in a hold is no try.
 pub fn seven_tries_give_up()
     ensures six { SixTriesGoOn }
     ensures seventh { SeventhTryGivesUp }

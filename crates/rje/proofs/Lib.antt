@@ -1,2 +1,4 @@
-pub mod BlocksWords
+pub mod FileWords
+pub mod CardsWords
+pub mod Orders
 pub mod Listings

@@ -1,6 +1,7 @@
 -- What `blocks` prints for a deck (own profile).
 use Rattle.std.specs.Prelude.{◌≡◌, ℕ, ◌+◌, ◌<◌, ◌^◌, List, ◌++◌, length, Option, Some, None, IfSome, sum_by}
 use Rattle.std.specs.Io.KnownBytes.{Appends}
+use Rattle.std.specs.Option.{IsSomeAnd}
 use Rattle.bsc_codes.specs.declared.block.Block.{Block}
 use Rattle.rje_text.specs.declared.mode.Mode.{Mode}
 use Rattle.rje_text.specs.declared.mode.Mode.TheVariants.{Normal}
@@ -35,6 +36,10 @@ PrintsBlocks deck before after = (text : List ℕ) × IsBlockListing deck text �
 -- where what was read is told, just its block listing was written
 abbrev pub PrintsRead : Option (List ℕ) → Option (List ℕ) → Option (List ℕ) → Type 0
 PrintsRead read before after = IfSome read (λ deck. PrintsBlocks deck before after)
+
+-- there is such a file, and just its block listing was written
+abbrev pub PrintsDeckFile : Option (List ℕ) → Option (List ℕ) → Option (List ℕ) → Type 0
+PrintsDeckFile file before after = IsSomeAnd file (λ deck. PrintsBlocks deck before after)
 
 -- Below, the listing as it grows; private functions cite it.
 

@@ -2,6 +2,9 @@ pub mod Store
 pub mod MemoryStore
 pub mod Printing
 pub mod Blocks
+pub mod Device
+pub mod JobTexts
+pub mod Commands
 pub mod CommandFault
 pub mod CommandLine
 pub use Rattle.clap.specs.Words

@@ -1,22 +1,24 @@
 //! One run of the program over files, a reader and two writers.
-ghost use Rattle.std.specs.Prelude.{◌≡◌, ◌≢◌, ℕ, List, [], ◌∷◌, Some, true, map, codes, IfSome, OnOk, IfOk, IsOk, MatchResult};
-ghost use Rattle.rje.specs.Store.{Has};
-ghost use Rattle.rje.specs.Blocks.{PrintsBlocks, PrintsRead};
-ghost use Rattle.rje.specs.CommandLine.{is_file, IsBlocks};
+ghost use Rattle.std.specs.Prelude.{◌≡◌, ◌≢◌, ◌⊎◌, ℕ, List, [], ◌∷◌, Some, true, map, codes, IfSome, IfOk, IfErr, OnOk, IsOk, MatchResult};
+ghost use Rattle.std.specs.Option.{IsSomeAnd};
+ghost use Rattle.rje.specs.Blocks.{PrintsRead, PrintsDeckFile};
+ghost use Rattle.rje.specs.CommandFault.{status_of};
+ghost use Rattle.rje.specs.CommandLine.{is_file, is_name, device_words, IsBlocks, IsCards, IsShow, IsCheck, IsPrint};
+ghost use Rattle.rje.specs.Commands.{PrintsFile, MakesCards, Does};
+ghost use Rattle.rje.specs.JobTexts.{IsShown, IsGood, IsPaper};
+ghost use Rattle.rje.specs.Store.{Tells, IsSame};
 ghost use Rattle.clap.specs.Words.{kind_of};
 
 use crate::command_fault::CommandFault;
-use crate::commands::block_listing;
-use crate::reading::read_all;
-use crate::store::{Store, StoreFault};
-use crate::words::{Order, parse};
+use crate::commands::{STANDARD_INPUT, blocks, cards, check, print, show};
+use crate::device::Device;
+use crate::order::Order;
+use crate::store::Store;
+use crate::words::parse;
 use clap::Error;
 use clap::error::ErrorKind;
 use std::alloc::Global;
 use std::io::{Read, Write};
-
-/// Names standard input where a file is asked for.
-const STANDARD_INPUT: &str = "-";
 
 /// Runs the command that these words ask for, which are those behind the program's name, and answers its exit status.
 /// No words ask for the blocks of the deck on standard input. What the command gives goes to `out`, and why it fails to `err`.
@@ -33,17 +35,26 @@ pub fn command<S: Store, I: Read, O: Write, E: Write>(
     ensures blocks_of_input { map (λ word. word.now) words.now ≡ codes "blocks" ∷ codes "-" ∷ [] → result ≡ 0
         → PrintsRead (I.remaining input.old) (O.contents out.old) (O.contents out.new) }
     ensures blocks_of_file { (name : List ℕ) → map (λ word. word.now) words.now ≡ codes "blocks" ∷ name ∷ [] → is_file name ≡ true → name ≢ codes "-" → result ≡ 0
-        → IfSome (S.files store.old) (λ files. PrintsRead (files name) (O.contents out.old) (O.contents out.new)) }
+        → IfSome (S.files store.old) (λ files. PrintsDeckFile (files name) (O.contents out.old) (O.contents out.new)) }
+    ensures cards_of_input { (jobs : List ℕ) (device : Device) → map (λ word. word.now) words.now ≡ codes "cards" ∷ codes "-" ∷ jobs ∷ device_words device
+        → is_name jobs ≡ true → result ≡ 0
+        → IfSome (I.remaining input.old) (λ deck. MakesCards device deck jobs (S.files store.old) (S.files store.new) (O.contents out.old) (O.contents out.new)) }
+    ensures cards_of_file { (name jobs : List ℕ) (device : Device) → map (λ word. word.now) words.now ≡ codes "cards" ∷ name ∷ jobs ∷ device_words device
+        → is_file name ≡ true → name ≢ codes "-" → is_name jobs ≡ true → result ≡ 0
+        → IfSome (S.files store.old) (λ files. IsSomeAnd (files name) (λ deck. MakesCards device deck jobs (S.files store.old) (S.files store.new) (O.contents out.old) (O.contents out.new))) }
+    ensures show { (name : List ℕ) → map (λ word. word.now) words.now ≡ codes "show" ∷ name ∷ [] → is_name name ≡ true → result ≡ 0
+        → IfSome (S.files store.old) (λ files. PrintsFile IsShown (files name) (O.contents out.old) (O.contents out.new)) }
+    ensures check { (name : List ℕ) → map (λ word. word.now) words.now ≡ codes "check" ∷ name ∷ [] → is_name name ≡ true → result ≡ 0
+        → IfSome (S.files store.old) (λ files. PrintsFile IsGood (files name) (O.contents out.old) (O.contents out.new)) }
+    ensures print { (name : List ℕ) → map (λ word. word.now) words.now ≡ codes "print" ∷ name ∷ [] → is_name name ≡ true → result ≡ 0
+        → IfSome (S.files store.old) (λ files. PrintsFile IsPaper (files name) (O.contents out.old) (O.contents out.new)) }
+    ensures files_kept { result ≢ 0 → result ≢ 3 → Tells (S.files store.old) (S.files store.new) IsSame }
 {
     let order = match order_of(alloc, words) {
         Ok(order) => order,
         Err(error) => return tell_words(&error, out, err),
     };
-    let done = match order {
-        Order::Blocks(name) => blocks(alloc, name, store, input, out),
-        Order::Nothing => return 2,
-    };
-    match done {
+    match carry_out(alloc, order, store, input, out) {
         Ok(()) => 0,
         Err(fault) => tell(&fault, err),
     }
@@ -54,6 +65,15 @@ fn order_of<'a>(alloc: Global, words: &'a [&'a str]) -> Result<Order<'a>, Error>
     ensures no_words { words.entry.now ≡ [] → IfOk result (IsBlocks (codes "-")) × IsOk result }
     ensures blocks { (deck : List ℕ) → map (λ word. word.now) words.entry.now ≡ codes "blocks" ∷ deck ∷ [] → is_file deck ≡ true
         → MatchResult result (IsBlocks deck) (λ error. kind_of error ≡ ErrorKind.OutOfMemory) }
+    ensures cards { (deck jobs : List ℕ) (device : Device) → map (λ word. word.now) words.entry.now ≡ codes "cards" ∷ deck ∷ jobs ∷ device_words device
+        → is_file deck ≡ true → is_name jobs ≡ true
+        → MatchResult result (IsCards deck jobs device) (λ error. kind_of error ≡ ErrorKind.OutOfMemory) }
+    ensures show { (jobs : List ℕ) → map (λ word. word.now) words.entry.now ≡ codes "show" ∷ jobs ∷ [] → is_name jobs ≡ true
+        → MatchResult result (IsShow jobs) (λ error. kind_of error ≡ ErrorKind.OutOfMemory) }
+    ensures check { (jobs : List ℕ) → map (λ word. word.now) words.entry.now ≡ codes "check" ∷ jobs ∷ [] → is_name jobs ≡ true
+        → MatchResult result (IsCheck jobs) (λ error. kind_of error ≡ ErrorKind.OutOfMemory) }
+    ensures print { (jobs : List ℕ) → map (λ word. word.now) words.entry.now ≡ codes "print" ∷ jobs ∷ [] → is_name jobs ≡ true
+        → MatchResult result (IsPrint jobs) (λ error. kind_of error ≡ ErrorKind.OutOfMemory) }
 {
     if words.is_empty() {
         return Ok(Order::Blocks(STANDARD_INPUT));
@@ -61,60 +81,32 @@ fn order_of<'a>(alloc: Global, words: &'a [&'a str]) -> Result<Order<'a>, Error>
     parse(alloc, words)
 }
 
-/// Prints the blocks of a deck.
-fn blocks<'a, S: Store, I: Read, O: Write>(
+/// Does what an order asks for.
+fn carry_out<'a, S: Store, I: Read, O: Write>(
     alloc: Global,
-    name: &'a str,
+    order: Order<'a>,
     store: &mut S,
     input: &mut I,
     out: &mut O,
 ) -> Result<(), CommandFault<'a>>
-    ensures input { name.entry.now ≡ codes "-" → OnOk result (PrintsRead (I.remaining input.old) (O.contents out.old) (O.contents out.new)) }
-    ensures file { name.entry.now ≢ codes "-"
-        → OnOk result (IfSome (S.files store.old) (λ files. PrintsRead (files name.entry.now) (O.contents out.old) (O.contents out.new))) }
+    ensures done { OnOk result (Does order.entry (S.files store.old) (S.files store.new) (I.remaining input.old) (O.contents out.old) (O.contents out.new)) }
+    ensures kept { IfErr result (λ fault. fault ≢ CommandFault.Output → Tells (S.files store.old) (S.files store.new) IsSame) }
 {
-    match read(alloc, name, store, input) {
-        Ok(deck) => print_blocks(alloc, deck.as_slice(), out),
-        Err(StoreFault::OutOfMemory) => Err(CommandFault::OutOfMemory),
-        Err(StoreFault::Failed) => Err(CommandFault::CannotRead(name)),
+    match order {
+        Order::Blocks(deck) => blocks(alloc, deck, store, input, out),
+        Order::Cards(order) => cards(alloc, order, store, input, out),
+        Order::Show(jobs) => show(alloc, jobs, store, out),
+        Order::Check(jobs) => check(alloc, jobs, store, out),
+        Order::Print(jobs) => print(alloc, jobs, store, out),
+        Order::TwoDevices => Err(CommandFault::TwoDevices),
+        Order::Nothing => Err(CommandFault::NoCommand),
     }
-}
-
-/// The bytes of a file, or of standard input.
-fn read<S: Store, I: Read>(
-    alloc: Global,
-    name: &str,
-    store: &mut S,
-    input: &mut I,
-) -> Result<Vec<u8>, StoreFault>
-    ensures input { name.now ≡ codes "-" → IfOk result (λ bytes. IfSome (I.remaining input.old) (λ rest. bytes.items ≡ rest)) }
-    ensures file { name.now ≢ codes "-" → IfOk result (λ bytes. Has (S.files store.old) name.now bytes.items) }
-{
-    if name == STANDARD_INPUT {
-        read_all(alloc, input)
-    } else {
-        store.read(alloc, name)
-    }
-}
-
-/// Prints the blocks of this deck.
-fn print_blocks<'a, O: Write>(
-    alloc: Global,
-    deck: &[u8],
-    out: &mut O,
-) -> Result<(), CommandFault<'a>>
-    ensures { OnOk result (PrintsBlocks deck.now (O.contents out.old) (O.contents out.new)) }
-{
-    let listing = block_listing(alloc, deck)?;
-    if out.write_all(listing.as_slice()).is_err() {
-        return Err(CommandFault::Output);
-    }
-    Ok(())
 }
 
 /// Tells why the command fails, and answers its status.
 fn tell<E: Write>(fault: &CommandFault, err: &mut E) -> u8
-    ensures { result ≢ 0 }
+    ensures failed { result ≢ 0 }
+    ensures status { (result ≡ 3) ⊎ (result ≡ status_of fault.now) }
 {
     if writeln!(err, "rje: {fault}").is_err() {
         return CommandFault::Output.status();

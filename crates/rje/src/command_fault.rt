@@ -1,7 +1,8 @@
 //! Why a command fails.
 ghost use Rattle.std.specs.Prelude.{◌≡◌};
+ghost use Rattle.rje.specs.declared.command_fault.CommandFault.TheVariants.{Deck, File};
 
-use rje_jobs::DeckFault;
+use rje_jobs::{DeckFault, FileFault};
 use thiserror::Error;
 
 /// Why a command ends with another status than 0.
@@ -13,9 +14,24 @@ pub enum CommandFault<'a> {
     /// The deck makes no job.
     #[error("{0}")]
     Deck(DeckFault),
+    /// The job file isn't read, or can't be made.
+    #[error("{0}")]
+    File(FileFault),
+    /// The job of this number, from 1, can't be sent.
+    #[error("job {0} can't be sent")]
+    BadJob(usize),
+    /// More than one device was chosen.
+    #[error("choose one device")]
+    TwoDevices,
+    /// The words name no command.
+    #[error("no command")]
+    NoCommand,
     /// The file of this name can't be read.
     #[error("can't read {0}")]
     CannotRead(&'a str),
+    /// The file of this name can't be written.
+    #[error("can't write {0}")]
+    CannotWrite(&'a str),
     /// Standard output can't be written.
     #[error("can't write standard output")]
     Output,
@@ -24,20 +40,34 @@ pub enum CommandFault<'a> {
 impl CommandFault<'_> {
     ghost use Rattle.rje.specs.CommandFault.{status_of};
 
-    /// The exit status: 1 for an input that is refused, 3 for a file or an output that fails, 5 for want of memory.
+    /// The exit status: 1 for an input that is refused, 2 for words that ask for two things or none,
+    /// 3 for a file or an output that fails, 5 for want of memory.
     pub fn status(&self) -> u8
         ensures { result ≡ status_of self.now }
     {
         match self {
-            CommandFault::Deck(DeckFault::OutOfMemory) | CommandFault::OutOfMemory => 5,
-            CommandFault::Deck(_) => 1,
-            CommandFault::CannotRead(_) | CommandFault::Output => 3,
+            CommandFault::OutOfMemory
+            | CommandFault::Deck(DeckFault::OutOfMemory)
+            | CommandFault::File(FileFault::OutOfMemory) => 5,
+            CommandFault::Deck(_) | CommandFault::File(_) | CommandFault::BadJob(_) => 1,
+            CommandFault::TwoDevices | CommandFault::NoCommand => 2,
+            CommandFault::CannotRead(_) | CommandFault::CannotWrite(_) | CommandFault::Output => 3,
         }
     }
 }
 
 impl From<DeckFault> for CommandFault<'_> {
+    ghost from_gives = { λ fault told. told ≡ Deck fault };
+
     fn from(fault: DeckFault) -> Self {
         CommandFault::Deck(fault)
+    }
+}
+
+impl From<FileFault> for CommandFault<'_> {
+    ghost from_gives = { λ fault told. told ≡ File fault };
+
+    fn from(fault: FileFault) -> Self {
+        CommandFault::File(fault)
     }
 }

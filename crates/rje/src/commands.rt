@@ -1,4 +1,15 @@
-//! What the program's commands work out.
+//! The program's commands, each over a store of files, a reader and a writer.
 mod blocks;
+mod cards;
+mod check;
+mod inputs;
+mod output;
+mod print;
+mod show;
 
-pub use blocks::block_listing;
+pub use blocks::blocks;
+pub use cards::cards;
+pub use check::check;
+pub use inputs::STANDARD_INPUT;
+pub use print::print;
+pub use show::show;

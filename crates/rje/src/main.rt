@@ -4,8 +4,10 @@
 mod command;
 mod command_fault;
 mod commands;
+mod device;
 mod file_store;
 mod memory_store;
+mod order;
 mod printing;
 mod reading;
 mod store;

@@ -3,6 +3,7 @@ mod commands;
 mod decks;
 mod files;
 mod frames;
+mod job_commands;
 mod links;
 mod texts;
 

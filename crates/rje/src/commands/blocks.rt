@@ -1,13 +1,18 @@
 //! `blocks`: the blocks of a deck's job, and how many records come back.
-ghost use Rattle.std.specs.Prelude.{◌≡◌, ◌+◌, ◌<◌, ◌≤◌, ◌^◌, ◌++◌, ◌∷◌, [], length, List, None, IfOk, IfErr, OnOk, option_to_list};
+ghost use Rattle.std.specs.Prelude.{◌≡◌, ◌≢◌, ◌+◌, ◌<◌, ◌≤◌, ◌^◌, ◌++◌, ◌∷◌, [], codes, length, List, None, IfOk, IfErr, IfSome, OnOk, option_to_list};
 ghost use Rattle.rje_jobs.specs.Deck.{IsTold};
 ghost use Rattle.rje_text.specs.PackFault.{Fits, pack_fault};
 ghost use Rattle.rje_text.specs.Packing.{packed};
 ghost use Rattle.rje_text.specs.declared.record.Record.{Record as Item};
-ghost use Rattle.rje.specs.Blocks.{IsBlockListing, ListsBlocks, AddsBlock, CanAdd, CountsBlock};
+ghost use Rattle.rje.specs.Blocks.{IsBlockListing, ListsBlocks, PrintsRead, PrintsDeckFile, AddsBlock, CanAdd, CountsBlock};
 ghost use Rattle.rje.specs.Printing.{back_line};
+ghost use Rattle.rje.specs.Store.{Tells, IsSame};
 
+use crate::command_fault::CommandFault;
+use crate::commands::inputs::read_deck;
+use crate::commands::output::put;
 use crate::printing::{PrintedLine, push_back, push_block};
+use crate::store::Store;
 use bsc_codes::Block;
 use rje_jobs::{Cards, DeckFault, cards_of_deck, deck_jobs_fit};
 use rje_text::{
@@ -15,9 +20,28 @@ use rje_text::{
     packing_is_the_cut, unpack,
 };
 use std::alloc::{AllocError, Global};
+use std::io::{Read, Write};
+
+/// Prints the blocks of a deck's job, and how many records reading these blocks gives.
+pub fn blocks<'a, S: Store, I: Read, O: Write>(
+    alloc: Global,
+    name: &'a str,
+    store: &mut S,
+    input: &mut I,
+    out: &mut O,
+) -> Result<(), CommandFault<'a>>
+    ensures input { name.entry.now ≡ codes "-" → OnOk result (PrintsRead (I.remaining input.old) (O.contents out.old) (O.contents out.new)) }
+    ensures file { name.entry.now ≢ codes "-"
+        → OnOk result (IfSome (S.files store.old) (λ files. PrintsDeckFile (files name.entry.now) (O.contents out.old) (O.contents out.new))) }
+    ensures same { Tells (S.files store.old) (S.files store.new) IsSame }
+{
+    let deck = read_deck(alloc, name, store, input)?;
+    let listing = block_listing(alloc, deck.as_slice())?;
+    put(listing.as_slice(), out)
+}
 
 /// What `blocks` prints for a deck: a line for each block of its job, and how many records reading these blocks gives.
-pub fn block_listing(alloc: Global, deck: &[u8]) -> Result<Vec<u8>, DeckFault>
+fn block_listing(alloc: Global, deck: &[u8]) -> Result<Vec<u8>, DeckFault>
     ensures listing { IfOk result (λ text. IsBlockListing deck.now text.items) }
     ensures told { IfErr result (λ fault. IsTold deck.now fault) }
 {

@@ -454,54 +454,32 @@ fn assert_sender_line(rt: &impl Abort, line: SenderLine, sound: Sound) {
     let SenderLine(at, _, follows) = line;
     let pause = matches!(at, Sending::PausedDelay);
     let before = sender_at(at);
-    let mut sender = before;
-    let news = sender.hear(sound, Next::Block, pause);
+    let mut after = before;
+    let news = after.hear(sound, Next::Block, pause);
     let counted = matches!(follows, Follows::Counted);
     assert_eq!(rt; news.counted, counted, "counted at {at:?} {sound:?}");
+    let (tries, holds) = (tries_of(before), holds_of(before));
     match follows {
-        Follows::Progress | Follows::Counted => {
-            assert_eq!(rt; sender.say(), Say::Block, "due at {at:?} {sound:?}");
-            assert_eq!(rt; tries_of(sender), 0, "tries at {at:?} {sound:?}");
-            assert_eq!(rt; holds_of(sender), 0, "holds at {at:?} {sound:?}");
-        }
-        Follows::Try(due) => {
-            assert_eq!(rt; sender.say(), due, "due at {at:?} {sound:?}");
-            assert_eq!(rt;
-                tries_of(sender),
-                tries_of(before) + 1,
-                "tries at {at:?} {sound:?}"
-            );
-            assert_eq!(rt;
-                holds_of(sender),
-                holds_of(before),
-                "holds at {at:?} {sound:?}"
-            );
-        }
-        Follows::Hold(due) => {
-            assert_eq!(rt; sender.say(), due, "due at {at:?} {sound:?}");
-            assert_eq!(rt;
-                tries_of(sender),
-                tries_of(before),
-                "tries at {at:?} {sound:?}"
-            );
-            assert_eq!(rt;
-                holds_of(sender),
-                holds_of(before) + 1,
-                "holds at {at:?} {sound:?}"
-            );
-        }
+        Follows::Progress | Follows::Counted => assert_waits(rt, after, Say::Block, 0, 0),
+        Follows::Try(due) => assert_waits(rt, after, due, tries + 1, holds),
+        Follows::Hold(due) => assert_waits(rt, after, due, tries, holds + 1),
         Follows::OverEnded => {
-            assert_eq!(rt; sender.say(), Say::Nothing, "due at {at:?} {sound:?}");
+            assert_eq!(rt; after.say(), Say::Nothing, "due at {at:?} {sound:?}");
             assert_eq!(rt;
-                sender.outcome(),
+                after.outcome(),
                 Some(Outcome::Ended),
                 "outcome at {at:?} {sound:?}"
             );
         }
-        Follows::NothingChanges => {
-            assert_eq!(rt; sender, before, "state at {at:?} {sound:?}");
-        }
+        Follows::NothingChanges => assert_eq!(rt; after, before, "state at {at:?} {sound:?}"),
     }
+}
+
+/// The sender goes on with this, and has counted so many tries and holds.
+fn assert_waits(rt: &impl Abort, sender: Sender, due: Say, tries: usize, holds: usize) {
+    assert_eq!(rt; sender.say(), due, "due of {sender:?}");
+    assert_eq!(rt; tries_of(sender), tries, "tries of {sender:?}");
+    assert_eq!(rt; holds_of(sender), holds, "holds of {sender:?}");
 }
 
 /// One line of the receiver's table, at one of its sounds and wishes.

@@ -1,6 +1,6 @@
-use Rattle.std.proofs.Common.{ap, true, ◌∙◌}
+use Rattle.std.proofs.Common.{ap, true, codes, ◌∙◌}
 use Rattle.clap.specs.Simple.{on_top, app_of_fields}
-use Rattle.rje.specs.CommandLine.{IsApp, rje_top, blocks_app}
+use Rattle.rje.specs.CommandLine.{IsApp, rje_top, blocks_app, cards_app, file_app}
 use Rattle.rje.proofs.words.program.Goals as goal
 
 pub returns : goal.returns
@@ -10,4 +10,8 @@ returns c =
       ap app_of_fields set ∙ ap (on_top (λ s. record s { no_binary_name = true; subcommand_required = true })) c.new.ensures.app,
       ap (λ f. f.has_globals) set ∙ c.new.ensures.local,
     ) in
-    c.with_command.ensures rje_top blocks_app top c.in_ok-blocks.ensures
+    let cards = c.in_ok-top-2.ensures rje_top cards_app top c.in_ok-cards.ensures in
+    let blocks = c.in_ok-top-3.ensures _ blocks_app cards c.in_ok-blocks.ensures in
+    let show = c.in_ok-top-4.ensures _ (file_app (codes "show") (codes "JOBS")) blocks c.in_ok-show.ensures in
+    let check = c.in_ok-top-5.ensures _ (file_app (codes "check") (codes "JOBS")) show c.in_ok-check.ensures in
+    c.with_command-5.ensures _ (file_app (codes "print") (codes "JOBS")) check c.in_ok-print.ensures
