@@ -1,12 +1,6 @@
-use Rattle.std.proofs.Common.{ap, ◌+◌}
-use Rattle.std.specs.Option.{option_map}
-use Rattle.bsc_codes.specs.CodePage.{ascii_of, page_037}
+use Rattle.std.proofs.Common.{sym, ◌∙◌}
+use Rattle.bsc_codes.proofs.Reverse.{none_at}
 use Rattle.bsc_codes.proofs.code_page.to_ascii.Goals as goal
 
-pub returns-in-Some : goal.returns-in-Some
-unfolding ascii_of page_037
-returns-in-Some c = ap (option_map (λ i. i + 32)) c.in-Some.ensures.place
-
-pub returns-in-None : goal.returns-in-None
-unfolding ascii_of page_037
-returns-in-None c = ap (option_map (λ i. i + 32)) c.in-None.ensures.place
+pub returns-then-character-eq0 : goal.returns-then-character-eq0
+returns-then-character-eq0 c = sym (none_at c.args.ebcdic (sym c.character_or_zero-character.ensures ∙ c.if-character-eq0.true))
