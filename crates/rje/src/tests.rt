@@ -1,10 +1,13 @@
 //! What no clause says: worked examples from the field, printed texts, statuses, and that calls succeed where memory is ample.
 mod commands;
+mod conversations;
 mod decks;
 mod files;
 mod frames;
 mod job_commands;
 mod links;
+mod refusals;
+mod stations;
 mod texts;
 
 use crate::memory_store::MemoryStore;

@@ -9,3 +9,4 @@ pub mod TheCut
 pub mod ReadBack
 pub mod Prefixes
 pub mod OneFault
+pub mod NextBlocks

@@ -63,7 +63,7 @@ blanks_stand m =
     (Stands-append (full_counts_stand (m / 63)) (rest_stands (m % 63) (omega arith)))
 
 -- data bytes that a normal text can carry
-abbrev AreData : List ℕ → Type 0
+abbrev pub AreData : List ℕ → Type 0
 AreData xs = AllByRecursion (λ x. 0x40 ≤ x) xs
 
 behind_stands : (m : ℕ) (xs : List ℕ) → AreData xs → Stands (behind m xs) (replicate m BLANK ++ xs)
@@ -79,10 +79,10 @@ behind_stands m (x ∷ xs) h =
     (cases_eq x BLANK)
 
 -- a byte of compressed data: an IGS, or one that ends no record, selects nothing and begins no action
-abbrev IsQuiet : ℕ → Type 0
+abbrev pub IsQuiet : ℕ → Type 0
 IsQuiet x = (x ≡ IGS) ⊎ (0x40 ≤ x)
 
-abbrev AreQuiet : List ℕ → Type 0
+abbrev pub AreQuiet : List ℕ → Type 0
 AreQuiet xs = AllByRecursion IsQuiet xs
 
 quiet-append : (xs ys : List ℕ) → AreQuiet xs → AreQuiet ys → AreQuiet (xs ++ ys)
@@ -109,7 +109,7 @@ behind_quiet m (x ∷ xs) h =
     (λ (n : x ≢ BLANK). rw (behind_byte m x xs n) (quiet-append (run_text (Blanks m)) (x ∷ behind 0 xs) (blanks_quiet m) (inr h.0, behind_quiet 0 xs h.1)))
     (cases_eq x BLANK)
 
-compressed_quiet : (xs : List ℕ) → AreData xs → AreQuiet (compressed xs)
+pub compressed_quiet : (xs : List ℕ) → AreData xs → AreQuiet (compressed xs)
 unfolding compressed
 compressed_quiet xs h = behind_quiet 0 xs h
 
@@ -158,9 +158,12 @@ no_place : (o : Option ℕ) → option_map BadByte o ≡ None → o ≡ None
 no_place None h = refl
 no_place (Some p) h = absurd (some_none (BadByte p) h)
 
-sent_data : (job : Select) (r : Record) → IsSent job Normal r → AreData r.bytes.items
+pub data_of : (job : Select) (r : Record) → pack_fault job Normal r ≡ None → AreData r.bytes.items
 unfolding pack_fault
-sent_data job r h = data_from r.bytes.items (none_past _ _ (no_place (position is_no_data_byte r.bytes.items) (or_parts _ _ h.1).0))
+data_of job r h = data_from r.bytes.items (none_past _ _ (no_place (position is_no_data_byte r.bytes.items) (or_parts _ _ h).0))
+
+sent_data : (job : Select) (r : Record) → IsSent job Normal r → AreData r.bytes.items
+sent_data job r h = data_of job r h.1
 
 record_is : (r : Record) (a : Action) → r.action ≡ a → record { action = a; bytes = record { items = r.bytes.items } } ≡ r
 record_is r a e = let f = sym e in λ i. record { action = f i; bytes = r.bytes }

@@ -1,5 +1,5 @@
 -- What holds of spelling, cutting and reading.
-use Rattle.std.specs.Prelude.{◌≡◌, ◌↔◌, ℕ, ◌≤◌, List, [], ◌∷◌, length, Option, Some, None}
+use Rattle.std.specs.Prelude.{◌≡◌, ◌↔◌, ℕ, ◌≤◌, List, [], ◌∷◌, ◌++◌, length, Option, Some, None}
 use Rattle.std.specs.List.{flat_map, AllByRecursion}
 use Rattle.bsc_codes.specs.declared.block.Block.{Block}
 use Rattle.rje_text.specs.declared.mode.Mode.{Mode}
@@ -15,6 +15,7 @@ use Rattle.rje_text.specs.TextFault.{IsTold}
 use Rattle.rje_text.specs.PackFault.{Fits}
 use Rattle.rje_text.specs.Cut.{IsCut, cut}
 use Rattle.rje_text.specs.Packing.{new_packing, packed}
+use Rattle.rje_text.specs.NextBlock.{IsNextBlock, AreBlocksBefore, AreBlocksTo}
 
 -- an action's code stands for that action and for no other
 abbrev pub ActionCodesAreInverse : Type 0
@@ -63,3 +64,9 @@ OneFault = (b : Block) (so_far : Option Mode) (f g : TextFault) → IsTold b so_
 -- a new packer that is pushed a job's records gives the blocks of its canonical cut
 abbrev pub PackingIsTheCut : Type 0
 PackingIsTheCut = (select : Select) (mode : Mode) (records : List Record) → packed (new_packing select mode) records ≡ cut select mode records
+
+-- no blocks are before the first record, and the block that begins behind whole blocks is the cut's next one
+abbrev pub BlocksAreOfTheCut : Type 0
+BlocksAreOfTheCut = (select : Select) (mode : Mode) (records : List Record) → AreBlocksBefore select mode records 0 []
+    × ((from to : ℕ) (before : List Block) (block : Block) → AreBlocksBefore select mode records from before
+    → IsNextBlock select mode records from block to → AreBlocksTo select mode records block.closing to (before ++ block ∷ []))

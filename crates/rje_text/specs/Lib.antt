@@ -6,4 +6,5 @@ pub mod RecordText
 pub mod PackFault
 pub mod Cut
 pub mod Packing
+pub mod NextBlock
 pub mod Laws

@@ -1,5 +1,5 @@
 //! What the texts promise beyond the calls: laws of the definitions that the calls cite.
-ghost use Rattle.rje_text.specs.Laws.{ActionCodesAreInverse, SpellingIsShort, CutReadsBack, CutIsCut, CutIsTheOnlyOne, OneFault, PackingIsTheCut};
+ghost use Rattle.rje_text.specs.Laws.{ActionCodesAreInverse, SpellingIsShort, CutReadsBack, CutIsCut, CutIsTheOnlyOne, OneFault, PackingIsTheCut, BlocksAreOfTheCut};
 
 /// An action's code stands for that action and for no other.
 pub fn action_codes_are_inverse()
@@ -21,6 +21,12 @@ pub fn cut_is_canonical()
 /// close(true) at the end, gives its canonical cut.
 pub fn packing_is_the_cut()
     ensures { PackingIsTheCut }
+{}
+
+/// Where the records before a place are whole blocks of the canonical cut, the block that begins there is the cut's next one, and the
+/// records before the place after it are whole blocks too.
+pub fn blocks_are_of_the_cut()
+    ensures { BlocksAreOfTheCut }
 {}
 
 /// Reading the blocks of a job's canonical cut, in order, gives the job; no block is refused for its mode.

@@ -2,6 +2,7 @@
 #![tactic(auto)]
 
 mod action;
+mod block_at;
 mod cards;
 mod laws;
 mod mode;
@@ -18,9 +19,10 @@ mod unpacked;
 mod unpacking;
 
 pub use action::Action;
+pub use block_at::next_block;
 pub use laws::{
-    action_codes_are_inverse, cut_is_canonical, cut_reads_back, one_fault, packing_is_the_cut,
-    spelling_is_short,
+    action_codes_are_inverse, blocks_are_of_the_cut, cut_is_canonical, cut_reads_back, one_fault,
+    packing_is_the_cut, spelling_is_short,
 };
 pub use mode::Mode;
 pub use pack_fault::PackFault;

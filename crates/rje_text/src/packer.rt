@@ -1,5 +1,5 @@
 //! Records into blocks.
-ghost use Rattle.std.specs.Prelude.{◌≡◌, ◌≤◌, [], length, IfOk};
+ghost use Rattle.std.specs.Prelude.{◌≡◌, ◌≤◌, [], length, false, IfOk, if◌then◌else◌};
 
 use crate::spelling::{TextInHand, append, spell};
 use crate::{Mode, PackFault, Pushed, Record, Select};
@@ -30,7 +30,8 @@ impl Model for Packer {
 }
 
 impl Packer {
-    ghost use Rattle.rje_text.specs.Packing.{new_packing, Pushes, block_in_hand, after_close};
+    ghost use Rattle.rje_text.specs.Packing.{new_packing, Pushes, block_in_hand, after_close, has_room, with_record};
+    ghost use Rattle.rje_text.specs.Spelling.{spelling};
 
     /// A packer for jobs of this selection and mode, at the beginning of a job.
     pub fn new(select: Select, mode: Mode) -> Self
@@ -39,6 +40,17 @@ impl Packer {
         let mut text = ArrayVec::new();
         select_device(select, mode, &mut text);
         Packer { select, mode, text }
+    }
+
+    /// A packer in the middle of a job, with no text in hand.
+    pub(crate) fn later(select: Select, mode: Mode) -> Self
+        ensures { result ≡ after_close (new_packing select mode) false }
+    {
+        Packer {
+            select,
+            mode,
+            text: ArrayVec::new(),
+        }
     }
 
     /// Puts a record into the block in hand, if it can be sent and there is room for it. A record that can't be sent is dropped,
@@ -52,13 +64,26 @@ impl Packer {
         if let Some(fault) = PackFault::of(&item, self.select, self.mode) {
             return Err(fault);
         }
+        if self.take(&item) {
+            Ok(Pushed::Taken)
+        } else {
+            Ok(Pushed::Full(item))
+        }
+    }
+
+    /// Puts a record into the block in hand, if there is room for it.
+    pub(crate) fn take(&mut self, item: &Record) -> bool
+        ensures room { result ≡ has_room self.old item.now }
+        ensures taken { self.new ≡ (if result then with_record self.old item.now else self.old) }
+        ensures short { length (spelling self.old.mode item.now) ≤ 147 }
+    {
         let before = self.text.len();
-        spell(&item, self.mode, &mut self.text);
+        spell(item, self.mode, &mut self.text);
         if MAX_TEXT_SENT < self.text.len() {
             self.text.truncate(before);
-            return Ok(Pushed::Full(item));
+            return false;
         }
-        Ok(Pushed::Taken)
+        true
     }
 
     /// The block of what was taken since the last one: a job's last block, or one that more blocks follow. After a last block the

@@ -49,6 +49,15 @@ impl Records {
         Ok(())
     }
 
+    /// Puts other records behind these. Without memory for all of them nothing changes.
+    pub fn append(&mut self, others: Records) -> Result<(), AllocError>
+        ensures ok { OnOk result (self.new ≡ self.old ++ others) }
+        ensures err { OnErr result (self.new ≡ self.old) }
+    {
+        let mut items = others.items;
+        self.items.append(&mut items)
+    }
+
     /// The records as a slice.
     pub fn as_slice(&self) -> &[Record]
         ensures { result.now ≡ self.now }

@@ -1,0 +1,15 @@
+pub mod Line
+pub mod Got
+pub mod Replies
+pub mod Phases
+pub mod Agreement
+pub mod Saying
+pub mod Within
+pub mod Lines
+pub mod SenderCore
+pub mod ReceiverCore
+pub mod Schedule
+pub mod Turns
+pub mod OneConversation
+pub mod Settled
+pub mod Pieces

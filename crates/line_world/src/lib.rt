@@ -1,0 +1,24 @@
+//! Both ends of a line over a whole conversation: the rules of history, the law that both ends agree, and the link cores over a schedule.
+#![tactic(auto)]
+
+mod cores;
+mod due;
+mod laws;
+mod memory_line;
+mod rules;
+mod sound_fate;
+mod sound_fault;
+mod sound_report;
+mod sound_turn;
+mod spoken_turn;
+
+pub use cores::{converse, hear_answer, next_of, taken};
+pub use due::Due;
+pub use laws::{cores_keep_rules, ends_agree, one_conversation};
+pub use memory_line::{MAX_TRANSMISSION, MemoryLine};
+pub use rules::converse_by_rules;
+pub use sound_fate::{SoundFate, sound_of, sound_of_reply};
+pub use sound_fault::SoundFault;
+pub use sound_report::SoundReport;
+pub use sound_turn::SoundTurn;
+pub use spoken_turn::SpokenTurn;

@@ -1,0 +1,493 @@
+//! Conversations over schedules of sounds: the printed ones, and that the cores and the rules tell the same.
+ghost use Rattle.line_world.specs.History.{MayBegin};
+
+use bsc_link::{Outcome, Reply, Say, Sound, Wish};
+use line_world::{SoundFate, SoundFault, SoundReport, SoundTurn, converse, converse_by_rules};
+use std::alloc::AllocGlobal;
+use std::process::Abort;
+use std::test::Fail;
+
+const GOOD: SoundTurn = SoundTurn {
+    up: SoundFate::Arrives,
+    down: SoundFate::Arrives,
+    refused: false,
+    wish: Wish::Go,
+    pause: false,
+};
+
+const UP_LOST: SoundTurn = SoundTurn {
+    up: SoundFate::Lost,
+    ..GOOD
+};
+
+const DOWN_LOST: SoundTurn = SoundTurn {
+    down: SoundFate::Lost,
+    ..GOOD
+};
+
+const HOLD: SoundTurn = SoundTurn {
+    wish: Wish::Hold,
+    ..GOOD
+};
+
+const TURN: SoundTurn = SoundTurn {
+    wish: Wish::Turn,
+    ..GOOD
+};
+
+const PAUSE: SoundTurn = SoundTurn {
+    pause: true,
+    ..GOOD
+};
+
+const REFUSED: SoundTurn = SoundTurn {
+    refused: true,
+    ..GOOD
+};
+
+/// A turn whose `up` is damaged so.
+fn damaged(heard: Sound) -> SoundTurn {
+    SoundTurn {
+        up: SoundFate::Damaged(heard),
+        ..GOOD
+    }
+}
+
+/// A printed turn: said, arrived, reply, heard.
+#[derive(Clone, Copy, Debug)]
+struct Line(Say, Sound, Option<Reply>, Sound);
+
+const BID: Line = Line(Say::Bid, Sound::Enq, Some(Reply::Ack0), Sound::Ack0);
+
+const BLOCK_ACK0: Line = Line(Say::Block, Sound::Block, Some(Reply::Ack0), Sound::Ack0);
+
+const BLOCK_ACK1: Line = Line(Say::Block, Sound::Block, Some(Reply::Ack1), Sound::Ack1);
+
+const BLOCK_UNHEARD: Line = Line(Say::Block, Sound::Block, Some(Reply::Ack1), Sound::Quiet);
+
+const BLOCK_RVI: Line = Line(Say::Block, Sound::Block, Some(Reply::Rvi), Sound::Rvi);
+
+const BLOCK_LOST: Line = Line(Say::Block, Sound::Quiet, None, Sound::Quiet);
+
+const AGAIN_ACK0: Line = Line(Say::Again, Sound::Block, Some(Reply::Ack0), Sound::Ack0);
+
+const AGAIN_ACK1: Line = Line(Say::Again, Sound::Block, Some(Reply::Ack1), Sound::Ack1);
+
+const ASK_ACK1: Line = Line(Say::Ask, Sound::Enq, Some(Reply::Ack1), Sound::Ack1);
+
+const ASK_UNHEARD: Line = Line(Say::Ask, Sound::Enq, Some(Reply::Ack1), Sound::Quiet);
+
+const ASK_LOST: Line = Line(Say::Ask, Sound::Quiet, None, Sound::Quiet);
+
+const DELAY: Line = Line(Say::Delay, Sound::Ttd, Some(Reply::Nak), Sound::Nak);
+
+const END: Line = Line(Say::End, Sound::Eot, None, Sound::Quiet);
+
+/// What is printed of a conversation: its turns, how many blocks are known, how it ended.
+#[derive(Drop)]
+struct Printed<'a>(&'a [Line], usize, Option<Outcome>);
+
+/// The report is what is printed. A refusal is seen by its NAK to a whole block, which nothing else gets.
+fn assert_report(rt: &impl Abort, report: &SoundReport, printed: &Printed) {
+    assert_eq!(rt; report.turns.len(), printed.0.len());
+    for (turn, line) in report.turns.iter().zip(printed.0) {
+        assert_eq!(rt; turn.said, line.0, "said at {line:?}");
+        assert_eq!(rt; turn.arrived, line.1, "arrived at {line:?}");
+        assert_eq!(rt; turn.reply, line.2, "reply at {line:?}");
+        assert_eq!(rt; turn.heard, line.3, "heard at {line:?}");
+        let refused = matches!((line.1, line.2), (Sound::Block, Some(Reply::Nak)));
+        assert_eq!(rt; turn.refused, refused, "refused at {line:?}");
+    }
+    assert_eq!(rt; report.known, printed.1);
+    assert_eq!(rt; report.outcome, printed.2);
+}
+
+/// The cores say what is printed, and so do the rules.
+fn assert_conversation(
+    rt: &(impl Abort + AllocGlobal),
+    plan: &[bool],
+    places: &[SoundTurn],
+    printed: Printed,
+) -> Result<(), SoundFault>
+    requires begins { MayBegin plan.now }
+{
+    assert_report(rt, &converse(rt.alloc(), plan, places)?, &printed);
+    assert_report(rt, &converse_by_rules(rt.alloc(), plan, places)?, &printed);
+    Ok(())
+}
+
+#[test]
+fn a_clean_line_brings_every_block(rt: HostRuntime) -> Result<(), SoundFault> {
+    let places = [GOOD, GOOD, GOOD, GOOD, GOOD, GOOD];
+    let lines = [BID, BLOCK_ACK1, BLOCK_ACK0, BLOCK_ACK1, END];
+    let printed = Printed(&lines, 3, Some(Outcome::Done));
+    assert_conversation(&rt, &[true, false, true], &places, printed)
+}
+
+#[test]
+fn with_no_blocks_nothing_is_said(rt: HostRuntime) -> Result<(), SoundFault> {
+    assert_conversation(&rt, &[], &[GOOD], Printed(&[], 0, Some(Outcome::Done)))
+}
+
+#[test]
+fn with_no_schedule_nothing_is_said(rt: HostRuntime) -> Result<(), SoundFault> {
+    assert_conversation(&rt, &[true], &[], Printed(&[], 0, None))
+}
+
+#[test]
+fn a_lost_acknowledgement_is_asked_for(rt: HostRuntime) -> Result<(), SoundFault> {
+    let places = [GOOD, DOWN_LOST, GOOD, GOOD];
+    let lines = [BID, BLOCK_UNHEARD, ASK_ACK1, END];
+    let printed = Printed(&lines, 1, Some(Outcome::Done));
+    assert_conversation(&rt, &[true], &places, printed)
+}
+
+#[test]
+fn a_block_lost_between_two_jobs_is_said_again(rt: HostRuntime) -> Result<(), SoundFault> {
+    let places = [GOOD, GOOD, UP_LOST, GOOD, GOOD, GOOD];
+    let lines = [BID, BLOCK_ACK1, BLOCK_LOST, ASK_ACK1, AGAIN_ACK0, END];
+    let printed = Printed(&lines, 2, Some(Outcome::Done));
+    assert_conversation(&rt, &[true, true], &places, printed)
+}
+
+#[test]
+fn after_an_rvi_the_job_in_hand_is_finished(rt: HostRuntime) -> Result<(), SoundFault> {
+    let places = [GOOD, GOOD, TURN, UP_LOST, GOOD, GOOD, GOOD];
+    let ask = Line(Say::Ask, Sound::Enq, Some(Reply::Rvi), Sound::Rvi);
+    let lines = [BID, BLOCK_ACK1, BLOCK_RVI, BLOCK_LOST, ask, AGAIN_ACK1, END];
+    let printed = Printed(&lines, 3, Some(Outcome::Turned));
+    assert_conversation(&rt, &[true, false, false, true], &places, printed)
+}
+
+#[test]
+fn one_rvi_is_made_whatever_is_wished(rt: HostRuntime) -> Result<(), SoundFault> {
+    let places = [TURN, TURN, TURN, TURN, TURN];
+    let lines = [BID, BLOCK_RVI, BLOCK_ACK0, BLOCK_ACK1, END];
+    let printed = Printed(&lines, 3, Some(Outcome::Done));
+    assert_conversation(&rt, &[true, false, false], &places, printed)
+}
+
+#[test]
+fn wack_holds_a_bid_and_a_block_and_ttd_a_pause(rt: HostRuntime) -> Result<(), SoundFault> {
+    let places = [HOLD, GOOD, HOLD, HOLD, PAUSE, GOOD, GOOD, GOOD];
+    let lines = [
+        Line(Say::Bid, Sound::Enq, Some(Reply::Wack), Sound::Wack),
+        BID,
+        Line(Say::Block, Sound::Block, Some(Reply::Wack), Sound::Wack),
+        Line(Say::Ask, Sound::Enq, Some(Reply::Wack), Sound::Wack),
+        ASK_ACK1,
+        DELAY,
+        BLOCK_ACK0,
+        END,
+    ];
+    let printed = Printed(&lines, 2, Some(Outcome::Done));
+    assert_conversation(&rt, &[true, true], &places, printed)
+}
+
+#[test]
+fn a_delay_stays_while_the_pause_does(rt: HostRuntime) -> Result<(), SoundFault> {
+    let places = [PAUSE, PAUSE, GOOD, GOOD, GOOD];
+    let lines = [BID, DELAY, DELAY, BLOCK_ACK1, END];
+    let printed = Printed(&lines, 1, Some(Outcome::Done));
+    assert_conversation(&rt, &[true], &places, printed)
+}
+
+#[test]
+fn six_asks_without_an_answer_give_up(rt: HostRuntime) -> Result<(), SoundFault> {
+    let lost = DOWN_LOST;
+    let places = [GOOD, lost, lost, lost, lost, lost, lost, lost, lost, GOOD];
+    let ask = ASK_UNHEARD;
+    let lines = [BID, BLOCK_UNHEARD, ask, ask, ask, ask, ask, ask, END];
+    let printed = Printed(&lines, 0, Some(Outcome::GaveUp));
+    assert_conversation(&rt, &[true], &places, printed)
+}
+
+#[test]
+fn a_schedule_that_ends_before_eot_tells_how_it_ends(rt: HostRuntime) -> Result<(), SoundFault> {
+    let lost = DOWN_LOST;
+    let places = [GOOD, lost, lost, lost, lost, lost, lost, lost];
+    let ask = ASK_UNHEARD;
+    let lines = [BID, BLOCK_UNHEARD, ask, ask, ask, ask, ask, ask];
+    let gave_up = Printed(&lines, 0, Some(Outcome::GaveUp));
+    assert_conversation(&rt, &[true], &places, gave_up)?;
+    let done = Printed(&[BID, BLOCK_ACK1], 1, Some(Outcome::Done));
+    assert_conversation(&rt, &[true], &[GOOD, GOOD], done)?;
+    let open = Printed(&[BID, BLOCK_ACK1], 1, None);
+    assert_conversation(&rt, &[true, false], &[GOOD, GOOD], open)
+}
+
+#[test]
+fn a_line_that_breaks_within_a_job_gives_up(rt: HostRuntime) -> Result<(), SoundFault> {
+    let (lost, ask) = (UP_LOST, ASK_LOST);
+    let places = [GOOD, GOOD, lost, lost, lost, lost, lost, lost, lost, lost];
+    let end = Line(Say::End, Sound::Quiet, None, Sound::Quiet);
+    let lines = [
+        BID, BLOCK_ACK1, BLOCK_LOST, ask, ask, ask, ask, ask, ask, end,
+    ];
+    let printed = Printed(&lines, 1, Some(Outcome::GaveUp));
+    assert_conversation(&rt, &[true, false], &places, printed)
+}
+
+#[test]
+fn a_damaged_enq_is_noise_and_gets_no_answer(rt: HostRuntime) -> Result<(), SoundFault> {
+    let noise = damaged(Sound::Noise);
+    let bid = Line(Say::Bid, Sound::Noise, None, Sound::Quiet);
+    let lines = [bid, BID, BLOCK_ACK1, END];
+    let printed = Printed(&lines, 1, Some(Outcome::Done));
+    assert_conversation(&rt, &[true], &[noise, GOOD, GOOD, GOOD], printed)?;
+    let ask = Line(Say::Ask, Sound::Noise, None, Sound::Quiet);
+    let lines = [BID, BLOCK_UNHEARD, ask, ASK_ACK1, END];
+    let printed = Printed(&lines, 1, Some(Outcome::Done));
+    assert_conversation(&rt, &[true], &[GOOD, DOWN_LOST, noise, GOOD, GOOD], printed)
+}
+
+#[test]
+fn damage_heard_as_an_abort_gets_nak(rt: HostRuntime) -> Result<(), SoundFault> {
+    let block = Line(Say::Block, Sound::Abort, Some(Reply::Nak), Sound::Nak);
+    let lines = [BID, block, AGAIN_ACK1, END];
+    let printed = Printed(&lines, 1, Some(Outcome::Done));
+    assert_conversation(
+        &rt,
+        &[true],
+        &[GOOD, damaged(Sound::Abort), GOOD, GOOD],
+        printed,
+    )
+}
+
+#[test]
+fn after_a_wrong_ack_to_a_block_the_sender_asks(rt: HostRuntime) -> Result<(), SoundFault> {
+    let block = Line(Say::Block, Sound::Enq, Some(Reply::Ack0), Sound::Ack0);
+    let ask = Line(Say::Ask, Sound::Enq, Some(Reply::Ack0), Sound::Ack0);
+    let lines = [BID, block, ask, AGAIN_ACK1, END];
+    let printed = Printed(&lines, 1, Some(Outcome::Done));
+    assert_conversation(
+        &rt,
+        &[true],
+        &[GOOD, damaged(Sound::Enq), GOOD, GOOD, GOOD],
+        printed,
+    )
+}
+
+#[test]
+fn an_enq_after_nak_gets_nak_again(rt: HostRuntime) -> Result<(), SoundFault> {
+    let spoiled = SoundTurn {
+        down: SoundFate::Lost,
+        ..damaged(Sound::Bad)
+    };
+    let block = Line(Say::Block, Sound::Bad, Some(Reply::Nak), Sound::Quiet);
+    let ask = Line(Say::Ask, Sound::Enq, Some(Reply::Nak), Sound::Nak);
+    let lines = [BID, block, ask, AGAIN_ACK1, END];
+    let printed = Printed(&lines, 1, Some(Outcome::Done));
+    assert_conversation(&rt, &[true], &[GOOD, spoiled, GOOD, GOOD, GOOD], printed)
+}
+
+#[test]
+fn a_refused_block_is_said_again(rt: HostRuntime) -> Result<(), SoundFault> {
+    let places = [REFUSED, GOOD, REFUSED, GOOD, REFUSED];
+    let refused = Line(Say::Block, Sound::Block, Some(Reply::Nak), Sound::Nak);
+    let lines = [BID, BLOCK_ACK1, refused, AGAIN_ACK0, END];
+    let printed = Printed(&lines, 2, Some(Outcome::Done));
+    assert_conversation(&rt, &[true, false], &places, printed)
+}
+
+/// Both refuse the schedule of one block, and tell this turn.
+fn assert_refused(rt: &(impl Abort + AllocGlobal), places: &[SoundTurn], turn: usize) {
+    let fault = Some(SoundFault::NotDamage(turn));
+    assert_eq!(rt; converse(rt.alloc(), &[true], places).err(), fault);
+    assert_eq!(rt; converse_by_rules(rt.alloc(), &[true], places).err(), fault);
+}
+
+#[test]
+fn what_no_damage_can_be_is_refused_at_its_turn(rt: HostRuntime) {
+    assert_refused(&rt, &[damaged(Sound::Bad)], 1);
+    assert_refused(&rt, &[GOOD, damaged(Sound::Eot), damaged(Sound::Bad)], 2);
+    assert_refused(&rt, &[GOOD, damaged(Sound::Block)], 2);
+    let nak = SoundTurn {
+        down: SoundFate::Damaged(Sound::Nak),
+        ..GOOD
+    };
+    assert_refused(&rt, &[GOOD, UP_LOST, nak], 3);
+    assert_refused(&rt, &[PAUSE, damaged(Sound::Block)], 2);
+}
+
+#[test]
+fn faults_past_the_end_are_not_looked_at(rt: HostRuntime) -> Result<(), SoundFault> {
+    let places = [GOOD, GOOD, GOOD, damaged(Sound::Eot)];
+    let printed = Printed(&[BID, BLOCK_ACK1, END], 1, Some(Outcome::Done));
+    assert_conversation(&rt, &[true], &places, printed)
+}
+
+// THE CORES AND THE RULES TELL THE SAME
+
+const PLAN: [bool; 6] = [true, false, true, true, false, false];
+
+/// A job of sixteen blocks and one of eight.
+const LONG_PLAN: [bool; 24] = [
+    true, false, false, false, false, false, false, false, false, false, false, false, false,
+    false, false, false, true, false, false, false, false, false, false, false,
+];
+
+const SOUNDS: [Sound; 13] = [
+    Sound::Enq,
+    Sound::Ack0,
+    Sound::Ack1,
+    Sound::Nak,
+    Sound::Wack,
+    Sound::Rvi,
+    Sound::Ttd,
+    Sound::Abort,
+    Sound::Eot,
+    Sound::Block,
+    Sound::Bad,
+    Sound::Noise,
+    Sound::Quiet,
+];
+
+const WISHES: [Wish; 3] = [Wish::Go, Wish::Hold, Wish::Turn];
+
+/// Both tell the same turns, blocks known and outcome, or the same fault. How many turns there are, or the fault.
+fn assert_same(
+    rt: &(impl Abort + AllocGlobal),
+    plan: &[bool],
+    places: &[SoundTurn],
+) -> Result<usize, SoundFault>
+    requires begins { MayBegin plan.now }
+{
+    let cores = converse(rt.alloc(), plan, places);
+    let rules = converse_by_rules(rt.alloc(), plan, places);
+    match (cores, rules) {
+        (Ok(cores), Ok(rules)) => {
+            assert!(rt; cores.turns.as_slice() == rules.turns.as_slice());
+            assert_eq!(rt; cores.known, rules.known);
+            assert_eq!(rt; cores.outcome, rules.outcome);
+            Ok(cores.turns.len())
+        }
+        (Err(cores), Err(rules)) => {
+            assert_eq!(rt; cores, rules);
+            Err(cores)
+        }
+        _ => {
+            assert!(rt; false, "one of them alone refuses");
+            Ok(0)
+        }
+    }
+}
+
+/// The schedule with another fate or wish at one place.
+fn assert_same_with(rt: &(impl Abort + AllocGlobal), at: usize, place: SoundTurn) {
+    let mut places = [GOOD; 12];
+    if let Some(slot) = places.get_mut(at) {
+        *slot = place;
+    }
+    let _told = assert_same(rt, &PLAN, &places);
+}
+
+/// Each wish, pause and refusal beside these fates, at one place.
+fn assert_fates(rt: &(impl Abort + AllocGlobal), at: usize, up: SoundFate, down: SoundFate) {
+    for wish in WISHES {
+        for (refused, pause) in [(false, false), (false, true), (true, false)] {
+            let place = SoundTurn {
+                up,
+                down,
+                refused,
+                wish,
+                pause,
+            };
+            assert_same_with(rt, at, place);
+        }
+    }
+}
+
+#[test]
+fn cores_keep_the_rules_at_each_fate_of_one_turn(rt: HostRuntime) {
+    let (arrives, lost) = (SoundFate::Arrives, SoundFate::Lost);
+    for at in 0..6 {
+        assert_fates(&rt, at, arrives, arrives);
+        assert_fates(&rt, at, arrives, lost);
+        assert_fates(&rt, at, lost, arrives);
+        for sound in SOUNDS {
+            assert_fates(&rt, at, SoundFate::Damaged(sound), arrives);
+            assert_fates(&rt, at, SoundFate::Damaged(sound), lost);
+            assert_fates(&rt, at, arrives, SoundFate::Damaged(sound));
+        }
+    }
+}
+
+/// Numbers that look random.
+#[derive(Drop)]
+struct Dice(u32);
+
+impl Dice {
+    /// A number below this one; 0 where that is 0.
+    fn below(&mut self, bound: u32) -> u32 {
+        self.0 = self.0.wrapping_mul(1_664_525).wrapping_add(1_013_904_223);
+        (self.0 >> 8).checked_rem(bound).unwrap_or(0)
+    }
+
+    /// One of these sounds.
+    fn sound(&mut self) -> Sound {
+        let at = self.below(13) as usize;
+        SOUNDS.get(at).copied().unwrap_or(Sound::Noise)
+    }
+
+    /// A fate, of which two in three leave things whole.
+    fn fate(&mut self) -> SoundFate {
+        match self.below(12) {
+            0..8 => SoundFate::Arrives,
+            8..10 => SoundFate::Lost,
+            10 => SoundFate::Damaged(Sound::Noise),
+            _ => SoundFate::Damaged(self.sound()),
+        }
+    }
+
+    /// A wish, mostly to go on.
+    fn wish(&mut self) -> Wish {
+        match self.below(8) {
+            0 | 1 => Wish::Hold,
+            2 => Wish::Turn,
+            _ => Wish::Go,
+        }
+    }
+
+    /// A place of a schedule.
+    fn place(&mut self) -> SoundTurn {
+        SoundTurn {
+            up: self.fate(),
+            down: self.fate(),
+            refused: self.below(10) == 0,
+            wish: self.wish(),
+            pause: self.below(4) == 0,
+        }
+    }
+}
+
+/// A schedule of these dice is told in the same way by both; a place whose fate is refused becomes a good one, until none is refused.
+/// How many turns there are.
+fn assert_long(rt: &(impl Abort + AllocGlobal), dice: &mut Dice) -> usize {
+    let mut places = [GOOD; 40];
+    for place in &mut places {
+        *place = dice.place();
+    }
+    for _ in 0..40 {
+        match assert_same(rt, &LONG_PLAN, &places) {
+            Ok(turns) => return turns,
+            Err(SoundFault::NotDamage(turn)) => {
+                if let Some(place) = places.get_mut(turn.wrapping_sub(1)) {
+                    *place = GOOD;
+                }
+            }
+            Err(SoundFault::OutOfMemory) => return 0,
+        }
+    }
+    0
+}
+
+#[test]
+fn cores_keep_the_rules_through_long_schedules(rt: HostRuntime) {
+    let mut dice = Dice(3780);
+    let mut turns: usize = 0;
+    for _ in 0..40 {
+        turns = turns.saturating_add(assert_long(&rt, &mut dice));
+    }
+    assert!(rt; turns >= 800, "{turns} turns of at most 1,600");
+}

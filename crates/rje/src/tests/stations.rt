@@ -1,0 +1,461 @@
+//! Both stations over lines in memory: conversations by hand, what one hearing takes, traces, and lines of which a call fails.
+use super::{block, buffer, record};
+use arrayvec::ArrayVec;
+use bsc_codes::{Closing, SYN};
+use bsc_frame::{Frame, write_frame};
+use bsc_link::{Outcome, Reply, Say, Sound, Wish};
+use line_world::MemoryLine;
+use rje_jobs::{Job, job_fits};
+use rje_station::{
+    Came, Event, Line, LineFault, MAX_HEARD, ReceivingStation, SendingStation, StationFault, Trace,
+};
+use rje_text::{Action, Mode, Records, Select, next_block};
+use std::alloc::{AllocError, Global};
+use std::process::Abort;
+use std::test::Fail;
+
+/// An ENQ on the line.
+const ENQ: [u8; 4] = [0x32, 0x32, 0x2D, 0xFF];
+
+/// A whole, normal job of this many records of so many bytes C1 for the default device.
+fn job_of(rt: &(impl Abort + AllocGlobal), records: usize, length: usize) -> Result<Job, Fail> {
+    let bytes = [0xC1; 144];
+    assert!(rt; length <= bytes.len());
+    let mut job = Job {
+        select: Select::Unset,
+        mode: Mode::Normal,
+        records: Records::new(rt.alloc()),
+        whole: true,
+    };
+    for _i in 0..records {
+        job.records
+            .push(record(rt, Action::Plain, &bytes[..length]))?;
+    }
+    Ok(job)
+}
+
+/// These bytes in one piece.
+fn one_piece(alloc: Global, bytes: &[u8]) -> Result<Vec<Vec<u8>>, AllocError> {
+    let piece = Vec::from_slice(alloc, bytes)?;
+    let mut pieces = Vec::with_capacity(alloc, 1)?;
+    pieces.push(piece)?;
+    Ok(pieces)
+}
+
+/// Two stations, each at its end of a line in memory.
+#[derive(Drop)]
+struct Ends<'a> {
+    sender: SendingStation<'a>,
+    receiver: ReceivingStation,
+    sending_line: MemoryLine,
+    receiving_line: MemoryLine,
+}
+
+impl<'a> Ends<'a> {
+    fn new(alloc: Global, jobs: &'a [Job]) -> Result<Self, StationFault> {
+        Ok(Ends {
+            sender: SendingStation::new(alloc, jobs)?,
+            receiver: ReceivingStation::new(alloc)?,
+            sending_line: MemoryLine::new(alloc),
+            receiving_line: MemoryLine::new(alloc),
+        })
+    }
+
+    /// What the sender says arrives at the receiver.
+    fn go_up(&mut self, alloc: Global, wish: Wish) -> Result<Say, StationFault> {
+        let say = self.sender.speak(&mut self.sending_line)?;
+        let pieces = one_piece(alloc, self.sending_line.sent())?;
+        self.receiving_line.put(pieces);
+        self.receiver.hear(&mut self.receiving_line, wish)?;
+        Ok(say)
+    }
+
+    /// What the receiver answers arrives at the sender.
+    fn go_down(&mut self, alloc: Global) -> Result<Sound, StationFault> {
+        self.receiver.speak(&mut self.receiving_line)?;
+        let pieces = one_piece(alloc, self.receiving_line.sent())?;
+        self.sending_line.put(pieces);
+        self.sender.hear(&mut self.sending_line, false)
+    }
+
+    /// The receiver answers, and nothing of it arrives at the sender.
+    fn lose_down(&mut self, alloc: Global) -> Result<Sound, StationFault> {
+        self.receiver.speak(&mut self.receiving_line)?;
+        self.sending_line.put(Vec::new(alloc));
+        self.sender.hear(&mut self.sending_line, false)
+    }
+}
+
+/// Sends jobs from one station to another over lines on which all arrives, until EOT is said: the stations then, and the turns that it took.
+fn send_jobs(alloc: Global, jobs: &[Job]) -> Result<(Ends<'_>, u64), StationFault> {
+    let mut ends = Ends::new(alloc, jobs)?;
+    for turn in 1..u64::MAX {
+        if ends.go_up(alloc, Wish::Go)? == Say::End {
+            return Ok((ends, turn));
+        }
+        ends.go_down(alloc)?;
+    }
+    Ok((ends, u64::MAX))
+}
+
+/// The events of a trace are these.
+fn assert_events(rt: &impl Abort, trace: &Trace, events: &[Event]) {
+    assert!(rt; trace.len() == events.len());
+    for (i, event) in events.iter().enumerate() {
+        assert!(rt; trace.get(i) == Some(*event));
+    }
+    assert!(rt; trace.get(events.len()).is_none());
+}
+
+/// The jobs are one whole job of this many records of these bytes.
+fn assert_one_job(rt: &impl Abort, jobs: &[Job], records: usize, bytes: &[u8]) {
+    assert!(rt; jobs.len() == 1);
+    let job = &jobs[0];
+    assert!(rt; job.whole);
+    assert!(rt; job.select == Select::Unset);
+    assert!(rt; job.mode == Mode::Normal);
+    assert!(rt; job.records.len() == records);
+    for item in job.records.as_slice() {
+        assert!(rt; item.action == Action::Plain);
+        assert!(rt; item.bytes.as_slice() == bytes);
+    }
+}
+
+#[test]
+fn a_lost_acknowledgement_is_asked_for(rt: HostRuntime) -> Result<(), Fail> {
+    let jobs = [job_of(&rt, 1, 1)?];
+    let mut ends = Ends::new(rt.alloc(), &jobs)?;
+    ends.go_up(rt.alloc(), Wish::Go)?;
+    ends.go_down(rt.alloc())?;
+    ends.go_up(rt.alloc(), Wish::Go)?;
+    ends.lose_down(rt.alloc())?;
+    ends.go_up(rt.alloc(), Wish::Go)?;
+    ends.go_down(rt.alloc())?;
+    assert!(rt; ends.go_up(rt.alloc(), Wish::Go)? == Say::End);
+    let sent = [
+        Event::Said(Say::Bid),
+        Event::Heard(Sound::Ack0),
+        Event::Said(Say::Block),
+        Event::Heard(Sound::Quiet),
+        Event::Said(Say::Ask),
+        Event::Heard(Sound::Ack1),
+        Event::Counted,
+        Event::Said(Say::End),
+    ];
+    assert_events(&rt, ends.sender.trace(), &sent);
+    let received = [
+        Event::Heard(Sound::Enq),
+        Event::Replied(Reply::Ack0),
+        Event::Heard(Sound::Block),
+        Event::Accepted,
+        Event::Replied(Reply::Ack1),
+        Event::Heard(Sound::Enq),
+        Event::Replied(Reply::Ack1),
+        Event::Heard(Sound::Eot),
+    ];
+    assert_events(&rt, ends.receiver.trace(), &received);
+    assert!(rt; ends.sender.counted() == 1);
+    assert!(rt; ends.sender.outcome() == Some(Outcome::Done));
+    let Ends {
+        sender: _,
+        receiver,
+        sending_line: _,
+        receiving_line: _,
+    } = ends;
+    assert_one_job(&rt, receiver.take().as_slice(), 1, &[0xC1]);
+    Ok(())
+}
+
+#[test]
+fn a_thousand_records_go_through(rt: HostRuntime) -> Result<(), Fail> {
+    let jobs = [job_of(&rt, 1000, 80)?];
+    let (ends, turns) = send_jobs(rt.alloc(), &jobs)?;
+
+    // A bid, 167 blocks and the end.
+    assert!(rt; turns == 169);
+    assert!(rt; ends.sender.counted() == 1);
+    assert!(rt; ends.sender.outcome() == Some(Outcome::Done));
+    assert_one_job(&rt, ends.receiver.jobs(), 1000, &[0xC1; 80]);
+    Ok(())
+}
+
+#[test]
+fn blocks_are_made_on_demand(rt: HostRuntime) -> Result<(), Fail> {
+    let job = job_of(&rt, 1000, 80)?;
+    assert!(rt; job_fits(&job));
+    let records = job.records.as_slice();
+    assert!(rt; records.len() == 1000);
+    let (first, place) = next_block(records, 0, job.select, job.mode);
+    assert!(rt; first.text.len() == 486);
+    assert!(rt; first.closing == Closing::Etb);
+    assert!(rt; place == 6);
+    let (last, place) = next_block(records, 996, job.select, job.mode);
+    assert!(rt; last.text.len() == 324);
+    assert!(rt; last.closing == Closing::Etx);
+    assert!(rt; place == 1000);
+    Ok(())
+}
+
+#[test]
+fn without_jobs_the_sender_is_over_at_once(rt: HostRuntime) -> Result<(), Fail> {
+    let mut line = MemoryLine::new(rt.alloc());
+    let mut sender = SendingStation::new(rt.alloc(), &[])?;
+    assert!(rt; sender.outcome() == Some(Outcome::Done));
+    assert!(rt; sender.counted() == 0);
+    assert!(rt; sender.speak(&mut line).err() == Some(StationFault::Over));
+    assert!(rt; sender.hear(&mut line, false).err() == Some(StationFault::Over));
+    assert!(rt; line.sent().is_empty());
+    assert_events(&rt, sender.trace(), &[]);
+    Ok(())
+}
+
+#[test]
+fn a_job_that_cannot_be_sent_is_told_by_its_number(rt: HostRuntime) -> Result<(), Fail> {
+    let mut cards = job_of(&rt, 1, 81)?;
+    cards.select = Select::Punch;
+    let mut cut = job_of(&rt, 1, 1)?;
+    cut.whole = false;
+    let jobs = [job_of(&rt, 1, 1)?, cards, cut];
+    let refused = SendingStation::new(rt.alloc(), &jobs).err();
+    assert!(rt; refused == Some(StationFault::BadJob(2)));
+    Ok(())
+}
+
+/// A receiver that was bid for, and its line.
+fn open_receiver(alloc: Global) -> Result<(ReceivingStation, MemoryLine), StationFault> {
+    let mut receiver = ReceivingStation::new(alloc)?;
+    let mut line = MemoryLine::new(alloc);
+    line.put(one_piece(alloc, &ENQ)?);
+    receiver.hear(&mut line, Wish::Go)?;
+    receiver.speak(&mut line)?;
+    Ok((receiver, line))
+}
+
+/// The transmission of a transparent block of this many bytes C1, in one piece.
+fn transparent_block(rt: &(impl Abort + AllocGlobal), length: usize) -> Result<Vec<Vec<u8>>, Fail> {
+    let bytes = [0xC1; 512];
+    assert!(rt; length <= bytes.len());
+    let mut out = ArrayVec::new();
+    write_frame(&Frame::Block(block(rt, &bytes[..length], true)), &mut out)?;
+    Ok(one_piece(rt.alloc(), out.as_slice())?)
+}
+
+#[test]
+fn a_block_with_a_bad_check_is_not_acknowledged(rt: HostRuntime) -> Result<(), Fail> {
+    let (mut receiver, mut line) = open_receiver(rt.alloc())?;
+    let bytes = [0x32, 0x32, 0x02, 0xC1, 0x1E, 0x03, 0x18, 0x5C];
+    line.put(one_piece(rt.alloc(), &bytes)?);
+    assert!(rt; receiver.hear(&mut line, Wish::Go)? == Some(Reply::Nak));
+    assert!(rt; receiver.jobs().is_empty());
+    Ok(())
+}
+
+#[test]
+fn a_block_that_cannot_be_read_leaves_the_jobs(rt: HostRuntime) -> Result<(), Fail> {
+    let (mut receiver, mut line) = open_receiver(rt.alloc())?;
+    line.put(transparent_block(&rt, 79)?);
+    assert!(rt; receiver.hear(&mut line, Wish::Go)? == Some(Reply::Nak));
+    assert!(rt; receiver.jobs().is_empty());
+    assert!(rt; receiver.trace().get(2) == Some(Event::Heard(Sound::Block)));
+    assert!(rt; receiver.trace().get(3) == Some(Event::Refused));
+    line.put(transparent_block(&rt, 480)?);
+    assert!(rt; receiver.hear(&mut line, Wish::Go)? == Some(Reply::Ack1));
+    let jobs = receiver.jobs();
+    assert!(rt; jobs.len() == 1);
+    assert!(rt; jobs[0].mode == Mode::Transparent);
+    assert!(rt; jobs[0].select == Select::Punch);
+    assert!(rt; jobs[0].records.len() == 6);
+    for card in jobs[0].records.as_slice() {
+        assert!(rt; card.bytes.as_slice() == [0xC1; 80].as_slice());
+    }
+    Ok(())
+}
+
+/// This many SYN, and then an ENQ or nothing, in one piece.
+fn syns(alloc: Global, count: usize, enq: bool) -> Result<Vec<Vec<u8>>, AllocError> {
+    let mut bytes = Vec::new(alloc);
+    for _i in 0..count {
+        bytes.push(SYN)?;
+    }
+    if enq {
+        bytes.extend_from_slice(&ENQ[2..])?;
+    }
+    let mut pieces = Vec::new(alloc);
+    pieces.push(bytes)?;
+    Ok(pieces)
+}
+
+#[test]
+fn one_hearing_has_8192_bytes(rt: HostRuntime) -> Result<(), Fail> {
+    let alloc = rt.alloc();
+    let mut line = MemoryLine::new(alloc);
+    let mut receiver = ReceivingStation::new(alloc)?;
+    line.put(syns(alloc, MAX_HEARD - 1, true)?);
+    assert!(rt; receiver.hear(&mut line, Wish::Go)? == Some(Reply::Ack0));
+    line.put(syns(alloc, MAX_HEARD, false)?);
+    assert!(rt; receiver.hear(&mut line, Wish::Go)?.is_none());
+    line.put(syns(alloc, MAX_HEARD, true)?);
+    assert!(rt; receiver.hear(&mut line, Wish::Go).err() == Some(StationFault::Babble));
+    assert!(rt; receiver.hear(&mut line, Wish::Go).err() == Some(StationFault::Over));
+    let events = [
+        Event::Heard(Sound::Enq),
+        Event::Heard(Sound::Quiet),
+        Event::Over,
+    ];
+    assert_events(&rt, receiver.trace(), &events);
+    Ok(())
+}
+
+/// So many pieces of one SYN each.
+fn single_syns(alloc: Global, count: usize) -> Result<Vec<Vec<u8>>, AllocError> {
+    let mut pieces = Vec::new(alloc);
+    for _i in 0..count {
+        pieces.push(Vec::from_slice(alloc, &[SYN])?)?;
+    }
+    Ok(pieces)
+}
+
+/// What a new receiver answers to 8,192 pieces of one SYN each, on a line of which this call fails.
+fn hear_single_syns(alloc: Global, call: u64) -> Result<Option<Reply>, StationFault> {
+    let mut line = MemoryLine::new(alloc);
+    line.put(single_syns(alloc, MAX_HEARD)?);
+    line.fail_at(call);
+    ReceivingStation::new(alloc)?.hear(&mut line, Wish::Go)
+}
+
+#[test]
+fn one_hearing_listens_8193_times_at_most(rt: HostRuntime) -> Result<(), Fail> {
+    let met = hear_single_syns(rt.alloc(), 8193).err();
+    assert!(rt; met == Some(StationFault::Line(LineFault::Failed)));
+    assert!(rt; hear_single_syns(rt.alloc(), 8194)?.is_none());
+    Ok(())
+}
+
+#[test]
+fn bytes_behind_a_frame_are_dropped(rt: HostRuntime) -> Result<(), Fail> {
+    let (mut receiver, mut line) = open_receiver(rt.alloc())?;
+    let mut bytes: ArrayVec<u8, 16> = buffer(&rt, &ENQ);
+    assert!(rt; bytes.try_extend_from_slice(&[0x32, 0x32, 0x37]).is_ok());
+    line.put(one_piece(rt.alloc(), bytes.as_slice())?);
+    assert!(rt; receiver.hear(&mut line, Wish::Go)? == Some(Reply::Ack0));
+    assert!(rt; receiver.hear(&mut line, Wish::Go)?.is_none());
+    assert!(rt; receiver.trace().get(3) == Some(Event::Heard(Sound::Quiet)));
+    Ok(())
+}
+
+#[test]
+fn a_trace_keeps_64_events(rt: HostRuntime) -> Result<(), Fail> {
+    let mut line = MemoryLine::new(rt.alloc());
+    let mut receiver = ReceivingStation::new(rt.alloc())?;
+    for _i in 0..70 {
+        assert!(rt; receiver.hear(&mut line, Wish::Go)?.is_none());
+    }
+    receiver.abandon();
+    assert!(rt; receiver.trace().len() == 64);
+    assert!(rt; receiver.trace().get(0) == Some(Event::Heard(Sound::Quiet)));
+    assert!(rt; receiver.trace().get(63) == Some(Event::Over));
+    assert!(rt; receiver.trace().get(64).is_none());
+    assert!(rt; receiver.speak(&mut line).err() == Some(StationFault::Over));
+    Ok(())
+}
+
+/// Whether the sender of a conversation over clean lines but for one call met this fault, which is told once; it is over then.
+fn sender_met(ends: &mut Ends<'_>) -> bool {
+    ends.sender.speak(&mut ends.sending_line).err() == Some(StationFault::Over)
+        && ends.sender.hear(&mut ends.sending_line, false).err() == Some(StationFault::Over)
+}
+
+fn receiver_met(ends: &mut Ends<'_>) -> bool {
+    ends.receiver.speak(&mut ends.receiving_line).err() == Some(StationFault::Over)
+        && ends.receiver.hear(&mut ends.receiving_line, Wish::Go).err() == Some(StationFault::Over)
+}
+
+/// A bid, a block and the end over lines on which all arrives.
+fn converse(ends: &mut Ends<'_>, alloc: Global) -> Result<(), StationFault> {
+    ends.go_up(alloc, Wish::Go)?;
+    ends.go_down(alloc)?;
+    ends.go_up(alloc, Wish::Go)?;
+    ends.go_down(alloc)?;
+    ends.go_up(alloc, Wish::Go)?;
+    Ok(())
+}
+
+const FAILED: Option<StationFault> = Some(StationFault::Line(LineFault::Failed));
+
+#[test]
+fn each_call_of_the_senders_line_fails_once(rt: HostRuntime) -> Result<(), Fail> {
+    let jobs = [job_of(&rt, 1, 1)?];
+    // What is counted and how many jobs were handed out, by the call that fails: a transmit, a listen, and so on.
+    for (i, (counted, handed)) in [(0, 0), (0, 0), (0, 0), (0, 1), (1, 1)].iter().enumerate() {
+        let mut ends = Ends::new(rt.alloc(), &jobs)?;
+        ends.sending_line.fail_at(i as u64 + 1);
+        assert!(rt; converse(&mut ends, rt.alloc()).err() == FAILED);
+        assert!(rt; sender_met(&mut ends));
+        assert!(rt; ends.sender.counted() == *counted);
+        assert!(rt; ends.receiver.jobs().len() == *handed);
+        let done = if *counted == 1 {
+            Some(Outcome::Done)
+        } else {
+            None
+        };
+        assert!(rt; ends.sender.outcome() == done);
+        if *handed == 1 {
+            assert_one_job(&rt, ends.receiver.jobs(), 1, &[0xC1]);
+        }
+    }
+    Ok(())
+}
+
+#[test]
+fn each_call_of_the_receivers_line_fails_once(rt: HostRuntime) -> Result<(), Fail> {
+    let jobs = [job_of(&rt, 1, 1)?];
+    // What is counted and how many jobs were handed out, by the call that fails: a listen, a transmit, and so on.
+    for (i, (counted, handed)) in [(0, 0), (0, 0), (0, 0), (0, 1), (1, 1)].iter().enumerate() {
+        let mut ends = Ends::new(rt.alloc(), &jobs)?;
+        ends.receiving_line.fail_at(i as u64 + 1);
+        assert!(rt; converse(&mut ends, rt.alloc()).err() == FAILED);
+        assert!(rt; receiver_met(&mut ends));
+        assert!(rt; ends.sender.counted() == *counted);
+        assert!(rt; ends.receiver.jobs().len() == *handed);
+        if *handed == 1 {
+            assert_one_job(&rt, ends.receiver.jobs(), 1, &[0xC1]);
+        }
+    }
+    Ok(())
+}
+
+#[test]
+fn a_bid_that_fails_ends_the_sender(rt: HostRuntime) -> Result<(), Fail> {
+    let jobs = [job_of(&rt, 1, 1)?];
+    let mut line = MemoryLine::new(rt.alloc());
+    line.fail_at(1);
+    let mut sender = SendingStation::new(rt.alloc(), &jobs)?;
+    assert!(rt; sender.speak(&mut line).err() == FAILED);
+    assert!(rt; sender.speak(&mut line).err() == Some(StationFault::Over));
+    assert!(rt; sender.counted() == 0);
+    assert_events(&rt, sender.trace(), &[Event::Over]);
+    Ok(())
+}
+
+#[test]
+fn pieces_come_in_order_and_in_parts(rt: HostRuntime) -> Result<(), Fail> {
+    let alloc = rt.alloc();
+    let mut pieces = Vec::new(alloc);
+    for bytes in [&[] as &[u8], &[1, 2, 3], &[], &[4]] {
+        pieces.push(Vec::from_slice(alloc, bytes)?)?;
+    }
+    let mut line = MemoryLine::new(alloc);
+    line.put(pieces);
+    let mut piece = [0, 0];
+    assert!(rt; line.listen(&mut piece)? == Came::Bytes(2));
+    assert!(rt; piece == [1, 2]);
+    assert!(rt; line.listen(&mut piece)? == Came::Bytes(1));
+    assert!(rt; piece == [3, 2]);
+    assert!(rt; line.listen(&mut piece)? == Came::Bytes(1));
+    assert!(rt; piece == [4, 2]);
+    assert!(rt; line.listen(&mut piece)? == Came::Quiet);
+    line.transmit(&[5, 6])?;
+    assert!(rt; line.transmit(&[0; 1034]).err() == Some(LineFault::Failed));
+    assert!(rt; line.sent() == [5, 6].as_slice());
+    Ok(())
+}

@@ -1,0 +1,27 @@
+use Rattle.std.proofs.Common.{rules, refl}
+use Rattle.rje_station.specs.declared.came.Came.TheVariants.{Bytes, Quiet}
+use Rattle.rje_station.specs.Line.{Passes, Hears}
+use Rattle.rje_station.proofs.Hearings.{FedSo, passes-on, frame_heard, quiet_heard, babbled}
+use Rattle.rje_station.proofs.hearing.hear.Goals as goal
+
+pub returns-in-Quiet-clause-heard : goal.returns-in-Quiet-clause-heard
+returns-in-Quiet-clause-heard g c =
+    let told : Passes (g.L.Line.talk c.loop-listener.line) (g.L.Line.talk c.listen.new.self) (Hears Quiet c.listen.new.piece) = search rules in
+    passes-on _ _ _ (λ t u. FedSo c.loop-listener.listener c.loop-listener.room t u) (Hears Quiet c.listen.new.piece) _
+    (λ t u v s q. quiet_heard c.loop-listener.listener c.loop-listener.room c.listen.new.piece c.quiet.result t u v s q c.quiet.ensures.heard c.quiet.ensures.never)
+    c.loop-listener.invariant.1 told
+
+pub returns-in-Some-clause-heard : goal.returns-in-Some-clause-heard
+returns-in-Some-clause-heard g c =
+    let told : Passes (g.L.Line.talk c.loop-listener.line) (g.L.Line.talk c.listen.new.self) (Hears (Bytes c.in-Bytes.n) c.listen.new.piece) = search rules in
+    let found = rw c.in-Some.is at c.feed-frame.ensures.frame in
+    passes-on _ _ _ (λ t u. FedSo c.loop-listener.listener c.loop-listener.room t u) (Hears (Bytes c.in-Bytes.n) c.listen.new.piece) _
+    (λ t u v s q. frame_heard c.loop-listener.listener c.loop-listener.room c.in-Bytes.n c.min-fed.result c.feed-frame.result.used c.listen.new.piece _ c.in-Some.frame t u v s q refl (search rules) (search rules) found)
+    c.loop-listener.invariant.1 told
+
+pub returns-then-room-n-clause-lost : goal.returns-then-room-n-clause-lost
+returns-then-room-n-clause-lost g c =
+    let told : Passes (g.L.Line.talk c.loop-listener.line) (g.L.Line.talk c.listen.new.self) (Hears (Bytes c.in-Bytes.n) c.listen.new.piece) = search rules in
+    passes-on _ _ _ (λ t u. FedSo c.loop-listener.listener c.loop-listener.room t u) (Hears (Bytes c.in-Bytes.n) c.listen.new.piece) _
+    (λ t u v s q. babbled c.loop-listener.listener c.loop-listener.room c.in-Bytes.n c.min-fed.result c.listen.new.piece _ t u v s q refl (search rules) (search rules) (search rules) (search rules))
+    c.loop-listener.invariant.1 told

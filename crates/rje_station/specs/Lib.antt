@@ -1,0 +1,10 @@
+pub mod Line
+pub mod Hearing
+pub mod Trace
+pub mod StationFault
+pub mod Sending
+pub mod Uncounted
+pub mod SendingInside
+pub mod JoinedJobs
+pub mod Receiving
+pub mod Laws

@@ -1,0 +1,33 @@
+-- What a line means (own profile).
+use Rattle.std.specs.Prelude.{◌≡◌, ◌<◌, ◌≤◌, ◌^◌, ◌-◌, ℕ, List, [], ◌++◌, take, Option, Some, None, ⊤}
+use Rattle.rje_station.specs.declared.came.Came.{Came}
+use Rattle.rje_station.specs.declared.came.Came.TheVariants.{Bytes, Quiet}
+
+-- the bytes of the last transmission, and those that come before the next Quiet
+pub record Talk : Type 0 where
+  pub sent : List ℕ
+  pub coming : List ℕ
+
+-- on a line that tells its bytes P holds of what it tells before and after, and it goes on telling them
+abbrev pub Passes : Option Talk → Option Talk → (Talk → Talk → Type 0) → Type 0
+Passes None new P = ⊤
+Passes (Some t) None P = ⊥
+Passes (Some t) (Some u) P = P t u
+
+-- the number of failures rose; nothing is said where it is as great as can be
+abbrev pub Rose : ℕ → ℕ → Type 0
+Rose before after = before < 2 ^ 64 - 1 → before < after
+
+-- the last transmission is just these bytes, and what comes is as before
+abbrev pub Sends : List ℕ → Talk → Talk → Type 0
+Sends bytes t u = (u.sent ≡ bytes) × (u.coming ≡ t.coming)
+
+-- the answer is a prefix of what was to come, and Quiet only where nothing was
+abbrev pub Hears : Came → List ℕ → Talk → Talk → Type 0
+Hears (Bytes n) piece t u = (t.coming ≡ take n piece ++ u.coming) × (u.sent ≡ t.sent)
+Hears Quiet piece t u = (t.coming ≡ []) × (u.sent ≡ t.sent)
+
+-- from one to all bytes of the slice
+abbrev pub IsWithin : Came → ℕ → Type 0
+IsWithin (Bytes n) room = (0 < n) × (n ≤ room)
+IsWithin Quiet room = ⊤

@@ -1,0 +1,39 @@
+//! One hearing.
+ghost use Rattle.std.specs.Prelude.{◌≤◌, IfOk, IfErr};
+ghost use Rattle.rje_station.specs.Line.{Passes, Rose};
+ghost use Rattle.rje_station.specs.Hearing.{IsLost, Hearing, Babbling};
+
+use crate::hear_fault::HearFault;
+use crate::{Came, Line};
+use bsc_frame::{Fed, Heard, Listener};
+
+/// The most bytes that are looked at in one hearing.
+pub const MAX_HEARD: usize = 8192;
+
+/// Listens until a frame came or the line is quiet. Each piece goes to the listener as it comes, and bytes behind a frame are dropped.
+pub(crate) fn hear<L: Line>(line: &mut L) -> Result<Heard, HearFault>
+    ensures grows { L.failures line.old ≤ L.failures line.new }
+    ensures heard { IfOk result (λ h. Passes (L.talk line.old) (L.talk line.new) (λ t u. Hearing t u h)) }
+    ensures lost { IfErr result (λ fault. IsLost (Rose (L.failures line.old) (L.failures line.new))
+        (Passes (L.talk line.old) (L.talk line.new) Babbling) fault) }
+{
+    let mut listener = Listener::new();
+    let mut piece = [0u8; 512];
+    let mut room = MAX_HEARD;
+    loop {
+        match line.listen(&mut piece).map_err(HearFault::Lost)? {
+            Came::Quiet => return Ok(listener.quiet()),
+            Came::Bytes(n) => {
+                let fed = n.min(room);
+                let Fed { used: _, frame } = listener.feed(&piece[..fed]);
+                if let Some(frame) = frame {
+                    return Ok(Heard::Frame(frame));
+                }
+                if room < n {
+                    return Err(HearFault::Babble);
+                }
+                room -= n;
+            }
+        }
+    }
+}

@@ -1,0 +1,27 @@
+//! Both stations over a line: the sending and the receiving 3780, step by step.
+#![tactic(auto)]
+
+mod came;
+mod event;
+mod hear_fault;
+mod hearing;
+mod laws;
+mod line;
+mod line_fault;
+mod receiving;
+mod sending;
+mod sound_heard;
+mod station_fault;
+mod trace;
+mod writing;
+
+pub use came::Came;
+pub use event::Event;
+pub use hearing::MAX_HEARD;
+pub use laws::{blocks_are_joined, counted_blocks_end_counted_jobs, trace_goes_on};
+pub use line::Line;
+pub use line_fault::LineFault;
+pub use receiving::ReceivingStation;
+pub use sending::SendingStation;
+pub use station_fault::StationFault;
+pub use trace::{MAX_EVENTS, Trace};

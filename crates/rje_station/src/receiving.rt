@@ -1,0 +1,227 @@
+//! The receiving station.
+ghost use Rattle.std.specs.Prelude.{◌≡◌, ◌++◌, ◌∷◌, false, not, ◌&&◌, IfOk, IfErr, OnOk};
+ghost use Rattle.rje_station.specs.Hearing.{Hearing, Babbling};
+ghost use Rattle.rje_station.specs.JoinedJobs.{begun_in};
+ghost use Rattle.rje_station.specs.Line.{Passes, Rose};
+ghost use Rattle.rje_station.specs.Receiving.{first_receiving, sound_taken as taken, MayRefuse, jobs_after, Received, after_replying, Replied, after_fault, after_refusal, after_abandon, frame_of as reply_frame, received_events};
+ghost use Rattle.rje_station.specs.StationFault.{IsCause, IfOver, IsNoMemory};
+ghost use Rattle.rje_station.specs.Trace.{last_events};
+ghost use Rattle.rje_station.specs.declared.event.Event.TheVariants as event;
+
+mod joined_jobs;
+
+use crate::hear_fault::HearFault;
+use crate::hearing::hear;
+use crate::sound_heard::sound_of;
+use crate::writing::transmission_of;
+use crate::{Event, Line, StationFault, Trace};
+use bsc_frame::{Frame, Heard};
+use bsc_link::{Receiver, Reply, Sound, Wish};
+use joined_jobs::JoinedJobs;
+use rje_jobs::Job;
+use rje_text::unpack;
+use std::alloc::Global;
+use std::marker::Model;
+
+/// The station that receives the jobs of one transmission.
+#[derive(Drop)]
+pub struct ReceivingStation {
+    jobs: JoinedJobs,
+    core: Receiver,
+    due: Option<Reply>,
+    over: bool,
+    trace: Trace,
+}
+
+impl Model for ReceivingStation {
+    ghost use Rattle.rje_station.specs.Receiving.{Receiving};
+
+    ghost Value = { Receiving };
+
+    ghost view = { λ s. record { jobs = s.jobs; core = s.core; due = s.due; over = s.over; trace = s.trace } };
+}
+
+impl ReceivingStation {
+    /// A station for one transmission. Takes memory for its trace alone.
+    pub fn new(alloc: Global) -> Result<Self, StationFault>
+        ensures ready { IfOk result (λ s. s ≡ first_receiving) }
+        ensures refused { IfErr result IsNoMemory }
+    {
+        let trace = Trace::new(alloc)?;
+        Ok(ReceivingStation {
+            jobs: JoinedJobs::new(alloc),
+            core: Receiver::new(),
+            due: None,
+            over: false,
+            trace,
+        })
+    }
+
+    /// The jobs of the blocks that were accepted. One of which blocks came and no last one stands last, and isn't whole.
+    pub fn jobs(&self) -> &[Job]
+        ensures { result.now ≡ self.now.jobs }
+    {
+        self.jobs.as_slice()
+    }
+
+    /// The jobs, given away.
+    pub fn take(self) -> Vec<Job>
+        ensures { result.items ≡ self.jobs }
+    {
+        let ReceivingStation {
+            jobs,
+            core: _,
+            due: _,
+            over: _,
+            trace: _,
+        } = self;
+        jobs.into_vec()
+    }
+
+    /// The last events.
+    pub fn trace(&self) -> &Trace
+        ensures { result.now ≡ self.now.trace }
+    {
+        &self.trace
+    }
+
+    /// Ends the transmission. The jobs stay.
+    pub fn abandon(&mut self)
+        ensures { self.new ≡ after_abandon self.old }
+    {
+        self.core.quiet_long();
+        self.due = None;
+        self.over = true;
+        self.trace.note(Event::Over);
+    }
+
+    /// Listens, takes one step, and makes its reply due, or none, in place of an older one. A whole block that can't be read, or for which
+    /// there is no memory, is taken as a bad one.
+    pub fn hear<L: Line>(&mut self, line: &mut L, wish: Wish) -> Result<Option<Reply>, StationFault>
+        ensures heard { IfOk result (λ reply. Received self.old self.new wish reply
+            (λ what. Passes (L.talk line.old) (L.talk line.new) (λ t u. Hearing t u what))) }
+        ensures live { OnOk result (self.old.over ≡ false) }
+
+        // The line failed or babbled, or the station was over before; it is over then, and the jobs stay.
+        ensures cause { IfErr result (λ fault. IsCause (Rose (L.failures line.old) (L.failures line.new))
+            (Passes (L.talk line.old) (L.talk line.new) Babbling) self.old.over fault) }
+        ensures kept { IfErr result (λ fault. self.new ≡ after_refusal fault self.old) }
+        ensures untouched { IfErr result (λ fault. IfOver fault (line.new ≡ line.old)) }
+    {
+        if self.over {
+            return Err(StationFault::Over);
+        }
+        match hear(line) {
+            Ok(heard) => Ok(self.step(&heard, wish)),
+            Err(HearFault::Lost(fault)) => {
+                self.fail();
+                Err(StationFault::Line(fault))
+            }
+            Err(HearFault::Babble) => {
+                self.fail();
+                Err(StationFault::Babble)
+            }
+        }
+    }
+
+    /// Sends the reply that is due, once; sends nothing where none is.
+    pub fn speak<L: Line>(&mut self, line: &mut L) -> Result<Option<Reply>, StationFault>
+        ensures said { IfOk result (λ reply. reply ≡ self.old.due) }
+        ensures sent { OnOk result (Passes (L.talk line.old) (L.talk line.new) (Replied self.old.due)) }
+        ensures state { OnOk result (self.new ≡ after_replying self.old) }
+        ensures live { OnOk result (self.old.over ≡ false) }
+
+        // The line failed, or the station was over before; it is over then, and the jobs stay.
+        ensures cause { IfErr result (λ fault. IsCause (Rose (L.failures line.old) (L.failures line.new)) ⊥ self.old.over fault) }
+        ensures kept { IfErr result (λ fault. self.new ≡ after_refusal fault self.old) }
+        ensures untouched { IfErr result (λ fault. IfOver fault (line.new ≡ line.old)) }
+    {
+        if self.over {
+            return Err(StationFault::Over);
+        }
+        let Some(reply) = self.due else {
+            return Ok(None);
+        };
+        let out = transmission_of(&frame_of(reply));
+        if let Err(fault) = line.transmit(out.as_slice()) {
+            self.fail();
+            return Err(StationFault::Line(fault));
+        }
+        self.due = None;
+        self.trace.note(Event::Replied(reply));
+        Ok(Some(reply))
+    }
+
+    /// Something was heard.
+    fn step(&mut self, heard: &Heard, wish: Wish) -> Option<Reply>
+        ensures { Received self.old self.new wish result (λ what. what ≡ heard.now) }
+    {
+        let mut ahead = self.core;
+        let accepted = ahead.hear(Sound::Block, wish).accepted;
+        let refused = refuses(&mut self.jobs, accepted, heard);
+        let news = self.core.hear(sound_taken(heard, refused), wish);
+        note_received(&mut self.trace, sound_of(heard), news.accepted, refused);
+        self.due = news.reply;
+        self.over = news.ended;
+        news.reply
+    }
+
+    /// The line failed.
+    fn fail(&mut self)
+        ensures { self.new ≡ after_fault self.old }
+    {
+        self.over = true;
+        self.trace.note(Event::Over);
+    }
+}
+
+/// Reads a whole block, joins it where the core will accept it, and tells whether it was refused.
+fn refuses(jobs: &mut JoinedJobs, accepted: bool, heard: &Heard) -> bool
+    ensures may { MayRefuse heard.now (begun_in jobs.old) result }
+    ensures jobs { jobs.new ≡ jobs_after heard.now (accepted && not result) jobs.old }
+{
+    match heard {
+        Heard::Frame(Frame::Block(block)) => {
+            match unpack(jobs.allocator(), block, jobs.mode_of_begun()) {
+                Ok(unpacked) => accepted && jobs.join(unpacked, block.closing).is_err(),
+                Err(_) => true,
+            }
+        }
+        _ => false,
+    }
+}
+
+/// What the core takes: a block that was refused is a bad one.
+fn sound_taken(heard: &Heard, refused: bool) -> Sound
+    ensures { result ≡ taken heard.now refused }
+{
+    match heard {
+        Heard::Frame(_) if refused => Sound::Bad,
+        _ => sound_of(heard),
+    }
+}
+
+/// Notes a hearing.
+fn note_received(trace: &mut Trace, sound: Sound, accepted: bool, refused: bool)
+    ensures { trace.new ≡ last_events (trace.old ++ event.Heard sound ∷ received_events accepted refused) }
+{
+    trace.note(Event::Heard(sound));
+    if refused {
+        trace.note(Event::Refused);
+    } else if accepted {
+        trace.note(Event::Accepted);
+    }
+}
+
+/// The frame of a reply.
+fn frame_of(reply: Reply) -> Frame
+    ensures { result ≡ reply_frame reply }
+{
+    match reply {
+        Reply::Ack0 => Frame::Ack0,
+        Reply::Ack1 => Frame::Ack1,
+        Reply::Nak => Frame::Nak,
+        Reply::Wack => Frame::Wack,
+        Reply::Rvi => Frame::Rvi,
+    }
+}

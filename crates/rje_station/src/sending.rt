@@ -1,0 +1,228 @@
+//! The sending station.
+ghost use Rattle.std.specs.Prelude.{◌≡◌, ◌++◌, ◌∷◌, false, IfOk, IfErr, OnOk};
+ghost use Rattle.std.specs.List.{AllByRecursion};
+ghost use Rattle.bsc_link.specs.Sender.{say_in};
+ghost use Rattle.rje_jobs.specs.Fitting.{JobFits};
+ghost use Rattle.rje_station.specs.Hearing.{HearsSound, Babbling};
+ghost use Rattle.rje_station.specs.Line.{Passes, Rose};
+ghost use Rattle.rje_station.specs.Sending.{first_sending, after_speaking, after_hearing, after_fault, after_refusal, Spoke, IsWrittenOf, outcome_of, next_for, counted_events};
+ghost use Rattle.rje_station.specs.StationFault.{IsCause, IsNewCause, IfOver};
+ghost use Rattle.rje_station.specs.Trace.{last_events};
+ghost use Rattle.rje_station.specs.declared.event.Event.TheVariants as event;
+
+mod first_unfit;
+mod uncounted;
+
+use crate::hear_fault::HearFault;
+use crate::hearing::hear;
+use crate::sound_heard::sound_of;
+use crate::writing::{Transmission, transmission_of};
+use crate::{Event, Line, StationFault, Trace};
+use bsc_frame::Frame;
+use bsc_link::{Next, Outcome, Say, Sender, Sound};
+use first_unfit::first_unfit;
+use rje_jobs::Job;
+use std::alloc::Global;
+use std::marker::Model;
+use uncounted::Uncounted;
+
+/// The station that sends the jobs of one transmission, which it borrows.
+#[derive(Drop)]
+pub struct SendingStation<'a> {
+    blocks: Uncounted<'a>,
+    core: Sender,
+    over: bool,
+    trace: Trace,
+}
+
+impl<'a> Model for SendingStation<'a> {
+    ghost use Rattle.rje_station.specs.Sending.{Sending};
+
+    ghost Value = { Sending };
+
+    ghost use Rattle.rje_station.specs.SendingInside.{sending_in, IsSending};
+
+    ghost view = { sending_in };
+
+    ghost invariant = { IsSending };
+}
+
+impl<'a> SendingStation<'a> {
+    /// A station for these jobs. With no jobs it is over at once. Takes memory for its trace alone.
+    pub fn new(alloc: Global, jobs: &'a [Job]) -> Result<Self, StationFault>
+        ensures ready { IfOk result (λ s. s ≡ first_sending jobs.now) }
+        ensures fit { OnOk result (AllByRecursion JobFits jobs.now) }
+
+        // A job that can't be sent is told, the first by its number, and want of memory only of jobs that can be sent.
+        ensures refused { IfErr result (λ fault. IsNewCause jobs.now fault) }
+    {
+        if let Some(number) = first_unfit(jobs) {
+            return Err(StationFault::BadJob(number));
+        }
+        let trace = Trace::new(alloc)?;
+        Ok(SendingStation {
+            blocks: Uncounted::new(jobs),
+            core: Sender::new(),
+            over: jobs.is_empty(),
+            trace,
+        })
+    }
+
+    /// How many jobs are counted: those whose last block is.
+    pub fn counted(&self) -> usize
+        ensures { result ≡ self.now.counted }
+    {
+        self.blocks.counted()
+    }
+
+    /// How the transmission ends, once that is known. With no jobs it is done.
+    pub fn outcome(&self) -> Option<Outcome>
+        ensures { result ≡ outcome_of self.now }
+    {
+        if self.blocks.has_no_jobs() {
+            Some(Outcome::Done)
+        } else {
+            self.core.outcome()
+        }
+    }
+
+    /// The last events.
+    pub fn trace(&self) -> &Trace
+        ensures { result.now ≡ self.now.trace }
+    {
+        &self.trace
+    }
+
+    /// Sends what is due, and the same again where it is called twice. After EOT the station is over.
+    pub fn speak<L: Line>(&mut self, line: &mut L) -> Result<Say, StationFault>
+        ensures said { IfOk result (λ say. say ≡ say_in self.old.core.place) }
+        ensures sent { OnOk result (Passes (L.talk line.old) (L.talk line.new) (Spoke (say_in self.old.core.place) self.old.rest)) }
+        ensures state { OnOk result (self.new ≡ after_speaking self.old) }
+        ensures live { OnOk result (self.old.over ≡ false) }
+
+        // The line failed, or the station was over before; it is over then, and jobs and counts stay.
+        ensures cause { IfErr result (λ fault. IsCause (Rose (L.failures line.old) (L.failures line.new)) ⊥ self.old.over fault) }
+        ensures kept { IfErr result (λ fault. self.new ≡ after_refusal fault self.old) }
+        ensures untouched { IfErr result (λ fault. IfOver fault (line.new ≡ line.old)) }
+    {
+        if self.over {
+            return Err(StationFault::Over);
+        }
+        let say = self.core.say();
+        let out = self.transmission(say);
+        if let Err(fault) = line.transmit(out.as_slice()) {
+            self.fail();
+            return Err(StationFault::Line(fault));
+        }
+        self.spoke(say);
+        Ok(say)
+    }
+
+    /// Listens, and takes one step. With `pause` the next block has to wait.
+    pub fn hear<L: Line>(&mut self, line: &mut L, pause: bool) -> Result<Sound, StationFault>
+        ensures heard { IfOk result (λ sound. Passes (L.talk line.old) (L.talk line.new) (λ t u. HearsSound t u sound)) }
+        ensures state { IfOk result (λ sound. self.new ≡ after_hearing self.old sound pause) }
+        ensures live { OnOk result (self.old.over ≡ false) }
+
+        // The line failed or babbled, or the station was over before; it is over then, and jobs and counts stay.
+        ensures cause { IfErr result (λ fault. IsCause (Rose (L.failures line.old) (L.failures line.new))
+            (Passes (L.talk line.old) (L.talk line.new) Babbling) self.old.over fault) }
+        ensures kept { IfErr result (λ fault. self.new ≡ after_refusal fault self.old) }
+        ensures untouched { IfErr result (λ fault. IfOver fault (line.new ≡ line.old)) }
+    {
+        if self.over {
+            return Err(StationFault::Over);
+        }
+        match hear(line) {
+            Ok(heard) => {
+                let sound = sound_of(&heard);
+                self.step(sound, pause);
+                Ok(sound)
+            }
+            Err(HearFault::Lost(fault)) => {
+                self.fail();
+                Err(StationFault::Line(fault))
+            }
+            Err(HearFault::Babble) => {
+                self.fail();
+                Err(StationFault::Babble)
+            }
+        }
+    }
+
+    /// The transmission of what is due.
+    fn transmission(&self, say: Say) -> Transmission
+        requires live { self.now.over ≡ false }
+        requires due { say ≡ say_in self.now.core.place }
+        ensures { IsWrittenOf say self.now.rest result.items }
+    {
+        match say {
+            Say::Bid | Say::Ask => transmission_of(&Frame::Enq),
+            Say::Delay => transmission_of(&Frame::Ttd),
+            Say::End => transmission_of(&Frame::Eot),
+            Say::Block | Say::Again => self.blocks.transmission(),
+            Say::Nothing => unreachable!(),
+        }
+    }
+
+    /// What was due was sent.
+    fn spoke(&mut self, say: Say)
+        requires live { self.old.over ≡ false }
+        requires due { say ≡ say_in self.old.core.place }
+        ensures { self.new ≡ after_speaking self.old }
+    {
+        self.trace.note(Event::Said(say));
+        if say == Say::End {
+            self.core.sent_end();
+            self.over = true;
+        }
+    }
+
+    /// A sound was heard.
+    fn step(&mut self, sound: Sound, pause: bool)
+        requires live { self.old.over ≡ false }
+        ensures { self.new ≡ after_hearing self.old sound pause }
+    {
+        let next = self.next();
+        let counted = self.core.hear(sound, next, pause).counted;
+        note_heard(&mut self.trace, sound, counted);
+        self.blocks.count(counted);
+        self.over = is_done(self.core.say());
+    }
+
+    /// What the core is told of what follows: before the first block comes a new job.
+    fn next(&self) -> Next
+        ensures { result ≡ next_for (say_in self.now.core.place) self.now.rest }
+    {
+        match self.core.say() {
+            Say::Bid => Next::NewJob,
+            _ => self.blocks.next(),
+        }
+    }
+
+    /// The line failed.
+    fn fail(&mut self)
+        ensures { self.new ≡ after_fault self.old }
+    {
+        self.over = true;
+        self.trace.note(Event::Over);
+    }
+}
+
+/// Notes a hearing.
+fn note_heard(trace: &mut Trace, sound: Sound, counted: bool)
+    ensures { trace.new ≡ last_events (trace.old ++ event.Heard sound ∷ counted_events counted) }
+{
+    trace.note(Event::Heard(sound));
+    if counted {
+        trace.note(Event::Counted);
+    }
+}
+
+ghost use Rattle.rje_station.specs.Sending.{is_done as done};
+
+fn is_done(say: Say) -> bool
+    ensures { result ≡ done say }
+{
+    matches!(say, Say::Nothing)
+}

@@ -1,0 +1,154 @@
+//! The blocks that aren't counted yet.
+ghost use Rattle.std.specs.Prelude.{◌≡◌, ◌≢◌, ◌==◌, [], length, drop};
+ghost use Rattle.std.specs.List.{AllByRecursion};
+ghost use Rattle.rje_jobs.specs.Blocks.{blocks};
+ghost use Rattle.rje_jobs.specs.Fitting.{JobFits};
+ghost use Rattle.rje_station.specs.Sending.{next_in, counted_by, IsFirstWritten};
+ghost use Rattle.rje_station.specs.Uncounted.{rest_in, more_in, IsAt, IsPlace, all_uncounted, after_count};
+
+use crate::writing::{Transmission, transmission_of};
+use bsc_codes::Closing;
+use bsc_frame::Frame;
+use bsc_link::Next;
+use rje_jobs::Job;
+use rje_text::next_block;
+use std::marker::Model;
+
+/// The blocks of some jobs that aren't counted yet. It keeps the outstanding one, which is the first of them, and the place of the record
+/// behind it; each further block is made when it becomes outstanding.
+#[derive(Drop)]
+pub(crate) struct Uncounted<'a> {
+    jobs: &'a [Job],
+    // The jobs whose last block is counted: the outstanding block is one of the job behind them.
+    counted: usize,
+    // The outstanding block; EOT where every block is counted.
+    outstanding: Frame,
+    // The record behind the outstanding block.
+    place: usize,
+}
+
+impl<'a> Model for Uncounted<'a> {
+    ghost use Rattle.rje_station.specs.Uncounted.{Remaining, remaining_in, IsUncounted};
+
+    ghost Value = { Remaining };
+
+    ghost view = { remaining_in };
+
+    ghost invariant = { IsUncounted };
+}
+
+impl<'a> Uncounted<'a> {
+    /// All blocks of these jobs.
+    pub(crate) fn new(jobs: &'a [Job]) -> Self
+        requires fit { AllByRecursion JobFits jobs.now }
+        ensures { result ≡ all_uncounted jobs.now }
+    {
+        let (outstanding, place) = begin_job(jobs, 0);
+        Uncounted {
+            jobs,
+            counted: 0,
+            outstanding,
+            place,
+        }
+    }
+
+    /// Whether there are no jobs at all.
+    pub(crate) fn has_no_jobs(&self) -> bool
+        ensures { result ≡ (length self.now.jobs == 0) }
+    {
+        self.jobs.is_empty()
+    }
+
+    /// The jobs whose last block is counted.
+    pub(crate) fn counted(&self) -> usize
+        ensures { result ≡ self.now.counted }
+    {
+        self.counted
+    }
+
+    /// What follows the outstanding block.
+    pub(crate) fn next(&self) -> Next
+        ensures { result ≡ next_in self.now.rest }
+    {
+        next_of(self.jobs, self.counted, &self.outstanding, self.place)
+    }
+
+    /// The transmission of the outstanding block.
+    pub(crate) fn transmission(&self) -> Transmission
+        requires { self.now.rest ≢ [] }
+        ensures { IsFirstWritten self.now.rest result.items }
+    {
+        transmission_of(&self.outstanding)
+    }
+
+    /// Goes on to the next block, where the outstanding one was counted.
+    pub(crate) fn count(&mut self, counted: bool)
+        ensures { self.new ≡ after_count counted self.old }
+    {
+        if !counted {
+            return;
+        }
+        if let Frame::Block(block) = &self.outstanding {
+            let (outstanding, place, jobs) = after_block(
+                self.jobs,
+                self.counted,
+                block.closing,
+                self.place,
+            );
+            self.outstanding = outstanding;
+            self.place = place;
+            self.counted = jobs;
+        }
+    }
+}
+
+/// The first block of a job and the place behind its last record; EOT where there is no such job.
+fn begin_job(jobs: &[Job], at: usize) -> (Frame, usize)
+    requires fit { AllByRecursion JobFits jobs.now }
+    ensures rest { rest_in (drop at jobs.now) result.0 result.1 ≡ blocks (drop at jobs.now) }
+    ensures at { IsAt (drop at jobs.now) result.0 result.1 }
+{
+    if at < jobs.len() {
+        let job = &jobs[at];
+        let (block, place) = next_block(job.records.as_slice(), 0, job.select, job.mode);
+        (Frame::Block(block), place)
+    } else {
+        (Frame::Eot, 0)
+    }
+}
+
+/// What becomes outstanding behind a block that is counted: the block, the place behind its last record, and its job.
+fn after_block(jobs: &[Job], at: usize, closing: Closing, place: usize) -> (Frame, usize, usize)
+    requires fit { AllByRecursion JobFits jobs.now }
+    requires within { IsPlace (drop at jobs.now) closing place }
+    ensures rest { rest_in (drop result.2 jobs.now) result.0 result.1 ≡ more_in (drop at jobs.now) closing place }
+    ensures at { IsAt (drop result.2 jobs.now) result.0 result.1 }
+    ensures counted { result.2 ≡ counted_by closing at }
+{
+    match closing {
+        Closing::Etx => {
+            let (frame, place) = begin_job(jobs, at + 1);
+            (frame, place, at + 1)
+        }
+        Closing::Etb => {
+            let job = &jobs[at];
+            let (block, place) = next_block(job.records.as_slice(), place, job.select, job.mode);
+            (Frame::Block(block), place, at)
+        }
+    }
+}
+
+/// What follows the outstanding block.
+fn next_of(jobs: &[Job], at: usize, outstanding: &Frame, place: usize) -> Next
+    requires at { IsAt (drop at jobs.now) outstanding.now place }
+    ensures { result ≡ next_in (rest_in (drop at jobs.now) outstanding.now place) }
+{
+    match outstanding {
+        Frame::Block(block) => match block.closing {
+            Closing::Etb => Next::Block,
+            Closing::Etx if at + 1 < jobs.len() => Next::NewJob,
+            Closing::Etx => Next::Done,
+        },
+        _ => Next::Done,
+    }
+}

@@ -1,0 +1,237 @@
+-- Packing from a record on.
+use Rattle.std.proofs.Common.{◌≡◌, ◌⊎◌, inl, inr, ℕ, zero, suc, ◌+◌, ◌<◌, ◌≤◌, Bool, true, false, leb, List, [], ◌∷◌, ◌++◌, length, drop, get_or, Some, None, refl, ap, sym, ◌∙◌, subst, arith, ⊎_elim}
+use Rattle.std.specs.Prelude.{Contains, ◌==◌}
+use Rattle.std.specs.Bool.{OnFalse}
+use Rattle.std.specs.Cmp.{nat_eq_equiv}
+use Rattle.std.specs.List.{AllByRecursion, list_any}
+use Rattle.std.proofs.lemmas.List.{append_assoc, length-append, drop_more, length-drop}
+use Rattle.std.proofs.lemmas.Map.Views.{list_any-from_Contains}
+use Rattle.std.proofs.lemmas.Bool.Decides.{nat_tests}
+use Rattle.bsc_codes.specs.Bytes.{control_bytes}
+use Rattle.bsc_codes.specs.declared.bytes.TheConstants.{IRS, IGS, ESC}
+use Rattle.bsc_codes.specs.declared.block.Block.{Block}
+use Rattle.bsc_codes.specs.declared.block.Closing.{Closing}
+use Rattle.bsc_codes.specs.declared.block.Closing.TheVariants.{Etb, Etx}
+use Rattle.rje_text.specs.declared.mode.Mode.{Mode}
+use Rattle.rje_text.specs.declared.mode.Mode.TheVariants.{Normal, Transparent}
+use Rattle.rje_text.specs.declared.select.Select.{Select}
+use Rattle.rje_text.specs.declared.select.Select.TheVariants.{Unset, Printer, Punch}
+use Rattle.rje_text.specs.declared.action.Action.{Action}
+use Rattle.rje_text.specs.declared.action.Action.TheVariants.{Plain, Single, Double, Triple, Suppress, Ch1, Ch2, Ch3, Ch4, Ch5, Ch6, Ch7, Ch8, Ch9, Ch10, Ch11, Ch12}
+use Rattle.rje_text.specs.declared.record.Record.{Record}
+use Rattle.rje_text.specs.Action.{code_of}
+use Rattle.rje_text.specs.PackFault.{pack_fault}
+use Rattle.rje_text.specs.Spelling.{spelling, compressed, action_escape}
+use Rattle.rje_text.specs.Cut.{block, is_transparent, cut_behind, cut}
+use Rattle.rje_text.specs.Packing.{Packing, has_room, with_record, block_in_hand}
+use Rattle.rje_text.specs.NextBlock.{front_at, packing_at, cut_from, blocks_after, IsNextBlock, IsSendable, AreBlocksBefore, AreBlocksTo}
+use Rattle.rje_text.proofs.ReadBack.{IsQuiet, AreQuiet, compressed_quiet, data_of}
+
+-- ---- Every byte of a spelling in a normal text may stand there.
+
+abbrev AreNormal : List ℕ → Type 0
+AreNormal xs = AllByRecursion (λ byte. Contains control_bytes byte → ⊥) xs
+
+normal-append : (xs ys : List ℕ) → AreNormal xs → AreNormal ys → AreNormal (xs ++ ys)
+normal-append [] ys h g = g
+normal-append (x ∷ xs) ys h g = (h.0, normal-append xs ys h.1 g)
+
+no_control : (x : ℕ) → list_any (λ c. x == c) control_bytes ≡ false → Contains control_bytes x → ⊥
+no_control x e h = let t : list_any (λ c. x == c) control_bytes ≡ true = list_any-from_Contains nat_eq_equiv x control_bytes h in absurd cc
+
+normal_above : (x : ℕ) → 0x40 ≤ x → Contains control_bytes x → ⊥
+normal_above x h = no_control x (grind (arith, nat_tests))
+
+quiet_normal : (x : ℕ) → IsQuiet x → Contains control_bytes x → ⊥
+quiet_normal x (inl e) = rw e (no_control IGS refl)
+quiet_normal x (inr h) = normal_above x h
+
+all_quiet_normal : (xs : List ℕ) → AreQuiet xs → AreNormal xs
+all_quiet_normal [] h = tt
+all_quiet_normal (x ∷ xs) h = (quiet_normal x h.0, all_quiet_normal xs h.1)
+
+coded : (code : ℕ) → 0x40 ≤ code → AreNormal (action_escape (Some code))
+coded code h = (no_control ESC refl, (normal_above code h, tt))
+
+escape_normal : (a : Action) → AreNormal (action_escape (code_of a))
+escape_normal Plain = tt
+escape_normal Single = coded 0x61 (omega arith)
+escape_normal Double = coded 0xE2 (omega arith)
+escape_normal Triple = coded 0xE3 (omega arith)
+escape_normal Suppress = coded 0xD4 (omega arith)
+escape_normal Ch1 = coded 0xC1 (omega arith)
+escape_normal Ch2 = coded 0xC2 (omega arith)
+escape_normal Ch3 = coded 0xC3 (omega arith)
+escape_normal Ch4 = coded 0xC4 (omega arith)
+escape_normal Ch5 = coded 0xC5 (omega arith)
+escape_normal Ch6 = coded 0xC6 (omega arith)
+escape_normal Ch7 = coded 0xC7 (omega arith)
+escape_normal Ch8 = coded 0xC8 (omega arith)
+escape_normal Ch9 = coded 0xC9 (omega arith)
+escape_normal Ch10 = coded 0xD1 (omega arith)
+escape_normal Ch11 = coded 0xD2 (omega arith)
+escape_normal Ch12 = coded 0xD3 (omega arith)
+
+-- a text in hand that can be sent in this mode
+abbrev CanStand : Mode → List ℕ → Type 0
+CanStand mode text = OnFalse (is_transparent mode) (AreNormal text)
+
+spelling_normal : (select : Select) (r : Record) → pack_fault select Normal r ≡ None → AreNormal (spelling Normal r)
+spelling_normal select r h =
+    normal-append (action_escape (code_of r.action)) (compressed r.bytes.items ++ IRS ∷ []) (escape_normal r.action)
+    (normal-append (compressed r.bytes.items) (IRS ∷ []) (all_quiet_normal _ (compressed_quiet r.bytes.items (data_of select r h))) (no_control IRS refl, tt))
+
+spelling_stands : (select : Select) (mode : Mode) (r : Record) (text : List ℕ) → pack_fault select mode r ≡ None → CanStand mode text → CanStand mode (text ++ spelling mode r)
+spelling_stands select Normal r text h t = normal-append text (spelling Normal r) t (spelling_normal select r h)
+spelling_stands select Transparent r text h t = tt
+
+front_stands : (select : Select) (mode : Mode) (from : ℕ) → CanStand mode (front_at select mode from)
+front_stands select Transparent from = tt
+front_stands Unset Normal zero = tt
+front_stands Printer Normal zero = (no_control 0x11 refl, tt)
+front_stands Punch Normal zero = (no_control 0x12 refl, tt)
+front_stands select Normal (suc from) = tt
+
+front_short : (select : Select) (mode : Mode) (from : ℕ) → length (front_at select mode from) ≤ 1
+front_short select mode (suc from) = omega arith
+front_short Unset Normal zero = omega arith
+front_short Printer Normal zero = omega arith
+front_short Punch Normal zero = omega arith
+front_short select Transparent zero = omega arith
+
+-- ---- The loop.
+
+-- the records from the first to this place are in hand, and no block was closed
+pub record PackedSo (select : Select) (mode : Mode) (p : Packing) (records : List Record) (from place : ℕ) : Type 0 where
+  pub selects : p.select ≡ select
+  pub has_mode : p.mode ≡ mode
+  pub sent : AllByRecursion (λ r. pack_fault select mode r ≡ None) (drop place records)
+  pub ahead : from ≤ place
+  pub within : place ≤ length records
+  pub begun : (p.text ≡ front_at select mode from) ⊎ (from < place)
+  pub so : cut_behind mode p.text (drop place records) ≡ cut_from select mode records from
+  pub stands : CanStand mode p.text
+  pub room : length p.text ≤ 510
+
+-- a record is there to begin with, or there is none at all
+abbrev pub Begins : ℕ → ℕ → Type 0
+Begins from n = (from < n) ⊎ ((from ≡ 0) × (n ≡ 0))
+
+drop_sent : (select : Select) (mode : Mode) (n : ℕ) (rs : List Record) → AllByRecursion (λ r. pack_fault select mode r ≡ None) rs → AllByRecursion (λ r. pack_fault select mode r ≡ None) (drop n rs)
+drop_sent select mode zero rs a = a
+drop_sent select mode (suc n) [] a = tt
+drop_sent select mode (suc n) (r ∷ rs) a = drop_sent select mode n rs a.1
+
+pub packed_none : (select : Select) (mode : Mode) (p : Packing) (records : List Record) (from : ℕ) → AllByRecursion (λ r. pack_fault select mode r ≡ None) records → Begins from (length records)
+    → p ≡ packing_at select mode from → PackedSo select mode p records from from
+packed_none select mode p records from sent h e =
+    rw e (record {
+      selects = refl;
+      has_mode = refl;
+      sent = drop_sent select mode from records sent;
+      ahead = omega arith;
+      within = ⊎_elim (λ (l : from < length records). omega arith) (λ (l : (from ≡ 0) × (length records ≡ 0)). omega (arith, l.0)) h;
+      begun = inl refl;
+      so = refl;
+      stands = front_stands select mode from;
+      room = omega (arith, front_short select mode from);
+    })
+
+taken_cut : (mode : Mode) (text : List ℕ) (r : Record) (rs : List Record) → leb (length (text ++ spelling mode r)) 510 ≡ true → cut_behind mode text (r ∷ rs) ≡ cut_behind mode (text ++ spelling mode r) rs
+taken_cut mode text r rs h = rw h refl
+
+full_cut : (mode : Mode) (text : List ℕ) (r : Record) (rs : List Record) → leb (length (text ++ spelling mode r)) 510 ≡ false → cut_behind mode text (r ∷ rs) ≡ block mode Etb text ∷ cut_behind mode (spelling mode r) rs
+full_cut mode text r rs h = rw h refl
+
+room_in : (mode : Mode) (p : Packing) (r : Record) (b : Bool) → p.mode ≡ mode → has_room p r ≡ b → leb (length (p.text ++ spelling mode r)) 510 ≡ b
+room_in mode p r b m h = ap (λ k. leb (length (p.text ++ spelling k r)) 510) (sym m) ∙ h
+
+fits : (n : ℕ) → leb n 510 ≡ true → n ≤ 510
+fits n h = grind (arith, nat_tests)
+
+over : (n : ℕ) → leb n 510 ≡ false → 510 < n
+over n h = grind (arith, nat_tests)
+
+is_true : (n : ℕ) → n ≤ 510 → leb n 510 ≡ true
+is_true n h = grind (arith, nat_tests)
+
+-- the record at a place, and those behind it
+here_on : (records : List Record) (place : ℕ) (r : Record) → place < length records → r ≡ get_or records place r → drop place records ≡ r ∷ drop (place + 1) records
+here_on records place r l e = drop_more records place r l ∙ ap (λ x. x ∷ drop (place + 1) records) (sym e)
+
+pub packed_on : (select : Select) (mode : Mode) (p q : Packing) (records : List Record) (from place : ℕ) (r : Record) → PackedSo select mode p records from place → place < length records → r ≡ get_or records place r
+    → has_room p r ≡ true → q ≡ with_record p r → PackedSo select mode q records from (place + 1)
+packed_on select mode p q records from place r s l e h w =
+    let cut = here_on records place r l e in
+    let sent = subst (λ rs. AllByRecursion (λ x. pack_fault select mode x ≡ None) rs) cut s.sent in
+    let t = room_in mode p r true s.has_mode h in
+    let text : with_record p r ≡ record { select = select; mode = mode; text = p.text ++ spelling mode r } = rw (s.has_mode, s.selects) refl in
+    rw (w, text) (record {
+      selects = refl;
+      has_mode = refl;
+      sent = sent.1;
+      ahead = omega (arith, s.ahead);
+      within = omega arith;
+      begun = inr (omega (arith, s.ahead));
+      so = sym (ap (cut_behind mode p.text) cut ∙ taken_cut mode p.text r (drop (place + 1) records) t) ∙ s.so;
+      stands = spelling_stands select mode r p.text sent.0 s.stands;
+      room = fits (length (p.text ++ spelling mode r)) t;
+    })
+
+pub packed_full : (select : Select) (mode : Mode) (p : Packing) (records : List Record) (from place : ℕ) (r : Record) → PackedSo select mode p records from place → place < length records → r ≡ get_or records place r
+    → has_room p r ≡ false → length (spelling p.mode r) ≤ 147 → IsNextBlock select mode records from (block_in_hand p false) place
+packed_full select mode p records from place r s l e h brief =
+    let cut = here_on records place r l e in
+    let t = room_in mode p r false s.has_mode h in
+    let short : length (spelling mode r) ≤ 147 = subst (λ m. length (spelling m r) ≤ 147) s.has_mode brief in
+    let big = over (length (p.text ++ spelling mode r)) t in
+    let etb : block_in_hand p false ≡ block mode Etb p.text = ap (λ m. block m Etb p.text) s.has_mode in
+    let moved : from < place = ⊎_elim
+    (λ (n : p.text ≡ front_at select mode from). absurd (omega (arith, big, short, length-append p.text (spelling mode r), ap length n, front_short select mode from)))
+    (λ (m : from < place). m) s.begun in
+    let later : front_at select mode place ≡ [] = front_later select mode place (omega (arith, moved)) in
+    let alone : cut_behind mode [] (r ∷ drop (place + 1) records) ≡ cut_behind mode (spelling mode r) (drop (place + 1) records) = taken_cut mode [] r (drop (place + 1) records) (is_true (length (spelling mode r)) (omega (arith, short))) in
+    let next : cut_from select mode records place ≡ cut_behind mode (spelling mode r) (drop (place + 1) records) = ap (λ f. cut_behind mode f (drop place records)) later ∙ ap (cut_behind mode []) cut ∙ alone in
+    rw etb (record {
+      first = sym s.so ∙ ap (cut_behind mode p.text) cut ∙ full_cut mode p.text r (drop (place + 1) records) t ∙ ap (λ bs. block mode Etb p.text ∷ bs) (sym next);
+      end = l;
+      forward = inl moved;
+    })
+  where
+    front_later : (select : Select) (mode : Mode) (n : ℕ) → 0 < n → front_at select mode n ≡ []
+    front_later select mode zero h = absurd (omega (arith, h))
+    front_later select mode (suc n) h = refl
+
+pub packed_all : (select : Select) (mode : Mode) (p : Packing) (records : List Record) (from place : ℕ) → PackedSo select mode p records from place → length records ≤ place
+    → Begins from (length records) → IsNextBlock select mode records from (block_in_hand p true) place
+packed_all select mode p records from place s l h =
+    let none : drop place records ≡ [] = empty (drop place records) (omega (arith, length-drop place records, s.within)) in
+    let etx : block_in_hand p true ≡ block mode Etx p.text = ap (λ m. block m Etx p.text) s.has_mode in
+    rw etx (record {
+      first = sym s.so ∙ ap (cut_behind mode p.text) none;
+      end = omega (arith, s.within);
+      forward = ⊎_elim (λ (m : from < length records). inl (omega arith)) (λ (m : (from ≡ 0) × (length records ≡ 0)). inr m.1) h;
+    })
+  where
+    empty : (rs : List Record) → length rs ≡ 0 → rs ≡ []
+    empty [] e = refl
+    empty (r ∷ rs) e = absurd (omega (arith, e))
+
+pub packed_sends : (select : Select) (mode : Mode) (p : Packing) (records : List Record) (from place : ℕ) (last : Bool) → PackedSo select mode p records from place → IsSendable (block_in_hand p last)
+packed_sends select mode p records from place true s = rw s.has_mode (record { normal = s.stands; room = s.room })
+packed_sends select mode p records from place false s = rw s.has_mode (record { normal = s.stands; room = s.room })
+
+-- ---- The block that begins where whole blocks end is the cut's next one.
+
+pub first_of_cut : (select : Select) (mode : Mode) (records : List Record) → AreBlocksBefore select mode records 0 []
+unfolding cut
+first_of_cut select mode records = refl
+
+goes_on : (select : Select) (mode : Mode) (records : List Record) (to : ℕ) (before : List Block) (b : Block) (c : Closing)
+    → cut select mode records ≡ before ++ b ∷ blocks_after select mode records c to → AreBlocksTo select mode records c to (before ++ b ∷ [])
+goes_on select mode records to before b Etx e = e
+goes_on select mode records to before b Etb e = e ∙ sym (append_assoc before (b ∷ []) (cut_from select mode records to))
+
+pub next_of_cut : (select : Select) (mode : Mode) (records : List Record) (from to : ℕ) (before : List Block) (b : Block) → AreBlocksBefore select mode records from before
+    → IsNextBlock select mode records from b to → AreBlocksTo select mode records b.closing to (before ++ b ∷ [])
+next_of_cut select mode records from to before b whole next = goes_on select mode records to before b b.closing (whole ∙ ap (λ bs. before ++ bs) next.first)
