@@ -10,6 +10,7 @@ mod sound_fate;
 mod sound_fault;
 mod sound_report;
 mod sound_turn;
+mod sounds;
 mod spoken_turn;
 
 pub use cores::{converse, hear_answer, next_of, taken};
@@ -17,8 +18,9 @@ pub use due::Due;
 pub use laws::{cores_keep_rules, ends_agree, one_conversation};
 pub use memory_line::{MAX_TRANSMISSION, MemoryLine};
 pub use rules::converse_by_rules;
-pub use sound_fate::{SoundFate, sound_of, sound_of_reply};
+pub use sound_fate::SoundFate;
 pub use sound_fault::SoundFault;
 pub use sound_report::SoundReport;
 pub use sound_turn::SoundTurn;
+pub use sounds::{sound_of, sound_of_reply};
 pub use spoken_turn::SpokenTurn;

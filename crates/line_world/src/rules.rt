@@ -1,5 +1,5 @@
 //! The conversation over a schedule of sounds, worked out by the rules: at each turn they look back over the whole history. Slow, and
-//! beside the cores on purpose: it shares nothing with them.
+//! beside the cores on purpose: it shares the line with them (`SoundFate`, `SoundTurn`, the sounds), and nothing else.
 ghost use Rattle.std.specs.Prelude.{◌≡◌, ◌&&◌, reverse, IfOk, IfErr, IfSome, Some, None};
 ghost use Rattle.line_world.specs.Known.{known, gives_up_now};
 ghost use Rattle.line_world.specs.ReplyRule.{replying};

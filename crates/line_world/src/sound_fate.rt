@@ -1,8 +1,8 @@
 //! What the line does to a sound.
 ghost use Rattle.std.specs.Prelude.{◌≡◌};
-ghost use Rattle.line_world.specs.Fate.{is_damage_of, is_no_block_or_eot, is_noise_or_quiet, sound_of, sound_of_reply};
+ghost use Rattle.line_world.specs.Fate.{is_damage_of};
 
-use bsc_link::{Reply, Say, Sound};
+use bsc_link::Sound;
 
 /// What the line does to what is said, told by what is heard of it.
 #[derive(Clone, Copy, Debug, PartialEq, Eq)]
@@ -40,32 +40,5 @@ fn is_damage_of(said: Sound, heard: Sound) -> bool
     match said {
         Sound::Block | Sound::Ttd => !matches!(heard, Sound::Block | Sound::Eot),
         _ => matches!(heard, Sound::Noise | Sound::Quiet),
-    }
-}
-
-/// What the sender says, as a sound: a bid and an inquiry are ENQ, a delay is TTD, the end is EOT.
-pub fn sound_of(said: Say) -> Sound
-    ensures { result ≡ sound_of said }
-{
-    match said {
-        Say::Bid | Say::Ask => Sound::Enq,
-        Say::Block | Say::Again => Sound::Block,
-        Say::Delay => Sound::Ttd,
-        Say::End => Sound::Eot,
-        Say::Nothing => Sound::Quiet,
-    }
-}
-
-/// What the receiver replies, as a sound.
-pub fn sound_of_reply(reply: Option<Reply>) -> Sound
-    ensures { result ≡ sound_of_reply reply }
-{
-    match reply {
-        None => Sound::Quiet,
-        Some(Reply::Ack0) => Sound::Ack0,
-        Some(Reply::Ack1) => Sound::Ack1,
-        Some(Reply::Nak) => Sound::Nak,
-        Some(Reply::Wack) => Sound::Wack,
-        Some(Reply::Rvi) => Sound::Rvi,
     }
 }

@@ -12,7 +12,7 @@ pub enum SoundFault {
     #[error("out of memory")]
     OutOfMemory,
     /// A fate breaks the rule of damage: its turn, counted from 1.
-    #[error("turn {0} is no damage")]
+    #[error("turn {0}: what is heard can't be damage")]
     NotDamage(usize),
 }
 

@@ -25,12 +25,7 @@ module _ (order : Order) (files made : Option FileMap) (input before after : Opt
     where
       go : (o : Order) → IsBlocks (codes "-") o → Does o files made input before after → PrintsRead input before after
       go (Order.Blocks deck) is done = done.0 is
-      go (Order.Cards order) is done = absurd is
-      go (Order.Show jobs) is done = absurd is
-      go (Order.Check jobs) is done = absurd is
-      go (Order.Print jobs) is done = absurd is
-      go Order.TwoDevices is done = absurd is
-      go Order.Nothing is done = absurd is
+      go _ is done = absurd is
 
   pub cards_of_input : (jobs : List ℕ) (device : Device) → IsCards (codes "-") jobs device order → Does order files made input before after
       → IfSome input (λ deck. MakesCards device deck jobs files made before after)
@@ -41,9 +36,4 @@ module _ (order : Order) (files made : Option FileMap) (input before after : Opt
       go (Order.Cards order) is done =
           subst (λ (name : List ℕ). IfSome input (λ deck. MakesCards device deck name files made before after)) is.1
           (subst (λ (d : Device). IfSome input (λ deck. MakesCards d deck order.jobs.now files made before after)) is.2 (done.0 is.0))
-      go (Order.Blocks deck) is done = absurd is
-      go (Order.Show jobs) is done = absurd is
-      go (Order.Check jobs) is done = absurd is
-      go (Order.Print jobs) is done = absurd is
-      go Order.TwoDevices is done = absurd is
-      go Order.Nothing is done = absurd is
+      go _ is done = absurd is

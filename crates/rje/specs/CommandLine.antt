@@ -1,5 +1,5 @@
 -- The command line: what is taken, and which words ask for what.
-use Rattle.std.specs.Prelude.{◌≡◌, [], ◌∷◌, List, Some, Bool, true, false, not, codes, ◌==◌}
+use Rattle.std.specs.Prelude.{◌≡◌, [], ◌∷◌, List, Some, Bool, true, false, not, codes, pos, ◌==◌}
 use Rattle.clap.specs.Words.{App, Rule, Text, app_of, new_app, new_rule, one_text, rule_of, with_rule, with_subcommand}
 use Rattle.clap.specs.Simple.{on_top}
 use Rattle.clap.specs.declared.builder.Command.TheViews.{out-Command as fields_of}
@@ -7,6 +7,7 @@ use Rattle.clap.specs.declared.parser.matches.Found.{Found}
 use Rattle.clap.specs.declared.builder.arg.Arg.{Arg}
 use Rattle.clap.specs.declared.builder.command.Command.{Command}
 use Rattle.clap.specs.declared.builder.action.ArgAction.TheVariants.{Set, SetTrue}
+use Rattle.clap.specs.declared.builder.value_parser.ValueParser.TheVariants as parser
 use Rattle.rje.specs.declared.device.Device.{Device}
 use Rattle.rje.specs.declared.order.Order.{Order}
 use Rattle.rje.specs.declared.order.Order.TheVariants.{Blocks, Cards, Show, Check, Print}
@@ -27,6 +28,20 @@ file_rule id = record (new_rule id) { required = true; action = Some Set }
 abbrev pub flag_rule : Text → Rule
 flag_rule id = record (new_rule id) { long = Some id; action = Some SetTrue }
 
+-- an option that must be given an address
+abbrev pub address_rule : Text → Rule
+address_rule id = record (file_rule id) { long = Some id; value_names = 1 }
+
+-- the option for how long a hearing waits, in milliseconds
+abbrev pub timeout_rule : Rule
+timeout_rule = record (new_rule (codes "timeout")) {
+  long = Some (codes "timeout");
+  value_names = 1;
+  action = Some Set;
+  parser = Some (parser.Signed (pos 1) (pos 60000));
+  defaults = codes "3000" ∷ [];
+}
+
 -- a command of this name with one file
 abbrev pub file_app : Text → Text → App
 file_app name id = with_rule (new_app name) (file_rule id)
@@ -45,11 +60,24 @@ cards_app =
 abbrev pub rje_top : App
 rje_top = on_top (λ s. record s { no_binary_name = true; subcommand_required = true }) (new_app (codes "rje"))
 
+-- `loop JOBS`
+abbrev pub loop_app : App
+loop_app = with_rule (file_app (codes "loop") (codes "JOBS")) timeout_rule
+
+-- `send JOBS --to ADDR`
+abbrev pub send_app : App
+send_app = with_rule (with_rule (file_app (codes "send") (codes "JOBS")) (address_rule (codes "to"))) timeout_rule
+
+-- `receive JOBS --listen ADDR`
+abbrev pub receive_app : App
+receive_app = with_rule (with_rule (file_app (codes "receive") (codes "JOBS")) (address_rule (codes "listen"))) timeout_rule
+
 abbrev pub rje_app : App
 rje_app =
-    with_subcommand (with_subcommand (with_subcommand (with_subcommand (with_subcommand rje_top
+    with_subcommand (with_subcommand (with_subcommand (with_subcommand (with_subcommand (with_subcommand (with_subcommand (with_subcommand rje_top
     cards_app.top) blocks_app.top) (file_app (codes "show") (codes "JOBS")).top)
-    (file_app (codes "check") (codes "JOBS")).top) (file_app (codes "print") (codes "JOBS")).top
+    (file_app (codes "check") (codes "JOBS")).top) (file_app (codes "print") (codes "JOBS")).top)
+    loop_app.top) send_app.top) receive_app.top
 
 -- a word that names a file: more than nothing, without a hyphen in front
 abbrev pub is_name : Text → Bool

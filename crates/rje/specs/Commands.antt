@@ -48,5 +48,4 @@ Does (Order.Cards order) files made input before after =
 Does (Order.Show jobs) files made input before after = IfSome files (λ known. PrintsFile IsShown (known jobs.now) before after)
 Does (Order.Check jobs) files made input before after = IfSome files (λ known. PrintsFile IsGood (known jobs.now) before after)
 Does (Order.Print jobs) files made input before after = IfSome files (λ known. PrintsFile IsPaper (known jobs.now) before after)
-Does Order.TwoDevices files made input before after = ⊥
-Does Order.Nothing files made input before after = ⊥
+Does _ files made input before after = ⊥

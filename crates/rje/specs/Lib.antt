@@ -4,6 +4,7 @@ pub mod Printing
 pub mod Blocks
 pub mod Device
 pub mod JobTexts
+pub mod ReportTexts
 pub mod Commands
 pub mod CommandFault
 pub mod CommandLine

@@ -1,8 +1,7 @@
 //! One run of the program over files, a reader and two writers.
-ghost use Rattle.std.specs.Prelude.{◌≡◌, ◌≢◌, ◌⊎◌, ℕ, List, [], ◌∷◌, Some, true, map, codes, IfSome, IfOk, IfErr, OnOk, IsOk, MatchResult};
+ghost use Rattle.std.specs.Prelude.{◌≡◌, ◌≢◌, ℕ, List, [], ◌∷◌, Some, true, map, codes, IfSome, IfOk, IfErr, OnOk, IsOk, MatchResult};
 ghost use Rattle.std.specs.Option.{IsSomeAnd};
 ghost use Rattle.rje.specs.Blocks.{PrintsRead, PrintsDeckFile};
-ghost use Rattle.rje.specs.CommandFault.{status_of};
 ghost use Rattle.rje.specs.CommandLine.{is_file, is_name, device_words, IsBlocks, IsCards, IsShow, IsCheck, IsPrint};
 ghost use Rattle.rje.specs.Commands.{PrintsFile, MakesCards, Does};
 ghost use Rattle.rje.specs.JobTexts.{IsShown, IsGood, IsPaper};
@@ -14,6 +13,7 @@ use crate::commands::{STANDARD_INPUT, blocks, cards, check, print, show};
 use crate::device::Device;
 use crate::order::Order;
 use crate::store::Store;
+use crate::telling::{tell, tell_words};
 use crate::words::parse;
 use clap::Error;
 use clap::error::ErrorKind;
@@ -99,35 +99,9 @@ fn carry_out<'a, S: Store, I: Read, O: Write>(
         Order::Check(jobs) => check(alloc, jobs, store, out),
         Order::Print(jobs) => print(alloc, jobs, store, out),
         Order::TwoDevices => Err(CommandFault::TwoDevices),
-        Order::Nothing => Err(CommandFault::NoCommand),
-    }
-}
-
-/// Tells why the command fails, and answers its status.
-fn tell<E: Write>(fault: &CommandFault, err: &mut E) -> u8
-    ensures failed { result ≢ 0 }
-    ensures status { (result ≡ 3) ⊎ (result ≡ status_of fault.now) }
-{
-    if writeln!(err, "rje: {fault}").is_err() {
-        return CommandFault::Output.status();
-    }
-    fault.status()
-}
-
-/// Gives the help that was asked for, or tells why the words are no command.
-fn tell_words<O: Write, E: Write>(error: &Error, out: &mut O, err: &mut E) -> u8
-    ensures { kind_of error.now ≡ ErrorKind.OutOfMemory → result ≢ 0 }
-{
-    if error.kind() == ErrorKind::OutOfMemory {
-        return tell(&CommandFault::OutOfMemory, err);
-    }
-    let written = if error.use_stderr() {
-        write!(err, "{error}")
-    } else {
-        write!(out, "{error}")
-    };
-    match written {
-        Ok(()) => u8::try_from(error.exit_code()).unwrap_or(2),
-        Err(_) => CommandFault::Output.status(),
+        Order::BadAddress => Err(CommandFault::BadAddress),
+        Order::Loop(_) | Order::Send(_) | Order::Receive(_) | Order::Nothing => {
+            Err(CommandFault::NoCommand)
+        }
     }
 }

@@ -3,6 +3,7 @@ ghost use Rattle.std.specs.Prelude.{◌≡◌};
 ghost use Rattle.rje.specs.declared.command_fault.CommandFault.TheVariants.{Deck, File};
 
 use rje_jobs::{DeckFault, FileFault};
+use rje_station::StationFault;
 use thiserror::Error;
 
 /// Why a command ends with another status than 0.
@@ -23,9 +24,18 @@ pub enum CommandFault<'a> {
     /// More than one device was chosen.
     #[error("choose one device")]
     TwoDevices,
-    /// The words name no command.
+    /// The words name no command, or one that isn't served here.
     #[error("no command")]
     NoCommand,
+    /// The address isn't one.
+    #[error("bad address")]
+    BadAddress,
+    /// A connection can't be had, or failed.
+    #[error("line failed")]
+    LineFailed,
+    /// More than 8,192 bytes came in one hearing, and no frame.
+    #[error("babble")]
+    Babble,
     /// The file of this name can't be read.
     #[error("can't read {0}")]
     CannotRead(&'a str),
@@ -41,7 +51,7 @@ impl CommandFault<'_> {
     ghost use Rattle.rje.specs.CommandFault.{status_of};
 
     /// The exit status: 1 for an input that is refused, 2 for words that ask for two things or none,
-    /// 3 for a file or an output that fails, 5 for want of memory.
+    /// 3 for a file, a line or an output that fails, 5 for want of memory.
     pub fn status(&self) -> u8
         ensures { result ≡ status_of self.now }
     {
@@ -50,8 +60,12 @@ impl CommandFault<'_> {
             | CommandFault::Deck(DeckFault::OutOfMemory)
             | CommandFault::File(FileFault::OutOfMemory) => 5,
             CommandFault::Deck(_) | CommandFault::File(_) | CommandFault::BadJob(_) => 1,
-            CommandFault::TwoDevices | CommandFault::NoCommand => 2,
-            CommandFault::CannotRead(_) | CommandFault::CannotWrite(_) | CommandFault::Output => 3,
+            CommandFault::TwoDevices | CommandFault::NoCommand | CommandFault::BadAddress => 2,
+            CommandFault::LineFailed
+            | CommandFault::Babble
+            | CommandFault::CannotRead(_)
+            | CommandFault::CannotWrite(_)
+            | CommandFault::Output => 3,
         }
     }
 }
@@ -69,5 +83,16 @@ impl From<FileFault> for CommandFault<'_> {
 
     fn from(fault: FileFault) -> Self {
         CommandFault::File(fault)
+    }
+}
+
+impl From<StationFault> for CommandFault<'_> {
+    fn from(fault: StationFault) -> Self {
+        match fault {
+            StationFault::OutOfMemory => CommandFault::OutOfMemory,
+            StationFault::BadJob(number) => CommandFault::BadJob(number),
+            StationFault::Babble => CommandFault::Babble,
+            StationFault::Line(_) | StationFault::Over => CommandFault::LineFailed,
+        }
     }
 }

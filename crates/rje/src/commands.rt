@@ -10,6 +10,7 @@ mod show;
 pub use blocks::blocks;
 pub use cards::cards;
 pub use check::check;
-pub use inputs::STANDARD_INPUT;
+pub use inputs::{STANDARD_INPUT, read_job_file};
+pub use output::put;
 pub use print::print;
 pub use show::show;

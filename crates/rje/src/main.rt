@@ -1,16 +1,22 @@
 //! The program `rje`: jobs of cards and lines over a Binary Synchronous line.
 #![tactic(auto)]
 
+mod address;
 mod command;
 mod command_fault;
 mod commands;
 mod device;
+mod exchange;
 mod file_store;
 mod memory_store;
 mod order;
 mod printing;
 mod reading;
+mod socket_command;
+mod socket_commands;
+mod socket_line;
 mod store;
+mod telling;
 #[cfg(test)]
 mod tests;
 mod words;
@@ -18,6 +24,7 @@ mod words;
 use command::command;
 use command_fault::CommandFault;
 use file_store::FileStore;
+use socket_command::{is_for_sockets, socket_command};
 use std::process::ExitCode;
 use std::{env, io};
 
@@ -34,6 +41,16 @@ fn run(rt: &HostRuntime) -> io::Result<u8> {
     let words: Vec<String> = env::args(rt)?.skip(1).collect(alloc)?;
     let words: Vec<&str> = words.iter().map(|word| word.as_str()).collect(alloc)?;
     let mut store = FileStore::new(rt);
+    if is_for_sockets(words.as_slice()) {
+        return Ok(socket_command(
+            rt,
+            alloc,
+            words.as_slice(),
+            &mut store,
+            &mut rt.stdout(),
+            &mut rt.stderr(),
+        ));
+    }
     Ok(command(
         alloc,
         words.as_slice(),

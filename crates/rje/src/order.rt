@@ -1,5 +1,6 @@
 //! What the words of the command line ask for.
 use crate::device::Device;
+use std::net::SocketAddr;
 
 /// What the words ask for.
 #[derive(Clone, Copy, Debug, PartialEq, Eq)]
@@ -14,8 +15,16 @@ pub enum Order<'a> {
     Check(&'a str),
     /// The listings and the punched cards of a job file.
     Print(&'a str),
+    /// A transmission between both ends in this process.
+    Loop(LoopOrder<'a>),
+    /// A transmission to a receiver.
+    Send(SocketOrder<'a>),
+    /// A transmission from a sender.
+    Receive(SocketOrder<'a>),
     /// More than one device for a deck's job.
     TwoDevices,
+    /// An address that is none.
+    BadAddress,
     /// Nothing. It isn't given: words that name no command are refused.
     Nothing,
 }
@@ -29,4 +38,24 @@ pub struct CardsOrder<'a> {
     pub jobs: &'a str,
     /// The device of the deck's job.
     pub device: Device,
+}
+
+/// What `loop` is asked for.
+#[derive(Clone, Copy, Debug, PartialEq, Eq)]
+pub struct LoopOrder<'a> {
+    /// The job file that is sent.
+    pub jobs: &'a str,
+    /// How long a hearing waits for more bytes, in milliseconds, 1 to 60000.
+    pub timeout: u16,
+}
+
+/// What `send` and `receive` are asked for.
+#[derive(Clone, Copy, Debug, PartialEq, Eq)]
+pub struct SocketOrder<'a> {
+    /// The job file that is sent, or written.
+    pub jobs: &'a str,
+    /// Where the receiver listens.
+    pub address: SocketAddr,
+    /// How long a hearing waits for more bytes, in milliseconds, 1 to 60000.
+    pub timeout: u16,
 }

@@ -7,6 +7,7 @@ mod frames;
 mod job_commands;
 mod links;
 mod refusals;
+mod socket_commands;
 mod stations;
 mod texts;
 

@@ -23,6 +23,7 @@ use bsc_check::Check;
 use bsc_codes::{Block, Closing, DLE, ENQ, ETB, ETX, MAX_TEXT, SYN};
 
 /// Takes a byte in normal text.
+#[inline(always)]
 pub(crate) fn at_normal(
     stage: &mut Stage,
     text: &mut ArrayVec<u8, 512>,
@@ -51,6 +52,7 @@ pub(crate) fn at_normal(
 }
 
 /// Takes a byte in transparent text.
+#[inline(always)]
 pub(crate) fn at_transparent(
     stage: &mut Stage,
     text: &mut ArrayVec<u8, 512>,
@@ -69,6 +71,7 @@ pub(crate) fn at_transparent(
 }
 
 /// Takes the byte behind a DLE in transparent text.
+#[inline(always)]
 pub(crate) fn at_text_dle(
     stage: &mut Stage,
     text: &mut ArrayVec<u8, 512>,

@@ -1,34 +1,11 @@
 //! What is due at the sender after a history, looking back over it, and how a transmission ends. The newest turn stands first.
 ghost use Rattle.std.specs.Prelude.{◌≡◌};
 ghost use Rattle.line_world.specs.History.{what_follows, is_over};
-ghost use Rattle.line_world.specs.SayingRule.{next_block_due, due_after_progress, due_after_delay, due_after_block, due_after_inquiry, due_without_progress, due_when_granted, due_after, said_of, ending_of};
+ghost use Rattle.line_world.specs.SayingRule.{next_block_due, due_after_progress, due_after_delay, due_after_block, due_after_inquiry, due_without_progress, due_when_granted, due_after};
 
 use super::known::{has_grant, has_heard_rvi, is_last, is_progress, known};
 use crate::{Due, SpokenTurn};
 use bsc_link::{Next, Outcome, Say, Sound};
-
-impl Due {
-    /// What is said of it.
-    pub fn say(self) -> Say
-        ensures { result ≡ said_of self }
-    {
-        match self {
-            Due::Nothing => Say::Nothing,
-            Due::Ends(_) => Say::End,
-            Due::Says(say) => say,
-        }
-    }
-
-    /// How the transmission ends by it.
-    pub fn ending(self) -> Option<Outcome>
-        ensures { result ≡ ending_of self }
-    {
-        match self {
-            Due::Ends(outcome) => Some(outcome),
-            _ => None,
-        }
-    }
-}
 
 /// What is due after a history, where the sender gives up and where it doesn't.
 pub fn due_after(plan: &[bool], gives_up: bool, history: &[SpokenTurn]) -> Due

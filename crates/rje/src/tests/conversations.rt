@@ -317,6 +317,15 @@ fn faults_past_the_end_are_not_looked_at(rt: HostRuntime) -> Result<(), SoundFau
     assert_conversation(&rt, &[true], &places, printed)
 }
 
+#[test]
+fn a_refused_schedule_names_its_turn(rt: HostRuntime) -> Result<(), Fail> {
+    let refused = format!(in rt.alloc(); "{}", SoundFault::NotDamage(3))?;
+    assert!(rt; refused.as_str() == "turn 3: what is heard can't be damage");
+    let memory = format!(in rt.alloc(); "{}", SoundFault::OutOfMemory)?;
+    assert!(rt; memory.as_str() == "out of memory");
+    Ok(())
+}
+
 // THE CORES AND THE RULES TELL THE SAME
 
 const PLAN: [bool; 6] = [true, false, true, true, false, false];

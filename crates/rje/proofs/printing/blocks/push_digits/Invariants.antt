@@ -1,6 +1,6 @@
 use Rattle.std.proofs.Common.{◌≡◌, ◌+◌, ◌*◌, ◌++◌, length, drop}
 use Rattle.rje.specs.Printing.{hex}
-use Rattle.rje.proofs.printing.push_digits.Given as goal
+use Rattle.rje.proofs.printing.blocks.push_digits.Given as goal
 
 abbrev pub invariant-loop-byte : goal.invariant-loop-byte
 invariant-loop-byte l = record {

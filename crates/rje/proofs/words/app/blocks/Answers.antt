@@ -2,7 +2,7 @@ use Rattle.std.proofs.Common.{codes, ap, ◌∙◌}
 use Rattle.clap.specs.Words.{new_app}
 use Rattle.clap.specs.Simple.{app_of_fields}
 use Rattle.rje.specs.CommandLine.{IsApp, file_rule}
-use Rattle.rje.proofs.words.blocks.Goals as goal
+use Rattle.rje.proofs.words.app.blocks.Goals as goal
 
 pub returns : goal.returns
 returns c =

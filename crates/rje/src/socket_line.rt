@@ -1,0 +1,64 @@
+//! A line over a connection.
+ghost use Rattle.std.specs.Prelude.{◌≡◌, ◌+◌, ◌-◌, ◌^◌, ◌≤◌, min, None};
+
+use rje_station::{Came, Line, LineFault};
+use std::io::{self, ErrorKind, Read, Write};
+use std::net::OpenStream;
+use std::time::Duration;
+
+/// A line over a stream whose reads time out. It tells no bytes.
+#[derive(Drop)]
+pub struct SocketLine<S> {
+    stream: S,
+    failures: u64,
+}
+
+impl<S: OpenStream + Drop> SocketLine<S> {
+    /// A line over this connection, on which a hearing waits so many milliseconds, at least 1, for more bytes.
+    pub fn new(stream: S, milliseconds: u16) -> io::Result<SocketLine<S>> {
+        stream.set_nodelay(true)?;
+        stream.set_read_timeout(Some(Duration::from_millis(u64::from(milliseconds))))?;
+        Ok(SocketLine {
+            stream,
+            failures: 0,
+        })
+    }
+}
+
+impl<S> SocketLine<S> {
+    /// Counts a failure.
+    fn failed(&mut self, fault: LineFault) -> LineFault
+        ensures counted { self.new.failures ≡ min (self.old.failures + 1) (2 ^ 64 - 1) }
+        ensures grows { self.old.failures ≤ self.new.failures }
+    {
+        self.failures = self.failures.saturating_add(1);
+        fault
+    }
+}
+
+impl<S: Read + Write> Line for SocketLine<S> {
+    ghost failures = { λ line. line.failures };
+
+    ghost talk = { λ _. None };
+
+    fn transmit(&mut self, bytes: &[u8]) -> Result<(), LineFault> {
+        match self.stream.write_all(bytes) {
+            Ok(()) => Ok(()),
+            Err(_) => Err(self.failed(LineFault::Failed)),
+        }
+    }
+
+    fn listen(&mut self, piece: &mut [u8]) -> Result<Came, LineFault> {
+        match self.stream.read(piece) {
+            Ok(0) => Err(self.failed(LineFault::Closed)),
+            Ok(count) => Ok(Came::Bytes(count)),
+            Err(error) if is_time_out(error.kind()) => Ok(Came::Quiet),
+            Err(_) => Err(self.failed(LineFault::Failed)),
+        }
+    }
+}
+
+/// Whether a read that fails so waited in vain.
+fn is_time_out(kind: ErrorKind) -> bool {
+    matches!(kind, ErrorKind::WouldBlock | ErrorKind::TimedOut)
+}
