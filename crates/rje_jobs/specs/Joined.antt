@@ -30,8 +30,8 @@ joined_behind begun [] = option_to_list begun
 joined_behind begun (b ∷ bs) = elim (reading b (mode_of_begun begun)) [
   | None ↦ joined_behind begun bs
   | Some u ↦ if ends_job b.closing
-    then with_records begun u true ∷ joined_behind None bs
-    else joined_behind (Some (with_records begun u false)) bs
+      then with_records begun u true ∷ joined_behind None bs
+      else joined_behind (Some (with_records begun u false)) bs
 ]
 
 -- the jobs of these blocks

@@ -3,6 +3,7 @@ pub mod Hearing
 pub mod Trace
 pub mod StationFault
 pub mod Sending
+pub mod Writing
 pub mod Uncounted
 pub mod SendingInside
 pub mod JoinedJobs

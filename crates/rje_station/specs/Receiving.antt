@@ -22,6 +22,7 @@ use Rattle.rje_station.specs.JoinedJobs.{with_block, begun_in}
 use Rattle.rje_station.specs.Line.{Talk}
 use Rattle.rje_station.specs.Trace.{last_events}
 
+-- a receiving station
 pub record Receiving : Type 0 where
   -- the jobs of the accepted blocks; one of which blocks came and no last one stands last, not whole
   pub jobs : List Job
@@ -55,6 +56,7 @@ abbrev pub jobs_after : Heard → Bool → List Job → List Job
 jobs_after (heard.Frame (frame.Block b)) true jobs = with_block jobs b
 jobs_after _ accepted jobs = jobs
 
+-- what is noted of a step
 abbrev pub received_events : Bool → Bool → List Event
 received_events accepted true = event.Refused ∷ []
 received_events true false = event.Accepted ∷ []
@@ -97,6 +99,7 @@ abbrev pub Replied : Option Reply → Talk → Talk → Type 0
 Replied None t u = u ≡ t
 Replied (Some reply) t u = Written (frame_of reply) u.sent × (u.coming ≡ t.coming)
 
+-- a reply that was sent is noted
 abbrev pub trace_after_reply : Option Reply → List Event → List Event
 trace_after_reply None trace = trace
 trace_after_reply (Some reply) trace = last_events (trace ++ event.Replied reply ∷ [])

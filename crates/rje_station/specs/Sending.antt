@@ -19,6 +19,7 @@ use Rattle.rje_station.specs.declared.station_fault.StationFault.TheVariants as 
 use Rattle.rje_station.specs.Line.{Talk}
 use Rattle.rje_station.specs.Trace.{last_events}
 
+-- a sending station
 pub record Sending : Type 0 where
   -- the jobs given
   pub jobs : List Job
@@ -60,6 +61,7 @@ IsWrittenOf Say.Nothing rest bytes = ⊥
 abbrev pub Spoke : Say → List Block → Talk → Talk → Type 0
 Spoke say rest t u = IsWrittenOf say rest u.sent × (u.coming ≡ t.coming)
 
+-- End is due
 abbrev pub is_end : Say → Bool
 is_end Say.End = true
 is_end _ = false
@@ -110,6 +112,7 @@ abbrev pub is_done : Say → Bool
 is_done Say.Nothing = true
 is_done _ = false
 
+-- what is noted of a step
 abbrev pub counted_events : Bool → List Event
 counted_events true = event.Counted ∷ []
 counted_events false = []

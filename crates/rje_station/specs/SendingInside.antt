@@ -5,6 +5,7 @@ use Rattle.bsc_link.specs.Sender.{say_in}
 use Rattle.rje_station.specs.declared.sending.SendingStation.TheInside.{Inside}
 use Rattle.rje_station.specs.Sending.{Sending}
 
+-- what the fields stand for
 abbrev pub sending_in : Inside → Sending
 sending_in a = record {
   jobs = a.blocks.jobs;

@@ -13,6 +13,7 @@ use Rattle.rje_jobs.specs.Fitting.{JobFits}
 use Rattle.rje_station.specs.declared.sending.uncounted.Uncounted.TheInside.{Inside}
 use Rattle.rje_station.specs.Sending.{rest_after, counted_after}
 
+-- what is left of the jobs: their blocks that aren't counted, and how many jobs have their last block counted
 pub record Remaining : Type 0 where
   pub jobs : List Job
   pub rest : List Block
@@ -46,6 +47,7 @@ abbrev pub IsAt : List Job → Frame → ℕ → Type 0
 IsAt jobs (frame.Block b) place = IsPlace jobs b.closing place × IsSendable b
 IsAt jobs _ place = Unit {0}
 
+-- what the fields stand for
 abbrev pub remaining_in : Inside → Remaining
 remaining_in a = record {
   jobs = a.jobs.now;
@@ -53,12 +55,7 @@ remaining_in a = record {
   counted = a.counted;
 }
 
+-- what holds of the fields
 pub record IsUncounted (a : Inside) : Type 0 where
   pub fit : AllByRecursion JobFits a.jobs.now
   pub at : IsAt (drop a.counted a.jobs.now) a.outstanding a.place
-
--- no abort, and of blocks one whose text can be sent
-abbrev pub CanBeWritten : Frame → Type 0
-CanBeWritten frame.Abort = ⊥
-CanBeWritten (frame.Block b) = IsSendable b
-CanBeWritten _ = Unit {0}

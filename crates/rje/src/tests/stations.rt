@@ -78,6 +78,13 @@ impl<'a> Ends<'a> {
         self.sender.hear(&mut self.sending_line, false)
     }
 
+    /// The receiver hears these bytes.
+    fn hear_bytes(&mut self, alloc: Global, bytes: &[u8]) -> Result<Option<Reply>, StationFault> {
+        let pieces = one_piece(alloc, bytes)?;
+        self.receiving_line.put(pieces);
+        self.receiver.hear(&mut self.receiving_line, Wish::Go)
+    }
+
     /// The receiver answers, and nothing of it arrives at the sender.
     fn lose_down(&mut self, alloc: Global) -> Result<Sound, StationFault> {
         self.receiver.speak(&mut self.receiving_line)?;
@@ -359,13 +366,14 @@ fn a_trace_keeps_64_events(rt: HostRuntime) -> Result<(), Fail> {
     Ok(())
 }
 
-/// Whether the sender of a conversation over clean lines but for one call met this fault, which is told once; it is over then.
-fn sender_met(ends: &mut Ends<'_>) -> bool {
+/// Whether the sender is over: it neither speaks nor hears.
+fn sender_is_over(ends: &mut Ends<'_>) -> bool {
     ends.sender.speak(&mut ends.sending_line).err() == Some(StationFault::Over)
         && ends.sender.hear(&mut ends.sending_line, false).err() == Some(StationFault::Over)
 }
 
-fn receiver_met(ends: &mut Ends<'_>) -> bool {
+/// Whether the receiver is over.
+fn receiver_is_over(ends: &mut Ends<'_>) -> bool {
     ends.receiver.speak(&mut ends.receiving_line).err() == Some(StationFault::Over)
         && ends.receiver.hear(&mut ends.receiving_line, Wish::Go).err() == Some(StationFault::Over)
 }
@@ -390,7 +398,7 @@ fn each_call_of_the_senders_line_fails_once(rt: HostRuntime) -> Result<(), Fail>
         let mut ends = Ends::new(rt.alloc(), &jobs)?;
         ends.sending_line.fail_at(i as u64 + 1);
         assert!(rt; converse(&mut ends, rt.alloc()).err() == FAILED);
-        assert!(rt; sender_met(&mut ends));
+        assert!(rt; sender_is_over(&mut ends));
         assert!(rt; ends.sender.counted() == *counted);
         assert!(rt; ends.receiver.jobs().len() == *handed);
         let done = if *counted == 1 {
@@ -414,13 +422,36 @@ fn each_call_of_the_receivers_line_fails_once(rt: HostRuntime) -> Result<(), Fai
         let mut ends = Ends::new(rt.alloc(), &jobs)?;
         ends.receiving_line.fail_at(i as u64 + 1);
         assert!(rt; converse(&mut ends, rt.alloc()).err() == FAILED);
-        assert!(rt; receiver_met(&mut ends));
+        assert!(rt; receiver_is_over(&mut ends));
         assert!(rt; ends.sender.counted() == *counted);
         assert!(rt; ends.receiver.jobs().len() == *handed);
         if *handed == 1 {
             assert_one_job(&rt, ends.receiver.jobs(), 1, &[0xC1]);
         }
     }
+    Ok(())
+}
+
+#[test]
+fn a_cut_job_is_not_whole(rt: HostRuntime) -> Result<(), Fail> {
+    let jobs = [job_of(&rt, 1, 1)?, job_of(&rt, 7, 80)?];
+    let mut ends = Ends::new(rt.alloc(), &jobs)?;
+
+    // The bid, the first job's block, and the first of the second job's two.
+    for _turn in 0..3 {
+        ends.go_up(rt.alloc(), Wish::Go)?;
+        ends.go_down(rt.alloc())?;
+    }
+    let eot = [0x32, 0x32, 0x37, 0xFF];
+    assert!(rt; ends.hear_bytes(rt.alloc(), &eot)?.is_none());
+    assert!(rt; receiver_is_over(&mut ends));
+    let handed = ends.receiver.jobs();
+    assert!(rt; handed.len() == 2);
+    assert!(rt; handed[0].whole);
+    assert!(rt; handed[0].records.len() == 1);
+    assert!(rt; !handed[1].whole);
+    assert!(rt; handed[1].records.len() == 6);
+    assert!(rt; ends.sender.counted() == 1);
     Ok(())
 }
 
