@@ -15,6 +15,7 @@ use bsc_check::Check;
 use stage::{Stage, heard_in};
 use std::marker::Model;
 use step::step;
+use text::keeps;
 
 /// Hears frames in bytes that come in any pieces. It keeps what has come of one transmission, at most 512 data bytes of it, and their
 /// running check; each byte is looked at once, and no call takes memory. Bytes that can no longer become a transmission are taken until
@@ -77,6 +78,9 @@ impl Listener {
         let mut stage = self.stage;
         let mut check = self.check;
         for (i, byte) in piece.iter().enumerate() {
+            if keeps(stage, &mut self.text, &mut check, *byte) {
+                continue;
+            }
             if let Some(frame) = step(&mut stage, &mut self.text, &mut check, *byte) {
                 self.stage = Stage::Pads;
                 return Fed {

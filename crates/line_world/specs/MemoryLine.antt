@@ -4,6 +4,7 @@ use Rattle.rje_station.specs.declared.came.Came.{Came}
 use Rattle.rje_station.specs.declared.came.Came.TheVariants.{Bytes, Quiet}
 use Rattle.rje_station.specs.Line.{Talk}
 
+-- a line in memory
 pub record LineInMemory : Type 0 where
   -- the pieces that weren't given yet, the first of them what is left of it
   pub waiting : List (List ℕ)
@@ -26,6 +27,7 @@ talk_of l = record { sent = l.sent; coming = flat_map (λ p. p) l.waiting }
 abbrev pub after_put : List (List ℕ) → LineInMemory → LineInMemory
 after_put pieces l = record l { waiting = pieces }
 
+-- a call from now on is named to fail
 abbrev pub after_fail_at : ℕ → LineInMemory → LineInMemory
 after_fail_at call l = record l { until_failure = call }
 

@@ -11,7 +11,6 @@ use arrayvec::ArrayVec;
 use bsc_check::Check;
 
 /// Takes one byte: the frame that it makes whole, or more has come.
-#[inline(always)]
 pub(crate) fn step(
     stage: &mut Stage,
     text: &mut ArrayVec<u8, 512>,

@@ -22,8 +22,28 @@ use arrayvec::ArrayVec;
 use bsc_check::Check;
 use bsc_codes::{Block, Closing, DLE, ENQ, ETB, ETX, MAX_TEXT, SYN};
 
+/// Whether a byte is data that this stage keeps; it is kept then. Most bytes of a line are, and need no more than this.
+pub(crate) fn keeps(stage: Stage, text: &mut ArrayVec<u8, 512>, check: &mut Check, byte: u8) -> bool
+    requires { CheckRuns stage text.old.items check.old }
+    ensures next { result ≡ true → On (so_far_of stage text.new.items) ≡ next (so_far_of stage text.old.items) byte }
+    ensures runs { CheckRuns stage text.new.items check.new }
+    ensures left { result ≡ false → text.new ≡ text.old }
+    ensures check { result ≡ false → check.new ≡ check.old }
+{
+    let is_data = match stage {
+        Stage::Text(false) => is_normal(byte),
+        Stage::Text(true) => byte != DLE,
+        _ => false,
+    };
+    if !is_data || MAX_TEXT <= text.len() {
+        return false;
+    }
+    text.push(byte);
+    check.add(byte);
+    true
+}
+
 /// Takes a byte in normal text.
-#[inline(always)]
 pub(crate) fn at_normal(
     stage: &mut Stage,
     text: &mut ArrayVec<u8, 512>,
@@ -52,7 +72,6 @@ pub(crate) fn at_normal(
 }
 
 /// Takes a byte in transparent text.
-#[inline(always)]
 pub(crate) fn at_transparent(
     stage: &mut Stage,
     text: &mut ArrayVec<u8, 512>,
@@ -71,7 +90,6 @@ pub(crate) fn at_transparent(
 }
 
 /// Takes the byte behind a DLE in transparent text.
-#[inline(always)]
 pub(crate) fn at_text_dle(
     stage: &mut Stage,
     text: &mut ArrayVec<u8, 512>,
