@@ -15,16 +15,16 @@ use Rattle.line_world.specs.Fate.{sound_of, sound_of_reply, after_fate}
 use Rattle.line_world.specs.Conversation.{Follows, IsAt, IsSpokenOver, IsConversationOver, BreaksRule, BreaksAt, is_block, OneConversation, NoneBreaks, OneBreak}
 use Rattle.line_world.proofs.Phases.{turn}
 
-same-sound : (x y : Sound) → Some x ≡ Some y → x ≡ y
+pub same-sound : (x y : Sound) → Some x ≡ Some y → x ≡ y
 same-sound x y e = cc
 
-same-place : (x y : SoundTurn) → Some x ≡ Some y → x ≡ y
+pub same-place : (x y : SoundTurn) → Some x ≡ Some y → x ≡ y
 same-place x y e = cc
 
-true-false : (b : Bool) → b ≡ true → b ≡ false → ⊥
+pub true-false : (b : Bool) → b ≡ true → b ≡ false → ⊥
 true-false b e f = true≢false (sym e ∙ f)
 
-same-fields : (s s' : Say) (a a' : Sound) (f f' : Bool) (r r' : Option Reply) (x x' : Sound) (w w' : Wish) (p p' : Bool) → s ≡ s' → a ≡ a' → f ≡ f' → r ≡ r' → x ≡ x' → w ≡ w' → p ≡ p' → turn s a f r x w p ≡ turn s' a' f' r' x' w' p'
+pub same-fields : (s s' : Say) (a a' : Sound) (f f' : Bool) (r r' : Option Reply) (x x' : Sound) (w w' : Wish) (p p' : Bool) → s ≡ s' → a ≡ a' → f ≡ f' → r ≡ r' → x ≡ x' → w ≡ w' → p ≡ p' → turn s a f r x w p ≡ turn s' a' f' r' x' w' p'
 same-fields s s' a a' f f' r r' x x' w w' p p' es ea ef er ex ew ep = rw (es, ea, ef, er, ex, ew, ep) refl
 
 -- two turns at one place after one past are the same
@@ -38,11 +38,11 @@ same-turn plan past place t u f g at on =
     let heard : t.heard ≡ u.heard = same-sound _ _ (sym at.down ∙ ap (λ x. after_fate place.down (sound_of_reply x)) reply ∙ on.down) in
     same-fields _ _ _ _ _ _ _ _ _ _ _ _ _ _ said arrived refused reply heard wish (at.pause ∙ sym on.pause)
 
-rest : (plan : Plan) (places : List SoundTurn) (t : SpokenTurn) (past : History) → IsSpokenOver plan places (t ∷ past) → IsSpokenOver plan places past
+pub rest : (plan : Plan) (places : List SoundTurn) (t : SpokenTurn) (past : History) → IsSpokenOver plan places (t ∷ past) → IsSpokenOver plan places past
 rest plan places t past s = record { conversation = s.conversation.1; placed = s.placed.1 }
 
 -- histories of one length are the same
-same-history : (plan : Plan) (places : List SoundTurn) (h g : History) → IsSpokenOver plan places h → IsSpokenOver plan places g → length h ≡ length g → h ≡ g
+pub same-history : (plan : Plan) (places : List SoundTurn) (h g : History) → IsSpokenOver plan places h → IsSpokenOver plan places g → length h ≡ length g → h ≡ g
 same-history plan places [] [] s r e = refl
 same-history plan places [] (u ∷ g) s r e = absurd (omega (arith, e))
 same-history plan places (t ∷ h) [] s r e = absurd (omega (arith, e))
@@ -54,7 +54,7 @@ same-history plan places (t ∷ h) (u ∷ g) s r e =
     rw (same, same-turn plan g r.placed.0.0 t u f r.conversation.0 at r.placed.0.2) refl
 
 -- a shorter history goes on as the longer one did
-goes-on-within : (plan : Plan) (places : List SoundTurn) (h g : History) → IsSpokenOver plan places h → IsSpokenOver plan places g → length h < length g
+pub goes-on-within : (plan : Plan) (places : List SoundTurn) (h g : History) → IsSpokenOver plan places h → IsSpokenOver plan places g → length h < length g
     → (t : SpokenTurn) × IsSpokenOver plan places (t ∷ h)
 goes-on-within plan places h [] s r less = absurd (omega (arith, less))
 goes-on-within plan places h (u ∷ g) s r less = elim (cases_order (length h) (length g)) [
@@ -70,7 +70,7 @@ placed-within plan places (t ∷ h) s =
     omega (arith, within)
 
 -- a whole conversation is no part of a longer one
-no-longer : (plan : Plan) (places : List SoundTurn) (h : History) (t : SpokenTurn) → IsConversationOver plan places h → (plan ≡ [] → ⊥) → IsSpokenOver plan places (t ∷ h) → ⊥
+pub no-longer : (plan : Plan) (places : List SoundTurn) (h : History) (t : SpokenTurn) → IsConversationOver plan places h → (plan ≡ [] → ⊥) → IsSpokenOver plan places (t ∷ h) → ⊥
 no-longer plan places h t c blocks s = elim c.whole [
   | inl none ↦ blocks none
   | inr (inl long) ↦ let within : length (t ∷ h) ≤ length places = placed-within plan places (t ∷ h) s in omega (arith, long, within)

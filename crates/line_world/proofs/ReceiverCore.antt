@@ -182,7 +182,7 @@ brought-after_bid plan gives_up past t f phase brought =
     bid-from_brought plan gives_up past t f phase (said-brought t.said arrived)
 
 -- an EOT arrives only where one was said
-eot-said : (said : Say) → ComesAs (sound_of said) Sound.Eot → said ≡ Say.End
+pub eot-said : (said : Say) → ComesAs (sound_of said) Sound.Eot → said ≡ Say.End
 eot-said Say.End may = refl
 eot-said Say.Block may = absurd (may refl)
 eot-said Say.Again may = absurd (may refl)

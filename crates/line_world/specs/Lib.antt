@@ -10,3 +10,10 @@ pub mod Agreement
 pub mod Cores
 pub mod SoundFault
 pub mod MemoryLine
+pub mod Plan
+pub mod Damage
+pub mod Run
+pub mod Turns
+pub mod Driving
+pub mod Arrival
+pub mod CleanLine

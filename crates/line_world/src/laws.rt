@@ -2,6 +2,14 @@
 ghost use Rattle.line_world.specs.Agreement.{GetsAtMostOneMore, KnowsBeforeBlocks, GetsInOrder, StaysWithinPlan, ConversationsMayBeSpoken};
 ghost use Rattle.line_world.specs.Conversation.{EverySchedule, OneConversation, NoneBreaks, OneBreak};
 ghost use Rattle.line_world.specs.Cores.{ConversationsAreSpoken, SenderCoreSays, SenderCoreKeeps, SenderCoreCounts, ReceiverCoreKeeps, ReceiverCoreReplies, ReceiverCoreAccepts};
+ghost use Rattle.line_world.specs.CleanLine.{CleanLineIsEnough};
+ghost use Rattle.line_world.specs.Plan.{NextIsPlanned};
+ghost use Rattle.line_world.specs.Run.{NoDamageNoConversation, BadCutNoConversation};
+ghost use Rattle.line_world.specs.Turns.{SendingTurns, ReceivingTurns};
+
+use bsc_frame::one_hearing;
+use rje_station::{blocks_are_joined, counted_blocks_end_counted_jobs};
+use rje_text::cut_reads_back;
 
 /// The law of agreement. In every history that the saying rule, the reply rule and the fates of the line allow, where giving up may end
 /// it at any turn or at none: the receiver got as many blocks as the sender knows of, or one more; before each turn that says a block
@@ -36,3 +44,32 @@ pub fn one_conversation()
     ensures none_breaks { NoneBreaks }
     ensures one_break { OneBreak }
 {}
+
+/// The bridge to the stations. The plan of blocks says what follows each of them; one turn in which a sending station speaks and hears is
+/// one turn of the history, and so is one hearing of a receiving station where a block that it hears is the next one that the sender
+/// doesn't know to be received.
+pub fn stations_keep_history()
+    ensures planned { NextIsPlanned }
+    ensures sending { SendingTurns }
+    ensures receiving { ReceivingTurns }
+{
+    counted_blocks_end_counted_jobs();
+    blocks_are_joined();
+}
+
+/// Where a looked-at fate of a schedule breaks its rule, there is no conversation with the same refusals: so no run over it that meets
+/// these is Ok.
+pub fn broken_schedules_have_no_conversation()
+    ensures damage { NoDamageNoConversation }
+    ensures cuts { BadCutNoConversation }
+{
+    one_hearing();
+}
+
+/// On a clean line, a schedule of good turns alone that has one more than there are blocks, a run without a refusal counts every job and
+/// hands out just the jobs.
+pub fn clean_line_is_enough()
+    ensures enough { CleanLineIsEnough }
+{
+    cut_reads_back();
+}

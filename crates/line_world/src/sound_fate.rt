@@ -34,7 +34,7 @@ impl SoundFate {
 }
 
 /// Whether damage of what was said may be heard so.
-fn is_damage_of(said: Sound, heard: Sound) -> bool
+pub(crate) fn is_damage_of(said: Sound, heard: Sound) -> bool
     ensures { result ≡ is_damage_of said heard }
 {
     match said {

@@ -150,3 +150,33 @@ print_found (c ∷ rest) h = print_name c rest (not_false (c == 45) h)
 pub print_taken : (jobs : List ℕ) → is_name jobs ≡ true → takes rje_app (codes "print" ∷ jobs ∷ []) ≡ true
 print_taken [] h = cc
 print_taken (c ∷ rest) h = print_name_taken c rest (not_false (c == 45) h)
+
+-- `try JOBS SCRIPT`
+
+-- the two files that were found
+pub record Files : Type 0 where
+  pub jobs : Option Text
+  pub script : Option Text
+
+abbrev pub files_in : List Row → Files
+files_in rows = record { jobs = first_of (codes "JOBS") rows; script = first_of (codes "SCRIPT") rows }
+
+try_names : (c d : ℕ) (cs ds : List ℕ) → (c == 45) ≡ false → (d == 45) ≡ false
+    → seen files_in (subcommand_of rje_app (codes "try" ∷ (c ∷ cs) ∷ (d ∷ ds) ∷ [])) ≡ Some (codes "try", record { jobs = Some (c ∷ cs); script = Some (d ∷ ds) })
+unfolding clap_on_literals
+try_names c d cs ds h k = rw (h, h, k, k) refl
+
+try_names_taken : (c d : ℕ) (cs ds : List ℕ) → (c == 45) ≡ false → (d == 45) ≡ false → takes rje_app (codes "try" ∷ (c ∷ cs) ∷ (d ∷ ds) ∷ []) ≡ true
+unfolding clap_on_literals
+try_names_taken c d cs ds h k = rw (h, h, k, k) refl
+
+pub try_found : (jobs script : List ℕ) → is_name jobs ≡ true → is_name script ≡ true
+    → seen files_in (subcommand_of rje_app (codes "try" ∷ jobs ∷ script ∷ [])) ≡ Some (codes "try", record { jobs = Some jobs; script = Some script })
+try_found [] script h k = cc
+try_found (c ∷ cs) [] h k = cc
+try_found (c ∷ cs) (d ∷ ds) h k = try_names c d cs ds (not_false (c == 45) h) (not_false (d == 45) k)
+
+pub try_taken : (jobs script : List ℕ) → is_name jobs ≡ true → is_name script ≡ true → takes rje_app (codes "try" ∷ jobs ∷ script ∷ []) ≡ true
+try_taken [] script h k = cc
+try_taken (c ∷ cs) [] h k = cc
+try_taken (c ∷ cs) (d ∷ ds) h k = try_names_taken c d cs ds (not_false (c == 45) h) (not_false (d == 45) k)

@@ -3,7 +3,7 @@ use Rattle.std.specs.Prelude.{ℕ}
 use Rattle.rje_jobs.specs.declared.deck_fault.DeckFault.{DeckFault}
 use Rattle.rje_jobs.specs.declared.file_fault.FileFault.{FileFault}
 use Rattle.rje.specs.declared.command_fault.CommandFault.{CommandFault}
-use Rattle.rje.specs.declared.command_fault.CommandFault.TheVariants.{OutOfMemory, Deck, File, BadJob, TwoDevices, NoCommand, BadAddress, LineFailed, Babble, CannotRead, CannotWrite, Output}
+use Rattle.rje.specs.declared.command_fault.CommandFault.TheVariants.{OutOfMemory, Deck, File, BadJob, Script, NotDamage, BadCut, TwoDevices, NoCommand, BadAddress, LineFailed, Babble, CannotRead, CannotWrite, Output}
 
 -- an input that is refused has status 1, want of memory 5
 abbrev pub deck_status : DeckFault → ℕ
@@ -21,6 +21,9 @@ status_of OutOfMemory = 5
 status_of (Deck fault) = deck_status fault
 status_of (File fault) = file_status fault
 status_of (BadJob number) = 1
+status_of (Script line) = 1
+status_of (NotDamage turn) = 1
+status_of (BadCut turn) = 1
 status_of TwoDevices = 2
 status_of NoCommand = 2
 status_of BadAddress = 2

@@ -10,7 +10,7 @@ use Rattle.clap.specs.declared.builder.action.ArgAction.TheVariants.{Set, SetTru
 use Rattle.clap.specs.declared.builder.value_parser.ValueParser.TheVariants as parser
 use Rattle.rje.specs.declared.device.Device.{Device}
 use Rattle.rje.specs.declared.order.Order.{Order}
-use Rattle.rje.specs.declared.order.Order.TheVariants.{Blocks, Cards, Show, Check, Print}
+use Rattle.rje.specs.declared.order.Order.TheVariants.{Blocks, Cards, Show, Check, Print, Try}
 
 -- the argument has this rule, and is its command's own
 abbrev pub IsArg : Rule → Arg → Type 0
@@ -60,6 +60,10 @@ cards_app =
 abbrev pub rje_top : App
 rje_top = on_top (λ s. record s { no_binary_name = true; subcommand_required = true }) (new_app (codes "rje"))
 
+-- `try JOBS SCRIPT`
+abbrev pub try_app : App
+try_app = with_rule (file_app (codes "try") (codes "JOBS")) (file_rule (codes "SCRIPT"))
+
 -- `loop JOBS`
 abbrev pub loop_app : App
 loop_app = with_rule (file_app (codes "loop") (codes "JOBS")) timeout_rule
@@ -74,10 +78,10 @@ receive_app = with_rule (with_rule (file_app (codes "receive") (codes "JOBS")) (
 
 abbrev pub rje_app : App
 rje_app =
-    with_subcommand (with_subcommand (with_subcommand (with_subcommand (with_subcommand (with_subcommand (with_subcommand (with_subcommand rje_top
+    with_subcommand (with_subcommand (with_subcommand (with_subcommand (with_subcommand (with_subcommand (with_subcommand (with_subcommand (with_subcommand rje_top
     cards_app.top) blocks_app.top) (file_app (codes "show") (codes "JOBS")).top)
     (file_app (codes "check") (codes "JOBS")).top) (file_app (codes "print") (codes "JOBS")).top)
-    loop_app.top) send_app.top) receive_app.top
+    try_app.top) loop_app.top) send_app.top) receive_app.top
 
 -- a word that names a file: more than nothing, without a hyphen in front
 abbrev pub is_name : Text → Bool
@@ -145,3 +149,8 @@ IsCheck jobs _ = ⊥
 abbrev pub IsPrint : Text → Order → Type 0
 IsPrint jobs (Print named) = named.now ≡ jobs
 IsPrint jobs _ = ⊥
+
+-- the order is to try the jobs of this file over this script
+abbrev pub IsTry : Text → Text → Order → Type 0
+IsTry jobs script (Try order) = (order.jobs.now ≡ jobs) × (order.script.now ≡ script)
+IsTry jobs script _ = ⊥

@@ -10,6 +10,12 @@ use Rattle.rje.specs.Device.{selection, writing}
 use Rattle.rje.specs.declared.order.Order.{Order}
 use Rattle.rje.specs.Blocks.{PrintsRead, PrintsDeckFile}
 use Rattle.rje.specs.JobTexts.{cards_line, IsShown, IsGood, IsPaper}
+use Rattle.bsc_link.specs.declared.outcome.Outcome.{Outcome}
+use Rattle.line_world.specs.declared.spoken.Spoken.{Spoken}
+use Rattle.line_world.specs.declared.turn.Turn.{Turn}
+use Rattle.line_world.specs.Run.{IsRun}
+use Rattle.rje.specs.ReportTexts.{run_text}
+use Rattle.rje.specs.Script.{IsScript}
 use Rattle.rje.specs.Store.{FileMap, Tells, Sets}
 
 -- the bytes are the file of some jobs, and a writer that tells its bytes gained just a text that is one of these jobs
@@ -36,6 +42,23 @@ pub record MakesCards (device : Device) (deck name : List ℕ) (files made : Opt
   pub store : Tells files made (Sets name bytes)
   pub printed : Appends before after (cards_line (length (deck_job device deck).records))
 
+-- these are the file of some jobs and a script of some turns, and this is the text of what a run of these jobs over these turns tells
+pub record IsRunText (file script text : List ℕ) : Type 0 where
+  pub jobs : List Job
+  pub turns : List Turn
+  pub spoken : List Spoken
+  pub handed : List Job
+  pub counted : ℕ
+  pub ending : Option Outcome
+  pub file_is : IsFileOf jobs file
+  pub script_is : IsScript turns script
+  pub run : IsRun jobs turns spoken handed counted ending
+  pub text_is : text ≡ run_text (length jobs) spoken handed counted ending
+
+-- a writer that tells its bytes gained just the text of a run of these files
+abbrev pub PrintsRun : List ℕ → List ℕ → Option (List ℕ) → Option (List ℕ) → Type 0
+PrintsRun file script before after = (text : List ℕ) × IsRunText file script text × Appends before after text
+
 -- what is done where an order is carried out: what files and input were and held, what the files are then, and what was printed before and after
 abbrev pub Does : Order → (files made : Option FileMap) (input before after : Option (List ℕ)) → Type 0
 Does (Order.Blocks deck) files made input before after =
@@ -48,4 +71,6 @@ Does (Order.Cards order) files made input before after =
 Does (Order.Show jobs) files made input before after = IfSome files (λ known. PrintsFile IsShown (known jobs.now) before after)
 Does (Order.Check jobs) files made input before after = IfSome files (λ known. PrintsFile IsGood (known jobs.now) before after)
 Does (Order.Print jobs) files made input before after = IfSome files (λ known. PrintsFile IsPaper (known jobs.now) before after)
+Does (Order.Try order) files made input before after =
+    IfSome files (λ known. IsSomeAnd (known order.jobs.now) (λ file. IsSomeAnd (known order.script.now) (λ script. PrintsRun file script before after)))
 Does _ files made input before after = ⊥

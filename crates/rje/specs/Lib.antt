@@ -5,6 +5,7 @@ pub mod Blocks
 pub mod Device
 pub mod JobTexts
 pub mod ReportTexts
+pub mod Script
 pub mod Commands
 pub mod CommandFault
 pub mod CommandLine

@@ -2,14 +2,14 @@
 ghost use Rattle.std.specs.Prelude.{◌≡◌, ◌≢◌, ℕ, List, [], ◌∷◌, Some, true, map, codes, IfSome, IfOk, IfErr, OnOk, IsOk, MatchResult};
 ghost use Rattle.std.specs.Option.{IsSomeAnd};
 ghost use Rattle.rje.specs.Blocks.{PrintsRead, PrintsDeckFile};
-ghost use Rattle.rje.specs.CommandLine.{is_file, is_name, device_words, IsBlocks, IsCards, IsShow, IsCheck, IsPrint};
-ghost use Rattle.rje.specs.Commands.{PrintsFile, MakesCards, Does};
+ghost use Rattle.rje.specs.CommandLine.{is_file, is_name, device_words, IsBlocks, IsCards, IsShow, IsCheck, IsPrint, IsTry};
+ghost use Rattle.rje.specs.Commands.{PrintsFile, PrintsRun, MakesCards, Does};
 ghost use Rattle.rje.specs.JobTexts.{IsShown, IsGood, IsPaper};
 ghost use Rattle.rje.specs.Store.{Tells, IsSame};
 ghost use Rattle.clap.specs.Words.{kind_of};
 
 use crate::command_fault::CommandFault;
-use crate::commands::{STANDARD_INPUT, blocks, cards, check, print, show};
+use crate::commands::{STANDARD_INPUT, blocks, cards, check, print, show, trial};
 use crate::device::Device;
 use crate::order::Order;
 use crate::store::Store;
@@ -48,6 +48,8 @@ pub fn command<S: Store, I: Read, O: Write, E: Write>(
         → IfSome (S.files store.old) (λ files. PrintsFile IsGood (files name) (O.contents out.old) (O.contents out.new)) }
     ensures print { (name : List ℕ) → map (λ word. word.now) words.now ≡ codes "print" ∷ name ∷ [] → is_name name ≡ true → result ≡ 0
         → IfSome (S.files store.old) (λ files. PrintsFile IsPaper (files name) (O.contents out.old) (O.contents out.new)) }
+    ensures attempt { (jobs script : List ℕ) → map (λ word. word.now) words.now ≡ codes "try" ∷ jobs ∷ script ∷ [] → is_name jobs ≡ true → is_name script ≡ true → result ≡ 0
+        → IfSome (S.files store.old) (λ known. IsSomeAnd (known jobs) (λ file. IsSomeAnd (known script) (λ text. PrintsRun file text (O.contents out.old) (O.contents out.new)))) }
     ensures files_kept { result ≢ 0 → result ≢ 3 → Tells (S.files store.old) (S.files store.new) IsSame }
 {
     let order = match order_of(alloc, words) {
@@ -74,6 +76,8 @@ fn order_of<'a>(alloc: Global, words: &'a [&'a str]) -> Result<Order<'a>, Error>
         → MatchResult result (IsCheck jobs) (λ error. kind_of error ≡ ErrorKind.OutOfMemory) }
     ensures print { (jobs : List ℕ) → map (λ word. word.now) words.entry.now ≡ codes "print" ∷ jobs ∷ [] → is_name jobs ≡ true
         → MatchResult result (IsPrint jobs) (λ error. kind_of error ≡ ErrorKind.OutOfMemory) }
+    ensures attempt { (jobs script : List ℕ) → map (λ word. word.now) words.entry.now ≡ codes "try" ∷ jobs ∷ script ∷ [] → is_name jobs ≡ true → is_name script ≡ true
+        → MatchResult result (IsTry jobs script) (λ error. kind_of error ≡ ErrorKind.OutOfMemory) }
 {
     if words.is_empty() {
         return Ok(Order::Blocks(STANDARD_INPUT));
@@ -98,6 +102,7 @@ fn carry_out<'a, S: Store, I: Read, O: Write>(
         Order::Show(jobs) => show(alloc, jobs, store, out),
         Order::Check(jobs) => check(alloc, jobs, store, out),
         Order::Print(jobs) => print(alloc, jobs, store, out),
+        Order::Try(order) => trial(alloc, order, store, out),
         Order::TwoDevices => Err(CommandFault::TwoDevices),
         Order::BadAddress => Err(CommandFault::BadAddress),
         Order::Loop(_) | Order::Send(_) | Order::Receive(_) | Order::Nothing => {

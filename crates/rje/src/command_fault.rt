@@ -2,6 +2,7 @@
 ghost use Rattle.std.specs.Prelude.{◌≡◌};
 ghost use Rattle.rje.specs.declared.command_fault.CommandFault.TheVariants.{Deck, File};
 
+use line_world::WorldFault;
 use rje_jobs::{DeckFault, FileFault};
 use rje_station::StationFault;
 use thiserror::Error;
@@ -21,6 +22,15 @@ pub enum CommandFault<'a> {
     /// The job of this number, from 1, can't be sent.
     #[error("job {0} can't be sent")]
     BadJob(usize),
+    /// The line of this number, from 1, of a script isn't a turn.
+    #[error("script line {0} is not a turn")]
+    Script(usize),
+    /// The turn of this number, from 1, has a fate whose bytes are no damage.
+    #[error("turn {0} is not damage")]
+    NotDamage(usize),
+    /// The turn of this number, from 1, has a fate whose cuts don't fit.
+    #[error("turn {0} has a bad cut")]
+    BadCut(usize),
     /// More than one device was chosen.
     #[error("choose one device")]
     TwoDevices,
@@ -59,7 +69,12 @@ impl CommandFault<'_> {
             CommandFault::OutOfMemory
             | CommandFault::Deck(DeckFault::OutOfMemory)
             | CommandFault::File(FileFault::OutOfMemory) => 5,
-            CommandFault::Deck(_) | CommandFault::File(_) | CommandFault::BadJob(_) => 1,
+            CommandFault::Deck(_)
+            | CommandFault::File(_)
+            | CommandFault::BadJob(_)
+            | CommandFault::Script(_)
+            | CommandFault::NotDamage(_)
+            | CommandFault::BadCut(_) => 1,
             CommandFault::TwoDevices | CommandFault::NoCommand | CommandFault::BadAddress => 2,
             CommandFault::LineFailed
             | CommandFault::Babble
@@ -93,6 +108,17 @@ impl From<StationFault> for CommandFault<'_> {
             StationFault::BadJob(number) => CommandFault::BadJob(number),
             StationFault::Babble => CommandFault::Babble,
             StationFault::Line(_) | StationFault::Over => CommandFault::LineFailed,
+        }
+    }
+}
+
+impl From<WorldFault> for CommandFault<'_> {
+    fn from(fault: WorldFault) -> Self {
+        match fault {
+            WorldFault::OutOfMemory => CommandFault::OutOfMemory,
+            WorldFault::BadJob(number) => CommandFault::BadJob(number),
+            WorldFault::NotDamage(_, turn) => CommandFault::NotDamage(turn),
+            WorldFault::BadCut(_, turn) => CommandFault::BadCut(turn),
         }
     }
 }

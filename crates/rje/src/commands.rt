@@ -6,6 +6,7 @@ mod inputs;
 mod output;
 mod print;
 mod show;
+mod trial;
 
 pub use blocks::blocks;
 pub use cards::cards;
@@ -14,3 +15,4 @@ pub use inputs::{STANDARD_INPUT, read_job_file};
 pub use output::put;
 pub use print::print;
 pub use show::show;
+pub use trial::trial;

@@ -12,6 +12,7 @@ mod memory_store;
 mod order;
 mod printing;
 mod reading;
+mod script;
 mod socket_command;
 mod socket_commands;
 mod socket_line;

@@ -15,6 +15,8 @@ pub enum Order<'a> {
     Check(&'a str),
     /// The listings and the punched cards of a job file.
     Print(&'a str),
+    /// The run of a job file's jobs over a script.
+    Try(TryOrder<'a>),
     /// A transmission between both ends in this process.
     Loop(LoopOrder<'a>),
     /// A transmission to a receiver.
@@ -38,6 +40,15 @@ pub struct CardsOrder<'a> {
     pub jobs: &'a str,
     /// The device of the deck's job.
     pub device: Device,
+}
+
+/// What `try` is asked for.
+#[derive(Clone, Copy, Debug, PartialEq, Eq)]
+pub struct TryOrder<'a> {
+    /// The job file that is sent.
+    pub jobs: &'a str,
+    /// The script of losses and damage.
+    pub script: &'a str,
 }
 
 /// What `loop` is asked for.

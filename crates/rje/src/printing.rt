@@ -9,7 +9,7 @@ use arrayvec::ArrayVec;
 pub use blocks::{push_back, push_block};
 use itoa::Buffer;
 pub use jobs::{push_cards, push_good, push_job};
-pub use report::{push_counted, push_handed, push_outcome};
+pub use report::{counted_text, handed_text, outcome_text, push_turn};
 
 /// The most bytes of a printed line. A block's has two numbers of at most 20 digits,
 /// and at most 512 bytes in hexadecimal.

@@ -1,13 +1,13 @@
 //! The words of the command line.
 ghost use Rattle.std.specs.Prelude.{◌≡◌, [], ◌∷◌, ℕ, Bool, List, true, map, codes, MatchResult, Some};
 ghost use Rattle.clap.specs.Words.{first_value, found_of, kind_of, one_text};
-ghost use Rattle.rje.specs.CommandLine.{IsBlocks, IsCards, IsShow, IsCheck, IsPrint, Chooses, flag_text, device_words, is_file, is_name};
+ghost use Rattle.rje.specs.CommandLine.{IsBlocks, IsCards, IsShow, IsCheck, IsPrint, IsTry, Chooses, flag_text, device_words, is_file, is_name};
 
 mod app;
 
 use crate::address::address_of;
 use crate::device::Device;
-use crate::order::{CardsOrder, LoopOrder, Order, SocketOrder};
+use crate::order::{CardsOrder, LoopOrder, Order, SocketOrder, TryOrder};
 use app::program;
 use clap::error::ErrorKind;
 use clap::{ArgMatches, Error};
@@ -26,6 +26,8 @@ pub fn parse<'a>(alloc: Global, words: &'a [&'a str]) -> Result<Order<'a>, Error
         → MatchResult result (IsCheck jobs) (λ error. kind_of error ≡ ErrorKind.OutOfMemory) }
     ensures print { (jobs : List ℕ) → map (λ word. word.now) words.entry.now ≡ codes "print" ∷ jobs ∷ [] → is_name jobs ≡ true
         → MatchResult result (IsPrint jobs) (λ error. kind_of error ≡ ErrorKind.OutOfMemory) }
+    ensures attempt { (jobs script : List ℕ) → map (λ word. word.now) words.entry.now ≡ codes "try" ∷ jobs ∷ script ∷ [] → is_name jobs ≡ true → is_name script ≡ true
+        → MatchResult result (IsTry jobs script) (λ error. kind_of error ≡ ErrorKind.OutOfMemory) }
 {
     let matches = program(alloc)?.try_get_matches_from(words)?;
     match matches.subcommand() {
@@ -41,6 +43,8 @@ fn order_of<'a>(command: &str, matches: &ArgMatches<'a>) -> Order<'a>
     ensures show { (jobs : List ℕ) → command.now ≡ codes "show" → first_value (found_of matches.now) (codes "JOBS") ≡ Some jobs → IsShow jobs result }
     ensures check { (jobs : List ℕ) → command.now ≡ codes "check" → first_value (found_of matches.now) (codes "JOBS") ≡ Some jobs → IsCheck jobs result }
     ensures print { (jobs : List ℕ) → command.now ≡ codes "print" → first_value (found_of matches.now) (codes "JOBS") ≡ Some jobs → IsPrint jobs result }
+    ensures attempt { (jobs script : List ℕ) → command.now ≡ codes "try" → first_value (found_of matches.now) (codes "JOBS") ≡ Some jobs
+        → first_value (found_of matches.now) (codes "SCRIPT") ≡ Some script → IsTry jobs script result }
 {
     match command {
         "blocks" => Order::Blocks(word(matches, "DECK")),
@@ -48,6 +52,10 @@ fn order_of<'a>(command: &str, matches: &ArgMatches<'a>) -> Order<'a>
         "show" => Order::Show(word(matches, "JOBS")),
         "check" => Order::Check(word(matches, "JOBS")),
         "print" => Order::Print(word(matches, "JOBS")),
+        "try" => Order::Try(TryOrder {
+            jobs: word(matches, "JOBS"),
+            script: word(matches, "SCRIPT"),
+        }),
         "loop" => loop_order(matches),
         "send" => match socket_order(matches, "to") {
             Some(order) => Order::Send(order),

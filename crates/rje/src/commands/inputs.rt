@@ -34,6 +34,21 @@ pub fn read_deck<'a, S: Store, I: Read>(
     read.map_err(|fault| not_read(name, fault))
 }
 
+/// The bytes of a file.
+pub fn read_file<'a, S: Store>(
+    alloc: Global,
+    name: &'a str,
+    store: &mut S,
+) -> Result<Vec<u8>, CommandFault<'a>>
+    ensures file { IfOk result (λ bytes. IfSome (S.files store.old) (λ files. files name.entry.now ≡ Some bytes.items)) }
+    ensures same { Tells (S.files store.old) (S.files store.new) IsSame }
+{
+    match store.read(alloc, name) {
+        Ok(bytes) => Ok(bytes),
+        Err(fault) => Err(not_read(name, fault)),
+    }
+}
+
 /// The jobs of a job file.
 pub fn read_job_file<'a, S: Store>(
     alloc: Global,
@@ -43,10 +58,8 @@ pub fn read_job_file<'a, S: Store>(
     ensures file { IfOk result (λ jobs. IfSome (S.files store.old) (λ files. IsSomeAnd (files name.entry.now) (IsFileOf jobs))) }
     ensures same { Tells (S.files store.old) (S.files store.new) IsSame }
 {
-    match store.read(alloc, name) {
-        Ok(bytes) => Ok(read_jobs(alloc, bytes.as_slice())?),
-        Err(fault) => Err(not_read(name, fault)),
-    }
+    let bytes = read_file(alloc, name, store)?;
+    Ok(read_jobs(alloc, bytes.as_slice())?)
 }
 
 /// Why the input of this name isn't read.

@@ -1,8 +1,7 @@
 //! How a command over a line ends, and the lines that it prints of a transmission.
 use crate::command_fault::CommandFault;
-use crate::printing::{PrintedLine, push_counted, push_handed, push_outcome};
+use crate::printing::PrintedLine;
 use bsc_link::Outcome;
-use rje_jobs::Job;
 use std::alloc::{AllocError, Global};
 
 /// How a transmission ended that no fault ended.
@@ -31,28 +30,6 @@ impl From<Option<Outcome>> for Ending {
             _ => Ending::Other,
         }
     }
-}
-
-/// The line of the jobs that were counted.
-pub fn counted_text(counted: usize, given: usize) -> PrintedLine {
-    let mut line = PrintedLine::new();
-    push_counted(&mut line, counted, given);
-    line
-}
-
-/// The line of the jobs that were handed out.
-pub fn handed_text(jobs: &[Job]) -> PrintedLine {
-    let whole = jobs.iter().filter(|job| job.whole).count();
-    let mut line = PrintedLine::new();
-    push_handed(&mut line, jobs.len(), whole);
-    line
-}
-
-/// The line of how the transmission ended.
-pub fn outcome_text(outcome: Option<Outcome>) -> PrintedLine {
-    let mut line = PrintedLine::new();
-    push_outcome(&mut line, outcome);
-    line
 }
 
 /// These lines in one piece.

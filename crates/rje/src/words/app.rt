@@ -1,7 +1,7 @@
 //! The command line that clap is told of.
 ghost use Rattle.std.specs.Prelude.{◌≡◌, codes, IfOk};
 ghost use Rattle.clap.specs.Words.{App, Rule, with_rule, with_subcommand};
-ghost use Rattle.rje.specs.CommandLine.{IsArg, IsApp, file_rule, flag_rule, address_rule, timeout_rule, file_app, blocks_app, cards_app, loop_app, send_app, receive_app, rje_app};
+ghost use Rattle.rje.specs.CommandLine.{IsArg, IsApp, file_rule, flag_rule, address_rule, timeout_rule, file_app, blocks_app, cards_app, try_app, loop_app, send_app, receive_app, rje_app};
 
 use clap::{Arg, ArgAction, Command, value_parser};
 use std::alloc::{AllocError, Global};
@@ -31,9 +31,24 @@ pub fn program<'a>(alloc: Global) -> Result<Command<'a>, AllocError>
         "Print the listings and punched cards of a job file",
     )?;
     let top = with_command(top, print)?;
+    let top = with_command(top, attempt(alloc)?)?;
     let top = with_command(top, loopback(alloc)?)?;
     let top = with_command(top, send(alloc)?)?;
     with_command(top, receive(alloc)?)
+}
+
+fn attempt<'a>(alloc: Global) -> Result<Command<'a>, AllocError>
+    ensures { IfOk result (IsApp try_app) }
+{
+    let command = of_jobs(
+        alloc,
+        "try",
+        "Print what happens to the jobs of a job file on a line that loses and damages",
+    )?;
+    with_arg(
+        command,
+        file(alloc, "SCRIPT", "What the line does, a turn a line"),
+    )
 }
 
 fn loopback<'a>(alloc: Global) -> Result<Command<'a>, AllocError>

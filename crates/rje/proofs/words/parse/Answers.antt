@@ -1,7 +1,7 @@
 use Rattle.std.proofs.Common.{◌≡◌, rules, codes, ap, ap₂, ◌∙◌}
 use Rattle.clap.specs.Words.{found_of, is_simple, takes, subcommand_of, subcommand_rows_of}
 use Rattle.clap.proofs.WalkLemmas.{first_value-rows, one_text-rows}
-use Rattle.rje.proofs.FileWords.{seen, simple, seen_in, name_is, deck_in, jobs_in, blocks_found, blocks_taken, show_found, show_taken, check_found, check_taken, print_found, print_taken}
+use Rattle.rje.proofs.FileWords.{seen, simple, seen_in, name_is, deck_in, jobs_in, blocks_found, blocks_taken, show_found, show_taken, check_found, check_taken, print_found, print_taken, files_in, try_found, try_taken}
 use Rattle.rje.proofs.CardsWords.{cards_in, cards_found, cards_taken}
 use Rattle.rje.proofs.words.parse.Goals as goal
 
@@ -68,3 +68,18 @@ returns-in-Some-clause-cards c = λ deck jobs device words_are is_deck is_jobs.
       punch = one_text-rows found (codes "punch") ∙ ap (λ x. x.punch) is;
       transparent = one_text-rows found (codes "transparent") ∙ ap (λ x. x.transparent) is;
     })
+
+pub returns-in_err-matches-clause-attempt : goal.returns-in_err-matches-clause-attempt
+returns-in_err-matches-clause-attempt c = λ jobs script words_are is_jobs is_script.
+    let told = c.in_err-matches.ensures.passes (ap₂ takes c.in_ok-program.ensures.0 words_are ∙ try_taken jobs script is_jobs is_script) in search rules
+
+pub returns-in-Some-clause-attempt : goal.returns-in-Some-clause-attempt
+returns-in-Some-clause-attempt c = λ jobs script words_are is_jobs is_script.
+    let is_app = c.in_ok-program.ensures.0 in
+    let met = ap (seen files_in) ((c.in_ok-matches.ensures.matches (ap is_simple is_app ∙ simple)).1 ∙ ap₂ subcommand_of is_app words_are)
+    ∙ try_found jobs script is_jobs is_script in
+    let found = found_of c.in-Some.inner.now in
+    let is = seen_in files_in _ _ (codes "try") _ met c.in-Some.ensures.rows in
+    c.order_of.ensures.attempt jobs script (name_is files_in c.in_ok-matches.matches c.in-Some.command.now (codes "try") _ met c.in-Some.ensures.name)
+    (first_value-rows found (codes "JOBS") ∙ ap (λ x. x.jobs) is)
+    (first_value-rows found (codes "SCRIPT") ∙ ap (λ x. x.script) is)

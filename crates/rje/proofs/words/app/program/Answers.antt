@@ -1,6 +1,6 @@
 use Rattle.std.proofs.Common.{ap, true, codes, ◌∙◌}
 use Rattle.clap.specs.Simple.{on_top, app_of_fields}
-use Rattle.rje.specs.CommandLine.{IsApp, rje_top, blocks_app, cards_app, file_app, loop_app, send_app, receive_app}
+use Rattle.rje.specs.CommandLine.{IsApp, rje_top, blocks_app, cards_app, file_app, try_app, loop_app, send_app, receive_app}
 use Rattle.rje.proofs.words.app.program.Goals as goal
 
 pub returns : goal.returns
@@ -15,6 +15,7 @@ returns c =
     let show = c.in_ok-top-4.ensures _ (file_app (codes "show") (codes "JOBS")) blocks c.in_ok-show.ensures in
     let check = c.in_ok-top-5.ensures _ (file_app (codes "check") (codes "JOBS")) show c.in_ok-check.ensures in
     let print = c.in_ok-top-6.ensures _ (file_app (codes "print") (codes "JOBS")) check c.in_ok-print.ensures in
-    let loopback = c.in_ok-top-7.ensures _ loop_app print c.in_ok-loopback.ensures in
-    let send = c.in_ok-top-8.ensures _ send_app loopback c.in_ok-send.ensures in
-    c.with_command-8.ensures _ receive_app send c.in_ok-receive.ensures
+    let attempt = c.in_ok-top-7.ensures _ try_app print c.in_ok-attempt.ensures in
+    let loopback = c.in_ok-top-8.ensures _ loop_app attempt c.in_ok-loopback.ensures in
+    let send = c.in_ok-top-9.ensures _ send_app loopback c.in_ok-send.ensures in
+    c.with_command-9.ensures _ receive_app send c.in_ok-receive.ensures

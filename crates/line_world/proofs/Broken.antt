@@ -1,0 +1,179 @@
+-- Where a looked-at fate breaks a rule there is no conversation.
+use Rattle.std.proofs.Common.{◌≡◌, ◌≢◌, inl, inr, ℕ, zero, suc, ◌<◌, false, ◌&&◌, List, [], ◌∷◌, length, slice_get, Some, None, refl, ap, sym, ◌∙◌, subst, arith}
+use Rattle.std.proofs.lemmas.Bool.{cases_order}
+use Rattle.std.proofs.lemmas.Option.{slice_get_within}
+use Rattle.bsc_codes.specs.declared.block.Block.{Block}
+use Rattle.bsc_frame.specs.declared.frame.Frame.{Frame}
+use Rattle.bsc_frame.specs.Laws.{OneHearing}
+use Rattle.bsc_frame.specs.Written.{Written}
+use Rattle.bsc_link.specs.declared.reply.Reply.{Reply}
+use Rattle.bsc_link.specs.declared.say.Say.{Say}
+use Rattle.bsc_link.specs.declared.sound.Sound.{Sound}
+use Rattle.rje_station.specs.Hearing.{sound_of as sound_heard}
+use Rattle.rje_station.specs.Sending.{IsWrittenOf}
+use Rattle.line_world.specs.declared.fate.Fate.{Fate}
+use Rattle.line_world.specs.declared.sound_fate.SoundFate.{SoundFate}
+use Rattle.line_world.specs.declared.sound_turn.SoundTurn.{SoundTurn}
+use Rattle.line_world.specs.declared.spoken_turn.SpokenTurn.{SpokenTurn}
+use Rattle.line_world.specs.declared.turn.Turn.{Turn}
+use Rattle.line_world.specs.History.{History, is_over}
+use Rattle.line_world.specs.Known.{gives_up_now}
+use Rattle.line_world.specs.Conversation.{IsAt, Follows, IsSpokenOver, is_block}
+use Rattle.line_world.specs.Damage.{Tells, Fits, HasBadCut, IsNoDamage}
+use Rattle.line_world.specs.Fate.{is_damage_of, sound_of, sound_of_reply, after_fate}
+use Rattle.line_world.specs.Plan.{plan_of}
+use Rattle.line_world.specs.SayingRule.{saying}
+use Rattle.line_world.specs.Run.{TellsTurn, TellsSchedule, FitsReply, FitsTurn, AllFit, IsConversationOn, BreaksTurn, BreaksFirst, NoDamageNoConversation, BadCutNoConversation}
+use Rattle.line_world.proofs.OneConversation.{same-sound, same-place, same-history, rest, goes-on-within, no-longer, true-false}
+use Rattle.line_world.proofs.Phases.{saying-speaks}
+
+-- ---- Bytes that are sent are one.
+
+written_one : (f : Frame) (a b : List ℕ) → Written f a → Written f b → a ≡ b
+written_one f a b w v = w.whole ∙ sym v.whole
+
+due_one : (say : Say) (rest : List Block) (a b : List ℕ) → IsWrittenOf say rest a → IsWrittenOf say rest b → a ≡ b
+due_one Say.Bid rest a b w v = written_one _ a b w v
+due_one Say.Ask rest a b w v = written_one _ a b w v
+due_one Say.Delay rest a b w v = written_one _ a b w v
+due_one Say.End rest a b w v = written_one _ a b w v
+due_one Say.Block [] a b w v = absurd w
+due_one Say.Block (x ∷ rest) a b w v = written_one _ a b w v
+due_one Say.Again [] a b w v = absurd w
+due_one Say.Again (x ∷ rest) a b w v = written_one _ a b w v
+due_one Say.Nothing rest a b w v = absurd w
+
+-- ---- A fate that fits, and leaves something, breaks no rule.
+
+abbrev pub Keeps : (Fate → Sound → List ℕ → Type 0) → Type 0
+Keeps Breaks = (fate : Fate) (said : Sound) (sent : List ℕ) (told : SoundFate) (x : Sound) → said ≢ Sound.Quiet → Fits fate sent → Tells fate told → after_fate told said ≡ Some x → Breaks fate said sent → ⊥
+
+pub cuts_kept : Keeps HasBadCut
+cuts_kept (Fate.Arrives cuts) said sent told x n fits tells after b = b fits
+cuts_kept Fate.Lost said sent told x n fits tells after b = b
+cuts_kept (Fate.Damaged bytes) said sent told x n fits tells after b = b
+
+none_after : (said y x : Sound) → said ≢ Sound.Quiet → is_damage_of said y ≡ false → after_fate (SoundFate.Damaged y) said ≡ Some x → ⊥
+none_after Sound.Quiet y x n e after = n refl
+none_after Sound.Block y x n e after = let f : None ≡ Some x = rw e at after in absurd cc
+none_after Sound.Ttd y x n e after = let f : None ≡ Some x = rw e at after in absurd cc
+none_after _ y x n e after = let f : None ≡ Some x = rw e at after in absurd cc
+
+damage_kept_as : OneHearing → (said x y z : Sound) (bytes : List ℕ) (told : SoundFate) → said ≢ Sound.Quiet → told ≡ SoundFate.Damaged y → after_fate told said ≡ Some x → z ≡ y → is_damage_of said z ≡ false → ⊥
+damage_kept_as one said x y z bytes told n is after same e = none_after said y x n (subst (λ s. is_damage_of said s ≡ false) same e) (rw is at after)
+
+pub damage_kept : OneHearing → Keeps IsNoDamage
+damage_kept one (Fate.Arrives cuts) said sent told x n fits tells after b = b
+damage_kept one Fate.Lost said sent told x n fits tells after b = b
+damage_kept one (Fate.Damaged bytes) said sent told x n fits tells after (inl many) = absurd (omega (arith, many, fits))
+damage_kept one (Fate.Damaged bytes) said sent told x n fits (y, heard, is) after (inr (z, wrong, e)) =
+    let same : z ≡ y = wrong.sound_is ∙ ap sound_heard (one bytes.items wrong.what heard.what wrong.heard heard.heard) ∙ sym heard.sound_is in
+    damage_kept_as one said x y z bytes.items told n is after same e
+
+-- ---- The turn that stands where a fate breaks a rule.
+
+record FittingTurn (blocks : List Block) (turns : List Turn) (places : List SoundTurn) (past : History) : Type 0 where
+  t : SpokenTurn
+  spoken : IsSpokenOver (plan_of blocks) places (t ∷ past)
+  turn : Turn
+  here : slice_get turns (length past) ≡ Some turn
+  fits : FitsTurn blocks past t turn
+
+fits_within : (blocks : List Block) (turns : List Turn) (places : List SoundTurn) (h g : History) → IsSpokenOver (plan_of blocks) places h → IsSpokenOver (plan_of blocks) places g → AllFit blocks turns g → length h < length g
+    → FittingTurn blocks turns places h
+fits_within blocks turns places h [] s r fits less = absurd (omega (arith, less))
+fits_within blocks turns places h (u ∷ g) s r fits less = elim (cases_order (length h) (length g)) [
+  | inl same ↦
+      let e : g ≡ h = sym (same-history (plan_of blocks) places h g s (rest (plan_of blocks) places u g r) same) in
+      subst (FittingTurn blocks turns places) e (record { t = u; spoken = r; turn = fits.0.0; here = fits.0.1; fits = fits.0.2 })
+  | inr (inl shorter) ↦ fits_within blocks turns places h g s (rest (plan_of blocks) places u g r) fits.1 shorter
+  | inr (inr longer) ↦ absurd (omega (arith, less, longer))
+]
+
+told_at : (turns : List Turn) (places : List SoundTurn) (k : ℕ) (turn : Turn) (place : SoundTurn) → TellsSchedule turns places → slice_get turns k ≡ Some turn → slice_get places k ≡ Some place → TellsTurn turn place
+told_at [] [] zero turn place t e f = absurd cc
+told_at [] [] (suc k) turn place t e f = absurd cc
+told_at [] (p ∷ ps) k turn place t e f = absurd t
+told_at (x ∷ xs) [] k turn place t e f = absurd t
+told_at (x ∷ xs) (p ∷ ps) zero turn place t e f =
+    let a : x ≡ turn = cc in
+    let b : p ≡ place = cc in
+    subst (λ y. TellsTurn y place) a (subst (λ q. TellsTurn x q) b t.0)
+told_at (x ∷ xs) (p ∷ ps) (suc k) turn place t e f = told_at xs ps k turn place t.1 e f
+
+same_turn : (x y : Turn) → Some x ≡ Some y → x ≡ y
+same_turn x y e = cc
+
+speaks_some : (say : Say) → say ≢ Say.Nothing → sound_of say ≢ Sound.Quiet
+speaks_some Say.Bid n = λ e. cc
+speaks_some Say.Ask n = λ e. cc
+speaks_some Say.Delay n = λ e. cc
+speaks_some Say.End n = λ e. cc
+speaks_some Say.Block n = λ e. cc
+speaks_some Say.Again n = λ e. cc
+speaks_some Say.Nothing n = absurd (n refl)
+
+reply_some : (reply : Reply) → sound_of_reply (Some reply) ≢ Sound.Quiet
+reply_some Reply.Ack0 = λ e. cc
+reply_some Reply.Ack1 = λ e. cc
+reply_some Reply.Nak = λ e. cc
+reply_some Reply.Wack = λ e. cc
+reply_some Reply.Rvi = λ e. cc
+
+none_planned : (blocks : List Block) → plan_of blocks ≡ [] → blocks ≡ []
+none_planned [] e = refl
+none_planned (b ∷ bs) e = absurd cc
+
+-- no turn that fits stands at a place of which a fate breaks a rule
+no_turn : (Breaks : Fate → Sound → List ℕ → Type 0) → Keeps Breaks → (blocks : List Block) (past : History) (turn : Turn) (place : SoundTurn) (t : SpokenTurn)
+    → Follows (plan_of blocks) (gives_up_now past) past t → IsAt place t → FitsTurn blocks past t turn → TellsTurn turn place → BreaksTurn Breaks blocks past turn place → ⊥
+no_turn Breaks keeps blocks past turn place t f at fits tells b =
+    let plan = plan_of blocks in
+    let said : Sound = sound_of (saying plan (gives_up_now past) past) in
+    let some : said ≢ Sound.Quiet = speaks_some _ (saying-speaks plan (gives_up_now past) past f.goes_on) in
+    let up : after_fate place.up said ≡ Some t.arrived = ap (λ x. after_fate place.up (sound_of x)) (sym f.said) ∙ at.up in
+    let sent : fits.up.0 ≡ b.sent = due_one (saying plan (gives_up_now past) past) _ _ _ fits.up.1 b.due in
+    elim b.breaks [
+      | inl broken ↦ keeps turn.up said b.sent place.up t.arrived some (subst (Fits turn.up) sent fits.up.2) tells.up up broken
+      | inr down ↦
+          let same : t.arrived ≡ down.arrived = same-sound _ _ (sym up ∙ down.up) in
+          let refused : t.refused ≡ (place.refused && is_block down.arrived) = at.refused ∙ ap (λ x. place.refused && is_block x) same in
+          let reply : t.reply ≡ Some down.reply = f.replied ∙ rw (same, refused, at.wish, tells.wish) down.replies in
+          let heard : after_fate place.down (sound_of_reply (Some down.reply)) ≡ Some t.heard = ap (λ x. after_fate place.down (sound_of_reply x)) (sym reply) ∙ at.down in
+          let fitting : FitsReply turn.down (Some down.reply) = subst (FitsReply turn.down) reply fits.down in
+          let bytes : fitting.0 ≡ down.reply_sent = written_one _ _ _ fitting.1 down.written in
+          keeps turn.down (sound_of_reply (Some down.reply)) down.reply_sent place.down t.heard (reply_some down.reply) (subst (Fits turn.down) bytes fitting.2) tells.down heard down.breaks
+    ]
+
+module _ (Breaks : Fate → Sound → List ℕ → Type 0) (keeps : Keeps Breaks) (blocks : List Block) (turns : List Turn) (places : List SoundTurn) (h : History) (n : ℕ)
+    (c : IsConversationOn blocks turns places h) (b : BreaksFirst Breaks blocks turns places n) where
+  stands_there : FittingTurn blocks turns places b.past → ⊥
+  stands_there g =
+      let turn : g.turn ≡ b.turn = same_turn _ _ (sym g.here ∙ b.here) in
+      let place : g.spoken.placed.0.0 ≡ b.place = same-place _ _ (sym g.spoken.placed.0.1 ∙ b.there) in
+      no_turn Breaks keeps blocks b.past b.turn b.place g.t g.spoken.conversation.0 (subst (λ x. IsAt x g.t) place g.spoken.placed.0.2) (subst (FitsTurn blocks b.past g.t) turn g.fits)
+      (told_at turns places (length b.past) b.turn b.place b.told b.here b.there) b.breaks
+
+  plan_none : plan_of blocks ≡ [] → blocks ≡ []
+  plan_none = none_planned blocks
+
+  pub no_conversation : ⊥
+  no_conversation = elim (cases_order (length b.past) (length h)) [
+    | inl same ↦
+        let e : b.past ≡ h = same-history (plan_of blocks) places b.past h b.spoken c.conversation.spoken same in
+        elim c.conversation.whole [
+          | inl none ↦ b.some_block (plan_none none)
+          | inr (inl long) ↦
+              let within : length b.past < length places = slice_get_within places (length b.past) b.place b.there in
+              absurd (omega (arith, long, within, same))
+          | inr (inr over) ↦ true-false (is_over h) over (ap is_over (sym e) ∙ b.goes_on)
+        ]
+    | inr (inl shorter) ↦ stands_there (fits_within blocks turns places b.past h b.spoken c.conversation.spoken c.fits shorter)
+    | inr (inr longer) ↦ let more = goes-on-within (plan_of blocks) places h b.past c.conversation.spoken b.spoken longer in no-longer (plan_of blocks) places h more.0 c.conversation (λ none. b.some_block (plan_none none)) more.1
+  ]
+
+pub no_damage_no_conversation : OneHearing → NoDamageNoConversation
+no_damage_no_conversation one blocks turns places h n c b = no_conversation IsNoDamage (damage_kept one) blocks turns places h n c b
+
+pub bad_cut_no_conversation : BadCutNoConversation
+bad_cut_no_conversation blocks turns places h n c b = no_conversation HasBadCut cuts_kept blocks turns places h n c b

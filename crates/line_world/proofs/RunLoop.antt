@@ -1,0 +1,252 @@
+-- The loop of a run: the turns so far are those of a history, and both stations stand where it left them.
+use Rattle.std.proofs.Common.{◌≡◌, ◌⊎◌, inl, inr, ℕ, zero, suc, ◌+◌, ◌<◌, ◌==◌, true, false, ◌&&◌, List, [], ◌∷◌, ◌++◌, length, map, reverse, take, drop, slice_get, Some, if◌then◌else◌, refl, ap, sym, ◌∙◌, subst, arith, rules}
+use Rattle.std.proofs.lemmas.Bool.{true≢false}
+use Rattle.std.proofs.lemmas.List.{take-append-drop, map-append, length-map, length-reverse, reverse-append}
+use Rattle.bsc_link.specs.declared.outcome.Outcome.{Outcome}
+use Rattle.bsc_link.specs.declared.sound.Sound.{Sound}
+use Rattle.bsc_link.specs.Sender.{say_in, outcome_in}
+use Rattle.rje_jobs.specs.declared.job.Job.{Job}
+use Rattle.rje_jobs.specs.Blocks.{blocks}
+use Rattle.rje_station.specs.Hearing.{sound_of as sound_heard}
+use Rattle.rje_station.specs.Receiving.{Receiving, first_receiving}
+use Rattle.rje_station.specs.Sending.{Sending, first_sending, outcome_of, IsWrittenOf}
+use Rattle.line_world.specs.declared.fate.Fate.{Fate}
+use Rattle.line_world.specs.declared.sound_turn.SoundTurn.{SoundTurn}
+use Rattle.line_world.specs.declared.spoken.Spoken.{Spoken}
+use Rattle.line_world.specs.declared.turn.Turn.{Turn}
+use Rattle.line_world.specs.declared.turn_fault.TurnFault.{TurnFault}
+use Rattle.line_world.specs.declared.turn_fault.TurnFault.TheVariants as Fault
+use Rattle.line_world.specs.History.{Plan, History, is_over}
+use Rattle.line_world.specs.Known.{gives_up_now}
+use Rattle.line_world.specs.Outcome.{outcome, outcome_after}
+use Rattle.line_world.specs.Conversation.{is_block}
+use Rattle.line_world.specs.Damage.{HasBadCut, IsNoDamage}
+use Rattle.line_world.specs.Driving.{TakesTurn, BreaksIn, BreaksReply, IsTurnFault, fault_at}
+use Rattle.line_world.specs.Fate.{sound_of, after_fate}
+use Rattle.line_world.specs.Plan.{plan_of}
+use Rattle.line_world.specs.ReplyRule.{replying}
+use Rattle.line_world.specs.SayingRule.{saying}
+use Rattle.line_world.specs.Run.{TellsTurn, TellsSchedule, IsRun, BreaksTurn, BreaksFirst, IsDriveFault, spoken_of, spoken_turns}
+use Rattle.line_world.proofs.Comings.{Told, tell, said_told}
+use Rattle.line_world.proofs.Planned.{begins, blocks_begun, blocks_some}
+use Rattle.line_world.proofs.ReceiverCore.{conversations_are_spoken}
+use Rattle.line_world.proofs.ReceivingTurns.{refused_block}
+use Rattle.line_world.proofs.RunTurns.{Laws, StandsRun, turn_of, turn_more, due_is, sent_is, goes_on, answer_is}
+use Rattle.line_world.proofs.SenderCore.{sender_core_says}
+use Rattle.line_world.proofs.Telling.{told_length, told_append, told_any, get_seam, spoken_longer}
+
+plan_some : (jobs : List Job) → 0 < length jobs → plan_of (blocks jobs) ≡ [] → ⊥
+plan_some jobs l e = let b = blocks_begun jobs l in let f : plan_of (b.first ∷ b.more) ≡ [] = ap plan_of (sym b.is) ∙ e in absurd cc
+
+-- ---- The end.
+
+outcome_plan : (plan : Plan) (h : History) → (plan ≡ [] → ⊥) → outcome plan h ≡ outcome_after plan h
+outcome_plan [] h n = absurd (n refl)
+outcome_plan (b ∷ plan) h n = refl
+
+some_jobs : (jobs : List Job) → 0 < length jobs → (length jobs == 0) ≡ false
+some_jobs [] l = absurd (omega (arith, l))
+some_jobs (j ∷ js) l = search rules
+
+outcome_is : (jobs : List Job) (turns : List Turn) (h : History) (s : Sending) (r : Receiving) → 0 < length jobs → StandsRun jobs turns h s r → outcome_of s ≡ outcome (plan_of (blocks jobs)) h
+outcome_is jobs turns h s r l p =
+    let plan = plan_of (blocks jobs) in
+    let some : (length s.jobs == 0) ≡ false = ap (λ js. length js == 0) p.sends.jobs_are ∙ some_jobs jobs l in
+    let core : outcome_in s.core.place ≡ outcome_after plan h = ap (λ x. outcome_in x.place) p.sends.core ∙ (sender_core_says plan h (begins jobs l) (conversations_are_spoken plan h p.spoken.conversation)).1 in
+    ap (λ b. if b then Some Outcome.Done else outcome_in s.core.place) some ∙ core ∙ sym (outcome_plan plan h (plan_some jobs l))
+
+whole_run : Laws → (jobs : List Job) (turns : List Turn) (h : History) (s : Sending) (r : Receiving) → 0 < length jobs → StandsRun jobs turns h s r → (length h ≡ length turns) ⊎ (is_over h ≡ true)
+    → IsRun jobs turns (spoken_turns h) r.jobs s.counted (outcome_of s)
+whole_run laws jobs turns h s r l p whole =
+    let rest = told_any laws.every (drop (length h) turns) in
+    let places = p.before ++ rest.0 in
+    let told : TellsSchedule turns places =
+    subst (λ xs. TellsSchedule xs places) (take-append-drop (length h) turns) (told_append (take (length h) turns) (drop (length h) turns) p.before rest.0 p.told rest.1) in
+    let ended : (length h ≡ length places) ⊎ (is_over h ≡ true) = elim whole [ inl long ↦ inl (long ∙ told_length turns places told) | inr over ↦ inr over ] in
+    record {
+      history = h;
+      places = places;
+      conversation = record {
+        told = told;
+        conversation = record { empty = λ none. absurd (plan_some jobs l none); spoken = spoken_longer (plan_of (blocks jobs)) p.before rest.0 h p.spoken; whole = inr ended };
+        fits = p.fits;
+      };
+      spoken_is = refl;
+      handed_is = p.receives.jobs;
+      counted_is = p.sends.counted.counted;
+      ending_is = outcome_is jobs turns h s r l p;
+    }
+
+-- with no jobs nothing is said
+empty_run : Laws → (turns : List Turn) → IsRun [] turns [] first_receiving.jobs (first_sending []).counted (outcome_of (first_sending []))
+empty_run laws turns =
+    let told = told_any laws.every turns in
+    record {
+      history = [];
+      places = told.0;
+      conversation = record { told = told.1; conversation = record { empty = λ none. refl; spoken = record { conversation = tt; placed = tt }; whole = inl refl }; fits = tt };
+      spoken_is = refl;
+      handed_is = refl;
+      counted_is = refl;
+      ending_is = refl;
+    }
+
+-- ---- A broken rule.
+
+drop_one : {X : Type 0} (n : ℕ) (xs : List X) (x : X) → slice_get xs n ≡ Some x → drop n xs ≡ x ∷ drop (suc n) xs
+drop_one zero [] x e = absurd cc
+drop_one (suc n) [] x e = absurd cc
+drop_one zero (y ∷ xs) x e = let same : y ≡ x = cc in ap (λ z. z ∷ xs) same
+drop_one (suc n) (y ∷ xs) x e = drop_one n xs x e
+
+module _ (laws : Laws) (jobs : List Job) (turns : List Turn) (h : History) (s : Sending) (r : Receiving) (turn : Turn) (l : 0 < length jobs) (p : StandsRun jobs turns h s r) (here : slice_get turns (length h) ≡ Some turn) where
+  -- the schedule that is told, with this place
+  abbrev places_with : SoundTurn → List SoundTurn
+  places_with place = p.before ++ place ∷ (told_any laws.every (drop (suc (length h)) turns)).0
+
+  told_with : (place : SoundTurn) → TellsTurn turn place → TellsSchedule turns (places_with place)
+  told_with place tells =
+      let rest = told_any laws.every (drop (suc (length h)) turns) in
+      let joined : take (length h) turns ++ turn ∷ drop (suc (length h)) turns ≡ turns = ap (λ xs. take (length h) turns ++ xs) (sym (drop_one (length h) turns turn here)) ∙ take-append-drop (length h) turns in
+      subst (λ xs. TellsSchedule xs (places_with place)) joined (told_append (take (length h) turns) (turn ∷ drop (suc (length h)) turns) p.before (place ∷ rest.0) p.told (tells, rest.1))
+
+  first_with : (Breaks : Fate → Sound → List ℕ → Type 0) (place : SoundTurn) → TellsTurn turn place → s.over ≡ false → BreaksTurn Breaks (blocks jobs) h turn place → BreaksFirst Breaks (blocks jobs) turns (places_with place) (length h + 1)
+  first_with Breaks place tells live breaks = record {
+    told = told_with place tells;
+    past = h;
+    before = refl;
+    some_block = blocks_some jobs l;
+    spoken = spoken_longer (plan_of (blocks jobs)) p.before (place ∷ (told_any laws.every (drop (suc (length h)) turns)).0) h p.spoken;
+    fits = p.fits;
+    goes_on = goes_on jobs turns h s r p live;
+    turn = turn;
+    here = here;
+    place = place;
+    there = subst (λ n. slice_get (places_with place) n ≡ Some place) p.long (get_seam p.before place _);
+    breaks = breaks;
+  }
+
+  breaks_up : (Breaks : Fate → Sound → List ℕ → Type 0) (sent : List ℕ) → s.over ≡ false → IsWrittenOf (say_in s.core.place) s.rest sent → Breaks turn.up (sound_of (say_in s.core.place)) sent → (places : List SoundTurn) × BreaksFirst Breaks (blocks jobs) turns places (length h + 1)
+  breaks_up Breaks sent live w b =
+      let up = tell laws.every turn.up in
+      let down = tell laws.every turn.down in
+      let place : SoundTurn = record { up = up.0; down = down.0; refused = false; wish = turn.wish; pause = turn.pause } in (
+        places_with place,
+        first_with Breaks place (record { up = up.1; down = down.1; wish = refl; pause = refl }) live
+            (record { sent = sent; due = sent_is jobs turns h s r sent l p w; breaks = inl (subst (λ say. Breaks turn.up (sound_of say) sent) (due_is jobs turns h s r l p) b) }),
+      )
+
+  breaks_down : (Breaks : Fate → Sound → List ℕ → Type 0) (sent : List ℕ) → s.over ≡ false → IsWrittenOf (say_in s.core.place) s.rest sent → BreaksReply Breaks turn (sound_of (say_in s.core.place)) sent r → (places : List SoundTurn) × BreaksFirst Breaks (blocks jobs) turns places (length h + 1)
+  breaks_down Breaks sent live w b =
+      let down = tell laws.every turn.down in
+      let told : Told turn.up (sound_of (say_in s.core.place)) (sound_heard b.up.what) = said_told laws.one laws.transmits turn.up (say_in s.core.place) s.rest sent b.up.what w b.up.carried in
+      let due = due_is jobs turns h s r l p in
+      let place : SoundTurn = record { up = told.told; down = down.0; refused = b.refused; wish = turn.wish; pause = turn.pause } in
+      let after : after_fate told.told (sound_of (saying (plan_of (blocks jobs)) (gives_up_now h) h)) ≡ Some b.arrived = ap (λ say. after_fate told.told (sound_of say)) (sym due) ∙ told.after ∙ ap (λ x. Some x) (sym b.up.arrived_is) in
+      let refused : b.refused ≡ (b.refused && is_block b.arrived) = refused_block b.up.what _ b.refused b.up.may ∙ ap (λ x. b.refused && is_block x) (sym b.up.arrived_is) in
+      let answer : b.answer ≡ replying h b.arrived b.refused turn.wish = answer_is jobs turns h s r turn _ sent b.middle b.arrived b.refused b.answer p (goes_on jobs turns h s r p live) b.up in
+      let replies : replying h b.arrived (b.refused && is_block b.arrived) turn.wish ≡ Some b.reply = ap (λ f. replying h b.arrived f turn.wish) (sym refused) ∙ sym answer ∙ b.up.reply_is ∙ b.reply_is in (
+        places_with place,
+        first_with Breaks place (record { up = told.tells; down = down.1; wish = refl; pause = refl }) live
+            (record {
+              sent = sent;
+              due = sent_is jobs turns h s r sent l p w;
+              breaks = inr (record { fits = b.up.carried.fits; arrived = b.arrived; up = after; reply = b.reply; replies = replies; reply_sent = b.reply_sent; written = b.written; breaks = b.breaks });
+            }),
+      )
+
+  pub turn_breaks : (Breaks : Fate → Sound → List ℕ → Type 0) → BreaksIn Breaks turn s r → (places : List SoundTurn) × BreaksFirst Breaks (blocks jobs) turns places (length h + 1)
+  turn_breaks Breaks b = elim b.breaks [
+    | inl up ↦ breaks_up Breaks b.sent b.live b.written up
+    | inr down ↦ breaks_down Breaks b.sent b.live b.written down
+  ]
+
+-- ---- The loop.
+
+-- with no jobs nothing was done yet
+pub record IsIdle (jobs : List Job) (h : History) (s : Sending) (r : Receiving) : Type 0 where
+  pub none : jobs ≡ []
+  pub silent : h ≡ []
+  pub sender : s ≡ first_sending []
+  pub receiver : r ≡ first_receiving
+
+pub record Running (jobs : List Job) (turns : List Turn) (n : ℕ) (spoken : List Spoken) (s : Sending) (r : Receiving) : Type 0 where
+  pub history : History
+  pub long : length history ≡ n
+  pub spoken_is : spoken ≡ spoken_turns history
+  pub stands : IsIdle jobs history s r ⊎ ((0 < length jobs) × StandsRun jobs turns history s r)
+
+stands_first : (jobs : List Job) (turns : List Turn) → 0 < length jobs → StandsRun jobs turns [] (first_sending jobs) first_receiving
+stands_first jobs turns l = record {
+  before = [];
+  told = tt;
+  spoken = record { conversation = tt; placed = tt };
+  long = refl;
+  fits = tt;
+  sends = record { jobs_are = refl; core = refl; counted = record { rest = refl; counted = refl }; over = some_jobs jobs l };
+  receives = record { core = refl; jobs = refl; over = λ e. refl };
+}
+
+first_of : (jobs : List Job) (turns : List Turn) → Running jobs turns 0 [] (first_sending jobs) first_receiving
+first_of [] turns = record { history = []; long = refl; spoken_is = refl; stands = inl (record { none = refl; silent = refl; sender = refl; receiver = refl }) }
+first_of (j ∷ js) turns = record { history = []; long = refl; spoken_is = refl; stands = inr (omega arith, stands_first (j ∷ js) turns (omega arith)) }
+
+pub running_first : (jobs : List Job) (turns : List Turn) (spoken : List Spoken) (s : Sending) (r : Receiving) → spoken ≡ [] → s ≡ first_sending jobs → r ≡ first_receiving → Running jobs turns 0 spoken s r
+running_first jobs turns spoken s r e sender receiver = rw (e, sender, receiver) (first_of jobs turns)
+
+-- a station that has no jobs is over
+idle_over : (jobs : List Job) (h : History) (s : Sending) (r : Receiving) → IsIdle jobs h s r → s.over ≡ true
+idle_over jobs h s r i = ap (λ x. x.over) i.sender
+
+pub running_more : Laws → (jobs : List Job) (turns : List Turn) (n : ℕ) (spoken spoken' : List Spoken) (s s' : Sending) (r r' : Receiving) (turn : Turn) (t : Spoken) → Running jobs turns n spoken s r → slice_get turns n ≡ Some turn
+    → TakesTurn turn s s' r r' t → spoken' ≡ spoken ++ t ∷ [] → Running jobs turns (n + 1) spoken' s' r'
+running_more laws jobs turns n spoken spoken' s s' r r' turn t p here took more = elim p.stands [
+  | inl idle ↦ absurd (true≢false (sym (idle_over jobs p.history s r idle) ∙ took.live))
+  | inr (l, stands) ↦
+      let there : slice_get turns (length p.history) ≡ Some turn = subst (λ k. slice_get turns k ≡ Some turn) (sym p.long) here in
+      let turned : spoken_turns (turn_of turn t ∷ p.history) ≡ spoken_turns p.history ++ t ∷ [] = ap (map spoken_of) (reverse-append (turn_of turn t ∷ []) p.history) ∙ map-append spoken_of (reverse p.history) (turn_of turn t ∷ []) in
+      record {
+        history = turn_of turn t ∷ p.history;
+        long = omega (arith, p.long);
+        spoken_is = more ∙ ap (λ xs. xs ++ t ∷ []) p.spoken_is ∙ sym turned;
+        stands = inr (l, turn_more laws jobs turns p.history s s' r r' turn t l stands there took);
+      }
+]
+
+whole_if : Laws → (jobs : List Job) (turns : List Turn) (n : ℕ) (spoken : List Spoken) (s : Sending) (r : Receiving) → (p : Running jobs turns n spoken s r) → (StandsRun jobs turns p.history s r → (length p.history ≡ length turns) ⊎ (is_over p.history ≡ true))
+    → IsRun jobs turns spoken r.jobs s.counted (outcome_of s)
+whole_if laws jobs turns n spoken s r p whole = elim p.stands [
+  | inl idle ↦ rw (idle.none, p.spoken_is, idle.silent, idle.sender, idle.receiver) (empty_run laws turns)
+  | inr (l, stands) ↦ rw p.spoken_is (whole_run laws jobs turns p.history s r l stands (whole stands))
+]
+
+pub running_over : Laws → (jobs : List Job) (turns : List Turn) (n : ℕ) (spoken : List Spoken) (s : Sending) (r : Receiving) → Running jobs turns n spoken s r → s.over ≡ true → IsRun jobs turns spoken r.jobs s.counted (outcome_of s)
+running_over laws jobs turns n spoken s r p over = whole_if laws jobs turns n spoken s r p (λ stands. inr (sym stands.sends.over ∙ over))
+
+pub running_out : Laws → (jobs : List Job) (turns : List Turn) (n : ℕ) (spoken : List Spoken) (s : Sending) (r : Receiving) → Running jobs turns n spoken s r → n ≡ length turns → IsRun jobs turns spoken r.jobs s.counted (outcome_of s)
+running_out laws jobs turns n spoken s r p out = whole_if laws jobs turns n spoken s r p (λ stands. inl (p.long ∙ out))
+
+pub running_jobs : (jobs : List Job) (turns : List Turn) (n : ℕ) (spoken : List Spoken) (s : Sending) (r : Receiving) → Running jobs turns n spoken s r → s.jobs ≡ jobs
+running_jobs jobs turns n spoken s r p = elim p.stands [
+  | inl idle ↦ ap (λ x. x.jobs) idle.sender ∙ sym idle.none
+  | inr (l, stands) ↦ stands.sends.jobs_are
+]
+
+pub running_breaks : Laws → (jobs : List Job) (turns : List Turn) (n : ℕ) (spoken : List Spoken) (s : Sending) (r : Receiving) (turn : Turn) (Breaks : Fate → Sound → List ℕ → Type 0) → Running jobs turns n spoken s r → slice_get turns n ≡ Some turn
+    → BreaksIn Breaks turn s r → (places : List SoundTurn) × BreaksFirst Breaks (blocks jobs) turns places (n + 1)
+running_breaks laws jobs turns n spoken s r turn Breaks p here b = elim p.stands [
+  | inl idle ↦ absurd (true≢false (sym (idle_over jobs p.history s r idle) ∙ b.live))
+  | inr (l, stands) ↦
+      let there : slice_get turns (length p.history) ≡ Some turn = subst (λ k. slice_get turns k ≡ Some turn) (sym p.long) here in
+      let first = turn_breaks laws jobs turns p.history s r turn l stands there Breaks b in
+      (first.0, subst (λ k. BreaksFirst Breaks (blocks jobs) turns first.0 (k + 1)) p.long first.1)
+]
+
+pub running_length : (jobs : List Job) (turns : List Turn) (n : ℕ) (spoken : List Spoken) (s : Sending) (r : Receiving) → Running jobs turns n spoken s r → length spoken ≡ n
+running_length jobs turns n spoken s r p = ap length p.spoken_is ∙ length-map (reverse p.history) spoken_of ∙ length-reverse p.history ∙ p.long
+
+pub drive_fault : Laws → (jobs : List Job) (turns : List Turn) (n : ℕ) (spoken : List Spoken) (s : Sending) (r : Receiving) (turn : Turn) (fault : TurnFault) → Running jobs turns n spoken s r → slice_get turns n ≡ Some turn
+    → IsTurnFault turn s r fault → IsDriveFault jobs turns (fault_at fault (n + 1))
+drive_fault laws jobs turns n spoken s r turn Fault.OutOfMemory p here b = tt
+drive_fault laws jobs turns n spoken s r turn Fault.NotDamage p here b = (refl, running_breaks laws jobs turns n spoken s r turn IsNoDamage p here b)
+drive_fault laws jobs turns n spoken s r turn Fault.BadCut p here b = (refl, running_breaks laws jobs turns n spoken s r turn HasBadCut p here b)

@@ -1,0 +1,44 @@
+-- What the line brings is what the fate leaves of the reply that was due.
+use Rattle.std.proofs.Common.{rules, ◌≡◌, [], Some, None, Err, refl}
+use Rattle.std.specs.List.{flat_map}
+use Rattle.bsc_frame.specs.Written.{Written}
+use Rattle.rje_station.specs.Receiving.{frame_of}
+use Rattle.line_world.specs.Fate.{sound_of_reply}
+use Rattle.line_world.specs.MemoryLine.{talk_of}
+use Rattle.line_world.proofs.Carried.{goes_down, nothing_carried, reply_written, reply_carried, reply_fault, damage_fault, line_hears}
+use Rattle.line_world.proofs.ends.Ends.go_down.Goals as goal
+
+pub returns-in_default-clause-down : goal.returns-in_default-clause-down
+returns-in_default-clause-down c =
+    let none : c.args.self.now.receiver.due ≡ None = search rules in
+    let nothing : flat_map (λ p. p) c.put.new.self.waiting ≡ [] = rw (c.put.ensures, c.new.ensures.items) refl in
+    let heard = c.in_ok-hear.ensures.heard in
+    goes_down c.args.turn.now c.args.self.now.sender c.hear.new.self c.args.self.now.receiver c.speak.new.self c.in_ok-hear.field-0
+    (nothing_carried c.args.turn.now.down _ c.put.new.self c.hear.new.line c.in_ok-hear.field-0 none nothing heard) c.in_ok-hear.ensures.state c.in_ok-reply.ensures.state
+
+pub returns-in_err-carry-clause-fault : goal.returns-in_err-carry-clause-fault
+returns-in_err-carry-clause-fault c =
+    let told : c.from_residual-in_err-carry.result ≡ Err c.in_err-carry.field-0.0 = search rules in
+    let is : Some c.in-Some.reply ≡ c.args.self.now.receiver.due = search rules in
+    let written : Written (frame_of c.in-Some.reply) c.speak.new.line.sent = reply_written _ _ _ (talk_of c.speak.new.line) is c.in_ok-reply.ensures.sent in
+    rw told (reply_fault c.args.turn.now.down _ c.in-Some.reply c.speak.new.line.sent _ is written (c.in_err-carry.ensures.fault (sound_of_reply (Some c.in-Some.reply))))
+
+pub returns-in_err-check_damage-clause-fault : goal.returns-in_err-check_damage-clause-fault
+returns-in_err-check_damage-clause-fault c =
+    let told : c.from_residual-in_err-check_damage.result ≡ Err c.in_err-check_damage.field-0.0 = search rules in
+    let is : Some c.in-Some.reply ≡ c.args.self.now.receiver.due = search rules in
+    let written : Written (frame_of c.in-Some.reply) c.speak.new.line.sent = reply_written _ _ _ (talk_of c.speak.new.line) is c.in_ok-reply.ensures.sent in
+    let heard = c.in_ok-heard.ensures.heard in
+    let hears = line_hears c.carry.new.to c.hear-2.new.line heard.what _ c.in_ok-carry.ensures.comes heard.hearing in
+    let wrong = c.in_err-check_damage.ensures.wrong in
+    rw told (reply_fault c.args.turn.now.down _ c.in-Some.reply c.speak.new.line.sent _ is written
+    (rw (← c.sound_of_reply.ensures) (damage_fault _ _ _ _ heard.what _ c.in_err-check_damage.ensures.fault wrong hears heard.sound_is)))
+
+pub returns-clause-down : goal.returns-clause-down
+returns-clause-down c =
+    let is : Some c.in-Some.reply ≡ c.args.self.now.receiver.due = search rules in
+    let written : Written (frame_of c.in-Some.reply) c.speak.new.line.sent = reply_written _ _ _ (talk_of c.speak.new.line) is c.in_ok-reply.ensures.sent in
+    let may = c.in_ok-check_damage.ensures.may in
+    goes_down c.args.turn.now c.args.self.now.sender c.hear-2.new.self c.args.self.now.receiver c.speak.new.self c.in_ok-heard.heard
+    (reply_carried c.args.turn.now.down _ c.in-Some.reply c.speak.new.line.sent c.carry.new.to c.hear-2.new.line c.in_ok-heard.heard is written c.in_ok-carry.ensures.fits c.in_ok-carry.ensures.comes c.in_ok-heard.ensures.heard (rw c.sound_of_reply.ensures at may))
+    c.in_ok-heard.ensures.state c.in_ok-reply.ensures.state

@@ -1,0 +1,54 @@
+-- Each turn of the loop is one turn of the conversation.
+use Rattle.std.proofs.Common.{rules, ◌≡◌, Some, None, length, slice_get, refl, ◌∙◌}
+use Rattle.std.proofs.lemmas.Option.{slice_get_read}
+use Rattle.line_world.specs.Driving.{Takes, TakesTurn}
+use Rattle.line_world.proofs.RunLoop.{running_first, running_more, running_over, running_out, running_jobs, running_length, drive_fault}
+use Rattle.line_world.proofs.RunTurns.{Laws}
+use Rattle.line_world.proofs.running.drive.Goals as goal
+
+pub loop-turn-init : goal.loop-turn-init
+loop-turn-init c = record {
+  running = running_first c.args.sender.jobs c.args.turns.now _ _ _ c.new-spoken.ensures.items (c.new-ends.ensures.sender ∙ c.requires.sender) (c.new-ends.ensures.receiver ∙ c.requires.receiver);
+}
+
+pub returns-in-Ok-None-clause-run : goal.returns-in-Ok-None-clause-run
+returns-in-Ok-None-clause-run c =
+    let laws : Laws = record { one = c.one_hearing.ensures; every = c.every_hearing.ensures; transmits = c.written_is_transmission.ensures; sending = c.stations_keep_history.ensures.sending; receiving = c.stations_keep_history.ensures.receiving } in
+    let running = c.loop-turn.invariant.running in
+    let taken = c.in-Ok-None.ensures.taken in
+    let over : Takes None c.turn-item.result _ _ _ _ = rw c.in-Ok-None.field-0-is at taken in
+    rw (c.driven.ensures.turns, c.driven.ensures.sender, c.driven.ensures.receiver, over.1, over.2) (running_over laws _ _ _ _ _ _ running over.0)
+
+pub returns-in-Ok-None-clause-jobs : goal.returns-in-Ok-None-clause-jobs
+returns-in-Ok-None-clause-jobs c =
+    let running = c.loop-turn.invariant.running in
+    let taken = c.in-Ok-None.ensures.taken in
+    let over : Takes None c.turn-item.result _ _ _ _ = rw c.in-Ok-None.field-0-is at taken in
+    rw (c.driven.ensures.sender, over.1) (running_jobs _ _ _ _ _ _ running)
+
+pub returns-in-Err-clause-fault : goal.returns-in-Err-clause-fault
+returns-in-Err-clause-fault c =
+    let laws : Laws = record { one = c.one_hearing.ensures; every = c.every_hearing.ensures; transmits = c.written_is_transmission.ensures; sending = c.stations_keep_history.ensures.sending; receiving = c.stations_keep_history.ensures.receiving } in
+    let running = c.loop-turn.invariant.running in
+    let here : slice_get c.args.turns.now c.loop-turn.turn-index ≡ Some c.turn-item.result = slice_get_read _ _ _ _ refl c.loop-turn-test.true c.turn-item.is in
+    let long : c.len.result ≡ c.loop-turn.turn-index = c.len.ensures ∙ c.loop-turn.spoken.ok.0 ∙ running_length _ _ _ _ _ _ running in
+    rw (c.at.ensures, long) (drive_fault laws _ _ _ _ _ _ c.turn-item.result c.in-Err.fault running here c.in-Err.ensures.fault)
+
+pub loop-turn-preserved : goal.loop-turn-preserved
+loop-turn-preserved c =
+    let laws : Laws = record { one = c.one_hearing.ensures; every = c.every_hearing.ensures; transmits = c.written_is_transmission.ensures; sending = c.stations_keep_history.ensures.sending; receiving = c.stations_keep_history.ensures.receiving } in
+    let running = c.loop-turn.invariant.running in
+    let here : slice_get c.args.turns.now c.loop-turn.turn-index ≡ Some c.turn-item.result = slice_get_read _ _ _ _ refl c.loop-turn-test.true c.turn-item.is in
+    let taken = c.in-Ok-Some.ensures.taken in
+    let took : TakesTurn c.turn-item.result c.loop-turn.ends.sender c.take_turn.new.self.sender c.loop-turn.ends.receiver c.take_turn.new.self.receiver c.in-Ok-Some.one = rw c.in-Ok-Some.field-0-is at taken in
+    record { running = running_more laws _ _ _ _ _ _ _ _ _ c.turn-item.result c.in-Ok-Some.one running here took (search rules) }
+
+pub returns-clause-run : goal.returns-clause-run
+returns-clause-run c =
+    let laws : Laws = record { one = c.one_hearing.ensures; every = c.every_hearing.ensures; transmits = c.written_is_transmission.ensures; sending = c.stations_keep_history.ensures.sending; receiving = c.stations_keep_history.ensures.receiving } in
+    let running = c.loop-turn.invariant.running in
+    let out : c.loop-turn.turn-index ≡ length c.args.turns.now = search rules in
+    rw (c.driven-2.ensures.turns, c.driven-2.ensures.sender, c.driven-2.ensures.receiver) (running_out laws _ _ _ _ _ _ running out)
+
+pub returns-clause-jobs : goal.returns-clause-jobs
+returns-clause-jobs c = rw c.driven-2.ensures.sender (running_jobs _ _ _ _ _ _ c.loop-turn.invariant.running)

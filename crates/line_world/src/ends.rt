@@ -1,0 +1,183 @@
+//! Both ends of a line: two stations, each at its own line in memory.
+ghost use Rattle.std.specs.Prelude.{◌≡◌, false, IfOk, OnOk, IfErr, OnErr};
+ghost use Rattle.line_world.specs.Fate.{is_damage_of as is_damage, sound_of as up_sound};
+ghost use Rattle.line_world.specs.declared.turn_fault.TurnFault.TheVariants as Fault;
+ghost use Rattle.line_world.specs.Arrival.{from_end as event_from_end, sound_told, heard_at_end};
+ghost use Rattle.line_world.specs.Driving.{MayDamage, IsDamaged, IsFateFault, GoesUp, GoesDown, IsReplyFault, Takes, IsTurnFault};
+
+use crate::carrying::carry;
+use crate::sound_fate::is_damage_of;
+use crate::turn_fault::TurnFault;
+use crate::{Driven, Fate, MemoryLine, Spoken, Turn, sound_of, sound_of_reply};
+use bsc_link::{Reply, Say, Sound};
+use rje_station::{Event, ReceivingStation, SendingStation, StationFault, Trace};
+use std::alloc::Global;
+
+/// Both ends of a line.
+#[derive(Drop)]
+pub(crate) struct Ends<'a> {
+    sender: SendingStation<'a>,
+    receiver: ReceivingStation,
+    sending_line: MemoryLine,
+    receiving_line: MemoryLine,
+}
+
+/// What the receiver heard, whether it was refused, and the reply that is due.
+struct Arrival {
+    arrived: Sound,
+    refused: bool,
+    reply: Option<Reply>,
+}
+
+impl<'a> Ends<'a> {
+    /// Two stations, and lines on which nothing comes.
+    pub(crate) fn new(
+        alloc: Global,
+        sender: SendingStation<'a>,
+        receiver: ReceivingStation,
+    ) -> Ends<'a>
+        ensures sender { result.sender ≡ sender.entry }
+        ensures receiver { result.receiver ≡ receiver }
+    {
+        Ends {
+            sender,
+            receiver,
+            sending_line: MemoryLine::new(alloc),
+            receiving_line: MemoryLine::new(alloc),
+        }
+    }
+
+    /// The stations, and what was spoken.
+    pub(crate) fn driven(self, turns: Vec<Spoken>) -> Driven<'a>
+        ensures turns { result.turns.items ≡ turns.items }
+        ensures sender { result.sender ≡ self.entry.sender }
+        ensures receiver { result.receiver ≡ self.entry.receiver }
+    {
+        let Ends {
+            sender,
+            receiver,
+            sending_line: _,
+            receiving_line: _,
+        } = self;
+        Driven {
+            turns,
+            sender,
+            receiver,
+        }
+    }
+
+    /// One turn; None where the sender has nothing to say any more.
+    pub(crate) fn take_turn(
+        &mut self,
+        alloc: Global,
+        turn: &Turn,
+    ) -> Result<Option<Spoken>, TurnFault>
+        ensures taken { IfOk result (λ spoken. Takes spoken turn.now self.old.sender self.new.sender self.old.receiver self.new.receiver) }
+        ensures fault { IfErr result (IsTurnFault turn.now self.old.sender self.old.receiver) }
+    {
+        let said = match self.sender.speak(&mut self.sending_line) {
+            Ok(said) => said,
+            Err(StationFault::Over) => return Ok(None),
+            Err(fault) => return Err(fault.into()),
+        };
+        let Arrival {
+            arrived,
+            refused,
+            reply,
+        } = self.go_up(alloc, said, turn)?;
+        let heard = match said {
+            Say::End => Sound::Quiet,
+            _ => self.go_down(alloc, turn)?,
+        };
+        Ok(Some(Spoken {
+            said,
+            arrived,
+            refused,
+            reply,
+            heard,
+        }))
+    }
+
+    /// What the sender sent comes to the receiver, which takes one step.
+    fn go_up(&mut self, alloc: Global, said: Say, turn: &Turn) -> Result<Arrival, TurnFault>
+        ensures up { IfOk result (λ a. GoesUp turn.now (up_sound said) self.old.sending_line.sent self.old.receiver self.new.receiver a.arrived a.refused a.reply) }
+        ensures sender { OnOk result (self.new.sender ≡ self.old.sender) }
+        ensures fault { IfErr result (IsFateFault turn.now.up (up_sound said) self.old.sending_line.sent) }
+    {
+        carry(
+            alloc,
+            &turn.up,
+            &self.sending_line,
+            &mut self.receiving_line,
+        )?;
+        let reply = self.receiver.hear(&mut self.receiving_line, turn.wish)?;
+        let (arrived, refused) = last_hearing(self.receiver.trace());
+        check_damage(&turn.up, sound_of(said), arrived)?;
+        Ok(Arrival {
+            arrived,
+            refused,
+            reply,
+        })
+    }
+
+    /// The reply that is due comes to the sender, which takes one step.
+    fn go_down(&mut self, alloc: Global, turn: &Turn) -> Result<Sound, TurnFault>
+        ensures down { IfOk result (λ heard. GoesDown turn.now self.old.sender self.new.sender self.old.receiver self.new.receiver heard) }
+        ensures fault { IfErr result (IsReplyFault turn.now.down self.old.receiver.due) }
+    {
+        let Some(reply) = self.receiver.speak(&mut self.receiving_line)? else {
+            self.sending_line.put(Vec::new(alloc));
+            return Ok(self.sender.hear(&mut self.sending_line, turn.pause)?);
+        };
+        carry(
+            alloc,
+            &turn.down,
+            &self.receiving_line,
+            &mut self.sending_line,
+        )?;
+        let heard = self.sender.hear(&mut self.sending_line, turn.pause)?;
+        check_damage(&turn.down, sound_of_reply(Some(reply)), heard)?;
+        Ok(heard)
+    }
+}
+
+/// What the last hearing in a receiver's trace brought, and whether it was refused: a hearing is told by one event, or by two.
+fn last_hearing(trace: &Trace) -> (Sound, bool)
+    ensures { result ≡ heard_at_end (event_from_end trace.now 1) (event_from_end trace.now 2) }
+{
+    let before = sound_in(from_end(trace, 2));
+    match from_end(trace, 1) {
+        Some(Event::Heard(sound)) => (sound, false),
+        Some(Event::Refused) => (before, true),
+        _ => (before, false),
+    }
+}
+
+/// The sound that an event tells.
+fn sound_in(event: Option<Event>) -> Sound
+    ensures { result ≡ sound_told event }
+{
+    match event {
+        Some(Event::Heard(sound)) => sound,
+        _ => Sound::Quiet,
+    }
+}
+
+/// The event so many places before the end of a trace.
+fn from_end(trace: &Trace, places: usize) -> Option<Event>
+    ensures { result ≡ event_from_end trace.now places }
+{
+    trace.get(trace.len().saturating_sub(places))
+}
+
+/// Refuses bytes that are heard as damage of what was said may not be.
+fn check_damage(fate: &Fate, said: Sound, heard: Sound) -> Result<(), TurnFault>
+    ensures may { OnOk result (MayDamage fate.now said heard) }
+    ensures fault { IfErr result (λ fault. fault ≡ Fault.NotDamage) }
+    ensures wrong { OnErr result (IsDamaged fate.now × (is_damage said heard ≡ false)) }
+{
+    match fate {
+        Fate::Damaged { bytes: _ } if !is_damage_of(said, heard) => Err(TurnFault::NotDamage),
+        _ => Ok(()),
+    }
+}

@@ -1,0 +1,70 @@
+//! The run of jobs over a schedule of losses and damage.
+ghost use Rattle.std.specs.Prelude.{◌≡◌, IfOk, OnOk, IfErr};
+ghost use Rattle.std.specs.List.{AllByRecursion};
+ghost use Rattle.rje_jobs.specs.Fitting.{JobFits};
+ghost use Rattle.rje_station.specs.Receiving.{first_receiving};
+ghost use Rattle.rje_station.specs.Sending.{first_sending, outcome_of};
+ghost use Rattle.line_world.specs.Run.{IsRun, IsDriveFault, IsRunFault};
+
+use crate::ends::Ends;
+use crate::{Driven, Report, Turn, WorldFault, stations_keep_history};
+use bsc_frame::{every_hearing, one_hearing, written_is_transmission};
+use rje_jobs::{Job, Jobs};
+use rje_station::{ReceivingStation, SendingStation};
+use std::alloc::{AllocError, Global};
+
+/// One transmission of these jobs over a schedule: two new stations in conversation, over lines that do to their bytes what the turns say.
+pub fn run(alloc: Global, jobs: &[Job], turns: &[Turn]) -> Result<Report, WorldFault>
+    ensures run { IfOk result (λ report. IsRun jobs.now turns.now report.turns.items report.handed report.counted report.outcome) }
+    ensures fit { OnOk result (AllByRecursion JobFits jobs.now) }
+
+    // A job that can't be sent is told before any turn, and else the first turn of which a looked-at fate breaks a rule.
+    ensures fault { IfErr result (IsRunFault jobs.now turns.now) }
+{
+    let sender = SendingStation::new(alloc, jobs)?;
+    let receiver = ReceivingStation::new(alloc)?;
+    let Driven {
+        turns,
+        sender,
+        receiver,
+    } = drive(alloc, sender, receiver, turns)?;
+    Ok(Report {
+        turns,
+        handed: Jobs::from(receiver.take()),
+        counted: sender.counted(),
+        outcome: sender.outcome(),
+    })
+}
+
+/// What `run` does, between two stations that have done nothing yet; they are given back as the turns leave them.
+pub fn drive<'a>(
+    alloc: Global,
+    sender: SendingStation<'a>,
+    receiver: ReceivingStation,
+    turns: &[Turn],
+) -> Result<Driven<'a>, WorldFault>
+    requires sender { sender ≡ first_sending sender.jobs }
+    requires receiver { receiver ≡ first_receiving }
+    ensures run { IfOk result (λ driven. IsRun sender.entry.jobs turns.now driven.turns.items driven.receiver.jobs driven.sender.counted (outcome_of driven.sender)) }
+    ensures jobs { IfOk result (λ driven. driven.sender.jobs ≡ sender.entry.jobs) }
+    ensures fault { IfErr result (IsDriveFault sender.entry.jobs turns.now) }
+{
+    one_hearing();
+    every_hearing();
+    written_is_transmission();
+    stations_keep_history();
+    let mut ends = Ends::new(alloc, sender, receiver);
+    let mut spoken = Vec::new(alloc);
+    for turn in turns {
+        match ends.take_turn(alloc, turn) {
+            Ok(Some(one)) => {
+                if let Err(refused) = spoken.push(one) {
+                    return Err(AllocError::from(refused).into());
+                }
+            }
+            Ok(None) => return Ok(ends.driven(spoken)),
+            Err(fault) => return Err(fault.at(spoken.len() + 1)),
+        }
+    }
+    Ok(ends.driven(spoken))
+}

@@ -1,0 +1,49 @@
+//! Why a turn of two stations came to nothing.
+ghost use Rattle.std.specs.Prelude.{◌≡◌};
+ghost use Rattle.line_world.specs.declared.turn_fault.TurnFault.TheVariants.{OutOfMemory};
+ghost use Rattle.line_world.specs.Driving.{fault_at};
+
+use crate::WorldFault;
+use rje_station::StationFault;
+use std::alloc::AllocError;
+
+/// Why a turn of two stations came to nothing.
+#[derive(Clone, Copy, Debug, PartialEq, Eq)]
+pub(crate) enum TurnFault {
+    /// There is no memory for the pieces.
+    OutOfMemory,
+    /// A fate's bytes are no damage of what was sent.
+    NotDamage,
+    /// The cuts of a fate don't fit what was sent.
+    BadCut,
+}
+
+impl TurnFault {
+    /// The fault of a run in its first attempt, in this turn.
+    pub(crate) fn at(self, turn: usize) -> WorldFault
+        ensures { result ≡ fault_at self turn }
+    {
+        match self {
+            TurnFault::OutOfMemory => WorldFault::OutOfMemory,
+            TurnFault::NotDamage => WorldFault::NotDamage(1, turn),
+            TurnFault::BadCut => WorldFault::BadCut(1, turn),
+        }
+    }
+}
+
+impl From<AllocError> for TurnFault {
+    ghost from_gives = { λ _ fault. fault ≡ OutOfMemory };
+
+    fn from(_refused: AllocError) -> TurnFault {
+        TurnFault::OutOfMemory
+    }
+}
+
+/// A line in memory of which no call is named to fail fails only where a buffer has no room, which is want of memory.
+impl From<StationFault> for TurnFault {
+    ghost from_gives = { λ _ fault. fault ≡ OutOfMemory };
+
+    fn from(_lost: StationFault) -> TurnFault {
+        TurnFault::OutOfMemory
+    }
+}

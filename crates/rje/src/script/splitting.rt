@@ -1,0 +1,13 @@
+//! Bytes, split at the first of a kind.
+ghost use Rattle.std.specs.Prelude.{◌≡◌, ◌++◌, ◌∷◌, ◌<◌, length, IfSome};
+
+/// What stands in front of the first such byte, and what stands behind it; None where there is none.
+pub fn split_once<'a>(bytes: &'a [u8], byte: u8) -> Option<(&'a [u8], &'a [u8])>
+    ensures parts { IfSome result (λ p. bytes.entry.now ≡ p.0.now ++ byte ∷ p.1.now) }
+    ensures shorter { IfSome result (λ p. length p.1.now < length bytes.entry.now) }
+{
+    let place = bytes.iter().position(|b| *b == byte)?;
+    let (front, rest) = bytes.split_at(place);
+    let (_, behind) = rest.split_at(1);
+    Some((front, behind))
+}
