@@ -27,10 +27,11 @@ use Rattle.line_world.specs.Plan.{plan_of, plan_behind, numbered}
 use Rattle.line_world.specs.Run.{TellsSchedule, spoken_of, spoken_turns}
 use Rattle.line_world.proofs.Agreement.{in_order, conversations_may_be_spoken}
 use Rattle.line_world.proofs.CleanTurns.{AreClean, clean_stands}
-use Rattle.line_world.proofs.JobsAgain.{joined_all, ended_all}
+use Rattle.line_world.proofs.FirstJobs.{joined_all}
+use Rattle.line_world.proofs.JobsAgain.{ended_all}
+use Rattle.line_world.proofs.Numbered.{length_behind, numbered_first}
 use Rattle.line_world.proofs.OneConversation.{same-sound}
-use Rattle.line_world.proofs.ReceivingTurns.{numbered_more}
-use Rattle.line_world.proofs.Telling.{told_length, take_one}
+use Rattle.line_world.proofs.Telling.{told_length}
 use Rattle.line_world.proofs.Within.{stays_within_plan}
 
 -- ---- The turns are clean.
@@ -97,26 +98,6 @@ clean turns places (x ∷ past) t g a u =
       },
       clean turns places past t g a.1 u.1,
     )
-
--- ---- The blocks by their numbers.
-
-length_behind : (ended : Bool) (bs : List Block) → length (plan_behind ended bs) ≡ length bs
-length_behind ended [] = refl
-length_behind ended (b ∷ bs) = ap suc (length_behind (ends_job b.closing) bs)
-
-get_some : (bs : List Block) (n : ℕ) → n < length bs → (b : Block) × (slice_get bs n ≡ Some b)
-get_some [] n l = absurd (omega (arith, l))
-get_some (b ∷ bs) zero l = (b, refl)
-get_some (b ∷ bs) (suc n) l = get_some bs n (omega (arith, l))
-
-numbered_first : (bs : List Block) (n : ℕ) → n ≤ length bs → numbered bs (first_numbers n) ≡ take n bs
-numbered_first bs zero l = refl
-numbered_first bs (suc n) l =
-    let b = get_some bs n (omega (arith, l)) in
-    ap (λ k. numbered bs (first_numbers n ++ k ∷ [])) (sym (add-one n))
-    ∙ numbered_more bs (first_numbers n) n b.0 b.1
-    ∙ ap (λ xs. xs ++ b.0 ∷ []) (numbered_first bs n (omega (arith, l)))
-    ∙ sym (take_one n bs b.0 b.1)
 
 -- ---- The law.
 

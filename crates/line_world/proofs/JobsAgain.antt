@@ -1,4 +1,4 @@
--- The blocks of jobs, joined, are the jobs again.
+-- What the blocks of one job are joined to.
 use Rattle.std.proofs.Common.{◌≡◌, ◌⊎◌, inl, inr, ℕ, ◌+◌, Bool, true, false, leb, List, [], ◌∷◌, ◌++◌, length, Option, Some, None, if◌then◌else◌, refl, ap, sym, ◌∙◌, arith}
 use Rattle.std.specs.List.{flat_map, AllByRecursion}
 use Rattle.std.proofs.lemmas.List.{append_assoc}
@@ -39,7 +39,7 @@ cut_one mode text [] = refl
 cut_one mode text (r ∷ rs) =
     one_if (leb (length (text ++ spelling mode r)) 510) _ _ (cut_one mode (text ++ spelling mode r) rs) (one_more (block mode Etb text) (cut_behind mode (spelling mode r) rs) refl (cut_one mode (spelling mode r) rs))
 
-job_one : (j : Job) → IsOneJob (blocks_of_job j)
+pub job_one : (j : Job) → IsOneJob (blocks_of_job j)
 unfolding cut
 job_one j = cut_one j.mode _ j.records
 
@@ -71,7 +71,7 @@ job_of begun [] = None
 job_of begun (u ∷ []) = Some (with_records begun u true)
 job_of begun (u ∷ v ∷ us) = job_of (Some (with_records begun u false)) (v ∷ us)
 
-kept : (mode : Mode) (begun : Option Job) (so_far : Option Mode) (u : Unpacked) → mode_of_begun begun ≡ so_far → u.mode ≡ mode → (so_far ≡ None) ⊎ (so_far ≡ Some mode) → mode_of_begun (Some (with_records begun u false)) ≡ Some u.mode
+pub kept : (mode : Mode) (begun : Option Job) (so_far : Option Mode) (u : Unpacked) → mode_of_begun begun ≡ so_far → u.mode ≡ mode → (so_far ≡ None) ⊎ (so_far ≡ Some mode) → mode_of_begun (Some (with_records begun u false)) ≡ Some u.mode
 kept mode None so_far u same moded now = refl
 kept mode (Some j) so_far u same moded (inl none) = let e : Some j.mode ≡ None = same ∙ none in absurd cc
 kept mode (Some j) so_far u same moded (inr is) = same ∙ is ∙ ap (λ x. Some x) (sym moded)
@@ -95,54 +95,32 @@ step_by (Some u) begun Etb rest = refl
 step_is : (begun : Option Job) (b : Block) (rest : List Block) → joined_behind begun (b ∷ rest) ≡ joined_on (reading b (mode_of_begun begun)) begun b.closing rest
 step_is begun b rest = step_by (reading b (mode_of_begun begun)) begun b.closing rest
 
-last_read : (begun : Option Job) (b : Block) (rest : List Block) (u : Unpacked) → reading b (mode_of_begun begun) ≡ Some u → b.closing ≡ Etx → joined_behind begun (b ∷ rest) ≡ with_records begun u true ∷ joined_behind None rest
+pub last_read : (begun : Option Job) (b : Block) (rest : List Block) (u : Unpacked) → reading b (mode_of_begun begun) ≡ Some u → b.closing ≡ Etx → joined_behind begun (b ∷ rest) ≡ with_records begun u true ∷ joined_behind None rest
 last_read begun b rest u e c = step_is begun b rest ∙ ap (λ o. joined_on o begun b.closing rest) e ∙ ap (λ k. joined_on (Some u) begun k rest) c
 
-next_read : (begun : Option Job) (b : Block) (rest : List Block) (u : Unpacked) → reading b (mode_of_begun begun) ≡ Some u → b.closing ≡ Etb → joined_behind begun (b ∷ rest) ≡ joined_behind (Some (with_records begun u false)) rest
+pub next_read : (begun : Option Job) (b : Block) (rest : List Block) (u : Unpacked) → reading b (mode_of_begun begun) ≡ Some u → b.closing ≡ Etb → joined_behind begun (b ∷ rest) ≡ joined_behind (Some (with_records begun u false)) rest
 next_read begun b rest u e c = step_is begun b rest ∙ ap (λ o. joined_on o begun b.closing rest) e ∙ ap (λ k. joined_on (Some u) begun k rest) c
 
-job_joined : (mode : Mode) (begun : Option Job) (so_far : Option Mode) (bs rest : List Block) (us : List Unpacked) (j : Job) → IsOneJob bs → mode_of_begun begun ≡ so_far → AreRead so_far bs us → AllByRecursion (λ u. u.mode ≡ mode) us → (so_far ≡ None) ⊎ (so_far ≡ Some mode) → job_of begun us ≡ Some j
-    → joined_behind begun (bs ++ rest) ≡ j ∷ joined_behind None rest
-job_joined mode begun so_far [] rest us j one same read moded now is = absurd one
-job_joined mode begun so_far (b ∷ bs) rest [] j one same read moded now is = absurd read
-job_joined mode begun so_far (b ∷ []) rest (u ∷ []) j one same read moded now is =
-    let r : reading b (mode_of_begun begun) ≡ Some u = ap (reading b) same ∙ read.0.0 in
-    let e : with_records begun u true ≡ j = cc in
-    last_read begun b rest u r one ∙ ap (λ x. x ∷ joined_behind None rest) e
-job_joined mode begun so_far (b ∷ []) rest (u ∷ v ∷ us) j one same read moded now is = absurd read.1
-job_joined mode begun so_far (b ∷ c ∷ bs) rest (u ∷ []) j one same read moded now is = absurd read.1
-job_joined mode begun so_far (b ∷ c ∷ bs) rest (u ∷ v ∷ us) j one same read moded now is =
-    let r : reading b (mode_of_begun begun) ≡ Some u = ap (reading b) same ∙ read.0.0 in
-    next_read begun b (c ∷ bs ++ rest) u r one.0
-    ∙ job_joined mode (Some (with_records begun u false)) (Some u.mode) (c ∷ bs) rest (v ∷ us) j one.1 (kept mode begun so_far u same moded.0 now) read.1 moded.1 (inr (ap (λ x. Some x) moded.0)) is
+abbrev pub records_read : List Unpacked → List Record
+records_read us = flat_map (λ u. u.records) us
 
-abbrev pub records_of : List Unpacked → List Record
-records_of us = flat_map (λ u. u.records) us
-
-more_of : (j : Job) (u : Unpacked) (us : List Unpacked) → job_of (Some j) (u ∷ us) ≡ Some (record j { records = j.records ++ records_of (u ∷ us); whole = true })
+pub more_of : (j : Job) (u : Unpacked) (us : List Unpacked) → job_of (Some j) (u ∷ us) ≡ Some (record j { records = j.records ++ records_read (u ∷ us); whole = true })
 more_of j u [] = ap (λ rs. Some (record j { records = j.records ++ rs; whole = true })) (sym (nil_behind u.records))
 more_of j u (v ∷ us) =
-    more_of (with_records (Some j) u false) v us ∙ ap (λ rs. Some (record j { records = rs; whole = true })) (append_assoc j.records u.records (records_of (v ∷ us)))
+    more_of (with_records (Some j) u false) v us ∙ ap (λ rs. Some (record j { records = rs; whole = true })) (append_assoc j.records u.records (records_read (v ∷ us)))
 
-all_of : (u : Unpacked) (us : List Unpacked) → job_of None (u ∷ us) ≡ Some (record { select = u.select; mode = u.mode; records = records_of (u ∷ us); whole = true })
+all_of : (u : Unpacked) (us : List Unpacked) → job_of None (u ∷ us) ≡ Some (record { select = u.select; mode = u.mode; records = records_read (u ∷ us); whole = true })
 all_of u [] = ap (λ rs. Some (record { select = u.select; mode = u.mode; records = rs; whole = true })) (sym (nil_behind u.records))
 all_of u (v ∷ us) = more_of (with_records None u false) v us
 
-same_job : (j : Job) (u : Unpacked) (us : List Unpacked) → j.whole ≡ true → IsJobRead j.select j.mode j.records (u ∷ us) → Some (record { select = u.select; mode = u.mode; records = records_of (u ∷ us); whole = true }) ≡ Some j
+same_job : (j : Job) (u : Unpacked) (us : List Unpacked) → j.whole ≡ true → IsJobRead j.select j.mode j.records (u ∷ us) → Some (record { select = u.select; mode = u.mode; records = records_read (u ∷ us); whole = true }) ≡ Some j
 same_job j u us whole read =
     let select : u.select ≡ j.select = same_select _ _ read.selected in
-    ap (λ x. Some (record { select = x; mode = u.mode; records = records_of (u ∷ us); whole = true })) select
-    ∙ ap (λ x. Some (record { select = j.select; mode = x; records = records_of (u ∷ us); whole = true })) read.moded.0
+    ap (λ x. Some (record { select = x; mode = u.mode; records = records_read (u ∷ us); whole = true })) select
+    ∙ ap (λ x. Some (record { select = j.select; mode = x; records = records_read (u ∷ us); whole = true })) read.moded.0
     ∙ ap (λ x. Some (record { select = j.select; mode = j.mode; records = x; whole = true })) read.all
     ∙ ap (λ x. Some (record { select = j.select; mode = j.mode; records = j.records; whole = x })) (sym whole)
 
-job_is : (j : Job) (us : List Unpacked) → j.whole ≡ true → IsJobRead j.select j.mode j.records us → job_of None us ≡ Some j
+pub job_is : (j : Job) (us : List Unpacked) → j.whole ≡ true → IsJobRead j.select j.mode j.records us → job_of None us ≡ Some j
 job_is j [] whole read = let e : None ≡ Some j.select = read.selected in absurd cc
 job_is j (u ∷ us) whole read = all_of u us ∙ same_job j u us whole read
-
-pub joined_all : CutReadsBack → (jobs : List Job) → AllByRecursion JobFits jobs → joined (blocks jobs) ≡ jobs
-joined_all back [] fit = refl
-joined_all back (j ∷ js) fit =
-    let r = back j.select j.mode j.records fit.0.records in
-    job_joined j.mode None None (blocks_of_job j) (blocks js) r.0 j (job_one j) refl r.1 r.2.moded (inl refl) (job_is j r.0 fit.0.whole r.2)
-    ∙ ap (λ x. j ∷ x) (joined_all back js fit.1)

@@ -26,5 +26,8 @@ pub mod RunTurns
 pub mod RunLoop
 pub mod Broken
 pub mod JobsAgain
+pub mod FirstJobs
+pub mod Numbered
+pub mod Headline
 pub mod CleanTurns
 pub mod CleanLine

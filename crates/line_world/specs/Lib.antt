@@ -17,3 +17,4 @@ pub mod Turns
 pub mod Driving
 pub mod Arrival
 pub mod CleanLine
+pub mod Headline

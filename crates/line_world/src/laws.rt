@@ -3,6 +3,7 @@ ghost use Rattle.line_world.specs.Agreement.{GetsAtMostOneMore, KnowsBeforeBlock
 ghost use Rattle.line_world.specs.Conversation.{EverySchedule, OneConversation, NoneBreaks, OneBreak};
 ghost use Rattle.line_world.specs.Cores.{ConversationsAreSpoken, SenderCoreSays, SenderCoreKeeps, SenderCoreCounts, ReceiverCoreKeeps, ReceiverCoreReplies, ReceiverCoreAccepts};
 ghost use Rattle.line_world.specs.CleanLine.{CleanLineIsEnough};
+ghost use Rattle.line_world.specs.Headline.{AreHandedInOrder, AreHandedWhole, HandsFirstJobs, OfRuns};
 ghost use Rattle.line_world.specs.Plan.{NextIsPlanned};
 ghost use Rattle.line_world.specs.Run.{NoDamageNoConversation, BadCutNoConversation};
 ghost use Rattle.line_world.specs.Turns.{SendingTurns, ReceivingTurns};
@@ -70,6 +71,17 @@ pub fn broken_schedules_have_no_conversation()
 /// hands out just the jobs.
 pub fn clean_line_is_enough()
     ensures enough { CleanLineIsEnough }
+{
+    cut_reads_back();
+}
+
+/// The headline. Whatever the line loses or damages, the records that a run of jobs hands out are a prefix of those given, in order and
+/// each once, and every job that counts as sent was handed out whole. More exactly: the first jobs are handed out as they were given, as
+/// many as are counted or one more, and after them nothing, or a beginning of the next one that isn't whole.
+pub fn runs_keep_order()
+    ensures in_order { OfRuns (λ counted given handed. AreHandedInOrder given handed) }
+    ensures counted_whole { OfRuns AreHandedWhole }
+    ensures first_jobs { OfRuns HandsFirstJobs }
 {
     cut_reads_back();
 }

@@ -31,7 +31,7 @@ pub use due::Due;
 pub use fate::Fate;
 pub use laws::{
     broken_schedules_have_no_conversation, clean_line_is_enough, cores_keep_rules, ends_agree,
-    one_conversation, stations_keep_history,
+    one_conversation, runs_keep_order, stations_keep_history,
 };
 pub use memory_line::{MAX_TRANSMISSION, MemoryLine};
 pub use report::Report;

@@ -4,10 +4,11 @@ ghost use Rattle.std.specs.List.{AllByRecursion};
 ghost use Rattle.rje_jobs.specs.Fitting.{JobFits};
 ghost use Rattle.rje_station.specs.Receiving.{first_receiving};
 ghost use Rattle.rje_station.specs.Sending.{first_sending, outcome_of};
+ghost use Rattle.line_world.specs.Headline.{AreHandedInOrder, AreHandedWhole, HandsFirstJobs};
 ghost use Rattle.line_world.specs.Run.{IsRun, IsDriveFault, IsRunFault};
 
 use crate::ends::Ends;
-use crate::{Driven, Report, Turn, WorldFault, stations_keep_history};
+use crate::{Driven, Report, Turn, WorldFault, runs_keep_order, stations_keep_history};
 use bsc_frame::{every_hearing, one_hearing, written_is_transmission};
 use rje_jobs::{Job, Jobs};
 use rje_station::{ReceivingStation, SendingStation};
@@ -17,6 +18,15 @@ use std::alloc::{AllocError, Global};
 pub fn run(alloc: Global, jobs: &[Job], turns: &[Turn]) -> Result<Report, WorldFault>
     ensures run { IfOk result (λ report. IsRun jobs.now turns.now report.turns.items report.handed report.counted report.outcome) }
     ensures fit { OnOk result (AllByRecursion JobFits jobs.now) }
+
+    // The headline. Whatever the line loses or damages, the records handed out are a prefix of those given, in order and each once, ..
+    ensures in_order { IfOk result (λ report. AreHandedInOrder jobs.now report.handed) }
+
+    // .. and every job that counts as sent was handed out whole.
+    ensures counted_whole { IfOk result (λ report. AreHandedWhole report.counted jobs.now report.handed) }
+
+    // More exactly: the first jobs as they were given, as many as are counted or one more, and then nothing, or a beginning of the next.
+    ensures first_jobs { IfOk result (λ report. HandsFirstJobs report.counted jobs.now report.handed) }
 
     // A job that can't be sent is told before any turn, and else the first turn of which a looked-at fate breaks a rule.
     ensures fault { IfErr result (IsRunFault jobs.now turns.now) }
@@ -47,13 +57,38 @@ pub fn drive<'a>(
     requires receiver { receiver ≡ first_receiving }
     ensures run { IfOk result (λ driven. IsRun sender.entry.jobs turns.now driven.turns.items driven.receiver.jobs driven.sender.counted (outcome_of driven.sender)) }
     ensures jobs { IfOk result (λ driven. driven.sender.jobs ≡ sender.entry.jobs) }
+
+    // The headline, of the stations that are given back: records in order and each once, ..
+    ensures in_order { IfOk result (λ driven. AreHandedInOrder sender.entry.jobs driven.receiver.jobs) }
+
+    // .. every counted job whole, ..
+    ensures counted_whole { IfOk result (λ driven. AreHandedWhole driven.sender.counted sender.entry.jobs driven.receiver.jobs) }
+
+    // .. and more exactly, the first jobs and a beginning of the next.
+    ensures first_jobs { IfOk result (λ driven. HandsFirstJobs driven.sender.counted sender.entry.jobs driven.receiver.jobs) }
     ensures fault { IfErr result (IsDriveFault sender.entry.jobs turns.now) }
+{
+    runs_keep_order();
+    let _jobs_that_fit = sender.jobs();
+    take_turns(alloc, Ends::new(alloc, sender, receiver), turns)
+}
+
+/// The turns of a schedule, one after another, until it ends or the sender has nothing to say any more.
+fn take_turns<'a>(
+    alloc: Global,
+    mut ends: Ends<'a>,
+    turns: &[Turn],
+) -> Result<Driven<'a>, WorldFault>
+    requires sender { ends.sender ≡ first_sending ends.sender.jobs }
+    requires receiver { ends.receiver ≡ first_receiving }
+    ensures run { IfOk result (λ driven. IsRun ends.entry.sender.jobs turns.now driven.turns.items driven.receiver.jobs driven.sender.counted (outcome_of driven.sender)) }
+    ensures jobs { IfOk result (λ driven. driven.sender.jobs ≡ ends.entry.sender.jobs) }
+    ensures fault { IfErr result (IsDriveFault ends.entry.sender.jobs turns.now) }
 {
     one_hearing();
     every_hearing();
     written_is_transmission();
     stations_keep_history();
-    let mut ends = Ends::new(alloc, sender, receiver);
     let mut spoken = Vec::new(alloc);
     for turn in turns {
         match ends.take_turn(alloc, turn) {

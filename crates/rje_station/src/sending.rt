@@ -68,6 +68,14 @@ impl<'a> SendingStation<'a> {
         })
     }
 
+    /// The jobs of the transmission, each of which can be sent.
+    pub fn jobs(&self) -> &'a [Job]
+        ensures jobs { result.now ≡ self.now.jobs }
+        ensures fit { AllByRecursion JobFits self.now.jobs }
+    {
+        self.blocks.jobs()
+    }
+
     /// How many jobs are counted: those whose last block is.
     pub fn counted(&self) -> usize
         ensures { result ≡ self.now.counted }

@@ -52,6 +52,14 @@ impl<'a> Uncounted<'a> {
         }
     }
 
+    /// All jobs, each of which can be sent.
+    pub(crate) fn jobs(&self) -> &'a [Job]
+        ensures jobs { result.now ≡ self.now.jobs }
+        ensures fit { AllByRecursion JobFits self.now.jobs }
+    {
+        self.jobs
+    }
+
     /// Whether there are no jobs at all.
     pub(crate) fn has_no_jobs(&self) -> bool
         ensures { result ≡ (length self.now.jobs == 0) }

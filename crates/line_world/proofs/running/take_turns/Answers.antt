@@ -4,11 +4,11 @@ use Rattle.std.proofs.lemmas.Option.{slice_get_read}
 use Rattle.line_world.specs.Driving.{Takes, TakesTurn}
 use Rattle.line_world.proofs.RunLoop.{running_first, running_more, running_over, running_out, running_jobs, running_length, drive_fault}
 use Rattle.line_world.proofs.RunTurns.{Laws}
-use Rattle.line_world.proofs.running.drive.Goals as goal
+use Rattle.line_world.proofs.running.take_turns.Goals as goal
 
 pub loop-turn-init : goal.loop-turn-init
 loop-turn-init c = record {
-  running = running_first c.args.sender.jobs c.args.turns.now _ _ _ c.new-spoken.ensures.items (c.new-ends.ensures.sender ∙ c.requires.sender) (c.new-ends.ensures.receiver ∙ c.requires.receiver);
+  running = running_first c.args.ends.sender.jobs c.args.turns.now _ _ _ c.new-spoken.ensures.items (c.requires.sender) (c.requires.receiver);
 }
 
 pub returns-in-Ok-None-clause-run : goal.returns-in-Ok-None-clause-run
