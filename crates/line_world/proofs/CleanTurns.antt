@@ -106,7 +106,7 @@ pub record Finished (plan : Plan) (h : History) : Type 0 where
   pub got_is : length (got h) ≡ length plan
   pub over : is_over h ≡ true
 
-done_past : (plan : Plan) (k : ℕ) → what_follows plan k ≡ Next.Done → length plan ≤ k
+pub done_past : (plan : Plan) (k : ℕ) → what_follows plan k ≡ Next.Done → length plan ≤ k
 done_past [] k e = omega arith
 done_past (true ∷ plan) zero e = absurd cc
 done_past (false ∷ plan) zero e = absurd cc

@@ -1,11 +1,7 @@
 -- The first blocks of jobs, joined, are the first jobs, and a beginning of the next.
-use Rattle.std.proofs.Common.{◌≡◌, ◌⊎◌, inl, inr, ℕ, zero, suc, ◌+◌, ◌≤◌, true, false, List, [], ◌∷◌, ◌++◌, length, take, drop, slice_get, Option, Some, None, refl, ap, sym, ◌∙◌, subst, arith, add-one}
+use Rattle.std.proofs.Common.{◌≡◌, ◌⊎◌, inl, inr, ℕ, zero, suc, ◌+◌, true, false, List, [], ◌∷◌, ◌++◌, take, Option, Some, None, refl, ap, sym, ◌∙◌, subst, arith, add-one}
 use Rattle.std.specs.List.{AllByRecursion}
-use Rattle.std.proofs.lemmas.List.{append-nil, take-append-drop, take_all}
-use Rattle.std.proofs.lemmas.Option.{slice_get_past}
 use Rattle.bsc_codes.specs.declared.block.Block.{Block}
-use Rattle.bsc_codes.specs.declared.block.Closing.{Closing}
-use Rattle.bsc_codes.specs.declared.block.Closing.TheVariants.{Etb, Etx}
 use Rattle.rje_text.specs.declared.mode.Mode.{Mode}
 use Rattle.rje_text.specs.declared.unpacked.Unpacked.{Unpacked}
 use Rattle.rje_text.specs.Laws.{AreRead, CutReadsBack}
@@ -15,8 +11,8 @@ use Rattle.rje_jobs.specs.Blocks.{blocks, blocks_of_job}
 use Rattle.rje_jobs.specs.Fitting.{JobFits}
 use Rattle.rje_jobs.specs.Joined.{mode_of_begun, with_records, joined, joined_behind}
 use Rattle.rje_station.specs.Sending.{ended_by, counted_by}
-use Rattle.line_world.specs.Headline.{IsBeginningOf, IsBegun, HandsFirst}
-use Rattle.line_world.proofs.JobsAgain.{IsOneJob, ended_all, job_one, job_of, job_is, kept, last_read, next_read, more_of, records_read}
+use Rattle.line_world.specs.Headline.{IsBeginningOf, HandsFirst}
+use Rattle.line_world.proofs.JobsAgain.{IsOneJob, job_one, job_of, job_is, kept, last_read, next_read, more_of, records_read}
 
 -- ---- A job that is begun.
 
@@ -84,19 +80,3 @@ hands_first back [] fit (suc n) = record { within = omega arith; first = refl; a
 hands_first back (j ∷ js) fit n =
     let r = back j.select j.mode j.records fit.0.records in
     within j.mode None None (blocks_of_job j) (blocks js) r.0 j js n (job_one j) refl r.1 r.2.moded (inl refl) (job_is j r.0 fit.0.whole r.2) tt (hands_first back js fit.1)
-
--- ---- All blocks.
-
-nothing_left : (w : ℕ) (jobs rest : List Job) → length jobs ≤ w → IsBegun (slice_get jobs w) rest → rest ≡ []
-nothing_left w jobs rest all (inl none) = none
-nothing_left w jobs rest all (inr (job, here, begun)) = let none : slice_get jobs w ≡ None = slice_get_past jobs w all in absurd cc
-
-pub joined_all : CutReadsBack → (jobs : List Job) → AllByRecursion JobFits jobs → joined (blocks jobs) ≡ jobs
-joined_all back jobs fit =
-    let bs = blocks jobs in
-    let w = ended_by (take (length bs) bs) in
-    let h : HandsFirst w jobs (joined (take (length bs) bs)) = hands_first back jobs fit (length bs) in
-    let whole : take (length bs) bs ≡ bs = take_all (length bs) bs (omega arith) in
-    let every : length jobs ≤ w = omega (arith, ap ended_by whole ∙ ended_all jobs) in
-    let handed = joined (take (length bs) bs) in
-    sym (ap joined whole) ∙ sym (take-append-drop w handed) ∙ ap (λ xs. take w handed ++ xs) (nothing_left w jobs (drop w handed) every h.after) ∙ append-nil (take w handed) ∙ h.first ∙ take_all w jobs every

@@ -1,6 +1,6 @@
 -- The headline, from the law of agreement and the law that a cut reads back.
 use Rattle.std.proofs.Common.{◌≡◌, ◌⊎◌, inl, inr, ℕ, zero, suc, ◌+◌, ◌≤◌, true, List, [], ◌∷◌, ◌++◌, length, take, drop, slice_get, Some, refl, ap, sym, ◌∙◌, subst, arith, add-one, take-take}
-use Rattle.std.specs.List.{AllByRecursion, flat_map}
+use Rattle.std.specs.List.{AllByRecursion}
 use Rattle.std.proofs.lemmas.List.{append_assoc, append-nil, take-append-drop}
 use Rattle.std.proofs.lemmas.Grind.{flat_map-append}
 use Rattle.bsc_codes.specs.declared.block.Block.{Block}
@@ -18,7 +18,7 @@ use Rattle.line_world.specs.Got.{got}
 use Rattle.line_world.specs.Plan.{plan_of, numbered}
 use Rattle.line_world.proofs.Agreement.{at_most_one_more, in_order, conversations_may_be_spoken}
 use Rattle.line_world.proofs.FirstJobs.{hands_first}
-use Rattle.line_world.proofs.Numbered.{length_behind, numbered_first}
+use Rattle.line_world.proofs.Numbered.{plan_length, numbered_first}
 use Rattle.line_world.proofs.Within.{stays_within_plan}
 
 -- ---- One block more ends one job more, or none.
@@ -51,7 +51,7 @@ first_jobs back jobs turns spoken handed counted ending fit run =
     let h = run.history in
     let may = conversations_may_be_spoken plan h run.conversation.conversation.spoken.conversation in
     let g = length (got h) in
-    let within : g ≤ length bs = omega (arith, (stays_within_plan plan h may).1, length_behind true bs) in
+    let within : g ≤ length bs = omega (arith, (stays_within_plan plan h may).1, plan_length bs) in
     let handed_is : handed ≡ joined (take g bs) = run.handed_is ∙ ap joined (ap (numbered bs) (in_order plan h may) ∙ numbered_first bs g within) in
     let count : (ended_by (take g bs) ≡ counted) ⊎ (ended_by (take g bs) ≡ counted + 1) =
     subst (λ n. (ended_by (take g bs) ≡ n) ⊎ (ended_by (take g bs) ≡ n + 1)) (sym run.counted_is) (counted_or_more bs g (known h) (at_most_one_more plan h may)) in

@@ -1,6 +1,6 @@
 -- What the blocks of one job are joined to.
 use Rattle.std.proofs.Common.{◌≡◌, ◌⊎◌, inl, inr, ℕ, ◌+◌, Bool, true, false, leb, List, [], ◌∷◌, ◌++◌, length, Option, Some, None, if◌then◌else◌, refl, ap, sym, ◌∙◌, arith}
-use Rattle.std.specs.List.{flat_map, AllByRecursion}
+use Rattle.std.specs.List.{flat_map}
 use Rattle.std.proofs.lemmas.List.{append_assoc}
 use Rattle.bsc_codes.specs.declared.block.Block.{Block}
 use Rattle.bsc_codes.specs.declared.block.Closing.{Closing}
@@ -10,13 +10,12 @@ use Rattle.rje_text.specs.declared.select.Select.{Select}
 use Rattle.rje_text.specs.declared.record.Record.{Record}
 use Rattle.rje_text.specs.declared.unpacked.Unpacked.{Unpacked}
 use Rattle.rje_text.specs.Cut.{block, cut, cut_behind}
-use Rattle.rje_text.specs.Laws.{AreRead, IsJobRead, CutReadsBack}
+use Rattle.rje_text.specs.Laws.{IsJobRead}
 use Rattle.rje_text.specs.Reading.{reading}
 use Rattle.rje_text.specs.Spelling.{spelling}
 use Rattle.rje_jobs.specs.declared.job.Job.{Job}
 use Rattle.rje_jobs.specs.Blocks.{blocks, blocks_of_job}
-use Rattle.rje_jobs.specs.Fitting.{JobFits}
-use Rattle.rje_jobs.specs.Joined.{ends_job, mode_of_begun, with_records, joined, joined_behind}
+use Rattle.rje_jobs.specs.Joined.{ends_job, mode_of_begun, with_records, joined_behind}
 use Rattle.rje_station.specs.Sending.{ended_by, counted_by}
 
 -- ---- ETX is on the last block of a job alone.

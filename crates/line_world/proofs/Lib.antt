@@ -30,4 +30,12 @@ pub mod FirstJobs
 pub mod Numbered
 pub mod Headline
 pub mod CleanTurns
+pub mod GoodTurn
+pub mod AllKnown
 pub mod CleanLine
+pub mod Plain
+pub mod Clearing
+pub mod Bound
+pub mod FairLine
+pub mod Windows
+pub mod BlockCount

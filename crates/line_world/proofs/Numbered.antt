@@ -1,15 +1,18 @@
 -- The blocks by their numbers.
-use Rattle.std.proofs.Common.{◌≡◌, ℕ, zero, suc, ◌+◌, ◌<◌, ◌≤◌, Bool, List, [], ◌∷◌, ◌++◌, length, take, slice_get, Some, refl, ap, sym, ◌∙◌, arith, add-one}
+use Rattle.std.proofs.Common.{◌≡◌, ℕ, zero, suc, ◌<◌, ◌≤◌, Bool, true, List, [], ◌∷◌, ◌++◌, length, take, slice_get, Some, refl, ap, sym, ◌∙◌, arith, add-one}
 use Rattle.bsc_codes.specs.declared.block.Block.{Block}
 use Rattle.rje_jobs.specs.Joined.{ends_job}
 use Rattle.line_world.specs.Agreement.{first_numbers}
-use Rattle.line_world.specs.Plan.{plan_behind, numbered}
+use Rattle.line_world.specs.Plan.{plan_of, plan_behind, numbered}
 use Rattle.line_world.proofs.ReceivingTurns.{numbered_more}
 use Rattle.line_world.proofs.Telling.{take_one}
 
-pub length_behind : (ended : Bool) (bs : List Block) → length (plan_behind ended bs) ≡ length bs
+length_behind : (ended : Bool) (bs : List Block) → length (plan_behind ended bs) ≡ length bs
 length_behind ended [] = refl
 length_behind ended (b ∷ bs) = ap suc (length_behind (ends_job b.closing) bs)
+
+pub plan_length : (bs : List Block) → length (plan_of bs) ≡ length bs
+plan_length bs = length_behind true bs
 
 get_some : (bs : List Block) (n : ℕ) → n < length bs → (b : Block) × (slice_get bs n ≡ Some b)
 get_some [] n l = absurd (omega (arith, l))

@@ -1,27 +1,14 @@
--- A clean line: all arrives, and both ends are ready. Own profile.
+-- A clean line: every turn is good. Own profile.
 use Rattle.std.specs.Prelude.{◌≡◌, ℕ, ◌+◌, ◌≤◌, false, List, length, Option}
 use Rattle.std.specs.List.{AllByRecursion}
 use Rattle.bsc_link.specs.declared.outcome.Outcome.{Outcome}
-use Rattle.bsc_link.specs.declared.wish.Wish.{Wish}
 use Rattle.rje_jobs.specs.declared.job.Job.{Job}
 use Rattle.rje_jobs.specs.Blocks.{blocks}
 use Rattle.rje_jobs.specs.Fitting.{JobFits}
-use Rattle.line_world.specs.declared.fate.Fate.{Fate}
 use Rattle.line_world.specs.declared.spoken.Spoken.{Spoken}
 use Rattle.line_world.specs.declared.turn.Turn.{Turn}
+use Rattle.line_world.specs.GoodTurn.{IsGood}
 use Rattle.line_world.specs.Run.{IsRun}
-
--- all bytes arrive, in whatever pieces
-abbrev pub AllArrives : Fate → Type 0
-AllArrives (Fate.Arrives cuts) = Unit {0}
-AllArrives _ = ⊥
-
--- a good turn: both transmissions arrive, the receiver wishes nothing, and the sender's next block doesn't wait
-pub record IsGood (turn : Turn) : Type 0 where
-  pub up : AllArrives turn.up
-  pub down : AllArrives turn.down
-  pub wish : turn.wish ≡ Wish.Go
-  pub pause : turn.pause ≡ false
 
 -- on a schedule of good turns alone, one more than there are blocks, a run without a refusal counts and hands out every job
 abbrev pub CleanLineIsEnough : Type 0

@@ -16,5 +16,7 @@ pub mod Run
 pub mod Turns
 pub mod Driving
 pub mod Arrival
+pub mod GoodTurn
 pub mod CleanLine
 pub mod Headline
+pub mod Fairness

@@ -3,6 +3,7 @@ ghost use Rattle.line_world.specs.Agreement.{GetsAtMostOneMore, KnowsBeforeBlock
 ghost use Rattle.line_world.specs.Conversation.{EverySchedule, OneConversation, NoneBreaks, OneBreak};
 ghost use Rattle.line_world.specs.Cores.{ConversationsAreSpoken, SenderCoreSays, SenderCoreKeeps, SenderCoreCounts, ReceiverCoreKeeps, ReceiverCoreReplies, ReceiverCoreAccepts};
 ghost use Rattle.line_world.specs.CleanLine.{CleanLineIsEnough};
+ghost use Rattle.line_world.specs.Fairness.{FairLineIsEnough};
 ghost use Rattle.line_world.specs.Headline.{AreHandedInOrder, AreHandedWhole, HandsFirstJobs, OfRuns};
 ghost use Rattle.line_world.specs.Plan.{NextIsPlanned};
 ghost use Rattle.line_world.specs.Run.{NoDamageNoConversation, BadCutNoConversation};
@@ -71,6 +72,15 @@ pub fn broken_schedules_have_no_conversation()
 /// hands out just the jobs.
 pub fn clean_line_is_enough()
     ensures enough { CleanLineIsEnough }
+{
+    cut_reads_back();
+}
+
+/// On a fair line seven turns for the bid and seven for each block are enough: where each eight neighbouring turns hold two neighbouring
+/// good ones, the receiver wishes nothing and the sender never waits, a run without a refusal counts every job and hands out just the
+/// jobs.
+pub fn fair_line_is_enough()
+    ensures enough { FairLineIsEnough }
 {
     cut_reads_back();
 }

@@ -7,6 +7,8 @@ mod cores;
 mod driven;
 mod due;
 mod ends;
+mod enough_turns;
+mod fairness;
 mod fate;
 mod laws;
 mod memory_line;
@@ -28,10 +30,12 @@ pub use carrying::MAX_DAMAGE;
 pub use cores::{converse, hear_answer, next_of, taken};
 pub use driven::Driven;
 pub use due::Due;
+pub use enough_turns::turns_needed;
+pub use fairness::is_fair;
 pub use fate::Fate;
 pub use laws::{
     broken_schedules_have_no_conversation, clean_line_is_enough, cores_keep_rules, ends_agree,
-    one_conversation, runs_keep_order, stations_keep_history,
+    fair_line_is_enough, one_conversation, runs_keep_order, stations_keep_history,
 };
 pub use memory_line::{MAX_TRANSMISSION, MemoryLine};
 pub use report::Report;

@@ -1,14 +1,17 @@
 //! The run of jobs over a schedule of losses and damage.
-ghost use Rattle.std.specs.Prelude.{◌≡◌, IfOk, OnOk, IfErr};
+ghost use Rattle.std.specs.Prelude.{◌≡◌, ◌≤◌, false, length, IfOk, OnOk, IfErr};
 ghost use Rattle.std.specs.List.{AllByRecursion};
 ghost use Rattle.rje_jobs.specs.Fitting.{JobFits};
 ghost use Rattle.rje_station.specs.Receiving.{first_receiving};
 ghost use Rattle.rje_station.specs.Sending.{first_sending, outcome_of};
+ghost use Rattle.line_world.specs.Fairness.{IsFair, turns_for};
 ghost use Rattle.line_world.specs.Headline.{AreHandedInOrder, AreHandedWhole, HandsFirstJobs};
 ghost use Rattle.line_world.specs.Run.{IsRun, IsDriveFault, IsRunFault};
 
 use crate::ends::Ends;
-use crate::{Driven, Report, Turn, WorldFault, runs_keep_order, stations_keep_history};
+use crate::{
+    Driven, Report, Turn, WorldFault, fair_line_is_enough, runs_keep_order, stations_keep_history,
+};
 use bsc_frame::{every_hearing, one_hearing, written_is_transmission};
 use rje_jobs::{Job, Jobs};
 use rje_station::{ReceivingStation, SendingStation};
@@ -28,9 +31,13 @@ pub fn run(alloc: Global, jobs: &[Job], turns: &[Turn]) -> Result<Report, WorldF
     // More exactly: the first jobs as they were given, as many as are counted or one more, and then nothing, or a beginning of the next.
     ensures first_jobs { IfOk result (λ report. HandsFirstJobs report.counted jobs.now report.handed) }
 
+    // On a fair line of seven turns for the bid and seven for each block, where no turn is refused, every job is counted and handed out.
+    ensures fair { IfOk result (λ report. IsFair turns.now → turns_for jobs.now ≤ length turns.now → AllByRecursion (λ t. t.refused ≡ false) report.turns.items → (report.counted ≡ length jobs.now) × (report.handed ≡ jobs.now)) }
+
     // A job that can't be sent is told before any turn, and else the first turn of which a looked-at fate breaks a rule.
     ensures fault { IfErr result (IsRunFault jobs.now turns.now) }
 {
+    fair_line_is_enough();
     let sender = SendingStation::new(alloc, jobs)?;
     let receiver = ReceivingStation::new(alloc)?;
     let Driven {
