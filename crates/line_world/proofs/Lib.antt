@@ -39,3 +39,4 @@ pub mod Bound
 pub mod FairLine
 pub mod Windows
 pub mod BlockCount
+pub mod Attempts

@@ -140,3 +140,9 @@ abbrev pub fault_at : TurnFault → ℕ → WorldFault
 fault_at TurnFault.OutOfMemory turn = WorldFault.OutOfMemory
 fault_at TurnFault.NotDamage turn = WorldFault.NotDamage 1 turn
 fault_at TurnFault.BadCut turn = WorldFault.BadCut 1 turn
+
+-- the same fault in this attempt
+abbrev pub fault_in : WorldFault → ℕ → WorldFault
+fault_in (WorldFault.NotDamage first turn) attempt = WorldFault.NotDamage attempt turn
+fault_in (WorldFault.BadCut first turn) attempt = WorldFault.BadCut attempt turn
+fault_in fault attempt = fault

@@ -20,3 +20,4 @@ pub mod GoodTurn
 pub mod CleanLine
 pub mod Headline
 pub mod Fairness
+pub mod Series

@@ -1,7 +1,7 @@
 //! Why there is no report of a run.
 ghost use Rattle.std.specs.Prelude.{◌≡◌};
 ghost use Rattle.line_world.specs.declared.world_fault.WorldFault.TheVariants.{OutOfMemory};
-ghost use Rattle.line_world.specs.Driving.{fault_of};
+ghost use Rattle.line_world.specs.Driving.{fault_of, fault_in};
 
 use rje_station::StationFault;
 use std::alloc::AllocError;
@@ -22,6 +22,19 @@ pub enum WorldFault {
     /// A job that can't be sent: its number.
     #[error("job {0} can't be sent")]
     BadJob(usize),
+}
+
+impl WorldFault {
+    /// The same fault in this attempt.
+    pub(crate) fn in_attempt(self, attempt: usize) -> WorldFault
+        ensures { result ≡ fault_in self attempt }
+    {
+        match self {
+            WorldFault::NotDamage(_, turn) => WorldFault::NotDamage(attempt, turn),
+            WorldFault::BadCut(_, turn) => WorldFault::BadCut(attempt, turn),
+            fault => fault,
+        }
+    }
 }
 
 impl From<AllocError> for WorldFault {

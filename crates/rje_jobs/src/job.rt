@@ -2,7 +2,7 @@
 use rje_text::{Mode, Records, Select};
 
 /// A job: its device, how its texts are written, its records, and whether it is there to its end.
-#[derive(Debug, Drop)]
+#[derive(Clone, Debug, Drop)]
 pub struct Job {
     pub select: Select,
     pub mode: Mode,

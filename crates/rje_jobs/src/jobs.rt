@@ -1,8 +1,9 @@
 //! Jobs in order.
-ghost use Rattle.std.specs.Prelude.{◌≡◌, ◌==◌, length};
+ghost use Rattle.std.specs.Prelude.{◌≡◌, ◌==◌, ◌++◌, length, OnOk, OnErr};
 ghost use Rattle.std.specs.Slice.Iter.{iter_rest};
 
 use crate::Job;
+use std::alloc::AllocError;
 use std::marker::Model;
 use std::slice::Iter;
 
@@ -28,6 +29,14 @@ impl Jobs {
     {
         let Jobs { items } = self;
         items
+    }
+
+    /// Puts copies of other jobs behind these. Without memory for all of them nothing changes.
+    pub fn extend_with_clones(&mut self, others: &[Job]) -> Result<(), AllocError>
+        ensures ok { OnOk result (self.new ≡ self.old ++ others.now) }
+        ensures err { OnErr result (self.new ≡ self.old) }
+    {
+        self.items.extend_with_clones(others)
     }
 
     /// The jobs as a slice.

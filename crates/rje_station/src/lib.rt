@@ -23,5 +23,6 @@ pub use line::Line;
 pub use line_fault::LineFault;
 pub use receiving::ReceivingStation;
 pub use sending::SendingStation;
+pub use sending::first_unfit::first_unfit;
 pub use station_fault::StationFault;
 pub use trace::{MAX_EVENTS, Trace};

@@ -10,7 +10,7 @@ ghost use Rattle.rje_station.specs.StationFault.{IsCause, IsNewCause, IfOver};
 ghost use Rattle.rje_station.specs.Trace.{last_events};
 ghost use Rattle.rje_station.specs.declared.event.Event.TheVariants as event;
 
-mod first_unfit;
+pub(crate) mod first_unfit;
 mod uncounted;
 
 use crate::hear_fault::HearFault;

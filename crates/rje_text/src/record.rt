@@ -6,7 +6,7 @@ use arrayvec::ArrayVec;
 pub const MAX_RECORD: usize = 144;
 
 /// One record: its data in EBCDIC, and what the carriage does after it.
-#[derive(Debug, PartialEq, Eq, Drop)]
+#[derive(Clone, Debug, PartialEq, Eq, Drop)]
 pub struct Record {
     pub action: Action,
     pub bytes: ArrayVec<u8, 144>,

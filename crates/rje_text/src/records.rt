@@ -87,6 +87,17 @@ impl Records {
     }
 }
 
+/// A copy has the same records.
+impl Clone for Records {
+    ghost is_clone = { λ records copy. copy ≡ records };
+
+    fn clone(&self) -> Result<Self, AllocError> {
+        Ok(Records {
+            items: self.items.clone()?,
+        })
+    }
+}
+
 impl From<Vec<Record>> for Records {
     ghost from_gives = { λ items records. records ≡ items.items };
 
