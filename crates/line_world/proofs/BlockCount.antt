@@ -19,7 +19,6 @@ cut_is j = refl
 
 -- so many blocks end before this record: all of them at the job's end, and else all but those from there on
 pub record AreCounted (j : Job) (count place : ℕ) : Type 0 where
-  pub within : place ≤ length j.records
   pub few : place < length j.records → count ≤ place
   pub more : place < length j.records → count + length (cut_from j.select j.mode j.records place) ≡ length (blocks_of_job j)
   pub done : length j.records ≤ place → count ≡ length (blocks_of_job j)
@@ -27,13 +26,11 @@ pub record AreCounted (j : Job) (count place : ℕ) : Type 0 where
 counted_by : (j : Job) (count from to : ℕ) (c : Closing) → IsEnd c to (length j.records) → (from < to) ⊎ (length j.records ≡ 0) → count ≤ from
     → count + (1 + length (blocks_after j.select j.mode j.records c to)) ≡ length (blocks_of_job j) → AreCounted j (count + 1) to
 counted_by j count from to Etx end forward few all = record {
-  within = omega (arith, end);
   few = λ l. absurd (omega (arith, end, l));
   more = λ l. absurd (omega (arith, end, l));
   done = λ l. omega (arith, all);
 }
 counted_by j count from to Etb end forward few all = record {
-  within = omega (arith, end);
   few = λ l. elim forward [ inl on ↦ omega (arith, on, few) | inr none ↦ absurd (omega (arith, none, end)) ];
   more = λ l. omega (arith, all);
   done = λ l. absurd (omega (arith, end, l));

@@ -1,5 +1,5 @@
 -- What the program prints of jobs: the lines of `show`, `check` and `cards`, and the paper of `print` (own profile).
-use Rattle.std.specs.Prelude.{◌≡◌, ℕ, ◌+◌, Bool, true, false, List, [], ◌∷◌, ◌++◌, ◌⊎◌, length, codes, decimal}
+use Rattle.std.specs.Prelude.{◌≡◌, ℕ, ◌+◌, Bool, true, false, List, [], ◌∷◌, ◌++◌, length, codes, decimal}
 use Rattle.std.specs.List.{flat_map, AllByRecursion}
 use Rattle.rje_text.specs.declared.mode.Mode.{Mode}
 use Rattle.rje_text.specs.declared.select.Select.{Select}
@@ -64,8 +64,3 @@ IsGood jobs text = AllByRecursion JobFits jobs × (text ≡ good_line (length jo
 -- what `print` prints of jobs
 abbrev pub IsPaper : List Job → List ℕ → Type 0
 IsPaper jobs text = text ≡ flat_map paper jobs
-
--- the job of number k is the first that can't be sent, where the jobs are numbered from here on
-abbrev pub IsFirstUnfit : ℕ → List Job → ℕ → Type 0
-IsFirstUnfit number [] k = ⊥
-IsFirstUnfit number (job ∷ jobs) k = ((JobFits job → ⊥) × (k ≡ number)) ⊎ (JobFits job × IsFirstUnfit (number + 1) jobs k)

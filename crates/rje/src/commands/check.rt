@@ -1,9 +1,7 @@
 //! `check`: whether the jobs of a job file can be sent.
-ghost use Rattle.std.specs.Prelude.{◌≡◌, IfSome, IfErr, OnOk, MatchOption};
-ghost use Rattle.std.specs.List.{AllByRecursion};
-ghost use Rattle.rje_jobs.specs.Fitting.{JobFits};
+ghost use Rattle.std.specs.Prelude.{IfSome, OnOk};
 ghost use Rattle.rje.specs.Commands.{PrintsFile};
-ghost use Rattle.rje.specs.JobTexts.{IsGood, IsFirstUnfit};
+ghost use Rattle.rje.specs.JobTexts.{IsGood};
 ghost use Rattle.rje.specs.Store.{Tells, IsSame};
 
 use crate::command_fault::CommandFault;
@@ -11,7 +9,7 @@ use crate::commands::inputs::read_job_file;
 use crate::commands::output::put;
 use crate::printing::{PrintedLine, push_good};
 use crate::store::Store;
-use rje_jobs::{Job, job_fits};
+use rje_station::first_unfit;
 use std::alloc::Global;
 use std::io::Write;
 
@@ -32,18 +30,4 @@ pub fn check<'a, S: Store, O: Write>(
     let mut line = PrintedLine::new();
     push_good(&mut line, jobs.len());
     put(line.as_slice(), out)
-}
-
-/// The number, from 1, of the first job that can't be sent.
-fn first_unfit(jobs: &[Job]) -> Option<usize>
-    ensures { MatchOption result (AllByRecursion JobFits jobs.now) (IsFirstUnfit 1 jobs.now) }
-{
-    let mut number = 1;
-    for job in jobs {
-        if !job_fits(job) {
-            return Some(number);
-        }
-        number += 1;
-    }
-    None
 }

@@ -1,16 +1,18 @@
 //! Calls that take memory, in ample memory and in memory of which a growth is refused: the script refusals/run runs these tests with each
 //! growth refused in turn.
+use super::schedules::{GOOD, assert_same_jobs, schedule};
 use super::{buffer, record};
 use arrayvec::ArrayVec;
 use bsc_codes::{Block, Closing};
 use bsc_frame::{Frame, write_frame};
-use bsc_link::{Reply, Wish};
-use line_world::MemoryLine;
+use bsc_link::{Reply, Say, Sound, Wish};
+use line_world::{MemoryLine, Report, WorldFault, run};
 use rje_jobs::Job;
 use rje_station::{ReceivingStation, SendingStation, StationFault};
 use rje_text::{Action, Mode, Records, Select};
 use std::alloc::{AllocError, Global};
 use std::process::Abort;
+use std::test::Fail;
 
 /// A job of so many records, at most 1,000, whose memory is taken in one growth.
 fn job_of(rt: &(impl Abort + AllocGlobal), count: usize) -> Result<Job, AllocError> {
@@ -81,4 +83,53 @@ fn a_receiver_without_memory_answers_nak_and_keeps_its_jobs(rt: HostRuntime) {
         Ok(Some(Reply::Nak)) => assert!(rt; station.jobs().is_empty()),
         _ => assert!(rt; false),
     }
+}
+
+/// The sender said this, turn by turn.
+fn assert_said(rt: &impl Abort, report: &Report, said: &[Say]) {
+    assert_eq!(rt; report.turns.len(), said.len());
+    for (turn, say) in report.turns.iter().zip(said) {
+        assert_eq!(rt; turn.said, *say);
+        assert!(rt;
+            !turn.refused
+                || (turn.arrived, turn.reply, turn.heard)
+                    == (Sound::Block, Some(Reply::Nak), Sound::Nak)
+        );
+    }
+}
+
+#[test]
+fn a_run_says_a_block_again_that_found_no_memory(rt: HostRuntime) -> Result<(), Fail> {
+    // Seven records of 80 bytes are two blocks.
+    let (Ok(job), Ok(turns)) = (job_of(&rt, 7), schedule(rt.alloc(), &[GOOD; 6])) else {
+        return Ok(());
+    };
+    let jobs = [job];
+    let report = match run(rt.alloc(), &jobs, &turns) {
+        Ok(report) => report,
+        Err(fault) => {
+            assert!(rt; fault == WorldFault::OutOfMemory);
+            return Ok(());
+        }
+    };
+    assert_same_jobs(&rt, report.handed.as_slice(), &jobs);
+    assert_eq!(rt; report.counted, 1);
+    match report.turns.iter().position(|turn| turn.refused) {
+        None => assert_said(&rt, &report, &[Say::Bid, Say::Block, Say::Block, Say::End]),
+        Some(1) => assert_said(
+            &rt,
+            &report,
+            &[Say::Bid, Say::Block, Say::Again, Say::Block, Say::End],
+        ),
+        Some(place) => {
+            assert_eq!(rt; place, 2);
+            assert_said(
+                &rt,
+                &report,
+                &[Say::Bid, Say::Block, Say::Block, Say::Again, Say::End],
+            );
+            println!(rt; "block 2 found no memory")?;
+        }
+    }
+    Ok(())
 }

@@ -1,195 +1,18 @@
 //! Runs of jobs over schedules of losses and damage: the printed conversations, damage and cuts by their bytes, and long runs.
-use super::record;
+use super::schedules::{
+    AGAIN_ACK0, AGAIN_ACK1, ASK_ACK1, ASK_LOST, ASK_UNHEARD, BID, BLOCK_ACK0, BLOCK_ACK1,
+    BLOCK_LOST, BLOCK_UNHEARD, DELAY, DOWN_LOST, END, GOOD, HOLD, Line, PAUSE, Place, TURN,
+    UP_LOST, Way, assert_report, assert_same_jobs, assert_turns, cut, damaged, job_of, schedule,
+    unfit_job,
+};
 use bsc_codes::SYN;
 use bsc_link::{Outcome, Reply, Say, Sound, Wish};
-use line_world::{Driven, Fate, MAX_DAMAGE, Report, Spoken, Turn, WorldFault, drive, run};
+use line_world::{Driven, Fate, MAX_DAMAGE, Turn, WorldFault, drive, run};
 use rje_jobs::Job;
 use rje_station::{ReceivingStation, SendingStation};
-use rje_text::{Action, Mode, Records, Select};
 use std::alloc::{AllocError, AllocGlobal, Global};
 use std::process::Abort;
 use std::test::Fail;
-
-/// A fate, before its bytes have memory.
-#[derive(Clone, Copy)]
-enum Way {
-    Arrives,
-    Lost,
-    Cut(&'static [usize]),
-    Damaged(&'static [u8]),
-}
-
-/// A turn of a schedule, before its fates have memory.
-#[derive(Clone, Copy)]
-struct Place {
-    up: Way,
-    down: Way,
-    wish: Wish,
-    pause: bool,
-}
-
-const GOOD: Place = Place {
-    up: Way::Arrives,
-    down: Way::Arrives,
-    wish: Wish::Go,
-    pause: false,
-};
-
-const UP_LOST: Place = Place {
-    up: Way::Lost,
-    ..GOOD
-};
-
-const DOWN_LOST: Place = Place {
-    down: Way::Lost,
-    ..GOOD
-};
-
-const HOLD: Place = Place {
-    wish: Wish::Hold,
-    ..GOOD
-};
-
-const TURN: Place = Place {
-    wish: Wish::Turn,
-    ..GOOD
-};
-
-const PAUSE: Place = Place {
-    pause: true,
-    ..GOOD
-};
-
-/// A turn whose `up` is damaged into these bytes.
-fn damaged(bytes: &'static [u8]) -> Place {
-    Place {
-        up: Way::Damaged(bytes),
-        ..GOOD
-    }
-}
-
-/// A turn whose `up` is cut at these places.
-fn cut(cuts: &'static [usize]) -> Place {
-    Place {
-        up: Way::Cut(cuts),
-        ..GOOD
-    }
-}
-
-/// The fate.
-fn fate(alloc: Global, way: Way) -> Result<Fate, AllocError> {
-    Ok(match way {
-        Way::Arrives => Fate::Arrives {
-            cuts: Vec::new(alloc),
-        },
-        Way::Lost => Fate::Lost,
-        Way::Cut(cuts) => Fate::Arrives {
-            cuts: Vec::from_slice(alloc, cuts)?,
-        },
-        Way::Damaged(bytes) => Fate::Damaged {
-            bytes: Vec::from_slice(alloc, bytes)?,
-        },
-    })
-}
-
-/// The schedule.
-fn schedule(alloc: Global, places: &[Place]) -> Result<Vec<Turn>, AllocError> {
-    let mut turns = Vec::new(alloc);
-    for place in places {
-        turns.push(Turn {
-            up: fate(alloc, place.up)?,
-            down: fate(alloc, place.down)?,
-            wish: place.wish,
-            pause: place.pause,
-        })?;
-    }
-    Ok(turns)
-}
-
-/// A whole, normal job of this many records of so many bytes C1 for the default device.
-fn job_of(rt: &(impl Abort + AllocGlobal), records: usize, length: usize) -> Result<Job, Fail> {
-    let bytes = [0xC1; 144];
-    assert!(rt; length <= bytes.len());
-    let mut job = Job {
-        select: Select::Unset,
-        mode: Mode::Normal,
-        records: Records::new(rt.alloc()),
-        whole: true,
-    };
-    for _i in 0..records {
-        job.records
-            .push(record(rt, Action::Plain, &bytes[..length]))?;
-    }
-    Ok(job)
-}
-
-/// The jobs are the same, but for those that aren't whole.
-fn assert_same_jobs(rt: &impl Abort, handed: &[Job], jobs: &[Job]) {
-    assert_eq!(rt; handed.len(), jobs.len());
-    for (given, job) in handed.iter().zip(jobs) {
-        assert!(rt; given.whole);
-        assert!(rt; given.select == job.select);
-        assert!(rt; given.mode == job.mode);
-        assert!(rt; given.records.as_slice() == job.records.as_slice());
-    }
-}
-
-/// A printed turn: said, arrived, reply, heard.
-#[derive(Clone, Copy, Debug)]
-struct Line(Say, Sound, Option<Reply>, Sound);
-
-const BID: Line = Line(Say::Bid, Sound::Enq, Some(Reply::Ack0), Sound::Ack0);
-
-const BLOCK_ACK0: Line = Line(Say::Block, Sound::Block, Some(Reply::Ack0), Sound::Ack0);
-
-const BLOCK_ACK1: Line = Line(Say::Block, Sound::Block, Some(Reply::Ack1), Sound::Ack1);
-
-const BLOCK_UNHEARD: Line = Line(Say::Block, Sound::Block, Some(Reply::Ack1), Sound::Quiet);
-
-const BLOCK_LOST: Line = Line(Say::Block, Sound::Quiet, None, Sound::Quiet);
-
-const AGAIN_ACK0: Line = Line(Say::Again, Sound::Block, Some(Reply::Ack0), Sound::Ack0);
-
-const AGAIN_ACK1: Line = Line(Say::Again, Sound::Block, Some(Reply::Ack1), Sound::Ack1);
-
-const ASK_ACK1: Line = Line(Say::Ask, Sound::Enq, Some(Reply::Ack1), Sound::Ack1);
-
-const ASK_UNHEARD: Line = Line(Say::Ask, Sound::Enq, Some(Reply::Ack1), Sound::Quiet);
-
-const ASK_LOST: Line = Line(Say::Ask, Sound::Quiet, None, Sound::Quiet);
-
-const DELAY: Line = Line(Say::Delay, Sound::Ttd, Some(Reply::Nak), Sound::Nak);
-
-const END: Line = Line(Say::End, Sound::Eot, None, Sound::Quiet);
-
-/// The turns are what is printed; none was refused.
-fn assert_turns(rt: &impl Abort, turns: &[Spoken], lines: &[Line]) {
-    assert_eq!(rt; turns.len(), lines.len());
-    for (turn, line) in turns.iter().zip(lines) {
-        assert_eq!(rt; turn.said, line.0, "said at {line:?}");
-        assert_eq!(rt; turn.arrived, line.1, "arrived at {line:?}");
-        assert!(rt; !turn.refused);
-        assert_eq!(rt; turn.reply, line.2, "reply at {line:?}");
-        assert_eq!(rt; turn.heard, line.3, "heard at {line:?}");
-    }
-}
-
-/// A report of what is printed, in which so many jobs were counted, and it ended so.
-fn assert_report(
-    rt: &(impl Abort + AllocGlobal),
-    jobs: &[Job],
-    places: &[Place],
-    lines: &[Line],
-    counted: usize,
-    outcome: Option<Outcome>,
-) -> Result<Report, Fail> {
-    let turns = schedule(rt.alloc(), places)?;
-    let report = run(rt.alloc(), jobs, &turns)?;
-    assert_turns(rt, &report.turns, lines);
-    assert_eq!(rt; report.counted, counted);
-    assert_eq!(rt; report.outcome, outcome);
-    Ok(report)
-}
 
 /// One job of one block, which is counted and handed out, in these turns.
 fn assert_one_block(
@@ -451,10 +274,8 @@ fn with_no_jobs_nothing_is_said(rt: HostRuntime) -> Result<(), Fail> {
 
 #[test]
 fn a_job_that_cannot_be_sent_is_told_before_any_turn(rt: HostRuntime) -> Result<(), Fail> {
-    let mut long = job_of(&rt, 1, 81)?;
-    long.select = Select::Punch;
     let turns = schedule(rt.alloc(), &[cut(&[0])])?;
-    let fault = run(rt.alloc(), &[long], &turns).err();
+    let fault = run(rt.alloc(), &[unfit_job(&rt)?], &turns).err();
     assert_eq!(rt; fault, Some(WorldFault::BadJob(1)));
     Ok(())
 }

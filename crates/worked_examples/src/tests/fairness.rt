@@ -1,0 +1,175 @@
+//! Fair lines, and how many turns are enough on them.
+use super::schedules::{
+    AGAIN_ACK0, ASK_ACK1, ASK_LOST, BID, BLOCK_ACK1, BLOCK_LOST, END, GOOD, HOLD, Line, PAUSE,
+    Place, TURN, Way, assert_report, assert_same_jobs, cut, damaged, job_of, schedule, unfit_job,
+};
+use bsc_link::{Outcome, Say, Sound};
+use line_world::{is_fair, turns_needed};
+use std::alloc::AllocGlobal;
+use std::process::Abort;
+use std::test::Fail;
+
+const LOST: Place = Place {
+    up: Way::Lost,
+    down: Way::Lost,
+    ..GOOD
+};
+
+const BID_LOST: Line = Line(Say::Bid, Sound::Quiet, None, Sound::Quiet);
+
+const END_LOST: Line = Line(Say::End, Sound::Quiet, None, Sound::Quiet);
+
+/// Whether this schedule is fair is told so.
+fn assert_fair(rt: &(impl Abort + AllocGlobal), places: &[Place], fair: bool) -> Result<(), Fail> {
+    let turns = schedule(rt.alloc(), places)?;
+    assert_eq!(rt; is_fair(&turns), fair);
+    Ok(())
+}
+
+// THE BOUND
+
+#[test]
+fn five_lost_turns_and_two_good_ones_thrice_are_enough_for_two_blocks(
+    rt: HostRuntime,
+) -> Result<(), Fail> {
+    let jobs = [job_of(&rt, 1, 1)?, job_of(&rt, 1, 2)?];
+    let places = [
+        LOST, LOST, LOST, LOST, LOST, GOOD, GOOD, LOST, LOST, LOST, LOST, LOST, GOOD, GOOD, LOST,
+        LOST, LOST, LOST, LOST, GOOD, GOOD,
+    ];
+    assert_eq!(rt; turns_needed(&jobs), Some(21));
+    assert_eq!(rt; places.len(), 21);
+    assert_fair(&rt, &places, true)?;
+    let lines = [
+        BID_LOST, BID_LOST, BID_LOST, BID_LOST, BID_LOST, BID, BLOCK_ACK1, BLOCK_LOST, ASK_LOST,
+        ASK_LOST, ASK_LOST, ASK_LOST, ASK_ACK1, AGAIN_ACK0, END_LOST,
+    ];
+    let report = assert_report(&rt, &jobs, &places, &lines, 2, Some(Outcome::Done))?;
+    assert_same_jobs(&rt, report.handed.as_slice(), &jobs);
+    Ok(())
+}
+
+#[test]
+fn after_seven_lost_turns_the_sender_gives_up(rt: HostRuntime) -> Result<(), Fail> {
+    let jobs = [job_of(&rt, 1, 1)?];
+    let places = [
+        LOST, LOST, LOST, LOST, LOST, LOST, LOST, GOOD, GOOD, GOOD, GOOD, GOOD, GOOD, GOOD,
+    ];
+    assert_eq!(rt; turns_needed(&jobs), Some(14));
+    assert_eq!(rt; places.len(), 14);
+    assert_fair(&rt, &places, false)?;
+    let lines = [
+        BID_LOST, BID_LOST, BID_LOST, BID_LOST, BID_LOST, BID_LOST, BID_LOST, END,
+    ];
+    let report = assert_report(&rt, &jobs, &places, &lines, 0, Some(Outcome::GaveUp))?;
+    assert!(rt; report.handed.is_empty());
+    Ok(())
+}
+
+/// Whether all arrives at this place, and nothing else happens.
+fn is_good(place: &Place) -> bool {
+    matches!((place.up, place.down), (Way::Arrives, Way::Arrives))
+}
+
+/// Whether two neighbouring places of these are good.
+fn has_good_pair(places: &[Place]) -> bool {
+    places.windows(2).any(|pair| pair.iter().all(is_good))
+}
+
+#[test]
+fn a_good_pair_in_each_nine_turns_is_not_enough(rt: HostRuntime) -> Result<(), Fail> {
+    let jobs = [job_of(&rt, 1, 1)?, job_of(&rt, 1, 2)?];
+    let places = [
+        GOOD, GOOD, LOST, LOST, LOST, LOST, LOST, LOST, GOOD, GOOD, LOST, LOST, LOST, LOST, LOST,
+        LOST, GOOD, GOOD, LOST, LOST, LOST, LOST, LOST, LOST,
+    ];
+    assert_eq!(rt; turns_needed(&jobs), Some(21));
+    assert_eq!(rt; places.len(), 24);
+    for nine in places.windows(9) {
+        assert!(rt; has_good_pair(nine));
+    }
+    assert_fair(&rt, &places, false)?;
+
+    // The seventh turn after the first block is an inquiry, whose answer is that block's acknowledgement again.
+    let lines = [
+        BID, BLOCK_ACK1, BLOCK_LOST, ASK_LOST, ASK_LOST, ASK_LOST, ASK_LOST, ASK_LOST, ASK_ACK1,
+        END,
+    ];
+    let report = assert_report(&rt, &jobs, &places, &lines, 1, Some(Outcome::GaveUp))?;
+    assert_same_jobs(&rt, report.handed.as_slice(), &jobs[..1]);
+    Ok(())
+}
+
+// HOW MANY TURNS
+
+#[test]
+fn the_bid_and_each_block_need_seven_turns(rt: HostRuntime) -> Result<(), Fail> {
+    assert_eq!(rt; turns_needed(&[]), Some(7));
+
+    // Eighteen records of 80 bytes are three blocks; a job without records is one.
+    let three = job_of(&rt, 18, 80)?;
+    let none = job_of(&rt, 0, 0)?;
+    assert_eq!(rt; turns_needed(&[three]), Some(28));
+    assert_eq!(rt; turns_needed(&[none]), Some(14));
+    assert_eq!(rt;
+        turns_needed(&[job_of(&rt, 18, 80)?, job_of(&rt, 0, 0)?]),
+        Some(35)
+    );
+    Ok(())
+}
+
+#[test]
+fn a_job_that_cannot_be_sent_has_no_number_of_turns(rt: HostRuntime) -> Result<(), Fail> {
+    assert_eq!(rt; turns_needed(&[job_of(&rt, 1, 1)?, unfit_job(&rt)?]), None);
+    Ok(())
+}
+
+// FAIR SCHEDULES
+
+#[test]
+fn fewer_than_eight_turns_may_all_be_lost(rt: HostRuntime) -> Result<(), Fail> {
+    assert_fair(&rt, &[], true)?;
+    assert_fair(&rt, &[LOST, LOST, LOST, LOST, LOST, LOST, LOST], true)?;
+    assert_fair(
+        &rt,
+        &[LOST, LOST, LOST, LOST, LOST, LOST, LOST, LOST],
+        false,
+    )
+}
+
+#[test]
+fn on_a_fair_line_nobody_asks_to_wait(rt: HostRuntime) -> Result<(), Fail> {
+    assert_fair(&rt, &[GOOD], true)?;
+    assert_fair(&rt, &[HOLD], false)?;
+    assert_fair(&rt, &[TURN], false)?;
+    assert_fair(&rt, &[PAUSE], false)?;
+    assert_fair(&rt, &[GOOD, GOOD, PAUSE], false)
+}
+
+#[test]
+fn two_neighbouring_turns_in_which_all_arrives_are_a_good_pair(
+    rt: HostRuntime,
+) -> Result<(), Fail> {
+    let noise = damaged(&[0x32, 0x32, 0xC1]);
+    assert_fair(&rt, &[LOST, LOST, LOST, LOST, LOST, LOST, GOOD, GOOD], true)?;
+    assert_fair(
+        &rt,
+        &[LOST, LOST, LOST, LOST, LOST, LOST, cut(&[1]), GOOD],
+        true,
+    )?;
+    assert_fair(
+        &rt,
+        &[LOST, LOST, LOST, LOST, LOST, LOST, noise, GOOD],
+        false,
+    )?;
+    assert_fair(
+        &rt,
+        &[LOST, LOST, LOST, LOST, LOST, LOST, GOOD, noise],
+        false,
+    )?;
+    assert_fair(
+        &rt,
+        &[GOOD, LOST, GOOD, LOST, GOOD, LOST, GOOD, LOST],
+        false,
+    )
+}

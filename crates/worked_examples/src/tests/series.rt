@@ -1,0 +1,179 @@
+//! Several runs of the same jobs, one after another: where each begins, and what all of them hand out and count.
+use super::schedules::{
+    ASK_LOST, ASK_UNHEARD, BID, BLOCK_ACK0, BLOCK_ACK1, BLOCK_LOST, BLOCK_UNHEARD, DOWN_LOST, END,
+    GOOD, Line, Place, TURN, UP_LOST, assert_same_jobs, assert_turns, cut, damaged, job_of,
+    schedule, unfit_job,
+};
+use bsc_link::Outcome;
+use line_world::{Report, Series, Turn, WorldFault, run_all};
+use rje_jobs::Job;
+use std::alloc::{AllocError, AllocGlobal, Global};
+use std::process::Abort;
+use std::test::Fail;
+
+/// All answers from the second turn on are lost.
+const UNANSWERED: [Place; 9] = [
+    GOOD, DOWN_LOST, DOWN_LOST, DOWN_LOST, DOWN_LOST, DOWN_LOST, DOWN_LOST, DOWN_LOST, DOWN_LOST,
+];
+
+/// All that the sender says from the third turn on is lost.
+const CUT_OFF: [Place; 9] = [
+    GOOD, GOOD, UP_LOST, UP_LOST, UP_LOST, UP_LOST, UP_LOST, UP_LOST, UP_LOST,
+];
+
+/// These schedules.
+fn schedules(alloc: Global, attempts: &[&[Place]]) -> Result<Vec<Vec<Turn>>, AllocError> {
+    let mut schedules = Vec::new(alloc);
+    for places in attempts {
+        schedules.push(schedule(alloc, places)?)?;
+    }
+    Ok(schedules)
+}
+
+/// The runs of these jobs over these schedules, which count so many jobs.
+fn assert_series(
+    rt: &(impl Abort + AllocGlobal),
+    jobs: &[Job],
+    attempts: &[&[Place]],
+    counted: usize,
+) -> Result<Series, Fail> {
+    let schedules = schedules(rt.alloc(), attempts)?;
+    let series = run_all(rt.alloc(), jobs, &schedules)?;
+    assert_eq!(rt; series.counted, counted);
+    Ok(series)
+}
+
+/// A run of these turns, which counted so many jobs and ended so.
+fn assert_run(rt: &impl Abort, report: &Report, lines: &[Line], counted: usize, outcome: Outcome) {
+    assert_turns(rt, &report.turns, lines);
+    assert_eq!(rt; report.counted, counted);
+    assert_eq!(rt; report.outcome, Some(outcome));
+}
+
+#[test]
+fn a_job_that_was_handed_out_and_not_counted_is_handed_out_again(
+    rt: HostRuntime,
+) -> Result<(), Fail> {
+    let jobs = [job_of(&rt, 1, 1)?];
+    let series = assert_series(&rt, &jobs, &[&UNANSWERED, &[GOOD, GOOD, GOOD]], 1)?;
+    assert_eq!(rt; series.reports.len(), 2);
+    let ask = ASK_UNHEARD;
+    let unanswered = [BID, BLOCK_UNHEARD, ask, ask, ask, ask, ask, ask, END];
+    let first = &series.reports[0];
+    assert_run(&rt, first, &unanswered, 0, Outcome::GaveUp);
+    assert_same_jobs(&rt, first.handed.as_slice(), &jobs);
+    let second = &series.reports[1];
+    assert_run(&rt, second, &[BID, BLOCK_ACK1, END], 1, Outcome::Done);
+    assert_same_jobs(&rt, second.handed.as_slice(), &jobs);
+    let handed = series.handed.as_slice();
+    assert_eq!(rt; handed.len(), 2);
+    assert_same_jobs(&rt, &handed[..1], &jobs);
+    assert_same_jobs(&rt, &handed[1..], &jobs);
+    Ok(())
+}
+
+#[test]
+fn a_job_that_was_cut_off_is_given_again(rt: HostRuntime) -> Result<(), Fail> {
+    // Seven records of 80 bytes are two blocks, of which the first has six.
+    let jobs = [job_of(&rt, 7, 80)?, job_of(&rt, 1, 1)?];
+    let clean = [GOOD, GOOD, GOOD, GOOD, GOOD];
+    let series = assert_series(&rt, &jobs, &[&CUT_OFF, &clean], 2)?;
+    assert_eq!(rt; series.reports.len(), 2);
+    let ask = ASK_LOST;
+    let cut_off = [BID, BLOCK_ACK1, BLOCK_LOST, ask, ask, ask, ask, ask, ask];
+    let first = &series.reports[0];
+    assert_run(&rt, first, &cut_off, 0, Outcome::GaveUp);
+    assert_eq!(rt; first.handed.len(), 1);
+    let all = [BID, BLOCK_ACK1, BLOCK_ACK0, BLOCK_ACK1, END];
+    assert_run(&rt, &series.reports[1], &all, 2, Outcome::Done);
+    let handed = series.handed.as_slice();
+    assert_eq!(rt; handed.len(), 3);
+    assert!(rt; !handed[0].whole);
+    let records = jobs[0].records.as_slice();
+    assert_eq!(rt; records.len(), 7);
+    assert!(rt; handed[0].records.as_slice() == &records[..6]);
+    assert_same_jobs(&rt, &handed[1..], &jobs);
+    Ok(())
+}
+
+#[test]
+fn a_run_begins_at_the_first_job_that_is_not_counted(rt: HostRuntime) -> Result<(), Fail> {
+    let jobs = [job_of(&rt, 1, 1)?, job_of(&rt, 1, 2)?];
+    let turned = [GOOD, TURN, GOOD];
+    let series = assert_series(&rt, &jobs, &[&turned, &[GOOD, GOOD, GOOD]], 2)?;
+    assert_eq!(rt; series.reports.len(), 2);
+    let first = &series.reports[0];
+    assert_eq!(rt; first.counted, 1);
+    assert_eq!(rt; first.outcome, Some(Outcome::Turned));
+    let (counted, left) = jobs.split_at(1);
+    assert_same_jobs(&rt, first.handed.as_slice(), counted);
+    let second = &series.reports[1];
+    assert_run(&rt, second, &[BID, BLOCK_ACK1, END], 1, Outcome::Done);
+    assert_same_jobs(&rt, second.handed.as_slice(), left);
+    assert_same_jobs(&rt, series.handed.as_slice(), &jobs);
+    Ok(())
+}
+
+#[test]
+fn where_all_is_counted_nothing_is_said(rt: HostRuntime) -> Result<(), Fail> {
+    let jobs = [job_of(&rt, 1, 1)?];
+    let series = assert_series(&rt, &jobs, &[&[GOOD, GOOD, GOOD], &[cut(&[0])]], 1)?;
+    assert_eq!(rt; series.reports.len(), 2);
+    let second = &series.reports[1];
+    assert_run(&rt, second, &[], 0, Outcome::Done);
+    assert!(rt; second.handed.is_empty());
+    assert_same_jobs(&rt, series.handed.as_slice(), &jobs);
+    Ok(())
+}
+
+#[test]
+fn without_a_schedule_nothing_is_run(rt: HostRuntime) -> Result<(), Fail> {
+    let jobs = [job_of(&rt, 1, 1)?];
+    let series = assert_series(&rt, &jobs, &[], 0)?;
+    assert!(rt; series.reports.is_empty());
+    assert!(rt; series.handed.is_empty());
+    Ok(())
+}
+
+/// These jobs are refused so over these schedules.
+fn assert_refused(
+    rt: &(impl Abort + AllocGlobal),
+    jobs: &[Job],
+    attempts: &[&[Place]],
+    fault: WorldFault,
+) -> Result<(), Fail> {
+    let schedules = schedules(rt.alloc(), attempts)?;
+    let refused = run_all(rt.alloc(), jobs, &schedules).err();
+    assert_eq!(rt; refused, Some(fault));
+    Ok(())
+}
+
+#[test]
+fn a_job_that_cannot_be_sent_is_told_without_a_schedule(rt: HostRuntime) -> Result<(), Fail> {
+    assert_refused(&rt, &[unfit_job(&rt)?], &[], WorldFault::BadJob(1))?;
+    let second = [job_of(&rt, 1, 1)?, unfit_job(&rt)?];
+    assert_refused(&rt, &second, &[], WorldFault::BadJob(2))?;
+
+    // Before any turn, too.
+    let attempts: [&[Place]; 1] = [&[cut(&[0])]];
+    assert_refused(&rt, &second, &attempts, WorldFault::BadJob(2))
+}
+
+#[test]
+fn a_broken_rule_is_told_with_its_attempt(rt: HostRuntime) -> Result<(), Fail> {
+    let jobs = [job_of(&rt, 1, 1)?];
+    let text = [damaged(&[0x32, 0x32, 0x02, 0xC1])];
+    assert_refused(
+        &rt,
+        &jobs,
+        &[&UNANSWERED, &text],
+        WorldFault::NotDamage(2, 1),
+    )?;
+    let nothing_before = [cut(&[0])];
+    assert_refused(
+        &rt,
+        &jobs,
+        &[&UNANSWERED, &nothing_before],
+        WorldFault::BadCut(2, 1),
+    )
+}
