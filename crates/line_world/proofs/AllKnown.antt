@@ -9,12 +9,12 @@ use Rattle.rje_jobs.specs.declared.job.Job.{Job}
 use Rattle.rje_jobs.specs.Blocks.{blocks}
 use Rattle.rje_jobs.specs.Fitting.{JobFits}
 use Rattle.rje_station.specs.Sending.{ended_by}
-use Rattle.line_world.specs.declared.sound_turn.SoundTurn.{SoundTurn}
+use Rattle.bsc_history.specs.declared.sound_turn.SoundTurn.{SoundTurn}
 use Rattle.line_world.specs.declared.spoken.Spoken.{Spoken}
 use Rattle.line_world.specs.declared.turn.Turn.{Turn}
-use Rattle.line_world.specs.History.{Plan, History}
-use Rattle.line_world.specs.Known.{known}
-use Rattle.line_world.specs.Conversation.{IsConversationOver}
+use Rattle.bsc_history.specs.History.{Plan, History}
+use Rattle.bsc_history.specs.Known.{known}
+use Rattle.bsc_history.specs.Conversation.{IsConversationOver}
 use Rattle.line_world.specs.Headline.{IsBegun, HandsFirstJobs}
 use Rattle.line_world.specs.Plan.{plan_of}
 use Rattle.line_world.specs.Run.{IsRun}

@@ -15,7 +15,7 @@ use Rattle.rje_station.specs.StationFault.{IsFirstUnfit}
 use Rattle.line_world.specs.declared.fate.Fate.{Fate}
 use Rattle.line_world.specs.declared.report.Report.{Report}
 use Rattle.line_world.specs.declared.series.Series.{Series}
-use Rattle.line_world.specs.declared.sound_turn.SoundTurn.{SoundTurn}
+use Rattle.bsc_history.specs.declared.sound_turn.SoundTurn.{SoundTurn}
 use Rattle.line_world.specs.declared.turn.Turn.{Turn}
 use Rattle.line_world.specs.declared.world_fault.WorldFault.{WorldFault}
 use Rattle.line_world.specs.Damage.{HasBadCut, IsNoDamage}

@@ -12,20 +12,19 @@ use Rattle.bsc_link.specs.declared.sound.Sound.{Sound}
 use Rattle.rje_station.specs.Hearing.{sound_of as sound_heard}
 use Rattle.rje_station.specs.Sending.{IsWrittenOf}
 use Rattle.line_world.specs.declared.fate.Fate.{Fate}
-use Rattle.line_world.specs.declared.sound_fate.SoundFate.{SoundFate}
-use Rattle.line_world.specs.declared.sound_turn.SoundTurn.{SoundTurn}
-use Rattle.line_world.specs.declared.spoken_turn.SpokenTurn.{SpokenTurn}
+use Rattle.bsc_history.specs.declared.sound_fate.SoundFate.{SoundFate}
+use Rattle.bsc_history.specs.declared.sound_turn.SoundTurn.{SoundTurn}
+use Rattle.bsc_history.specs.declared.spoken_turn.SpokenTurn.{SpokenTurn}
 use Rattle.line_world.specs.declared.turn.Turn.{Turn}
-use Rattle.line_world.specs.History.{History, is_over}
-use Rattle.line_world.specs.Known.{gives_up_now}
-use Rattle.line_world.specs.Conversation.{IsAt, Follows, IsSpokenOver, is_block}
+use Rattle.bsc_history.specs.History.{History, is_over}
+use Rattle.bsc_history.specs.Known.{gives_up_now}
+use Rattle.bsc_history.specs.Conversation.{IsAt, Follows, IsSpokenOver, is_block}
 use Rattle.line_world.specs.Damage.{Tells, Fits, HasBadCut, IsNoDamage}
-use Rattle.line_world.specs.Fate.{is_damage_of, sound_of, sound_of_reply, after_fate}
+use Rattle.bsc_history.specs.Fate.{is_damage_of, sound_of, sound_of_reply, after_fate}
 use Rattle.line_world.specs.Plan.{plan_of}
-use Rattle.line_world.specs.SayingRule.{saying}
+use Rattle.bsc_history.specs.SayingRule.{saying}
 use Rattle.line_world.specs.Run.{TellsTurn, TellsSchedule, FitsReply, FitsTurn, AllFit, IsConversationOn, BreaksTurn, BreaksFirst, NoDamageNoConversation, BadCutNoConversation}
-use Rattle.line_world.proofs.OneConversation.{same-sound, same-place, same-history, rest, goes-on-within, no-longer, true-false}
-use Rattle.line_world.proofs.Phases.{saying-speaks}
+use Rattle.bsc_history.proofs.ForRuns.{same-sound, same-place, same-history, rest, goes-on-within, no-longer, true-false, saying-speaks}
 
 -- ---- Bytes that are sent are one.
 

@@ -22,7 +22,7 @@ use Rattle.line_world.specs.declared.turn_fault.TurnFault.TheVariants as Fault
 use Rattle.line_world.specs.Arrival.{from_end, heard_at_end}
 use Rattle.line_world.specs.Damage.{Fits, IsNoDamage}
 use Rattle.line_world.specs.Driving.{bytes_after, MayDamage, IsDamaged, IsFateFault, GoesUp, GoesDown, IsReplyCarried, IsReplyFault}
-use Rattle.line_world.specs.Fate.{is_damage_of, sound_of_reply}
+use Rattle.bsc_history.specs.Fate.{is_damage_of, sound_of_reply}
 use Rattle.line_world.specs.MemoryLine.{LineInMemory, talk_of}
 use Rattle.line_world.proofs.Arrivals.{heard_last}
 use Rattle.line_world.proofs.Cutting.{append_nil}

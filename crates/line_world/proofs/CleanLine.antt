@@ -4,22 +4,20 @@ use Rattle.std.specs.List.{AllByRecursion}
 use Rattle.std.proofs.lemmas.Bool.{true≢false}
 use Rattle.rje_text.specs.Laws.{CutReadsBack}
 use Rattle.rje_jobs.specs.Blocks.{blocks}
-use Rattle.line_world.specs.declared.sound_turn.SoundTurn.{SoundTurn}
+use Rattle.bsc_history.specs.declared.sound_turn.SoundTurn.{SoundTurn}
 use Rattle.line_world.specs.declared.turn.Turn.{Turn}
-use Rattle.line_world.specs.History.{Plan, History, is_over}
-use Rattle.line_world.specs.Known.{known}
-use Rattle.line_world.specs.Conversation.{AreAt, IsConversationOver}
+use Rattle.bsc_history.specs.History.{Plan, History, is_over}
+use Rattle.bsc_history.specs.Known.{known}
+use Rattle.bsc_history.specs.Conversation.{AreAt, IsConversationOver}
 use Rattle.line_world.specs.CleanLine.{CleanLineIsEnough}
 use Rattle.line_world.specs.GoodTurn.{IsGood}
 use Rattle.line_world.specs.Plan.{plan_of}
 use Rattle.line_world.specs.Run.{TellsSchedule, spoken_turns}
-use Rattle.line_world.proofs.Agreement.{conversations_may_be_spoken}
+use Rattle.bsc_history.proofs.ForRuns.{conversations_may_be_spoken, AreClean, clean_stands, stays_within_plan}
 use Rattle.line_world.proofs.AllKnown.{all_counted, known_if_some}
-use Rattle.line_world.proofs.CleanTurns.{AreClean, clean_stands}
 use Rattle.line_world.proofs.GoodTurn.{AreUnrefused, all_at, clean_turn, told_at, unrefused}
 use Rattle.line_world.proofs.Numbered.{plan_length}
 use Rattle.line_world.proofs.Telling.{told_length}
-use Rattle.line_world.proofs.Within.{stays_within_plan}
 
 -- the turns are clean
 clean : (turns : List Turn) (places : List SoundTurn) (h : History) → TellsSchedule turns places → AllByRecursion IsGood turns → AreAt places h → AreUnrefused h → AreClean h

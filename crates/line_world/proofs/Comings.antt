@@ -18,10 +18,10 @@ use Rattle.rje_station.specs.Hearing.{sound_of as sound_heard, sound_of_frame}
 use Rattle.rje_station.specs.Receiving.{frame_of}
 use Rattle.rje_station.specs.Sending.{IsWrittenOf}
 use Rattle.line_world.specs.declared.fate.Fate.{Fate}
-use Rattle.line_world.specs.declared.sound_fate.SoundFate.{SoundFate}
+use Rattle.bsc_history.specs.declared.sound_fate.SoundFate.{SoundFate}
 use Rattle.line_world.specs.Damage.{AreHeardAs, Tells}
 use Rattle.line_world.specs.Driving.{IsCarried, IsReplyCarried}
-use Rattle.line_world.specs.Fate.{is_damage_of, sound_of, sound_of_reply, after_fate}
+use Rattle.bsc_history.specs.Fate.{is_damage_of, sound_of, sound_of_reply, after_fate}
 use Rattle.line_world.specs.Run.{FitsReply}
 
 -- ---- Nothing is heard of no bytes.

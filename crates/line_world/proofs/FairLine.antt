@@ -7,21 +7,19 @@ use Rattle.std.proofs.lemmas.Option.{slice_get_within}
 use Rattle.bsc_link.specs.declared.wish.Wish.{Wish}
 use Rattle.rje_text.specs.Laws.{CutReadsBack}
 use Rattle.rje_jobs.specs.Blocks.{blocks}
-use Rattle.line_world.specs.declared.sound_turn.SoundTurn.{SoundTurn}
-use Rattle.line_world.specs.declared.spoken_turn.SpokenTurn.{SpokenTurn}
+use Rattle.bsc_history.specs.declared.sound_turn.SoundTurn.{SoundTurn}
+use Rattle.bsc_history.specs.declared.spoken_turn.SpokenTurn.{SpokenTurn}
 use Rattle.line_world.specs.declared.turn.Turn.{Turn}
-use Rattle.line_world.specs.History.{Plan, History}
-use Rattle.line_world.specs.Known.{known}
-use Rattle.line_world.specs.Conversation.{AreAt, IsConversationOver}
+use Rattle.bsc_history.specs.History.{Plan, History}
+use Rattle.bsc_history.specs.Known.{known}
+use Rattle.bsc_history.specs.Conversation.{AreAt, IsConversationOver}
 use Rattle.line_world.specs.Fairness.{HasGoodPair, IsFair, FairLineIsEnough}
 use Rattle.line_world.specs.GoodTurn.{IsGood}
 use Rattle.line_world.specs.Plan.{plan_of}
 use Rattle.line_world.specs.Run.{TellsSchedule}
 use Rattle.line_world.proofs.AllKnown.{all_counted, known_if_some}
-use Rattle.line_world.proofs.Bound.{HasCleanPair, IsFairNow, AreFair, known_in_time}
-use Rattle.line_world.proofs.CleanTurns.{IsClean}
+use Rattle.bsc_history.proofs.ForRuns.{HasCleanPair, IsFairNow, AreFair, known_in_time, IsClean, ArePlain}
 use Rattle.line_world.proofs.GoodTurn.{AreUnrefused, all_at, clean_turn, told_at, unrefused}
-use Rattle.line_world.proofs.Plain.{ArePlain}
 use Rattle.line_world.proofs.Numbered.{plan_length}
 use Rattle.line_world.proofs.Telling.{told_length}
 

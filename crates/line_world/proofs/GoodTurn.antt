@@ -4,19 +4,18 @@ use Rattle.std.specs.List.{AllByRecursion}
 use Rattle.std.proofs.lemmas.List.{map-append, reverse-append}
 use Rattle.bsc_link.specs.declared.sound.Sound.{Sound}
 use Rattle.line_world.specs.declared.fate.Fate.{Fate}
-use Rattle.line_world.specs.declared.sound_fate.SoundFate.{SoundFate}
-use Rattle.line_world.specs.declared.sound_turn.SoundTurn.{SoundTurn}
+use Rattle.bsc_history.specs.declared.sound_fate.SoundFate.{SoundFate}
+use Rattle.bsc_history.specs.declared.sound_turn.SoundTurn.{SoundTurn}
 use Rattle.line_world.specs.declared.spoken.Spoken.{Spoken}
-use Rattle.line_world.specs.declared.spoken_turn.SpokenTurn.{SpokenTurn}
+use Rattle.bsc_history.specs.declared.spoken_turn.SpokenTurn.{SpokenTurn}
 use Rattle.line_world.specs.declared.turn.Turn.{Turn}
-use Rattle.line_world.specs.History.{History}
-use Rattle.line_world.specs.Conversation.{IsAt}
+use Rattle.bsc_history.specs.History.{History}
+use Rattle.bsc_history.specs.Conversation.{IsAt}
 use Rattle.line_world.specs.Damage.{Tells}
-use Rattle.line_world.specs.Fate.{sound_of, sound_of_reply, after_fate}
+use Rattle.bsc_history.specs.Fate.{sound_of, sound_of_reply, after_fate}
 use Rattle.line_world.specs.GoodTurn.{AllArrives, IsGood}
 use Rattle.line_world.specs.Run.{TellsTurn, TellsSchedule, spoken_of, spoken_turns}
-use Rattle.line_world.proofs.CleanTurns.{IsClean}
-use Rattle.line_world.proofs.OneConversation.{same-sound}
+use Rattle.bsc_history.proofs.ForRuns.{IsClean, same-sound}
 
 -- ---- A good turn is clean.
 

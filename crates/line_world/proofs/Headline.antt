@@ -13,13 +13,12 @@ use Rattle.rje_jobs.specs.Fitting.{JobFits}
 use Rattle.rje_jobs.specs.Joined.{joined}
 use Rattle.rje_station.specs.Sending.{ended_by, counted_by}
 use Rattle.line_world.specs.Headline.{records_of, IsPrefixOf, AreHandedInOrder, AreHandedWhole, IsBegun, HandsFirst, HandsFirstJobs, OfRuns}
-use Rattle.line_world.specs.Known.{known}
-use Rattle.line_world.specs.Got.{got}
+use Rattle.bsc_history.specs.Known.{known}
+use Rattle.bsc_history.specs.Got.{got}
 use Rattle.line_world.specs.Plan.{plan_of, numbered}
-use Rattle.line_world.proofs.Agreement.{at_most_one_more, in_order, conversations_may_be_spoken}
+use Rattle.bsc_history.proofs.ForRuns.{at_most_one_more, in_order, conversations_may_be_spoken, stays_within_plan}
 use Rattle.line_world.proofs.FirstJobs.{hands_first}
 use Rattle.line_world.proofs.Numbered.{plan_length, numbered_first}
-use Rattle.line_world.proofs.Within.{stays_within_plan}
 
 -- ---- One block more ends one job more, or none.
 

@@ -2,7 +2,7 @@
 use Rattle.std.proofs.Common.{◌≡◌, ℕ, zero, suc, ◌<◌, ◌≤◌, Bool, true, List, [], ◌∷◌, ◌++◌, length, take, slice_get, Some, refl, ap, sym, ◌∙◌, arith, add-one}
 use Rattle.bsc_codes.specs.declared.block.Block.{Block}
 use Rattle.rje_jobs.specs.Joined.{ends_job}
-use Rattle.line_world.specs.Agreement.{first_numbers}
+use Rattle.bsc_history.specs.Agreement.{first_numbers}
 use Rattle.line_world.specs.Plan.{plan_of, plan_behind, numbered}
 use Rattle.line_world.proofs.ReceivingTurns.{numbered_more}
 use Rattle.line_world.proofs.Telling.{take_one}

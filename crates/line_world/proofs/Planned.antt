@@ -11,7 +11,7 @@ use Rattle.rje_jobs.specs.declared.job.Job.{Job}
 use Rattle.rje_jobs.specs.Blocks.{blocks, blocks_of_job}
 use Rattle.rje_jobs.specs.Joined.{ends_job}
 use Rattle.rje_station.specs.Sending.{next_in, next_after}
-use Rattle.line_world.specs.History.{what_follows, BeginsWithJob}
+use Rattle.bsc_history.specs.History.{what_follows, BeginsWithJob}
 use Rattle.line_world.specs.Plan.{plan_behind, plan_of, NextIsPlanned}
 
 -- ---- What follows.

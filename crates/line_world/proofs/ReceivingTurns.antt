@@ -17,16 +17,15 @@ use Rattle.rje_jobs.specs.Joined.{joined}
 use Rattle.rje_station.specs.Hearing.{sound_of as sound_heard}
 use Rattle.rje_station.specs.Laws.{HearsJobs, accepted_after}
 use Rattle.rje_station.specs.Receiving.{MayRefuse, sound_taken}
-use Rattle.line_world.specs.declared.spoken_turn.SpokenTurn.{SpokenTurn}
-use Rattle.line_world.specs.History.{Plan, History, is_over}
-use Rattle.line_world.specs.Known.{known}
-use Rattle.line_world.specs.Got.{got, brings_block}
-use Rattle.line_world.specs.Conversation.{MayBeSpoken, is_block}
-use Rattle.line_world.specs.Cores.{taken}
+use Rattle.bsc_history.specs.declared.spoken_turn.SpokenTurn.{SpokenTurn}
+use Rattle.bsc_history.specs.History.{Plan, History, is_over}
+use Rattle.bsc_history.specs.Known.{known}
+use Rattle.bsc_history.specs.Got.{got, brings_block}
+use Rattle.bsc_history.specs.Conversation.{MayBeSpoken, is_block}
+use Rattle.bsc_history.specs.Cores.{taken}
 use Rattle.line_world.specs.Plan.{plan_of, numbered}
 use Rattle.line_world.specs.Turns.{ReceivingTurns}
-use Rattle.line_world.proofs.Line.{comes}
-use Rattle.line_world.proofs.ReceiverCore.{receiver_core_accepts, eot-said}
+use Rattle.bsc_history.proofs.ForRuns.{comes, receiver_core_accepts, eot-said}
 
 -- what goes to the core is what the history says
 pub taken_is : (what : Heard) (begun : Option Job) (refused : Bool) → MayRefuse what begun refused → sound_taken what refused ≡ taken (sound_heard what) refused

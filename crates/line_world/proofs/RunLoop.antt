@@ -11,28 +11,27 @@ use Rattle.rje_station.specs.Hearing.{sound_of as sound_heard}
 use Rattle.rje_station.specs.Receiving.{Receiving, first_receiving}
 use Rattle.rje_station.specs.Sending.{Sending, first_sending, outcome_of, IsWrittenOf}
 use Rattle.line_world.specs.declared.fate.Fate.{Fate}
-use Rattle.line_world.specs.declared.sound_turn.SoundTurn.{SoundTurn}
+use Rattle.bsc_history.specs.declared.sound_turn.SoundTurn.{SoundTurn}
 use Rattle.line_world.specs.declared.spoken.Spoken.{Spoken}
 use Rattle.line_world.specs.declared.turn.Turn.{Turn}
 use Rattle.line_world.specs.declared.turn_fault.TurnFault.{TurnFault}
 use Rattle.line_world.specs.declared.turn_fault.TurnFault.TheVariants as Fault
-use Rattle.line_world.specs.History.{Plan, History, is_over}
-use Rattle.line_world.specs.Known.{gives_up_now}
-use Rattle.line_world.specs.Outcome.{outcome, outcome_after}
-use Rattle.line_world.specs.Conversation.{is_block}
+use Rattle.bsc_history.specs.History.{Plan, History, is_over}
+use Rattle.bsc_history.specs.Known.{gives_up_now}
+use Rattle.bsc_history.specs.Outcome.{outcome, outcome_after}
+use Rattle.bsc_history.specs.Conversation.{is_block}
 use Rattle.line_world.specs.Damage.{HasBadCut, IsNoDamage}
 use Rattle.line_world.specs.Driving.{TakesTurn, BreaksIn, BreaksReply, IsTurnFault, fault_at}
-use Rattle.line_world.specs.Fate.{sound_of, after_fate}
+use Rattle.bsc_history.specs.Fate.{sound_of, after_fate}
 use Rattle.line_world.specs.Plan.{plan_of}
-use Rattle.line_world.specs.ReplyRule.{replying}
-use Rattle.line_world.specs.SayingRule.{saying}
+use Rattle.bsc_history.specs.ReplyRule.{replying}
+use Rattle.bsc_history.specs.SayingRule.{saying}
 use Rattle.line_world.specs.Run.{TellsTurn, TellsSchedule, IsRun, BreaksTurn, BreaksFirst, IsDriveFault, spoken_of, spoken_turns}
 use Rattle.line_world.proofs.Comings.{Told, tell, said_told}
 use Rattle.line_world.proofs.Planned.{begins, blocks_begun, blocks_some}
-use Rattle.line_world.proofs.ReceiverCore.{conversations_are_spoken}
+use Rattle.bsc_history.proofs.ForRuns.{conversations_are_spoken, sender_core_says}
 use Rattle.line_world.proofs.ReceivingTurns.{refused_block}
 use Rattle.line_world.proofs.RunTurns.{Laws, StandsRun, turn_of, turn_more, due_is, sent_is, goes_on, answer_is}
-use Rattle.line_world.proofs.SenderCore.{sender_core_says}
 use Rattle.line_world.proofs.Telling.{told_length, told_append, told_any, get_seam, spoken_longer}
 
 plan_some : (jobs : List Job) → 0 < length jobs → plan_of (blocks jobs) ≡ [] → ⊥

@@ -16,30 +16,25 @@ use Rattle.rje_station.specs.Hearing.{sound_of as sound_heard}
 use Rattle.rje_station.specs.Receiving.{Receiving}
 use Rattle.rje_station.specs.Sending.{Sending, IsWrittenOf, after_speaking}
 use Rattle.line_world.specs.declared.fate.Fate.{Fate}
-use Rattle.line_world.specs.declared.sound_turn.SoundTurn.{SoundTurn}
+use Rattle.bsc_history.specs.declared.sound_turn.SoundTurn.{SoundTurn}
 use Rattle.line_world.specs.declared.spoken.Spoken.{Spoken}
-use Rattle.line_world.specs.declared.spoken_turn.SpokenTurn.{SpokenTurn}
+use Rattle.bsc_history.specs.declared.spoken_turn.SpokenTurn.{SpokenTurn}
 use Rattle.line_world.specs.declared.turn.Turn.{Turn}
-use Rattle.line_world.specs.History.{Plan, History, is_over}
-use Rattle.line_world.specs.Known.{known, gives_up_now}
-use Rattle.line_world.specs.Conversation.{IsAt, IsSpokenOver, MayBeSpoken, is_block}
-use Rattle.line_world.specs.Cores.{taken}
+use Rattle.bsc_history.specs.History.{Plan, History, is_over}
+use Rattle.bsc_history.specs.Known.{known, gives_up_now}
+use Rattle.bsc_history.specs.Conversation.{IsAt, IsSpokenOver, MayBeSpoken, is_block}
+use Rattle.bsc_history.specs.Cores.{taken}
 use Rattle.line_world.specs.Driving.{IsCarried, GoesUp, GoesDown, GoesDownAfter, IsReplyCarried, TakesTurn}
-use Rattle.line_world.specs.Fate.{sound_of, sound_of_reply, after_fate, MayBeHeardAs}
+use Rattle.bsc_history.specs.Fate.{sound_of, sound_of_reply, after_fate, MayBeHeardAs}
 use Rattle.line_world.specs.Plan.{plan_of}
-use Rattle.line_world.specs.ReplyRule.{replying}
-use Rattle.line_world.specs.SayingRule.{saying}
+use Rattle.bsc_history.specs.ReplyRule.{replying}
+use Rattle.bsc_history.specs.SayingRule.{saying}
 use Rattle.line_world.specs.Run.{TellsTurn, TellsSchedule, IsDue, FitsReply, AllFit}
 use Rattle.line_world.specs.Turns.{StandsSending, StandsReceiving, SendingTurns, ReceivingTurns, after_turn}
-use Rattle.line_world.proofs.Agreement.{conversations_may_be_spoken}
+use Rattle.bsc_history.proofs.ForRuns.{conversations_may_be_spoken, comes, no-answer, receiver_core_replies, conversations_are_spoken, spoken-more, sender_core_says}
 use Rattle.line_world.proofs.Comings.{Told, tell, said_told, reply_told, reply_fits, block_carried, first_left}
-use Rattle.line_world.proofs.Line.{comes}
-use Rattle.line_world.proofs.Phases.{no-answer}
 use Rattle.line_world.proofs.Planned.{begins}
-use Rattle.line_world.proofs.ReceiverCore.{receiver_core_replies, conversations_are_spoken}
 use Rattle.line_world.proofs.ReceivingTurns.{taken_is, refused_block}
-use Rattle.line_world.proofs.Schedule.{spoken-more}
-use Rattle.line_world.proofs.SenderCore.{sender_core_says}
 use Rattle.line_world.proofs.SendingTurns.{turn_ends, turn_hears, cases_end}
 use Rattle.line_world.proofs.Telling.{told_append, get_seam, spoken_longer, take_one}
 

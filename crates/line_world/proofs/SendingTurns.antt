@@ -10,16 +10,15 @@ use Rattle.rje_jobs.specs.declared.job.Job.{Job}
 use Rattle.rje_jobs.specs.Blocks.{blocks}
 use Rattle.rje_station.specs.Laws.{HasCounted, CountsBlocks}
 use Rattle.rje_station.specs.Sending.{Sending, next_in, next_for, is_done, after_speaking, after_hearing}
-use Rattle.line_world.specs.declared.spoken_turn.SpokenTurn.{SpokenTurn}
-use Rattle.line_world.specs.History.{Plan, History, what_follows, is_over}
-use Rattle.line_world.specs.Known.{known, is_counting, gives_up_now}
-use Rattle.line_world.specs.SayingRule.{saying}
-use Rattle.line_world.specs.Cores.{hears_after, sender_after, IsSpoken}
+use Rattle.bsc_history.specs.declared.spoken_turn.SpokenTurn.{SpokenTurn}
+use Rattle.bsc_history.specs.History.{Plan, History, what_follows, is_over}
+use Rattle.bsc_history.specs.Known.{known, is_counting, gives_up_now}
+use Rattle.bsc_history.specs.SayingRule.{saying}
+use Rattle.bsc_history.specs.Cores.{hears_after, sender_after, IsSpoken}
 use Rattle.line_world.specs.Plan.{plan_of}
 use Rattle.line_world.specs.Turns.{StandsSending, SendingTurns, after_turn}
-use Rattle.line_world.proofs.Phases.{saying-speaks}
+use Rattle.bsc_history.proofs.ForRuns.{saying-speaks, sender_core_says, sender_core_counts}
 use Rattle.line_world.proofs.Planned.{next_is_planned, begins}
-use Rattle.line_world.proofs.SenderCore.{sender_core_says, sender_core_counts}
 
 place_kept : (p : SenderPlace) → say_in p ≢ Say.End → place_after_end_sent p ≡ p
 place_kept SenderPlace.Bid n = refl

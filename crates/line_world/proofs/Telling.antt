@@ -1,10 +1,10 @@
 -- Schedules that tell schedules of sounds.
 use Rattle.std.proofs.Common.{◌≡◌, ℕ, zero, suc, List, [], ◌∷◌, ◌++◌, length, take, slice_get, Some, false, refl, ap}
 use Rattle.bsc_frame.specs.Laws.{EveryHearing}
-use Rattle.line_world.specs.declared.sound_turn.SoundTurn.{SoundTurn}
+use Rattle.bsc_history.specs.declared.sound_turn.SoundTurn.{SoundTurn}
 use Rattle.line_world.specs.declared.turn.Turn.{Turn}
-use Rattle.line_world.specs.History.{Plan, History}
-use Rattle.line_world.specs.Conversation.{AreAt, IsSpokenOver}
+use Rattle.bsc_history.specs.History.{Plan, History}
+use Rattle.bsc_history.specs.Conversation.{AreAt, IsSpokenOver}
 use Rattle.line_world.specs.Run.{TellsSchedule}
 use Rattle.line_world.proofs.Comings.{tell}
 

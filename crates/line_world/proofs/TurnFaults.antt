@@ -9,7 +9,7 @@ use Rattle.line_world.specs.declared.turn.Turn.{Turn}
 use Rattle.line_world.specs.declared.turn_fault.TurnFault.{TurnFault}
 use Rattle.line_world.specs.declared.turn_fault.TurnFault.TheVariants as Fault
 use Rattle.line_world.specs.Driving.{GoesUp, IsFateFault, IsReplyFault, IsTurnFault}
-use Rattle.line_world.specs.Fate.{sound_of}
+use Rattle.bsc_history.specs.Fate.{sound_of}
 
 -- the fate of what was due
 pub fault_up : (turn : Turn) (s : Sending) (r : Receiving) (sent : List ℕ) (fault : TurnFault) → s.over ≡ false → IsWrittenOf (say_in s.core.place) s.rest sent

@@ -5,8 +5,8 @@ use Rattle.bsc_frame.specs.Heard.{IsHeard}
 use Rattle.bsc_link.specs.declared.sound.Sound.{Sound}
 use Rattle.rje_station.specs.Hearing.{sound_of}
 use Rattle.line_world.specs.declared.fate.Fate.{Fate}
-use Rattle.line_world.specs.declared.sound_fate.SoundFate.{SoundFate}
-use Rattle.line_world.specs.Fate.{is_damage_of}
+use Rattle.bsc_history.specs.declared.sound_fate.SoundFate.{SoundFate}
+use Rattle.bsc_history.specs.Fate.{is_damage_of}
 
 -- the bytes are heard as this sound
 pub record AreHeardAs (bytes : List ℕ) (sound : Sound) : Type 0 where

@@ -17,7 +17,7 @@ use Rattle.line_world.specs.declared.spoken.Spoken.{Spoken}
 use Rattle.line_world.specs.declared.turn.Turn.{Turn}
 use Rattle.line_world.specs.declared.turn_fault.TurnFault.{TurnFault}
 use Rattle.line_world.specs.declared.world_fault.WorldFault.{WorldFault}
-use Rattle.line_world.specs.Fate.{is_damage_of, sound_of, sound_of_reply}
+use Rattle.bsc_history.specs.Fate.{is_damage_of, sound_of, sound_of_reply}
 use Rattle.line_world.specs.Damage.{AreHeardAs, Fits, HasBadCut, IsNoDamage}
 
 -- ---- One fate.

@@ -5,7 +5,7 @@ use Rattle.std.specs.Option.{option_to_list}
 use Rattle.bsc_codes.specs.declared.block.Block.{Block}
 use Rattle.rje_jobs.specs.Joined.{ends_job}
 use Rattle.rje_station.specs.Sending.{next_in}
-use Rattle.line_world.specs.History.{Plan, what_follows}
+use Rattle.bsc_history.specs.History.{Plan, what_follows}
 
 -- behind a block that ends its job the next one begins a job
 abbrev pub plan_behind : Bool → List Block → Plan

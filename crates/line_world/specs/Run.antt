@@ -14,19 +14,19 @@ use Rattle.rje_station.specs.Receiving.{frame_of}
 use Rattle.rje_station.specs.Sending.{IsWrittenOf, ended_by}
 use Rattle.rje_station.specs.StationFault.{IsFirstUnfit}
 use Rattle.line_world.specs.declared.fate.Fate.{Fate}
-use Rattle.line_world.specs.declared.sound_turn.SoundTurn.{SoundTurn}
+use Rattle.bsc_history.specs.declared.sound_turn.SoundTurn.{SoundTurn}
 use Rattle.line_world.specs.declared.spoken.Spoken.{Spoken}
-use Rattle.line_world.specs.declared.spoken_turn.SpokenTurn.{SpokenTurn}
+use Rattle.bsc_history.specs.declared.spoken_turn.SpokenTurn.{SpokenTurn}
 use Rattle.line_world.specs.declared.turn.Turn.{Turn}
 use Rattle.line_world.specs.declared.world_fault.WorldFault.{WorldFault}
-use Rattle.line_world.specs.History.{History, is_over}
-use Rattle.line_world.specs.Known.{known, gives_up_now}
-use Rattle.line_world.specs.Got.{got}
-use Rattle.line_world.specs.ReplyRule.{replying}
-use Rattle.line_world.specs.SayingRule.{saying}
-use Rattle.line_world.specs.Outcome.{outcome}
-use Rattle.line_world.specs.Fate.{sound_of, sound_of_reply, after_fate}
-use Rattle.line_world.specs.Conversation.{is_block, IsSpokenOver, IsConversationOver}
+use Rattle.bsc_history.specs.History.{History, is_over}
+use Rattle.bsc_history.specs.Known.{known, gives_up_now}
+use Rattle.bsc_history.specs.Got.{got}
+use Rattle.bsc_history.specs.ReplyRule.{replying}
+use Rattle.bsc_history.specs.SayingRule.{saying}
+use Rattle.bsc_history.specs.Outcome.{outcome}
+use Rattle.bsc_history.specs.Fate.{sound_of, sound_of_reply, after_fate}
+use Rattle.bsc_history.specs.Conversation.{is_block, IsSpokenOver, IsConversationOver}
 use Rattle.line_world.specs.Plan.{plan_of, numbered}
 use Rattle.line_world.specs.Damage.{Tells, Fits, HasBadCut, IsNoDamage}
 

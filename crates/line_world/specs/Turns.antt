@@ -13,12 +13,12 @@ use Rattle.rje_station.specs.JoinedJobs.{begun_in}
 use Rattle.rje_station.specs.Laws.{HasCounted}
 use Rattle.rje_station.specs.Receiving.{Receiving, MayRefuse, after_receiving}
 use Rattle.rje_station.specs.Sending.{Sending, after_speaking, after_hearing}
-use Rattle.line_world.specs.declared.spoken_turn.SpokenTurn.{SpokenTurn}
-use Rattle.line_world.specs.History.{History, is_over}
-use Rattle.line_world.specs.Known.{known}
-use Rattle.line_world.specs.Got.{got}
-use Rattle.line_world.specs.Conversation.{MayBeSpoken}
-use Rattle.line_world.specs.Cores.{sender_after, receiver_after, IsSpoken}
+use Rattle.bsc_history.specs.declared.spoken_turn.SpokenTurn.{SpokenTurn}
+use Rattle.bsc_history.specs.History.{History, is_over}
+use Rattle.bsc_history.specs.Known.{known}
+use Rattle.bsc_history.specs.Got.{got}
+use Rattle.bsc_history.specs.Conversation.{MayBeSpoken}
+use Rattle.bsc_history.specs.Cores.{sender_after, receiver_after, IsSpoken}
 use Rattle.line_world.specs.Plan.{plan_of, numbered}
 
 -- the sending station stands where the history left it

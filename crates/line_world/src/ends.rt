@@ -1,14 +1,14 @@
 //! Both ends of a line: two stations, each at its own line in memory.
 ghost use Rattle.std.specs.Prelude.{◌≡◌, false, IfOk, OnOk, IfErr, OnErr};
-ghost use Rattle.line_world.specs.Fate.{is_damage_of as is_damage, sound_of as up_sound};
+ghost use Rattle.bsc_history.specs.Fate.{is_damage_of as is_damage, sound_of as up_sound};
 ghost use Rattle.line_world.specs.declared.turn_fault.TurnFault.TheVariants as Fault;
 ghost use Rattle.line_world.specs.Arrival.{from_end as event_from_end, sound_told, heard_at_end};
 ghost use Rattle.line_world.specs.Driving.{MayDamage, IsDamaged, IsFateFault, GoesUp, GoesDown, IsReplyFault, Takes, IsTurnFault};
 
 use crate::carrying::carry;
-use crate::sound_fate::is_damage_of;
 use crate::turn_fault::TurnFault;
-use crate::{Driven, Fate, MemoryLine, Spoken, Turn, sound_of, sound_of_reply};
+use crate::{Driven, Fate, MemoryLine, Spoken, Turn};
+use bsc_history::{is_damage_of, sound_of, sound_of_reply};
 use bsc_link::{Reply, Say, Sound};
 use rje_station::{Event, ReceivingStation, SendingStation, StationFault, Trace};
 use std::alloc::Global;

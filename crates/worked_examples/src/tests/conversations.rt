@@ -1,8 +1,8 @@
 //! Conversations over schedules of sounds: the printed ones, and that the cores and the rules tell the same.
-ghost use Rattle.line_world.specs.History.{MayBegin};
+ghost use Rattle.bsc_history.specs.History.{MayBegin};
 
+use bsc_history::{SoundFate, SoundFault, SoundReport, SoundTurn, converse, converse_by_rules};
 use bsc_link::{Outcome, Reply, Say, Sound, Wish};
-use line_world::{SoundFate, SoundFault, SoundReport, SoundTurn, converse, converse_by_rules};
 use std::alloc::AllocGlobal;
 use std::process::Abort;
 use std::test::Fail;

@@ -3,7 +3,7 @@ use Rattle.std.proofs.Common.{rules, ◌≡◌, [], Some, None, Err, refl}
 use Rattle.std.specs.List.{flat_map}
 use Rattle.bsc_frame.specs.Written.{Written}
 use Rattle.rje_station.specs.Receiving.{frame_of}
-use Rattle.line_world.specs.Fate.{sound_of_reply}
+use Rattle.bsc_history.specs.Fate.{sound_of_reply}
 use Rattle.line_world.specs.MemoryLine.{talk_of}
 use Rattle.line_world.proofs.Carried.{goes_down, nothing_carried, reply_written, reply_carried, reply_fault, damage_fault, line_hears}
 use Rattle.line_world.proofs.ends.Ends.go_down.Goals as goal

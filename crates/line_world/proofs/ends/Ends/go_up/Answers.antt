@@ -3,7 +3,7 @@ use Rattle.std.proofs.Common.{rules, ◌≡◌, Bool, Err}
 use Rattle.bsc_link.specs.declared.sound.Sound.{Sound}
 use Rattle.rje_station.specs.Hearing.{sound_of as sound_heard}
 use Rattle.line_world.specs.Arrival.{from_end, heard_at_end}
-use Rattle.line_world.specs.Fate.{sound_of}
+use Rattle.bsc_history.specs.Fate.{sound_of}
 use Rattle.line_world.proofs.Carried.{goes_up, damage_fault, line_hears, arrived_is}
 use Rattle.line_world.proofs.ends.Ends.go_up.Goals as goal
 

@@ -1,0 +1,11 @@
+pub mod History
+pub mod Known
+pub mod Got
+pub mod ReplyRule
+pub mod SayingRule
+pub mod Outcome
+pub mod Fate
+pub mod Conversation
+pub mod Agreement
+pub mod Cores
+pub mod SoundFault
