@@ -1,4 +1,5 @@
 pub mod Sender
 pub mod Receiver
+pub mod Contender
 pub mod Runs
 pub mod Laws

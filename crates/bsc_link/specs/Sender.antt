@@ -154,3 +154,7 @@ place_after_end_sent place = place
 -- EOT was sent: nothing but the place changes
 abbrev pub sender_sent_end : SenderState → SenderState
 sender_sent_end s = record s { place = place_after_end_sent s.place }
+
+-- the sender gives way: at Bid its tries and holds begin again, elsewhere nothing changes
+abbrev pub sender_yielded : SenderState → SenderState
+sender_yielded s = elim s.place [ SenderPlace.Bid ↦ record s { tries = 0; holds = 0 } | _ ↦ s ]

@@ -1,9 +1,12 @@
 //! The link cores: the sender and the receiver of one transmission, each step one line of its table.
 #![tactic(auto)]
 
+mod contender;
+mod contender_place;
 mod laws;
 mod next;
 mod outcome;
+mod rank;
 mod receiver;
 mod receiver_news;
 mod receiver_place;
@@ -14,14 +17,19 @@ mod sender_news;
 mod sender_place;
 mod sound;
 mod table_line;
+#[cfg(test)]
+mod tests;
 mod wish;
 
+pub use contender::Contender;
+pub use contender_place::ContenderPlace;
 pub use laws::{
     at_most_one_rvi, counts_stay_below_their_limits, limits_give_up, nothing_follows_the_end,
     seven_tries_give_up,
 };
 pub use next::Next;
 pub use outcome::Outcome;
+pub use rank::Rank;
 pub use receiver::Receiver;
 pub use receiver_news::ReceiverNews;
 pub use receiver_place::ReceiverPlace;

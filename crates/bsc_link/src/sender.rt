@@ -32,6 +32,8 @@
 //! Progress sets tries and holds to 0. Then: Next Done goes to End with outcome Done; Next NewJob after a noted RVI goes to End with
 //! outcome Turned; otherwise pause goes to Delay and no pause to a new Block.
 //!
+//! `yielded` sets tries and holds to 0 at Bid, and changes nothing elsewhere (own).
+//!
 //! Where a step would make tries 7 or holds 300, the sender goes to End with outcome GaveUp in place of what the line says (own).
 ghost use Rattle.std.specs.Prelude.{◌≡◌};
 ghost use Rattle.bsc_link.specs.Sender.{line_at_bid, line_at_block, line_at_ask, line_at_delay, place_after_progress};
@@ -69,7 +71,7 @@ impl Model for Sender {
 }
 
 impl Sender {
-    ghost use Rattle.bsc_link.specs.Sender.{first_sender_state, say_in, outcome_in, sender_sent_end, line_for, sender_hears, counts_block, after_progress, after_wait};
+    ghost use Rattle.bsc_link.specs.Sender.{first_sender_state, say_in, outcome_in, sender_sent_end, sender_yielded, line_for, sender_hears, counts_block, after_progress, after_wait};
 
     /// A sender that is due to bid.
     pub fn new() -> Self
@@ -115,6 +117,16 @@ impl Sender {
     {
         if let SenderPlace::End(outcome) = self.place {
             self.place = SenderPlace::Over(outcome);
+        }
+    }
+
+    /// The sender gave way to the other station's bid: its own bid begins anew. Where it no longer bids nothing changes.
+    pub fn yielded(&mut self)
+        ensures { self.new ≡ sender_yielded self.old }
+    {
+        if self.place == SenderPlace::Bid {
+            self.tries = 0;
+            self.holds = 0;
         }
     }
 
