@@ -9,3 +9,4 @@ pub mod SendingInside
 pub mod JoinedJobs
 pub mod Receiving
 pub mod Laws
+pub mod Station

@@ -4,6 +4,7 @@ ghost use Rattle.rje_station.specs.Hearing.{Hearing, Babbling};
 ghost use Rattle.rje_station.specs.JoinedJobs.{begun_in};
 ghost use Rattle.rje_station.specs.Line.{Passes, Rose};
 ghost use Rattle.rje_station.specs.Receiving.{first_receiving, sound_taken as taken, MayRefuse, jobs_after, Received, after_replying, Replied, after_fault, after_refusal, after_abandon, frame_of as reply_frame, received_events};
+ghost use Rattle.rje_station.specs.Station.{after_passing};
 ghost use Rattle.rje_station.specs.StationFault.{IsCause, IfOver, IsNoMemory};
 ghost use Rattle.rje_station.specs.Trace.{last_events};
 ghost use Rattle.rje_station.specs.declared.event.Event.TheVariants as event;
@@ -108,11 +109,32 @@ impl ReceivingStation {
         ensures kept { IfErr result (λ fault. self.new ≡ after_refusal fault self.old) }
         ensures untouched { IfErr result (λ fault. IfOver fault (line.new ≡ line.old)) }
     {
+        let heard = self.listen(line)?;
+        Ok(self.step(&heard, wish))
+    }
+
+    /// Whether it neither speaks nor hears any more.
+    pub(crate) fn is_over(&self) -> bool
+        ensures { result ≡ self.now.over }
+    {
+        self.over
+    }
+
+    /// One hearing, of which nothing is made yet.
+    pub(crate) fn listen<L: Line>(&mut self, line: &mut L) -> Result<Heard, StationFault>
+        ensures heard { IfOk result (λ what. Passes (L.talk line.old) (L.talk line.new) (λ t u. Hearing t u what)) }
+        ensures same { OnOk result (self.new ≡ self.old) }
+        ensures live { OnOk result (self.old.over ≡ false) }
+        ensures cause { IfErr result (λ fault. IsCause (Rose (L.failures line.old) (L.failures line.new))
+            (Passes (L.talk line.old) (L.talk line.new) Babbling) self.old.over fault) }
+        ensures kept { IfErr result (λ fault. self.new ≡ after_refusal fault self.old) }
+        ensures untouched { IfErr result (λ fault. IfOver fault (line.new ≡ line.old)) }
+    {
         if self.over {
             return Err(StationFault::Over);
         }
         match hear(line) {
-            Ok(heard) => Ok(self.step(&heard, wish)),
+            Ok(heard) => Ok(heard),
             Err(HearFault::Lost(fault)) => {
                 self.fail();
                 Err(StationFault::Line(fault))
@@ -122,6 +144,14 @@ impl ReceivingStation {
                 Err(StationFault::Babble)
             }
         }
+    }
+
+    /// An ENQ that isn't taken is noted, and no reply is due.
+    pub(crate) fn pass_over(&mut self)
+        ensures { self.new ≡ after_passing self.old }
+    {
+        self.due = None;
+        self.trace.note(Event::Heard(Sound::Enq));
     }
 
     /// Sends the reply that is due, once; sends nothing where none is.
@@ -153,7 +183,7 @@ impl ReceivingStation {
     }
 
     /// Something was heard.
-    fn step(&mut self, heard: &Heard, wish: Wish) -> Option<Reply>
+    pub(crate) fn step(&mut self, heard: &Heard, wish: Wish) -> Option<Reply>
         ensures { Received self.old self.new wish result (λ what. what ≡ heard.now) }
     {
         let mut ahead = self.core;

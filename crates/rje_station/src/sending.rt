@@ -1,11 +1,12 @@
 //! The sending station.
 ghost use Rattle.std.specs.Prelude.{◌≡◌, ◌++◌, ◌∷◌, false, IfOk, IfErr, OnOk};
 ghost use Rattle.std.specs.List.{AllByRecursion};
-ghost use Rattle.bsc_link.specs.Sender.{say_in};
+ghost use Rattle.bsc_link.specs.Sender.{say_in, sender_yielded};
 ghost use Rattle.rje_jobs.specs.Fitting.{JobFits};
 ghost use Rattle.rje_station.specs.Hearing.{HearsSound, Babbling};
 ghost use Rattle.rje_station.specs.Line.{Passes, Rose};
 ghost use Rattle.rje_station.specs.Sending.{first_sending, after_speaking, after_hearing, after_fault, after_refusal, Spoke, IsWrittenOf, outcome_of, next_for, counted_events};
+ghost use Rattle.rje_station.specs.Station.{due_in};
 ghost use Rattle.rje_station.specs.StationFault.{IsCause, IsNewCause, IfOver};
 ghost use Rattle.rje_station.specs.Trace.{last_events};
 ghost use Rattle.rje_station.specs.declared.event.Event.TheVariants as event;
@@ -99,6 +100,24 @@ impl<'a> SendingStation<'a> {
         ensures { result.now ≡ self.now.trace }
     {
         &self.trace
+    }
+
+    /// What is due; nothing where the station is over.
+    pub(crate) fn due(&self) -> Say
+        ensures { result ≡ due_in self.now }
+    {
+        if self.over {
+            Say::Nothing
+        } else {
+            self.core.say()
+        }
+    }
+
+    /// It gave way to another station's bid: its own bid begins anew.
+    pub(crate) fn yielded(&mut self)
+        ensures { self.new ≡ record self.old { core = sender_yielded self.old.core } }
+    {
+        self.core.yielded();
     }
 
     /// Sends what is due, and the same again where it is called twice. After EOT the station is over.
