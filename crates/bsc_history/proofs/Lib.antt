@@ -12,8 +12,11 @@ pub mod Schedule
 pub mod Turns
 pub mod OneConversation
 pub mod Settled
+pub mod OnePairConversation
+pub mod SettledPairs
 pub mod CleanTurns
 pub mod Plain
 pub mod Clearing
 pub mod Bound
 pub mod ForRuns
+pub mod PairAgreement

@@ -47,5 +47,10 @@ comes-after SoundFate.Arrives said x e = rw (← some-same said x e) (comes-whol
 comes-after SoundFate.Lost said x e = rw (← some-same Sound.Quiet x e) (comes-lost said)
 comes-after (SoundFate.Damaged heard) said x e = comes-damaged said heard x (λ f. cc) e
 
+-- what is lost isn't heard
+pub lost-after : (said : Sound) → after_fate SoundFate.Lost said ≡ Some Sound.Quiet
+lost-after Sound.Quiet = refl
+lost-after _ = refl
+
 pub comes : (said heard : Sound) → MayBeHeardAs said heard → ComesAs said heard
 comes said heard (fate, e) = comes-after fate said heard e

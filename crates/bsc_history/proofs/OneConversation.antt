@@ -12,7 +12,9 @@ use Rattle.bsc_history.specs.History.{History, Plan, is_over}
 use Rattle.bsc_history.specs.Known.{gives_up_now}
 use Rattle.bsc_history.specs.ReplyRule.{replying}
 use Rattle.bsc_history.specs.Fate.{sound_of, sound_of_reply, after_fate}
-use Rattle.bsc_history.specs.Conversation.{Follows, IsAt, IsSpokenOver, IsConversationOver, BreaksRule, BreaksAt, is_block, OneConversation, NoneBreaks, OneBreak}
+use Rattle.bsc_history.specs.Conversation.{Follows, IsAt, IsSpokenOver, IsConversationOver, BreaksAt, is_block, OneConversation, NoneBreaks, OneBreak}
+use Rattle.bsc_history.specs.Pair.{as_counted, sound_counted}
+use Rattle.bsc_history.specs.PairSchedule.{BreaksPart}
 use Rattle.bsc_history.proofs.Phases.{turn}
 
 pub same-sound : (x y : Sound) → Some x ≡ Some y → x ≡ y
@@ -27,9 +29,9 @@ true-false b e f = true≢false (sym e ∙ f)
 pub same-fields : (s s' : Say) (a a' : Sound) (f f' : Bool) (r r' : Option Reply) (x x' : Sound) (w w' : Wish) (p p' : Bool) → s ≡ s' → a ≡ a' → f ≡ f' → r ≡ r' → x ≡ x' → w ≡ w' → p ≡ p' → turn s a f r x w p ≡ turn s' a' f' r' x' w' p'
 same-fields s s' a a' f f' r r' x x' w w' p p' es ea ef er ex ew ep = rw (es, ea, ef, er, ex, ew, ep) refl
 
--- two turns at one place after one past are the same
-same-turn : (plan : Plan) (past : History) (place : SoundTurn) (t u : SpokenTurn) → Follows plan (gives_up_now past) past t → Follows plan (gives_up_now past) past u → IsAt place t → IsAt place u → t ≡ u
-same-turn plan past place t u f g at on =
+-- two turns at one place after one past are the same, whether a bid is out or not
+pub same-turn : (bid_out : Bool) (plan : Plan) (gives_up : Bool) (past : History) (place : SoundTurn) (t u : SpokenTurn) → Follows plan gives_up past (as_counted bid_out t) → Follows plan gives_up past (as_counted bid_out u) → IsAt place t → IsAt place u → t ≡ u
+same-turn bid_out plan gives_up past place t u f g at on =
     let said : t.said ≡ u.said = f.said ∙ sym g.said in
     let arrived : t.arrived ≡ u.arrived = same-sound _ _ (sym at.up ∙ ap (λ x. after_fate place.up (sound_of x)) said ∙ on.up) in
     let refused : t.refused ≡ u.refused = at.refused ∙ ap (λ x. place.refused && is_block x) arrived ∙ sym on.refused in
@@ -51,7 +53,7 @@ same-history plan places (t ∷ h) (u ∷ g) s r e =
     let place : s.placed.0.0 ≡ r.placed.0.0 = same-place _ _ (sym s.placed.0.1 ∙ ap (λ x. slice_get places (length x)) same ∙ r.placed.0.1) in
     let f : Follows plan (gives_up_now g) g t = subst (λ x. Follows plan (gives_up_now x) x t) same s.conversation.0 in
     let at : IsAt r.placed.0.0 t = subst (λ x. IsAt x t) place s.placed.0.2 in
-    rw (same, same-turn plan g r.placed.0.0 t u f r.conversation.0 at r.placed.0.2) refl
+    rw (same, same-turn false plan (gives_up_now g) g r.placed.0.0 t u f r.conversation.0 at r.placed.0.2) refl
 
 -- a shorter history goes on as the longer one did
 pub goes-on-within : (plan : Plan) (places : List SoundTurn) (h g : History) → IsSpokenOver plan places h → IsSpokenOver plan places g → length h < length g
@@ -96,18 +98,18 @@ some-none : (o : Option Sound) (x : Sound) → o ≡ Some x → o ≡ None → �
 some-none o x e f = absurd (let d : Some x ≡ None = sym e ∙ f in cc)
 
 -- no turn stands at a place whose fate breaks its rule
-broken-place : (plan : Plan) (past : History) (place : SoundTurn) (t : SpokenTurn) → Follows plan (gives_up_now past) past t → IsAt place t → BreaksRule plan past place → ⊥
-broken-place plan past place t f at (inl up) = some-none _ t.arrived (ap (λ x. after_fate place.up (sound_of x)) (sym f.said) ∙ at.up) up
-broken-place plan past place t f at (inr (arrived, up, down)) =
+pub broken-place : (bid_out : Bool) (plan : Plan) (gives_up : Bool) (past : History) (place : SoundTurn) (t : SpokenTurn) → Follows plan gives_up past (as_counted bid_out t) → IsAt place t → BreaksPart (sound_counted bid_out) plan gives_up past place → ⊥
+broken-place bid_out plan gives_up past place t f at (inl up) = some-none _ t.arrived (ap (λ x. after_fate place.up (sound_of x)) (sym f.said) ∙ at.up) up
+broken-place bid_out plan gives_up past place t f at (inr (arrived, up, down)) =
     let same : t.arrived ≡ arrived = same-sound _ _ (sym at.up ∙ ap (λ x. after_fate place.up (sound_of x)) f.said ∙ up) in
     let refused : t.refused ≡ (place.refused && is_block arrived) = at.refused ∙ ap (λ x. place.refused && is_block x) same in
-    let reply : t.reply ≡ replying past arrived (place.refused && is_block arrived) place.wish = f.replied ∙ rw (same, refused, at.wish) refl in
+    let reply : t.reply ≡ replying past (sound_counted bid_out arrived) (place.refused && is_block arrived) place.wish = f.replied ∙ rw (same, refused, at.wish) refl in
     some-none _ t.heard (ap (λ x. after_fate place.down (sound_of_reply x)) (sym reply) ∙ at.down) down
 
 broken-turn : (plan : Plan) (places : List SoundTurn) (n : ℕ) (t : SpokenTurn) (b : BreaksAt plan places n) → IsSpokenOver plan places (t ∷ b.past) → ⊥
 broken-turn plan places n t b s =
     let place : s.placed.0.0 ≡ b.place = same-place _ _ (sym s.placed.0.1 ∙ b.here) in
-    broken-place plan b.past b.place t s.conversation.0 (subst (λ x. IsAt x t) place s.placed.0.2) b.breaks
+    broken-place false plan (gives_up_now b.past) b.past b.place t s.conversation.0 (subst (λ x. IsAt x t) place s.placed.0.2) b.breaks
 
 pub none_breaks : NoneBreaks
 none_breaks plan places h n c b = elim (cases_order (length b.past) (length h)) [

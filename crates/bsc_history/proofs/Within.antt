@@ -73,7 +73,7 @@ block-turn-after t Say.Ask e b = tt
 block-turn-after t Say.Delay e b = tt
 block-turn-after t _ e b = absurd (false≢true (rw e at b))
 
-and-left : (a b : Bool) → (a && b) ≡ true → a ≡ true
+pub and-left : (a b : Bool) → (a && b) ≡ true → a ≡ true
 and-left true b e = refl
 and-left false b e = e
 

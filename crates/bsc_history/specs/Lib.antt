@@ -9,3 +9,8 @@ pub mod Conversation
 pub mod Agreement
 pub mod Cores
 pub mod SoundFault
+pub mod Pair
+pub mod PairCount
+pub mod PairConversation
+pub mod PairAgreement
+pub mod PairSchedule

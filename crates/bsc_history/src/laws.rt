@@ -2,6 +2,8 @@
 ghost use Rattle.bsc_history.specs.Agreement.{GetsAtMostOneMore, KnowsBeforeBlocks, GetsInOrder, StaysWithinPlan, ConversationsMayBeSpoken};
 ghost use Rattle.bsc_history.specs.Conversation.{EverySchedule, OneConversation, NoneBreaks, OneBreak};
 ghost use Rattle.bsc_history.specs.Cores.{ConversationsAreSpoken, SenderCoreSays, SenderCoreKeeps, SenderCoreCounts, ReceiverCoreKeeps, ReceiverCoreReplies, ReceiverCoreAccepts};
+ghost use Rattle.bsc_history.specs.PairAgreement.{DirectionsMayBeSpoken, PairConversationsMayBeSpoken, AgreesEachWay};
+ghost use Rattle.bsc_history.specs.PairSchedule.{EveryPairSchedule, OnePairConversation, NonePairBreaks, OnePairBreak};
 
 /// The law of agreement. In every history that the saying rule, the reply rule and the fates of the line allow, where giving up may end
 /// it at any turn or at none: the receiver got as many blocks as the sender knows of, or one more; before each turn that says a block
@@ -35,4 +37,25 @@ pub fn one_conversation()
     ensures one { OneConversation }
     ensures none_breaks { NoneBreaks }
     ensures one_break { OneBreak }
+{}
+
+/// The law of agreement, in each direction of two stations that both have jobs. Of every conversation of a pair, each direction is a
+/// history of the law of agreement: the receiver got as many blocks as the sender knows of, or one more; before each turn that says a
+/// block the sender knows of all that it got; it got the blocks from the first on, in order and each once; and there are as many blocks.
+pub fn pair_ends_agree()
+    ensures directions { DirectionsMayBeSpoken }
+    ensures conversations { PairConversationsMayBeSpoken }
+    ensures agrees { AgreesEachWay }
+{
+    ends_agree();
+}
+
+/// Over a schedule of sounds there is a conversation of two stations that both have jobs, or a turn whose fate is the first to break its
+/// rule. There is one conversation at most; where there is one, no fate broke its rule before its end; and at most one turn's fate is the
+/// first to break it.
+pub fn one_pair_conversation()
+    ensures every { EveryPairSchedule }
+    ensures one { OnePairConversation }
+    ensures none_breaks { NonePairBreaks }
+    ensures one_break { OnePairBreak }
 {}

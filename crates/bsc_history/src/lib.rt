@@ -2,6 +2,7 @@
 //! sounds.
 #![tactic(auto)]
 
+mod bids;
 mod cores;
 mod due;
 mod laws;
@@ -13,9 +14,12 @@ mod sound_turn;
 mod sounds;
 mod spoken_turn;
 
+pub use bids::Bids;
 pub use cores::{converse, hear_answer, next_of, taken};
 pub use due::Due;
-pub use laws::{cores_keep_rules, ends_agree, one_conversation};
+pub use laws::{
+    cores_keep_rules, ends_agree, one_conversation, one_pair_conversation, pair_ends_agree,
+};
 pub use rules::converse_by_rules;
 pub use sound_fate::{SoundFate, is_damage_of};
 pub use sound_fault::SoundFault;
