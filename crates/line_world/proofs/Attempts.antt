@@ -80,7 +80,7 @@ fits_at_seam : (before : List Job) (job : Job) (after : List Job) → AllByRecur
 fits_at_seam [] job after fit = fit.0
 fits_at_seam (j ∷ js) job after fit = fits_at_seam js job after fit.1
 
-none_unfit : (jobs : List Job) (number : ℕ) → AllByRecursion JobFits jobs → IsFirstUnfit jobs number → ⊥
+pub none_unfit : (jobs : List Job) (number : ℕ) → AllByRecursion JobFits jobs → IsFirstUnfit jobs number → ⊥
 none_unfit jobs number fit unfit = unfit.unfit (fits_at_seam unfit.before unfit.job unfit.after (subst (AllByRecursion JobFits) unfit.whole fit))
 
 -- ---- One more run.

@@ -1,5 +1,5 @@
 -- Where a looked-at fate breaks a rule there is no conversation.
-use Rattle.std.proofs.Common.{◌≡◌, ◌≢◌, inl, inr, ℕ, zero, suc, ◌<◌, false, ◌&&◌, List, [], ◌∷◌, length, slice_get, Some, None, refl, ap, sym, ◌∙◌, subst, arith}
+use Rattle.std.proofs.Common.{Bool, ◌≡◌, ◌≢◌, inl, inr, ℕ, zero, suc, ◌<◌, false, ◌&&◌, List, [], ◌∷◌, length, slice_get, Some, None, refl, ap, sym, ◌∙◌, subst, arith}
 use Rattle.std.proofs.lemmas.Bool.{cases_order}
 use Rattle.std.proofs.lemmas.Option.{slice_get_within}
 use Rattle.bsc_codes.specs.declared.block.Block.{Block}
@@ -23,7 +23,7 @@ use Rattle.line_world.specs.Damage.{Tells, Fits, HasBadCut, IsNoDamage}
 use Rattle.bsc_history.specs.Fate.{is_damage_of, sound_of, sound_of_reply, after_fate}
 use Rattle.line_world.specs.Plan.{plan_of}
 use Rattle.bsc_history.specs.SayingRule.{saying}
-use Rattle.line_world.specs.Run.{TellsTurn, TellsSchedule, FitsReply, FitsTurn, AllFit, IsConversationOn, BreaksTurn, BreaksFirst, NoDamageNoConversation, BadCutNoConversation}
+use Rattle.line_world.specs.Run.{TellsTurn, TellsSchedule, FitsReply, FitsTurn, AllFit, IsConversationOn, BreaksTurn, BreaksFirst, as_it_is, NoDamageNoConversation, BadCutNoConversation}
 use Rattle.bsc_history.proofs.ForRuns.{same-sound, same-place, same-history, rest, goes-on-within, no-longer, true-false, saying-speaks}
 
 -- ---- Bytes that are sent are one.
@@ -76,7 +76,7 @@ record FittingTurn (blocks : List Block) (turns : List Turn) (places : List Soun
   spoken : IsSpokenOver (plan_of blocks) places (t ∷ past)
   turn : Turn
   here : slice_get turns (length past) ≡ Some turn
-  fits : FitsTurn blocks past t turn
+  fits : FitsTurn blocks (gives_up_now past) past t turn
 
 fits_within : (blocks : List Block) (turns : List Turn) (places : List SoundTurn) (h g : History) → IsSpokenOver (plan_of blocks) places h → IsSpokenOver (plan_of blocks) places g → AllFit blocks turns g → length h < length g
     → FittingTurn blocks turns places h
@@ -123,21 +123,34 @@ none_planned : (blocks : List Block) → plan_of blocks ≡ [] → blocks ≡ []
 none_planned [] e = refl
 none_planned (b ∷ bs) e = absurd cc
 
--- no turn that fits stands at a place of which a fate breaks a rule
-no_turn : (Breaks : Fate → Sound → List ℕ → Type 0) → Keeps Breaks → (blocks : List Block) (past : History) (turn : Turn) (place : SoundTurn) (t : SpokenTurn)
-    → Follows (plan_of blocks) (gives_up_now past) past t → IsAt place t → FitsTurn blocks past t turn → TellsTurn turn place → BreaksTurn Breaks blocks past turn place → ⊥
-no_turn Breaks keeps blocks past turn place t f at fits tells b =
+-- `u` is the turn `t` as it counts
+pub record AsCounted (counts : Sound → Sound) (t u : SpokenTurn) : Type 0 where
+  pub said : t.said ≡ u.said
+  pub arrived : u.arrived ≡ counts t.arrived
+  pub refused : t.refused ≡ u.refused
+  pub reply : t.reply ≡ u.reply
+  pub wish : t.wish ≡ u.wish
+
+as_said : (t : SpokenTurn) → AsCounted as_it_is t t
+as_said t = record { said = refl; arrived = refl; refused = refl; reply = refl; wish = refl }
+
+-- no turn that fits stands at a place of which a fate breaks a rule; `u` is the turn as it counts
+pub no_turn : (Breaks : Fate → Sound → List ℕ → Type 0) → Keeps Breaks → (counts : Sound → Sound) → (blocks : List Block) (gives_up : Bool) (past : History) (turn : Turn) (place : SoundTurn) (t u : SpokenTurn)
+    → Follows (plan_of blocks) gives_up past u → AsCounted counts t u → IsAt place t → FitsTurn blocks gives_up past t turn → TellsTurn turn place → BreaksTurn Breaks counts blocks gives_up past turn place → ⊥
+no_turn Breaks keeps counts blocks gives_up past turn place t u f k at fits tells b =
     let plan = plan_of blocks in
-    let said : Sound = sound_of (saying plan (gives_up_now past) past) in
-    let some : said ≢ Sound.Quiet = speaks_some _ (saying-speaks plan (gives_up_now past) past f.goes_on) in
-    let up : after_fate place.up said ≡ Some t.arrived = ap (λ x. after_fate place.up (sound_of x)) (sym f.said) ∙ at.up in
-    let sent : fits.up.0 ≡ b.sent = due_one (saying plan (gives_up_now past) past) _ _ _ fits.up.1 b.due in
+    let said : Sound = sound_of (saying plan gives_up past) in
+    let some : said ≢ Sound.Quiet = speaks_some _ (saying-speaks plan gives_up past f.goes_on) in
+    let up : after_fate place.up said ≡ Some t.arrived = ap (λ x. after_fate place.up (sound_of x)) (sym (k.said ∙ f.said)) ∙ at.up in
+    let sent : fits.up.0 ≡ b.sent = due_one (saying plan gives_up past) _ _ _ fits.up.1 b.due in
     elim b.breaks [
       | inl broken ↦ keeps turn.up said b.sent place.up t.arrived some (subst (Fits turn.up) sent fits.up.2) tells.up up broken
       | inr down ↦
           let same : t.arrived ≡ down.arrived = same-sound _ _ (sym up ∙ down.up) in
-          let refused : t.refused ≡ (place.refused && is_block down.arrived) = at.refused ∙ ap (λ x. place.refused && is_block x) same in
-          let reply : t.reply ≡ Some down.reply = f.replied ∙ rw (same, refused, at.wish, tells.wish) down.replies in
+          let counted : u.arrived ≡ counts down.arrived = k.arrived ∙ ap counts same in
+          let refused : u.refused ≡ (place.refused && is_block down.arrived) = sym k.refused ∙ at.refused ∙ ap (λ x. place.refused && is_block x) same in
+          let wish : u.wish ≡ turn.wish = sym k.wish ∙ at.wish ∙ tells.wish in
+          let reply : t.reply ≡ Some down.reply = k.reply ∙ f.replied ∙ rw (counted, refused, wish) down.replies in
           let heard : after_fate place.down (sound_of_reply (Some down.reply)) ≡ Some t.heard = ap (λ x. after_fate place.down (sound_of_reply x)) (sym reply) ∙ at.down in
           let fitting : FitsReply turn.down (Some down.reply) = subst (FitsReply turn.down) reply fits.down in
           let bytes : fitting.0 ≡ down.reply_sent = written_one _ _ _ fitting.1 down.written in
@@ -150,7 +163,7 @@ module _ (Breaks : Fate → Sound → List ℕ → Type 0) (keeps : Keeps Breaks
   stands_there g =
       let turn : g.turn ≡ b.turn = same_turn _ _ (sym g.here ∙ b.here) in
       let place : g.spoken.placed.0.0 ≡ b.place = same-place _ _ (sym g.spoken.placed.0.1 ∙ b.there) in
-      no_turn Breaks keeps blocks b.past b.turn b.place g.t g.spoken.conversation.0 (subst (λ x. IsAt x g.t) place g.spoken.placed.0.2) (subst (FitsTurn blocks b.past g.t) turn g.fits)
+      no_turn Breaks keeps as_it_is blocks (gives_up_now b.past) b.past b.turn b.place g.t g.t g.spoken.conversation.0 (as_said g.t) (subst (λ x. IsAt x g.t) place g.spoken.placed.0.2) (subst (FitsTurn blocks (gives_up_now b.past) b.past g.t) turn g.fits)
       (told_at turns places (length b.past) b.turn b.place b.told b.here b.there) b.breaks
 
   plan_none : plan_of blocks ≡ [] → blocks ≡ []

@@ -12,13 +12,14 @@ use Rattle.rje_jobs.specs.Blocks.{blocks}
 use Rattle.rje_jobs.specs.Fitting.{JobFits}
 use Rattle.rje_jobs.specs.Joined.{joined}
 use Rattle.rje_station.specs.Sending.{ended_by, counted_by}
-use Rattle.line_world.specs.Headline.{records_of, IsPrefixOf, AreHandedInOrder, AreHandedWhole, IsBegun, HandsFirst, HandsFirstJobs, OfRuns}
+use Rattle.line_world.specs.Headline.{records_of, IsPrefixOf, AreHandedInOrder, AreHandedWhole, IsBegun, HandsFirst, HandsFirstJobs, OfHistories, OfRuns}
 use Rattle.bsc_history.specs.Known.{known}
 use Rattle.bsc_history.specs.Got.{got}
 use Rattle.line_world.specs.Plan.{plan_of, numbered}
-use Rattle.bsc_history.proofs.ForRuns.{at_most_one_more, in_order, conversations_may_be_spoken, stays_within_plan}
+use Rattle.bsc_history.proofs.ForRuns.{at_most_one_more, in_order, conversations_may_be_spoken}
 use Rattle.line_world.proofs.FirstJobs.{hands_first}
 use Rattle.line_world.proofs.Numbered.{plan_length, numbered_first}
+use Rattle.bsc_history.proofs.ForRuns.{stays_within_plan}
 
 -- ---- One block more ends one job more, or none.
 
@@ -43,18 +44,24 @@ counted_or_more : (bs : List Block) (g k : ℕ) → (g ≡ k) ⊎ (g ≡ k + 1) 
 counted_or_more bs g k (inl e) = inl (ap (λ n. ended_by (take n bs)) e)
 counted_or_more bs g k (inr e) = subst (λ n. (ended_by (take n bs) ≡ ended_by (take k bs)) ⊎ (ended_by (take n bs) ≡ ended_by (take k bs) + 1)) (sym (e ∙ add-one k)) (ended_one_more k bs)
 
-pub first_jobs : CutReadsBack → OfRuns HandsFirstJobs
-first_jobs back jobs turns spoken handed counted ending fit run =
+-- of every history of the law of agreement
+pub histories_first_jobs : CutReadsBack → OfHistories HandsFirstJobs
+histories_first_jobs back jobs h fit may =
     let bs = blocks jobs in
     let plan = plan_of bs in
-    let h = run.history in
-    let may = conversations_may_be_spoken plan h run.conversation.conversation.spoken.conversation in
     let g = length (got h) in
     let within : g ≤ length bs = omega (arith, (stays_within_plan plan h may).1, plan_length bs) in
-    let handed_is : handed ≡ joined (take g bs) = run.handed_is ∙ ap joined (ap (numbered bs) (in_order plan h may) ∙ numbered_first bs g within) in
-    let count : (ended_by (take g bs) ≡ counted) ⊎ (ended_by (take g bs) ≡ counted + 1) =
-    subst (λ n. (ended_by (take g bs) ≡ n) ⊎ (ended_by (take g bs) ≡ n + 1)) (sym run.counted_is) (counted_or_more bs g (known h) (at_most_one_more plan h may)) in
-    (ended_by (take g bs), count, subst (HandsFirst (ended_by (take g bs)) jobs) (sym handed_is) (hands_first back jobs fit g))
+    let handed_is : joined (numbered bs (got h)) ≡ joined (take g bs) = ap joined (ap (numbered bs) (in_order plan h may) ∙ numbered_first bs g within) in
+    (ended_by (take g bs), counted_or_more bs g (known h) (at_most_one_more plan h may), subst (HandsFirst (ended_by (take g bs)) jobs) (sym handed_is) (hands_first back jobs fit g))
+
+-- so of runs
+of_runs : (Holds : ℕ → List Job → List Job → Type 0) → OfHistories Holds → OfRuns Holds
+of_runs Holds law jobs turns spoken handed counted ending fit run =
+    let may = conversations_may_be_spoken (plan_of (blocks jobs)) run.history run.conversation.conversation.spoken.conversation in
+    subst (λ n. Holds n jobs handed) (sym run.counted_is) (subst (Holds (ended_by (take (known run.history) (blocks jobs))) jobs) (sym run.handed_is) (law jobs run.history fit may))
+
+pub first_jobs : CutReadsBack → OfRuns HandsFirstJobs
+first_jobs back = of_runs HandsFirstJobs (histories_first_jobs back)
 
 -- ---- Their records.
 
@@ -93,10 +100,13 @@ in_order_of w given handed h =
           ∙ sym (split w given),
     )
 
+pub histories_in_order : CutReadsBack → OfHistories (λ counted given handed. AreHandedInOrder given handed)
+histories_in_order back jobs h fit may =
+    let first = histories_first_jobs back jobs h fit may in
+    in_order_of first.0 jobs _ first.2
+
 pub records_in_order : CutReadsBack → OfRuns (λ counted given handed. AreHandedInOrder given handed)
-records_in_order back jobs turns spoken handed counted ending fit run =
-    let first = first_jobs back jobs turns spoken handed counted ending fit run in
-    in_order_of first.0 jobs handed first.2
+records_in_order back = of_runs (λ counted given handed. AreHandedInOrder given handed) (histories_in_order back)
 
 -- ---- The counted ones.
 
@@ -108,9 +118,14 @@ all_whole zero jobs fit = tt
 all_whole (suc n) [] fit = tt
 all_whole (suc n) (j ∷ jobs) fit = (fit.0.whole, all_whole n jobs fit.1)
 
-pub counted_whole : CutReadsBack → OfRuns AreHandedWhole
-counted_whole back jobs turns spoken handed counted ending fit run =
-    let first = first_jobs back jobs turns spoken handed counted ending fit run in
+pub histories_counted_whole : CutReadsBack → OfHistories AreHandedWhole
+histories_counted_whole back jobs h fit may =
+    let counted = ended_by (take (known h) (blocks jobs)) in
+    let handed = joined (numbered (blocks jobs) (got h)) in
+    let first = histories_first_jobs back jobs h fit may in
     let less : counted ≤ first.0 = elim first.1 [ inl e ↦ omega (arith, e) | inr e ↦ omega (arith, e) ] in
     let same : take counted handed ≡ take counted jobs = take_less counted first.0 handed jobs less first.2.first in
     record { within = omega (arith, less, first.2.within); same = same; whole = subst (AllByRecursion (λ job. job.whole ≡ true)) (sym same) (all_whole counted jobs fit) }
+
+pub counted_whole : CutReadsBack → OfRuns AreHandedWhole
+counted_whole back = of_runs AreHandedWhole (histories_counted_whole back)

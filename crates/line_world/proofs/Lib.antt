@@ -11,6 +11,7 @@ pub mod Telling
 pub mod RunTurns
 pub mod RunLoop
 pub mod Broken
+pub mod BrokenPairs
 pub mod JobsAgain
 pub mod FirstJobs
 pub mod Numbered
@@ -22,3 +23,15 @@ pub mod FairLine
 pub mod Windows
 pub mod BlockCount
 pub mod Attempts
+pub mod Alone
+pub mod Contenders
+pub mod Contends
+pub mod PairCarried
+pub mod PairFaults
+pub mod PairHeadline
+pub mod PairLoop
+pub mod PairRuns
+pub mod PairTelling
+pub mod PairVain
+pub mod Sends
+pub mod OneWay

@@ -26,7 +26,7 @@ use Rattle.bsc_history.specs.Fate.{sound_of, after_fate}
 use Rattle.line_world.specs.Plan.{plan_of}
 use Rattle.bsc_history.specs.ReplyRule.{replying}
 use Rattle.bsc_history.specs.SayingRule.{saying}
-use Rattle.line_world.specs.Run.{TellsTurn, TellsSchedule, IsRun, BreaksTurn, BreaksFirst, IsDriveFault, spoken_of, spoken_turns}
+use Rattle.line_world.specs.Run.{TellsTurn, TellsSchedule, IsRun, BreaksTurn, BreaksFirst, IsDriveFault, as_it_is, spoken_of, spoken_turns}
 use Rattle.line_world.proofs.Comings.{Told, tell, said_told}
 use Rattle.line_world.proofs.Planned.{begins, blocks_begun, blocks_some}
 use Rattle.bsc_history.proofs.ForRuns.{conversations_are_spoken, sender_core_says}
@@ -109,7 +109,7 @@ module _ (laws : Laws) (jobs : List Job) (turns : List Turn) (h : History) (s : 
       let joined : take (length h) turns ++ turn ∷ drop (suc (length h)) turns ≡ turns = ap (λ xs. take (length h) turns ++ xs) (sym (drop_one (length h) turns turn here)) ∙ take-append-drop (length h) turns in
       subst (λ xs. TellsSchedule xs (places_with place)) joined (told_append (take (length h) turns) (turn ∷ drop (suc (length h)) turns) p.before (place ∷ rest.0) p.told (tells, rest.1))
 
-  first_with : (Breaks : Fate → Sound → List ℕ → Type 0) (place : SoundTurn) → TellsTurn turn place → s.over ≡ false → BreaksTurn Breaks (blocks jobs) h turn place → BreaksFirst Breaks (blocks jobs) turns (places_with place) (length h + 1)
+  first_with : (Breaks : Fate → Sound → List ℕ → Type 0) (place : SoundTurn) → TellsTurn turn place → s.over ≡ false → BreaksTurn Breaks as_it_is (blocks jobs) (gives_up_now h) h turn place → BreaksFirst Breaks (blocks jobs) turns (places_with place) (length h + 1)
   first_with Breaks place tells live breaks = record {
     told = told_with place tells;
     past = h;

@@ -65,7 +65,7 @@ pub due_is : (jobs : List Job) (turns : List Turn) (h : History) (s : Sending) (
 due_is jobs turns h s r l p =
     ap (λ x. say_in x.place) p.sends.core ∙ (sender_core_says (plan_of (blocks jobs)) h (begins jobs l) (conversations_are_spoken (plan_of (blocks jobs)) h p.spoken.conversation)).0
 
-pub sent_is : (jobs : List Job) (turns : List Turn) (h : History) (s : Sending) (r : Receiving) (sent : List ℕ) → 0 < length jobs → StandsRun jobs turns h s r → IsWrittenOf (say_in s.core.place) s.rest sent → IsDue (blocks jobs) h sent
+pub sent_is : (jobs : List Job) (turns : List Turn) (h : History) (s : Sending) (r : Receiving) (sent : List ℕ) → 0 < length jobs → StandsRun jobs turns h s r → IsWrittenOf (say_in s.core.place) s.rest sent → IsDue (blocks jobs) (gives_up_now h) h sent
 sent_is jobs turns h s r sent l p w =
     let due : IsWrittenOf (saying (plan_of (blocks jobs)) (gives_up_now h) h) s.rest sent = subst (λ say. IsWrittenOf say s.rest sent) (due_is jobs turns h s r l p) w in
     subst (λ rest. IsWrittenOf (saying (plan_of (blocks jobs)) (gives_up_now h) h) rest sent) p.sends.counted.rest due

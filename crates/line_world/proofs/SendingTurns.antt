@@ -29,10 +29,10 @@ place_kept SenderPlace.Delay n = refl
 place_kept (SenderPlace.End o) n = absurd (n refl)
 place_kept (SenderPlace.Over o) n = refl
 
-unsent : (s : SenderState) → say_in s.place ≢ Say.End → sender_sent_end s ≡ s
+pub unsent : (s : SenderState) → say_in s.place ≢ Say.End → sender_sent_end s ≡ s
 unsent s n = ap (λ p. record s { place = p }) (place_kept s.place n)
 
-core_turn : (plan : Plan) (n : ℕ) (s : SenderState) (rest : List Block) (said : Say) (heard : Sound) (pause : Bool) → said ≢ Say.End → next_in rest ≡ what_follows plan (n + 1)
+pub core_turn : (plan : Plan) (n : ℕ) (s : SenderState) (rest : List Block) (said : Say) (heard : Sound) (pause : Bool) → said ≢ Say.End → next_in rest ≡ what_follows plan (n + 1)
     → sender_hears s heard (next_for said rest) pause ≡ hears_after plan n s said heard pause
 core_turn plan n s rest Say.Bid heard pause x w = refl
 core_turn plan n s rest Say.End heard pause x w = absurd (x refl)
@@ -47,7 +47,7 @@ done_if Say.Nothing n = absurd (n refl)
 done_if _ n = refl
 
 -- nothing is due just where the conversation is over
-done_is : (plan : Plan) (gives_up : Bool) (h : History) → is_done (saying plan gives_up h) ≡ is_over h
+pub done_is : (plan : Plan) (gives_up : Bool) (h : History) → is_done (saying plan gives_up h) ≡ is_over h
 done_is plan gives_up h = elim (cases_Bool (is_over h)) [
   | inl over ↦ rw over refl
   | inr goes ↦ done_if (saying plan gives_up h) (saying-speaks plan gives_up h goes) ∙ sym goes

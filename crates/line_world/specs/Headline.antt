@@ -8,6 +8,14 @@ use Rattle.rje_jobs.specs.declared.job.Job.{Job}
 use Rattle.rje_jobs.specs.Fitting.{JobFits}
 use Rattle.line_world.specs.declared.spoken.Spoken.{Spoken}
 use Rattle.line_world.specs.declared.turn.Turn.{Turn}
+use Rattle.rje_jobs.specs.Blocks.{blocks}
+use Rattle.rje_jobs.specs.Joined.{joined}
+use Rattle.rje_station.specs.Sending.{ended_by}
+use Rattle.bsc_history.specs.History.{History}
+use Rattle.bsc_history.specs.Known.{known}
+use Rattle.bsc_history.specs.Got.{got}
+use Rattle.bsc_history.specs.Conversation.{MayBeSpoken}
+use Rattle.line_world.specs.Plan.{plan_of, numbered}
 use Rattle.line_world.specs.Run.{IsRun}
 
 -- the records of these jobs, in order
@@ -55,7 +63,13 @@ pub record HandsFirst (w : ℕ) (given handed : List Job) : Type 0 where
 abbrev pub HandsFirstJobs : ℕ → List Job → List Job → Type 0
 HandsFirstJobs counted given handed = (w : ℕ) × ((w ≡ counted) ⊎ (w ≡ counted + 1)) × HandsFirst w given handed
 
--- WHAT HOLDS OF RUNS
+-- WHAT HOLDS OF HISTORIES AND RUNS
+
+-- of every history of the law of agreement, over jobs that can be sent: so many are counted, and these handed out
+abbrev pub OfHistories : (ℕ → List Job → List Job → Type 0) → Type 0
+OfHistories Holds =
+    (jobs : List Job) (h : History) → AllByRecursion JobFits jobs → MayBeSpoken (plan_of (blocks jobs)) h
+    → Holds (ended_by (take (known h) (blocks jobs))) jobs (joined (numbered (blocks jobs) (got h)))
 
 -- of a run of jobs that can be sent
 abbrev pub OfRuns : (ℕ → List Job → List Job → Type 0) → Type 0

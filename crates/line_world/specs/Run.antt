@@ -1,5 +1,5 @@
 -- The run of jobs over a schedule of losses and damage: its conversation, what it reports, and when it is refused. Own profile.
-use Rattle.std.specs.Prelude.{◌≡◌, ◌⊎◌, ℕ, ◌+◌, false, ◌&&◌, List, [], ◌∷◌, length, map, reverse, take, drop, slice_get, Option, Some, None}
+use Rattle.std.specs.Prelude.{◌≡◌, ◌⊎◌, ℕ, ◌+◌, Bool, false, ◌&&◌, List, [], ◌∷◌, length, map, reverse, take, drop, slice_get, Option, Some, None}
 use Rattle.std.specs.List.{AllByRecursion}
 use Rattle.bsc_codes.specs.declared.block.Block.{Block}
 use Rattle.bsc_frame.specs.Written.{Written}
@@ -48,9 +48,9 @@ TellsSchedule (turn ∷ turns) (place ∷ places) = TellsTurn turn place × Tell
 
 -- THE FATES THAT ARE LOOKED AT
 
--- the bytes that are due at the sender after the past
-abbrev pub IsDue : List Block → History → List ℕ → Type 0
-IsDue blocks past sent = IsWrittenOf (saying (plan_of blocks) (gives_up_now past) past) (drop (known past) blocks) sent
+-- the bytes that are due at the sender after its past, where it gives up now or doesn't
+abbrev pub IsDue : List Block → Bool → History → List ℕ → Type 0
+IsDue blocks gives_up past sent = IsWrittenOf (saying (plan_of blocks) gives_up past) (drop (known past) blocks) sent
 
 -- the fate fits the reply; where there is none it isn't looked at
 abbrev pub FitsReply : Fate → Option Reply → Type 0
@@ -58,14 +58,14 @@ FitsReply fate None = Unit {0}
 FitsReply fate (Some reply) = (sent : List ℕ) × Written (frame_of reply) sent × Fits fate sent
 
 -- both fates of a turn fit what was sent in it
-pub record FitsTurn (blocks : List Block) (past : History) (t : SpokenTurn) (turn : Turn) : Type 0 where
-  pub up : (sent : List ℕ) × IsDue blocks past sent × Fits turn.up sent
+pub record FitsTurn (blocks : List Block) (gives_up : Bool) (past : History) (t : SpokenTurn) (turn : Turn) : Type 0 where
+  pub up : (sent : List ℕ) × IsDue blocks gives_up past sent × Fits turn.up sent
   pub down : FitsReply turn.down t.reply
 
 -- those of every turn of the history, the oldest turn at the first of the schedule
 abbrev pub AllFit : List Block → List Turn → History → Type 0
 AllFit blocks turns [] = Unit {0}
-AllFit blocks turns (t ∷ past) = ((turn : Turn) × (slice_get turns (length past) ≡ Some turn) × FitsTurn blocks past t turn) × AllFit blocks turns past
+AllFit blocks turns (t ∷ past) = ((turn : Turn) × (slice_get turns (length past) ≡ Some turn) × FitsTurn blocks (gives_up_now past) past t turn) × AllFit blocks turns past
 
 -- THE CONVERSATION
 
@@ -96,23 +96,28 @@ pub record IsRun (jobs : List Job) (turns : List Turn) (spoken : List Spoken) (h
 
 -- THE REFUSALS
 
--- the fate of the reply breaks a rule, where what was said arrives after a fate that keeps both
-pub record BreaksDown (Breaks : Fate → Sound → List ℕ → Type 0) (past : History) (turn : Turn) (place : SoundTurn) (said : Sound) (sent : List ℕ) : Type 0 where
+-- the fate of the reply breaks a rule, where what was said arrives after a fate that keeps both; `counts` is what counts of a sound that
+-- arrived
+pub record BreaksDown (Breaks : Fate → Sound → List ℕ → Type 0) (counts : Sound → Sound) (past : History) (turn : Turn) (place : SoundTurn) (said : Sound) (sent : List ℕ) : Type 0 where
   pub fits : Fits turn.up sent
   pub arrived : Sound
   pub up : after_fate place.up said ≡ Some arrived
   pub reply : Reply
-  pub replies : replying past arrived (place.refused && is_block arrived) turn.wish ≡ Some reply
+  pub replies : replying past (counts arrived) (place.refused && is_block arrived) turn.wish ≡ Some reply
   pub reply_sent : List ℕ
   pub written : Written (frame_of reply) reply_sent
   pub breaks : Breaks turn.down (sound_of_reply (Some reply)) reply_sent
 
 -- a fate of the turn breaks a rule: that of what is due, or else that of the reply
-pub record BreaksTurn (Breaks : Fate → Sound → List ℕ → Type 0) (blocks : List Block) (past : History) (turn : Turn) (place : SoundTurn) : Type 0 where
+pub record BreaksTurn (Breaks : Fate → Sound → List ℕ → Type 0) (counts : Sound → Sound) (blocks : List Block) (gives_up : Bool) (past : History) (turn : Turn) (place : SoundTurn) : Type 0 where
   pub sent : List ℕ
-  pub due : IsDue blocks past sent
-  pub breaks : Breaks turn.up (sound_of (saying (plan_of blocks) (gives_up_now past) past)) sent
-      ⊎ BreaksDown Breaks past turn place (sound_of (saying (plan_of blocks) (gives_up_now past) past)) sent
+  pub due : IsDue blocks gives_up past sent
+  pub breaks : Breaks turn.up (sound_of (saying (plan_of blocks) gives_up past)) sent
+      ⊎ BreaksDown Breaks counts past turn place (sound_of (saying (plan_of blocks) gives_up past)) sent
+
+-- of one transmission every sound counts
+abbrev pub as_it_is : Sound → Sound
+as_it_is sound = sound
 
 -- turn n, counted from 1, is the first of which a looked-at fate breaks a rule: it comes after the conversation of the turns before it
 pub record BreaksFirst (Breaks : Fate → Sound → List ℕ → Type 0) (blocks : List Block) (turns : List Turn) (places : List SoundTurn) (n : ℕ) : Type 0 where
@@ -127,7 +132,7 @@ pub record BreaksFirst (Breaks : Fate → Sound → List ℕ → Type 0) (blocks
   pub here : slice_get turns (length past) ≡ Some turn
   pub place : SoundTurn
   pub there : slice_get places (length past) ≡ Some place
-  pub breaks : BreaksTurn Breaks blocks past turn place
+  pub breaks : BreaksTurn Breaks as_it_is blocks (gives_up_now past) past turn place
 
 -- the fault holds of driving stations of these jobs over this schedule: the first broken rule, in the first attempt; of memory nothing is
 -- said

@@ -142,7 +142,7 @@ impl<'a> Ends<'a> {
 }
 
 /// What the last hearing in a receiver's trace brought, and whether it was refused: a hearing is told by one event, or by two.
-fn last_hearing(trace: &Trace) -> (Sound, bool)
+pub(crate) fn last_hearing(trace: &Trace) -> (Sound, bool)
     ensures { result ≡ heard_at_end (event_from_end trace.now 1) (event_from_end trace.now 2) }
 {
     let before = sound_in(from_end(trace, 2));
@@ -171,7 +171,7 @@ fn from_end(trace: &Trace, places: usize) -> Option<Event>
 }
 
 /// Refuses bytes that are heard as damage of what was said may not be.
-fn check_damage(fate: &Fate, said: Sound, heard: Sound) -> Result<(), TurnFault>
+pub(crate) fn check_damage(fate: &Fate, said: Sound, heard: Sound) -> Result<(), TurnFault>
     ensures may { OnOk result (MayDamage fate.now said heard) }
     ensures fault { IfErr result (λ fault. fault ≡ Fault.NotDamage) }
     ensures wrong { OnErr result (IsDamaged fate.now × (is_damage said heard ≡ false)) }

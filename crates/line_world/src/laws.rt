@@ -1,7 +1,10 @@
 //! What holds of every run.
 ghost use Rattle.line_world.specs.CleanLine.{CleanLineIsEnough};
 ghost use Rattle.line_world.specs.Fairness.{FairLineIsEnough};
-ghost use Rattle.line_world.specs.Headline.{AreHandedInOrder, AreHandedWhole, HandsFirstJobs, OfRuns};
+ghost use Rattle.line_world.specs.Headline.{AreHandedInOrder, AreHandedWhole, HandsFirstJobs, OfHistories, OfRuns};
+ghost use Rattle.line_world.specs.OneWay.{WithoutDownJobs};
+ghost use Rattle.line_world.specs.PairHeadline.{OfPairRuns};
+ghost use Rattle.line_world.specs.PairRun.{NoDamageNoPair, BadCutNoPair};
 ghost use Rattle.line_world.specs.Plan.{NextIsPlanned};
 ghost use Rattle.line_world.specs.Run.{NoDamageNoConversation, BadCutNoConversation};
 ghost use Rattle.line_world.specs.Turns.{SendingTurns, ReceivingTurns};
@@ -31,6 +34,15 @@ pub fn broken_schedules_have_no_conversation()
     one_hearing();
 }
 
+/// Where a looked-at fate of a schedule of two stations that both have jobs breaks its rule, there is no conversation of the pair with
+/// the same refusals: so no run over it that meets these is Ok.
+pub fn broken_schedules_have_no_pair_conversation()
+    ensures damage { NoDamageNoPair }
+    ensures cuts { BadCutNoPair }
+{
+    one_hearing();
+}
+
 /// On a clean line, a schedule of good turns alone that has one more than there are blocks, a run without a refusal counts every job and
 /// hands out just the jobs.
 pub fn clean_line_is_enough()
@@ -48,6 +60,15 @@ pub fn fair_line_is_enough()
     cut_reads_back();
 }
 
+/// The headline, of every history of the law of agreement, whatever counts for giving up.
+pub fn histories_keep_order()
+    ensures in_order { OfHistories (λ counted given handed. AreHandedInOrder given handed) }
+    ensures counted_whole { OfHistories AreHandedWhole }
+    ensures first_jobs { OfHistories HandsFirstJobs }
+{
+    cut_reads_back();
+}
+
 /// The headline. Whatever the line loses or damages, the records that a run of jobs hands out are a prefix of those given, in order and
 /// each once, and every job that counts as sent was handed out whole. More exactly: the first jobs are handed out as they were given, as
 /// many as are counted or one more, and after them nothing, or a beginning of the next one that isn't whole.
@@ -58,3 +79,20 @@ pub fn runs_keep_order()
 {
     cut_reads_back();
 }
+
+/// The headline, each way of two stations that both have jobs. Whatever the line loses or damages, the records of each station's jobs
+/// that a run of the pair hands out are a prefix of those given, in order and each once, and every job that counts as sent was handed out
+/// whole.
+pub fn pair_runs_keep_order()
+    ensures in_order { OfPairRuns (λ counted given handed. AreHandedInOrder given handed) }
+    ensures counted_whole { OfPairRuns AreHandedWhole }
+    ensures first_jobs { OfPairRuns HandsFirstJobs }
+{
+    histories_keep_order();
+}
+
+/// Where the secondary has no jobs, what a run of a pair tells of the primary's is what a run of them over the same turns tells, and of
+/// the secondary nothing is told.
+pub fn one_way_is_a_run()
+    ensures { WithoutDownJobs }
+{}

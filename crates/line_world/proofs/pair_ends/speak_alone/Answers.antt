@@ -1,0 +1,16 @@
+-- Where the reply isn't carried, the turn comes to nothing.
+use Rattle.std.proofs.Common.{rules, ◌≡◌, Err}
+use Rattle.rje_station.specs.Sending.{IsWrittenOf}
+use Rattle.rje_station.specs.Station.{due_at}
+use Rattle.line_world.proofs.PairCarried.{fault_back}
+use Rattle.line_world.proofs.pair_ends.speak_alone.Goals as goal
+
+pub returns-in_err-heard-in_default : goal.returns-in_err-heard-in_default
+returns-in_err-heard-in_default c =
+    let told : c.from_residual-in_err-heard-in_default.result ≡ Err c.in_err-heard-in_default.field-0.0 = search rules in
+    let across = c.in_ok-arrived.ensures.across in
+    let written : IsWrittenOf (due_at c.args.speaker.now) c.args.speaker.now.sender.rest c.speak.new.line.sent = search rules in
+    rw told (record {
+      spoke = tt;
+      fault = fault_back c.args.turn.now c.args.speaker.now c.args.listener.now c.go_across.new.listener c.speak.new.line.sent c.in_ok-arrived.field-0.arrived c.in_ok-arrived.field-0.refused c.in_ok-arrived.field-0.reply _ written (rw c.in_ok-said.ensures.said at across) c.in_err-heard-in_default.ensures.fault;
+    })
