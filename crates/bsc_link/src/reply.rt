@@ -9,7 +9,7 @@ pub enum Reply {
     Ack1,
     /// Send that again.
     Nak,
-    /// Accepted, but wait before going on.
+    /// Wait before going on: after a block, which was accepted, and after a bid, which isn't granted yet.
     Wack,
     /// Accepted, and please stop.
     Rvi,

@@ -9,9 +9,9 @@ pub enum Sound {
     Ack0,
     /// The acknowledgement of an odd number of blocks.
     Ack1,
-    /// The block is to be sent again.
+    /// The block is to be sent again; or, after a TTD, go on.
     Nak,
-    /// Acknowledged, but wait before going on.
+    /// Wait before going on: the block is acknowledged; or the bid isn't granted yet.
     Wack,
     /// Reverse interrupt: acknowledged, and please stop.
     Rvi,
@@ -27,6 +27,6 @@ pub enum Sound {
     Bad,
     /// Bytes that are no transmission.
     Noise,
-    /// Nothing, until the time was over.
+    /// Nothing but pads and SYN, or nothing at all, until the time was over.
     Quiet,
 }

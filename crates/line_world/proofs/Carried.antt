@@ -1,5 +1,5 @@
 -- What is heard of what a line in memory brings after a fate.
-use Rattle.std.proofs.Common.{◌≡◌, inr, ℕ, Bool, false, List, [], ◌++◌, Option, Some, None, Result, Ok, Err, IfErr, ap, sym, ◌∙◌, subst}
+use Rattle.std.proofs.Common.{◌≡◌, inr, ℕ, Bool, false, List, [], ◌++◌, Option, Some, None, Result, Ok, Err, IfOk, IfErr, ap, sym, ◌∙◌, subst}
 use Rattle.std.specs.List.{flat_map}
 use Rattle.std.proofs.lemmas.List.{append_assoc}
 use Rattle.bsc_frame.specs.declared.heard.Heard.{Heard}
@@ -79,7 +79,7 @@ goes_up turn said sent r r' reply l m arrived refused fits comes g seen may =
 pub goes_down : (turn : Turn) (s s' : Sending) (r r' : Receiving) (sound : Sound) → IsReplyCarried turn.down r.due sound → s' ≡ after_hearing s sound turn.pause → r' ≡ after_replying r
     → GoesDown turn s s' r r' sound
 goes_down turn s s' r r' sound carried sender state =
-    record { carried = carried; sender = sender; core = ap (λ x. x.core) state; jobs = ap (λ x. x.jobs) state; over = ap (λ x. x.over) state }
+    record { carried = carried; sender = sender; core = ap (λ x. x.core) state; jobs = ap (λ x. x.jobs) state; over = ap (λ x. x.over) state; silent = ap (λ x. x.due) state }
 
 -- where no reply is due, nothing comes
 pub nothing_carried : (fate : Fate) (due : Option Reply) (l m : LineInMemory) (sound : Sound) → due ≡ None → flat_map (λ p. p) l.waiting ≡ []
@@ -118,6 +118,11 @@ damage_fault fate said sent sound what fault e wrong h is = rw e (no_damage fate
 pub if_err : {A E : Type 0} (r : Result A E) (P Q : E → Type 0) → ((e : E) → P e → Q e) → IfErr r P → IfErr r Q
 if_err (Ok x) P Q h p = tt
 if_err (Err e) P Q h p = h e p
+
+-- and so of the value of an Ok
+pub if_ok : {A E : Type 0} (r : Result A E) (P Q : A → Type 0) → ((x : A) → P x → Q x) → IfOk r P → IfOk r Q
+if_ok (Ok x) P Q h p = h x p
+if_ok (Err e) P Q h p = tt
 
 pub reply_fault : (fate : Fate) (due : Option Reply) (reply : Reply) (sent : List ℕ) (fault : TurnFault) → Some reply ≡ due → Written (frame_of reply) sent → IsFateFault fate (sound_of_reply (Some reply)) sent fault → IsReplyFault fate due fault
 reply_fault fate due reply sent Fault.OutOfMemory is written h = tt

@@ -35,3 +35,4 @@ pub mod PairTelling
 pub mod PairVain
 pub mod Sends
 pub mod OneWay
+pub mod Calm

@@ -21,12 +21,13 @@ use Rattle.bsc_history.specs.Known.{gives_up_now}
 use Rattle.bsc_history.specs.Outcome.{outcome, outcome_after}
 use Rattle.bsc_history.specs.Conversation.{is_block}
 use Rattle.line_world.specs.Damage.{HasBadCut, IsNoDamage}
+use Rattle.line_world.specs.Drive.{IsDrive}
 use Rattle.line_world.specs.Driving.{TakesTurn, BreaksIn, BreaksReply, IsTurnFault, fault_at}
 use Rattle.bsc_history.specs.Fate.{sound_of, after_fate}
 use Rattle.line_world.specs.Plan.{plan_of}
 use Rattle.bsc_history.specs.ReplyRule.{replying}
 use Rattle.bsc_history.specs.SayingRule.{saying}
-use Rattle.line_world.specs.Run.{TellsTurn, TellsSchedule, IsRun, BreaksTurn, BreaksFirst, IsDriveFault, as_it_is, spoken_of, spoken_turns}
+use Rattle.line_world.specs.Run.{TellsTurn, TellsSchedule, BreaksTurn, BreaksFirst, IsDriveFault, as_it_is, spoken_of, spoken_turns}
 use Rattle.line_world.proofs.Comings.{Told, tell, said_told}
 use Rattle.line_world.proofs.Planned.{begins, blocks_begun, blocks_some}
 use Rattle.bsc_history.proofs.ForRuns.{conversations_are_spoken, sender_core_says}
@@ -54,8 +55,11 @@ outcome_is jobs turns h s r l p =
     let core : outcome_in s.core.place ≡ outcome_after plan h = ap (λ x. outcome_in x.place) p.sends.core ∙ (sender_core_says plan h (begins jobs l) (conversations_are_spoken plan h p.spoken.conversation)).1 in
     ap (λ b. if b then Some Outcome.Done else outcome_in s.core.place) some ∙ core ∙ sym (outcome_plan plan h (plan_some jobs l))
 
+no_jobs : (jobs : List Job) → 0 < length jobs → jobs ≡ [] → ⊥
+no_jobs jobs l none = omega (arith, l, ap length none)
+
 whole_run : Laws → (jobs : List Job) (turns : List Turn) (h : History) (s : Sending) (r : Receiving) → 0 < length jobs → StandsRun jobs turns h s r → (length h ≡ length turns) ⊎ (is_over h ≡ true)
-    → IsRun jobs turns (spoken_turns h) r.jobs s.counted (outcome_of s)
+    → IsDrive jobs turns (spoken_turns h) s r
 whole_run laws jobs turns h s r l p whole =
     let rest = told_any laws.every (drop (length h) turns) in
     let places = p.before ++ rest.0 in
@@ -63,31 +67,37 @@ whole_run laws jobs turns h s r l p whole =
     subst (λ xs. TellsSchedule xs places) (take-append-drop (length h) turns) (told_append (take (length h) turns) (drop (length h) turns) p.before rest.0 p.told rest.1) in
     let ended : (length h ≡ length places) ⊎ (is_over h ≡ true) = elim whole [ inl long ↦ inl (long ∙ told_length turns places told) | inr over ↦ inr over ] in
     record {
-      history = h;
-      places = places;
-      conversation = record {
-        told = told;
-        conversation = record { empty = λ none. absurd (plan_some jobs l none); spoken = spoken_longer (plan_of (blocks jobs)) p.before rest.0 h p.spoken; whole = inr ended };
-        fits = p.fits;
+      run = record {
+        history = h;
+        places = places;
+        conversation = record {
+          told = told;
+          conversation = record { empty = λ none. absurd (plan_some jobs l none); spoken = spoken_longer (plan_of (blocks jobs)) p.before rest.0 h p.spoken; whole = inr ended };
+          fits = p.fits;
+        };
+        spoken_is = refl;
+        handed_is = p.receives.jobs;
+        counted_is = p.sends.counted.counted;
+        ending_is = outcome_is jobs turns h s r l p;
       };
-      spoken_is = refl;
-      handed_is = p.receives.jobs;
-      counted_is = p.sends.counted.counted;
-      ending_is = outcome_is jobs turns h s r l p;
+      stand = record { idle = λ none. absurd (no_jobs jobs l none); sends = λ some. p.sends; receives = p.receives; silent = p.silent };
     }
 
 -- with no jobs nothing is said
-empty_run : Laws → (turns : List Turn) → IsRun [] turns [] first_receiving.jobs (first_sending []).counted (outcome_of (first_sending []))
+empty_run : Laws → (turns : List Turn) → IsDrive [] turns [] (first_sending []) first_receiving
 empty_run laws turns =
     let told = told_any laws.every turns in
     record {
-      history = [];
-      places = told.0;
-      conversation = record { told = told.1; conversation = record { empty = λ none. refl; spoken = record { conversation = tt; placed = tt }; whole = inl refl }; fits = tt };
-      spoken_is = refl;
-      handed_is = refl;
-      counted_is = refl;
-      ending_is = refl;
+      run = record {
+        history = [];
+        places = told.0;
+        conversation = record { told = told.1; conversation = record { empty = λ none. refl; spoken = record { conversation = tt; placed = tt }; whole = inl refl }; fits = tt };
+        spoken_is = refl;
+        handed_is = refl;
+        counted_is = refl;
+        ending_is = refl;
+      };
+      stand = record { idle = λ none. (refl, refl); sends = λ some. absurd (some refl); receives = record { core = refl; jobs = refl; over = λ e. refl }; silent = refl };
     }
 
 -- ---- A broken rule.
@@ -184,6 +194,7 @@ stands_first jobs turns l = record {
   fits = tt;
   sends = record { jobs_are = refl; core = refl; counted = record { rest = refl; counted = refl }; over = some_jobs jobs l };
   receives = record { core = refl; jobs = refl; over = λ e. refl };
+  silent = refl;
 }
 
 first_of : (jobs : List Job) (turns : List Turn) → Running jobs turns 0 [] (first_sending jobs) first_receiving
@@ -213,17 +224,24 @@ running_more laws jobs turns n spoken spoken' s s' r r' turn t p here took more 
 ]
 
 whole_if : Laws → (jobs : List Job) (turns : List Turn) (n : ℕ) (spoken : List Spoken) (s : Sending) (r : Receiving) → (p : Running jobs turns n spoken s r) → (StandsRun jobs turns p.history s r → (length p.history ≡ length turns) ⊎ (is_over p.history ≡ true))
-    → IsRun jobs turns spoken r.jobs s.counted (outcome_of s)
+    → IsDrive jobs turns spoken s r
 whole_if laws jobs turns n spoken s r p whole = elim p.stands [
   | inl idle ↦ rw (idle.none, p.spoken_is, idle.silent, idle.sender, idle.receiver) (empty_run laws turns)
   | inr (l, stands) ↦ rw p.spoken_is (whole_run laws jobs turns p.history s r l stands (whole stands))
 ]
 
-pub running_over : Laws → (jobs : List Job) (turns : List Turn) (n : ℕ) (spoken : List Spoken) (s : Sending) (r : Receiving) → Running jobs turns n spoken s r → s.over ≡ true → IsRun jobs turns spoken r.jobs s.counted (outcome_of s)
+pub running_over : Laws → (jobs : List Job) (turns : List Turn) (n : ℕ) (spoken : List Spoken) (s : Sending) (r : Receiving) → Running jobs turns n spoken s r → s.over ≡ true → IsDrive jobs turns spoken s r
 running_over laws jobs turns n spoken s r p over = whole_if laws jobs turns n spoken s r p (λ stands. inr (sym stands.sends.over ∙ over))
 
-pub running_out : Laws → (jobs : List Job) (turns : List Turn) (n : ℕ) (spoken : List Spoken) (s : Sending) (r : Receiving) → Running jobs turns n spoken s r → n ≡ length turns → IsRun jobs turns spoken r.jobs s.counted (outcome_of s)
+pub running_out : Laws → (jobs : List Job) (turns : List Turn) (n : ℕ) (spoken : List Spoken) (s : Sending) (r : Receiving) → Running jobs turns n spoken s r → n ≡ length turns → IsDrive jobs turns spoken s r
 running_out laws jobs turns n spoken s r p out = whole_if laws jobs turns n spoken s r p (λ stands. inl (p.long ∙ out))
+
+-- while the sending station isn't over, neither is the receiving one
+pub running_live : (jobs : List Job) (turns : List Turn) (n : ℕ) (spoken : List Spoken) (s : Sending) (r : Receiving) → Running jobs turns n spoken s r → s.over ≡ false → r.over ≡ false
+running_live jobs turns n spoken s r p live = elim p.stands [
+  | inl idle ↦ absurd (true≢false (sym (idle_over jobs p.history s r idle) ∙ live))
+  | inr (l, stands) ↦ stands.receives.over (goes_on jobs turns p.history s r stands live)
+]
 
 pub running_jobs : (jobs : List Job) (turns : List Turn) (n : ℕ) (spoken : List Spoken) (s : Sending) (r : Receiving) → Running jobs turns n spoken s r → s.jobs ≡ jobs
 running_jobs jobs turns n spoken s r p = elim p.stands [

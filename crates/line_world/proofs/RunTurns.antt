@@ -55,6 +55,7 @@ pub record StandsRun (jobs : List Job) (turns : List Turn) (h : History) (s : Se
   pub fits : AllFit (blocks jobs) turns h
   pub sends : StandsSending jobs h s
   pub receives : StandsReceiving (blocks jobs) h r
+  pub silent : r.due ≡ None
 
 -- the turn with the wish and the pause of its place
 abbrev pub turn_of : Turn → Spoken → SpokenTurn
@@ -96,9 +97,10 @@ record IsDown (turn : Turn) (s s' : Sending) (middle r' : Receiving) (t : Spoken
   core : r'.core ≡ middle.core
   jobs : r'.jobs ≡ middle.jobs
   over : r'.over ≡ middle.over
+  silent : r'.due ≡ None
 
-down_ends : Laws → (turn : Turn) (s s' : Sending) (middle r' : Receiving) (t : Spoken) → t.said ≡ Say.End → t.reply ≡ None → GoesDownAfter Say.End turn (after_speaking s) s' middle r' t.heard → IsDown turn s s' middle r' t
-down_ends laws turn s s' middle r' t end none (sender, receiver, quiet) =
+down_ends : Laws → (turn : Turn) (s s' : Sending) (middle r' : Receiving) (t : Spoken) → t.said ≡ Say.End → t.reply ≡ None → t.reply ≡ middle.due → GoesDownAfter Say.End turn (after_speaking s) s' middle r' t.heard → IsDown turn s s' middle r' t
+down_ends laws turn s s' middle r' t end none due (sender, receiver, quiet) =
     let told = tell laws.every turn.down in
     record {
       down = record {
@@ -109,6 +111,7 @@ down_ends laws turn s s' middle r' t end none (sender, receiver, quiet) =
       core = ap (λ x. x.core) receiver;
       jobs = ap (λ x. x.jobs) receiver;
       over = ap (λ x. x.over) receiver;
+      silent = ap (λ x. x.due) receiver ∙ sym due ∙ none;
     }
 
 down_more : (say : Say) (turn : Turn) (s s' : Sending) (r r' : Receiving) (heard : Sound) → say ≢ Say.End → GoesDownAfter say turn s s' r r' heard → GoesDown turn s s' r r' heard
@@ -129,6 +132,7 @@ down_hears laws turn s s' middle r' t more due d =
       core = d.core;
       jobs = d.jobs;
       over = d.over;
+      silent = d.silent;
     }
 
 -- an EOT isn't answered
@@ -164,7 +168,7 @@ module _ (laws : Laws) (jobs : List Job) (turns : List Turn) (h : History) (s s'
     | inl end ↦
         let none : t.reply ≡ None = unanswered h t.said t turn.wish end (up_told.told, up_after) replied in
         let after : GoesDownAfter Say.End turn (after_speaking s) s' took.middle r' t.heard = subst (λ x. GoesDownAfter x turn (after_speaking s) s' took.middle r' t.heard) (sym took.said ∙ end) took.down in
-        down_ends laws turn s s' took.middle r' t end none after
+        down_ends laws turn s s' took.middle r' t end none took.up.reply_is after
     | inr more ↦
         down_hears laws turn s s' took.middle r' t more took.up.reply_is (down_more (say_in s.core.place) turn (after_speaking s) s' took.middle r' t.heard (λ e. more (took.said ∙ e)) took.down)
   ]
@@ -225,4 +229,5 @@ module _ (laws : Laws) (jobs : List Job) (turns : List Turn) (h : History) (s s'
       jobs = is_down.jobs ∙ received.jobs;
       over = λ e. is_down.over ∙ received.over e;
     };
+    silent = is_down.silent;
   }

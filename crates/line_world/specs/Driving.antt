@@ -80,6 +80,7 @@ pub record GoesDown (turn : Turn) (s s' : Sending) (r r' : Receiving) (heard : S
   pub core : r'.core ≡ r.core
   pub jobs : r'.jobs ≡ r.jobs
   pub over : r'.over ≡ r.over
+  pub silent : r'.due ≡ None
 
 -- ---- One turn.
 

@@ -15,3 +15,4 @@ pub mod PairRun
 pub mod PairHeadline
 pub mod PairDriving
 pub mod OneWay
+pub mod Drive

@@ -20,6 +20,8 @@ pub(crate) fn carry(
     to: &mut MemoryLine,
 ) -> Result<(), TurnFault>
     ensures fits { OnOk result (Fits fate.now from.now.sent) }
+    ensures short { OnOk result (length (flat_map (λ p. p) to.new.waiting) ≤ 8192) }
+    ensures calm { to.new.until_failure ≡ to.old.until_failure }
     ensures comes { OnOk result (flat_map (λ p. p) to.new.waiting ≡ bytes_after fate.now from.now.sent) }
     ensures fault { IfErr result (λ fault. (said : Sound) → IsFateFault fate.now said from.now.sent fault) }
 {

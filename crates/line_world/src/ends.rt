@@ -1,5 +1,5 @@
 //! Both ends of a line: two stations, each at its own line in memory.
-ghost use Rattle.std.specs.Prelude.{◌≡◌, false, IfOk, OnOk, IfErr, OnErr};
+ghost use Rattle.std.specs.Prelude.{◌≡◌, true, false, None, IfOk, OnOk, IfErr, OnErr};
 ghost use Rattle.bsc_history.specs.Fate.{is_damage_of as is_damage, sound_of as up_sound};
 ghost use Rattle.line_world.specs.declared.turn_fault.TurnFault.TheVariants as Fault;
 ghost use Rattle.line_world.specs.Arrival.{from_end as event_from_end, sound_told, heard_at_end};
@@ -7,6 +7,7 @@ ghost use Rattle.line_world.specs.Driving.{MayDamage, IsDamaged, IsFateFault, Go
 
 use crate::carrying::carry;
 use crate::turn_fault::TurnFault;
+use crate::unfailing::{hear_down, hear_up, speak_down};
 use crate::{Driven, Fate, MemoryLine, Spoken, Turn};
 use bsc_history::{is_damage_of, sound_of, sound_of_reply};
 use bsc_link::{Reply, Say, Sound};
@@ -38,6 +39,8 @@ impl<'a> Ends<'a> {
     ) -> Ends<'a>
         ensures sender { result.sender ≡ sender.entry }
         ensures receiver { result.receiver ≡ receiver }
+        ensures sending { result.sending_line.until_failure ≡ 0 }
+        ensures receiving { result.receiving_line.until_failure ≡ 0 }
     {
         Ends {
             sender,
@@ -72,13 +75,18 @@ impl<'a> Ends<'a> {
         alloc: Global,
         turn: &Turn,
     ) -> Result<Option<Spoken>, TurnFault>
+        requires sending { self.old.sending_line.until_failure ≡ 0 }
+        requires receiving { self.old.receiving_line.until_failure ≡ 0 }
+        requires live { self.old.sender.over ≡ false → self.old.receiver.over ≡ false }
+        ensures sending { OnOk result (self.new.sending_line.until_failure ≡ 0) }
+        ensures receiving { OnOk result (self.new.receiving_line.until_failure ≡ 0) }
         ensures taken { IfOk result (λ spoken. Takes spoken turn.now self.old.sender self.new.sender self.old.receiver self.new.receiver) }
         ensures fault { IfErr result (IsTurnFault turn.now self.old.sender self.old.receiver) }
     {
         let said = match self.sender.speak(&mut self.sending_line) {
             Ok(said) => said,
             Err(StationFault::Over) => return Ok(None),
-            Err(fault) => return Err(fault.into()),
+            Err(_) => unreachable!(),
         };
         let Arrival {
             arrived,
@@ -100,6 +108,11 @@ impl<'a> Ends<'a> {
 
     /// What the sender sent comes to the receiver, which takes one step.
     fn go_up(&mut self, alloc: Global, said: Say, turn: &Turn) -> Result<Arrival, TurnFault>
+        requires receiving { self.old.receiving_line.until_failure ≡ 0 }
+        requires live { self.old.receiver.over ≡ false }
+        ensures sending { OnOk result (self.new.sending_line ≡ self.old.sending_line) }
+        ensures receiving { OnOk result (self.new.receiving_line.until_failure ≡ 0) }
+        ensures owes { OnOk result (self.new.receiver.over ≡ true → self.new.receiver.due ≡ None) }
         ensures up { IfOk result (λ a. GoesUp turn.now (up_sound said) self.old.sending_line.sent self.old.receiver self.new.receiver a.arrived a.refused a.reply) }
         ensures sender { OnOk result (self.new.sender ≡ self.old.sender) }
         ensures fault { IfErr result (IsFateFault turn.now.up (up_sound said) self.old.sending_line.sent) }
@@ -110,7 +123,7 @@ impl<'a> Ends<'a> {
             &self.sending_line,
             &mut self.receiving_line,
         )?;
-        let reply = self.receiver.hear(&mut self.receiving_line, turn.wish)?;
+        let reply = hear_up(&mut self.receiver, &mut self.receiving_line, turn.wish);
         let (arrived, refused) = last_hearing(self.receiver.trace());
         check_damage(&turn.up, sound_of(said), arrived)?;
         Ok(Arrival {
@@ -122,12 +135,18 @@ impl<'a> Ends<'a> {
 
     /// The reply that is due comes to the sender, which takes one step.
     fn go_down(&mut self, alloc: Global, turn: &Turn) -> Result<Sound, TurnFault>
+        requires sending { self.old.sending_line.until_failure ≡ 0 }
+        requires receiving { self.old.receiving_line.until_failure ≡ 0 }
+        requires live { self.old.sender.over ≡ false }
+        requires owes { self.old.receiver.over ≡ true → self.old.receiver.due ≡ None }
+        ensures sending { OnOk result (self.new.sending_line.until_failure ≡ 0) }
+        ensures receiving { OnOk result (self.new.receiving_line.until_failure ≡ 0) }
         ensures down { IfOk result (λ heard. GoesDown turn.now self.old.sender self.new.sender self.old.receiver self.new.receiver heard) }
         ensures fault { IfErr result (IsReplyFault turn.now.down self.old.receiver.due) }
     {
-        let Some(reply) = self.receiver.speak(&mut self.receiving_line)? else {
+        let Some(reply) = speak_down(&mut self.receiver, &mut self.receiving_line) else {
             self.sending_line.put(Vec::new(alloc));
-            return Ok(self.sender.hear(&mut self.sending_line, turn.pause)?);
+            return Ok(hear_down(&mut self.sender, &mut self.sending_line, turn.pause));
         };
         carry(
             alloc,
@@ -135,7 +154,7 @@ impl<'a> Ends<'a> {
             &self.receiving_line,
             &mut self.sending_line,
         )?;
-        let heard = self.sender.hear(&mut self.sending_line, turn.pause)?;
+        let heard = hear_down(&mut self.sender, &mut self.sending_line, turn.pause);
         check_damage(&turn.down, sound_of_reply(Some(reply)), heard)?;
         Ok(heard)
     }

@@ -24,6 +24,7 @@ mod speaking;
 mod spoken;
 mod turn;
 mod turn_fault;
+mod unfailing;
 mod world_fault;
 
 pub use bsc_history::Bids;

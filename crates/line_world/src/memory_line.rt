@@ -1,7 +1,7 @@
 //! A line in memory.
-ghost use Rattle.std.specs.Prelude.{◌≡◌, ◌≢◌, ◌⊎◌, ◌<◌, ◌≤◌, ◌↔◌, ◌==◌, ◌||◌, length, map, min, take, drop, IfOk, OnOk, IfErr, OnErr, IsErr, IsTrue, true, false};
-ghost use Rattle.rje_station.specs.Line.{Rose, Sends, Hears, IsWithin};
-ghost use Rattle.line_world.specs.MemoryLine.{empty_line, pieces_in, ready, given_to, left_by, came_with, laid, talk_of, after_put, after_fail_at, after_call, after_transmitting, after_listening};
+ghost use Rattle.std.specs.Prelude.{◌≡◌, ◌≢◌, ◌⊎◌, ◌<◌, ◌≤◌, ◌+◌, ℕ, Some, ◌↔◌, ◌==◌, ◌||◌, length, map, min, take, drop, IfOk, OnOk, IfErr, OnErr, IsErr, IsTrue, true, false};
+ghost use Rattle.rje_station.specs.Line.{Rose, Sends, Hears, IsWithin, one_more};
+ghost use Rattle.line_world.specs.MemoryLine.{empty_line, pieces_in, ready, given_to, left_by, came_with, laid, talk_of, may_fail_on, last_fault_of, after_put, after_fail_at, after_call, after_failing, after_transmitting, after_listening};
 
 use arrayvec::ArrayVec;
 use rje_station::{Came, Line, LineFault};
@@ -19,6 +19,8 @@ pub struct MemoryLine {
     piece: usize,
     given: usize,
     sent: ArrayVec<u8, 1033>,
+    // How many transmissions were begun.
+    transmissions: u64,
     failures: u64,
     // Which call from now on fails, from 1; 0: none.
     until_failure: u64,
@@ -33,6 +35,7 @@ impl Model for MemoryLine {
     ghost view = { λ l. record {
       waiting = pieces_in (λ p. p.items) l.given (drop l.piece l.pieces.items);
       sent = l.sent.items;
+      transmissions = l.transmissions;
       failures = l.failures;
       until_failure = l.until_failure;
     } };
@@ -48,6 +51,7 @@ impl MemoryLine {
             piece: 0,
             given: 0,
             sent: ArrayVec::new(),
+            transmissions: 0,
             failures: 0,
             until_failure: 0,
         }
@@ -64,7 +68,8 @@ impl MemoryLine {
 
     /// The last transmission.
     pub fn sent(&self) -> &[u8]
-        ensures { result.now ≡ self.now.sent }
+        ensures sent { result.now ≡ self.now.sent }
+        ensures short { length self.now.sent ≤ 1033 }
     {
         self.sent.as_slice()
     }
@@ -96,19 +101,31 @@ impl Line for MemoryLine {
 
     ghost failures = { λ line. line.failures };
 
+    ghost transmissions = { λ line. line.transmissions };
+
+    ghost last_fault = { last_fault_of };
+
+    ghost may_fail = { may_fail_on };
+
     ghost talk = { λ line. Some (talk_of line) };
 
     fn transmit(&mut self, bytes: &[u8]) -> Result<(), LineFault>
         ensures grows { self.old.failures ≤ self.new.failures }
         ensures failed { OnErr result (Rose self.old.failures self.new.failures) }
+        ensures may { OnErr result (may_fail_on self.old (length bytes.now) 0) }
+        ensures last { IfErr result (λ fault. last_fault_of self.new ≡ Some fault) }
+        ensures same { OnOk result (last_fault_of self.new ≡ last_fault_of self.old) }
+        ensures ages { (bytes calls : ℕ) → may_fail_on self.new bytes calls → may_fail_on self.old bytes (1 + calls) }
+        ensures begun { self.new.transmissions ≡ one_more self.old.transmissions }
         ensures sent { OnOk result (Sends bytes.now (talk_of self.old) (talk_of self.new)) }
 
         // The call fails that was named, and a transmission of more than 1,033 bytes; nothing else does.
         ensures only { IsErr result ↔ ((self.old.until_failure ≡ 1) ⊎ (1033 < length bytes.now)) }
         ensures fault { IfErr result (λ fault. fault ≡ LineFault.Failed) }
         ensures kept { OnOk result (self.new ≡ after_transmitting bytes.now self.old) }
-        ensures unchanged { OnErr result (self.new ≡ after_call true self.old) }
+        ensures unchanged { OnErr result (self.new ≡ after_failing self.old) }
     {
+        self.transmissions = self.transmissions.saturating_add(1);
         if self.fails(MAX_TRANSMISSION < bytes.len()) {
             return Err(LineFault::Failed);
         }
@@ -123,6 +140,11 @@ impl Line for MemoryLine {
         requires room { 0 < length piece.old }
         ensures grows { self.old.failures ≤ self.new.failures }
         ensures failed { OnErr result (Rose self.old.failures self.new.failures) }
+        ensures may { OnErr result (may_fail_on self.old 0 0) }
+        ensures last { IfErr result (λ fault. last_fault_of self.new ≡ Some fault) }
+        ensures same { OnOk result (last_fault_of self.new ≡ last_fault_of self.old) }
+        ensures ages { (bytes calls : ℕ) → may_fail_on self.new bytes calls → may_fail_on self.old bytes (1 + calls) }
+        ensures none { self.new.transmissions ≡ self.old.transmissions }
         ensures within { IfOk result (λ came. IsWithin came (length piece.new)) }
         ensures heard { IfOk result (λ came. Hears came piece.new (talk_of self.old) (talk_of self.new)) }
 

@@ -39,7 +39,8 @@ impl From<AllocError> for TurnFault {
     }
 }
 
-/// A line in memory of which no call is named to fail fails only where a buffer has no room, which is want of memory.
+/// For the turns of a pair, whose stations can't fail: no call of their lines in memory is named to fail, and no transmission is too long.
+/// No contract says so yet, so the fault needs an answer.
 impl From<StationFault> for TurnFault {
     ghost from_gives = { λ _ fault. fault ≡ OutOfMemory };
 

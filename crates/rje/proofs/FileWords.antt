@@ -1,6 +1,6 @@
 -- What clap makes of a command's words: what is found of its files and options.
 use Rattle.std.proofs.Common.{ℕ, List, [], ◌∷◌, ◌≡◌, ◌==◌, arith, Option, Some, None, Bool, true, false, refl, codes, not, ap, ◌∙◌}
-use Rattle.std.specs.Prelude.{option_map, option_and_then, unwrap_or}
+use Rattle.std.specs.Prelude.{option_map, unwrap_or}
 use Rattle.std.proofs.lemmas.Bool.Decides.{nat_tests}
 use Rattle.clap.specs.Words.{Row, Text, first_of, subcommand_of, takes, is_simple, subcommand_rows_of, subcommand_name_of}
 use Rattle.clap.specs.declared.parser.ArgMatches.{ArgMatches}

@@ -1,5 +1,5 @@
 //! A line over a connection.
-ghost use Rattle.std.specs.Prelude.{◌≡◌, ◌+◌, ◌-◌, ◌^◌, ◌≤◌, min, None};
+ghost use Rattle.std.specs.Prelude.{◌≡◌, ◌+◌, ◌-◌, ◌^◌, ◌≤◌, min, None, ⊤};
 
 use rje_station::{Came, Line, LineFault};
 use std::io::{self, ErrorKind, Read, Write};
@@ -10,7 +10,10 @@ use std::time::Duration;
 #[derive(Drop)]
 pub struct SocketLine<S> {
     stream: S,
+    // How many transmissions were begun.
+    transmissions: u64,
     failures: u64,
+    last_fault: Option<LineFault>,
 }
 
 impl<S: OpenStream + Drop> SocketLine<S> {
@@ -20,7 +23,9 @@ impl<S: OpenStream + Drop> SocketLine<S> {
         stream.set_read_timeout(Some(Duration::from_millis(u64::from(milliseconds))))?;
         Ok(SocketLine {
             stream,
+            transmissions: 0,
             failures: 0,
+            last_fault: None,
         })
     }
 }
@@ -30,7 +35,11 @@ impl<S> SocketLine<S> {
     fn failed(&mut self, fault: LineFault) -> LineFault
         ensures counted { self.new.failures ≡ min (self.old.failures + 1) (2 ^ 64 - 1) }
         ensures grows { self.old.failures ≤ self.new.failures }
+        ensures none { self.new.transmissions ≡ self.old.transmissions }
+        ensures told { result ≡ fault }
+        ensures last { self.new.last_fault ≡ Some fault }
     {
+        self.last_fault = Some(fault);
         self.failures = self.failures.saturating_add(1);
         fault
     }
@@ -39,9 +48,17 @@ impl<S> SocketLine<S> {
 impl<S: Read + Write> Line for SocketLine<S> {
     ghost failures = { λ line. line.failures };
 
+    ghost transmissions = { λ line. line.transmissions };
+
+    ghost last_fault = { λ line. line.last_fault };
+
+    // Any call may fail.
+    ghost may_fail = { λ _ _ _. ⊤ };
+
     ghost talk = { λ _. None };
 
     fn transmit(&mut self, bytes: &[u8]) -> Result<(), LineFault> {
+        self.transmissions = self.transmissions.saturating_add(1);
         match self.stream.write_all(bytes) {
             Ok(()) => Ok(()),
             Err(_) => Err(self.failed(LineFault::Failed)),

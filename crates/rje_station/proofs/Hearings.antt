@@ -110,3 +110,16 @@ babbled p room n k piece cut t u v s h e kr over within told =
       many = omega (arith, s.counted, over, within, length-append s.fed w, length-take n piece);
       no_frame = subst HasNoFrame (sym first) (told s.fed s.taken);
     }
+
+-- no frame yet: more bytes were fed, and all that came
+pub fed_more : (p q : HeardSoFar) (room n k : ℕ) (piece cut : List ℕ) (t u v : Talk) → FedSo p room t u → Hears (Bytes n) piece u v
+    → cut ≡ take k piece → k ≡ n → n ≤ room → n ≤ length piece
+    → ((bytes : List ℕ) → HasTaken p bytes → HasTaken q (bytes ++ cut)) → FedSo q (room - n) t v
+fed_more p q room n k piece cut t u v s h e kn nr within on =
+    record {
+      fed = s.fed ++ cut;
+      came = s.came ∙ ap (λ x. s.fed ++ x) (h.0 ∙ ap (λ x. x ++ v.coming) (ap (λ m. take m piece) (sym kn) ∙ sym e)) ∙ sym (append_assoc s.fed cut v.coming);
+      taken = on s.fed s.taken;
+      counted = omega (arith, s.counted, nr, kn, within, length-append s.fed cut, ap length e, length-take k piece);
+      sent = h.1 ∙ s.sent;
+    }

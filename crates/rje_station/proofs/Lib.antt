@@ -5,3 +5,5 @@ pub mod Steps
 pub mod Joining
 pub mod LastEvents
 pub mod Counting
+pub mod Ages
+pub mod Said

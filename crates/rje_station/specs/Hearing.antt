@@ -9,6 +9,7 @@ use Rattle.bsc_frame.specs.Heard.{IsHeard}
 use Rattle.bsc_link.specs.declared.sound.Sound.{Sound}
 use Rattle.rje_station.specs.declared.hear_fault.HearFault.{HearFault}
 use Rattle.rje_station.specs.declared.hear_fault.HearFault.TheVariants.{Lost, Babble}
+use Rattle.rje_station.specs.declared.line_fault.LineFault.{LineFault}
 use Rattle.rje_station.specs.Line.{Talk}
 
 -- a frame, as the link cores take it
@@ -62,6 +63,6 @@ pub record Babbling (t u : Talk) : Type 0 where
   pub no_frame : HasNoFrame (take 8192 given)
 
 -- why nothing was heard: one fact for a line that failed, one for babble; a private function's contract cites it
-abbrev pub IsLost : Type 0 → Type 0 → HearFault → Type 0
-IsLost failed babbled (Lost fault) = failed
+abbrev pub IsLost : (LineFault → Type 0) → Type 0 → HearFault → Type 0
+IsLost failed babbled (Lost fault) = failed fault
 IsLost failed babbled Babble = babbled

@@ -1,5 +1,5 @@
 -- A receiving station: what it holds, what it sends, and what each call makes of it (own profile, over the link tables of bsc_link).
-use Rattle.std.specs.Prelude.{◌≡◌, Bool, true, false, List, [], ◌∷◌, ◌++◌, Option, Some, None, if◌then◌else◌}
+use Rattle.std.specs.Prelude.{◌≡◌, Bool, true, false, List, [], ◌∷◌, ◌++◌, ℕ, Option, Some, None, if◌then◌else◌}
 use Rattle.bsc_frame.specs.declared.frame.Frame.{Frame}
 use Rattle.bsc_frame.specs.declared.frame.Frame.TheVariants as frame
 use Rattle.bsc_frame.specs.declared.heard.Heard.{Heard}
@@ -19,7 +19,7 @@ use Rattle.rje_station.specs.declared.station_fault.StationFault.{StationFault}
 use Rattle.rje_station.specs.declared.station_fault.StationFault.TheVariants as fault
 use Rattle.rje_station.specs.Hearing.{sound_of}
 use Rattle.rje_station.specs.JoinedJobs.{with_block, begun_in}
-use Rattle.rje_station.specs.Line.{Talk}
+use Rattle.rje_station.specs.Line.{Talk, one_more}
 use Rattle.rje_station.specs.Trace.{last_events}
 
 -- a receiving station
@@ -98,6 +98,11 @@ frame_of Reply.Rvi = frame.Rvi
 abbrev pub Replied : Option Reply → Talk → Talk → Type 0
 Replied None t u = u ≡ t
 Replied (Some reply) t u = Written (frame_of reply) u.sent × (u.coming ≡ t.coming)
+
+-- the number of transmissions: one more where a reply was due, and else as before
+abbrev pub with_reply : Option Reply → ℕ → ℕ
+with_reply None n = n
+with_reply (Some reply) n = one_more n
 
 -- a reply that was sent is noted
 abbrev pub trace_after_reply : Option Reply → List Event → List Event

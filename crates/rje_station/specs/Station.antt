@@ -1,5 +1,5 @@
 -- A station that sends and receives: what it holds, and what each call makes of it (own profile, over the tables of bsc_link).
-use Rattle.std.specs.Prelude.{◌≡◌, Bool, true, false, ◌||◌, List, [], ◌∷◌, ◌++◌, Option, None, if◌then◌else◌}
+use Rattle.std.specs.Prelude.{◌≡◌, ℕ, Bool, true, false, ◌||◌, List, [], ◌∷◌, ◌++◌, Option, None, if◌then◌else◌}
 use Rattle.bsc_codes.specs.declared.block.Block.{Block}
 use Rattle.bsc_frame.specs.declared.heard.Heard.{Heard}
 use Rattle.bsc_link.specs.declared.contender_place.ContenderPlace.{ContenderPlace}
@@ -16,7 +16,7 @@ use Rattle.rje_station.specs.declared.station_fault.StationFault.{StationFault}
 use Rattle.rje_station.specs.declared.station_fault.StationFault.TheVariants as fault
 use Rattle.rje_station.specs.Hearing.{sound_of, HearsSound}
 use Rattle.rje_station.specs.JoinedJobs.{begun_in}
-use Rattle.rje_station.specs.Line.{Talk, Passes}
+use Rattle.rje_station.specs.Line.{Talk, Passes, one_more}
 use Rattle.rje_station.specs.Receiving.{Receiving, first_receiving, MayRefuse, after_receiving, after_replying, after_abandon}
 use Rattle.rje_station.specs.Receiving.{after_fault as receiver_lost}
 use Rattle.rje_station.specs.Sending.{Sending, first_sending, Spoke, after_speaking, after_hearing}
@@ -66,6 +66,11 @@ after_own_speaking s = elim (due_at s) [
 abbrev pub SpokeDue : Say → List Block → Talk → Talk → Type 0
 SpokeDue Say.Nothing rest t u = u ≡ t
 SpokeDue say rest t u = Spoke say rest t u
+
+-- what is due is one transmission
+abbrev pub with_said : Say → ℕ → ℕ
+with_said Say.Nothing n = n
+with_said _ n = one_more n
 
 -- where something was due it was this; where nothing was the line is as it was
 abbrev pub IfSilent : Say → Type 0 → Type 0

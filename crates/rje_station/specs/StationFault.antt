@@ -3,17 +3,23 @@ use Rattle.std.specs.Prelude.{◌≡◌, ℕ, ◌+◌, Bool, true, false, List, 
 use Rattle.std.specs.List.{AllByRecursion}
 use Rattle.rje_jobs.specs.declared.job.Job.{Job}
 use Rattle.rje_jobs.specs.Fitting.{JobFits}
+use Rattle.rje_station.specs.declared.line_fault.LineFault.{LineFault}
 use Rattle.rje_station.specs.declared.station_fault.StationFault.{StationFault}
 use Rattle.rje_station.specs.declared.station_fault.StationFault.TheVariants as fault
 
--- Why a station, which was over before or not, didn't speak or hear: the line failed, it babbled, or the station was over. There is no
+-- Why a station, which was over before or not, didn't speak or hear: the line failed and this is its fault, it babbled, or the station was over. There is no
 -- other cause.
-abbrev pub IsCause : Type 0 → Type 0 → Bool → StationFault → Type 0
-IsCause failed babbled over (fault.Line f) = failed × (over ≡ false)
+abbrev pub IsCause : (LineFault → Type 0) → Type 0 → Bool → StationFault → Type 0
+IsCause failed babbled over (fault.Line f) = failed f × (over ≡ false)
 IsCause failed babbled over fault.Babble = babbled × (over ≡ false)
 IsCause failed babbled over fault.Over = over ≡ true
 IsCause failed babbled over (fault.BadJob number) = ⊥
 IsCause failed babbled over fault.OutOfMemory = ⊥
+
+-- what holds where the line failed
+abbrev pub IfLine : StationFault → Type 0 → Type 0
+IfLine (fault.Line f) P = P
+IfLine f P = Unit {0}
 
 -- what holds where a station was over before
 abbrev pub IfOver : StationFault → Type 0 → Type 0

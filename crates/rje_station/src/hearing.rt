@@ -1,6 +1,6 @@
 //! One hearing.
-ghost use Rattle.std.specs.Prelude.{◌≤◌, IfOk, IfErr};
-ghost use Rattle.rje_station.specs.Line.{Passes, Rose};
+ghost use Rattle.std.specs.Prelude.{◌≡◌, ◌≤◌, IfOk, IfErr};
+ghost use Rattle.rje_station.specs.Line.{Passes, Ages, MayNotHear, Fails};
 ghost use Rattle.rje_station.specs.Hearing.{IsLost, Hearing, Babbling};
 
 use crate::hear_fault::HearFault;
@@ -13,8 +13,10 @@ pub const MAX_HEARD: usize = 8192;
 /// Listens until a frame came or the line is quiet. Each piece goes to the listener as it comes, and bytes behind a frame are dropped.
 pub(crate) fn hear<L: Line>(line: &mut L) -> Result<Heard, HearFault>
     ensures grows { L.failures line.old ≤ L.failures line.new }
+    ensures none { L.transmissions line.new ≡ L.transmissions line.old }
+    ensures ages { Ages (L.may_fail line.old) (L.may_fail line.new) }
     ensures heard { IfOk result (λ h. Passes (L.talk line.old) (L.talk line.new) (λ t u. Hearing t u h)) }
-    ensures lost { IfErr result (λ fault. IsLost (Rose (L.failures line.old) (L.failures line.new))
+    ensures lost { IfErr result (λ fault. IsLost (Fails (MayNotHear (L.may_fail line.old)) (L.failures line.old) (L.failures line.new) (L.last_fault line.new))
         (Passes (L.talk line.old) (L.talk line.new) Babbling) fault) }
 {
     let mut listener = Listener::new();

@@ -2,10 +2,10 @@
 ghost use Rattle.std.specs.Prelude.{◌≡◌, ◌++◌, ◌∷◌, false, not, ◌&&◌, IfOk, IfErr, OnOk};
 ghost use Rattle.rje_station.specs.Hearing.{Hearing, Babbling};
 ghost use Rattle.rje_station.specs.JoinedJobs.{begun_in};
-ghost use Rattle.rje_station.specs.Line.{Passes, Rose};
-ghost use Rattle.rje_station.specs.Receiving.{first_receiving, sound_taken as taken, MayRefuse, jobs_after, Received, after_replying, Replied, after_fault, after_refusal, after_abandon, frame_of as reply_frame, received_events};
+ghost use Rattle.rje_station.specs.Line.{Passes, Ages, MayNotHear, MayNotSend, Fails, one_more};
+ghost use Rattle.rje_station.specs.Receiving.{first_receiving, sound_taken as taken, MayRefuse, jobs_after, Received, after_replying, Replied, with_reply, after_fault, after_refusal, after_abandon, frame_of as reply_frame, received_events};
 ghost use Rattle.rje_station.specs.Station.{after_passing};
-ghost use Rattle.rje_station.specs.StationFault.{IsCause, IfOver, IsNoMemory};
+ghost use Rattle.rje_station.specs.StationFault.{IsCause, IfLine, IfOver, IsNoMemory};
 ghost use Rattle.rje_station.specs.Trace.{last_events};
 ghost use Rattle.rje_station.specs.declared.event.Event.TheVariants as event;
 
@@ -102,9 +102,11 @@ impl ReceivingStation {
         ensures heard { IfOk result (λ reply. Received self.old self.new wish reply
             (λ what. Passes (L.talk line.old) (L.talk line.new) (λ t u. Hearing t u what))) }
         ensures live { OnOk result (self.old.over ≡ false) }
+        ensures none { L.transmissions line.new ≡ L.transmissions line.old }
+        ensures ages { Ages (L.may_fail line.old) (L.may_fail line.new) }
 
         // The line failed or babbled, or the station was over before; it is over then, and the jobs stay.
-        ensures cause { IfErr result (λ fault. IsCause (Rose (L.failures line.old) (L.failures line.new))
+        ensures cause { IfErr result (λ fault. IsCause (Fails (MayNotHear (L.may_fail line.old)) (L.failures line.old) (L.failures line.new) (L.last_fault line.new))
             (Passes (L.talk line.old) (L.talk line.new) Babbling) self.old.over fault) }
         ensures kept { IfErr result (λ fault. self.new ≡ after_refusal fault self.old) }
         ensures untouched { IfErr result (λ fault. IfOver fault (line.new ≡ line.old)) }
@@ -125,7 +127,9 @@ impl ReceivingStation {
         ensures heard { IfOk result (λ what. Passes (L.talk line.old) (L.talk line.new) (λ t u. Hearing t u what)) }
         ensures same { OnOk result (self.new ≡ self.old) }
         ensures live { OnOk result (self.old.over ≡ false) }
-        ensures cause { IfErr result (λ fault. IsCause (Rose (L.failures line.old) (L.failures line.new))
+        ensures none { L.transmissions line.new ≡ L.transmissions line.old }
+        ensures ages { Ages (L.may_fail line.old) (L.may_fail line.new) }
+        ensures cause { IfErr result (λ fault. IsCause (Fails (MayNotHear (L.may_fail line.old)) (L.failures line.old) (L.failures line.new) (L.last_fault line.new))
             (Passes (L.talk line.old) (L.talk line.new) Babbling) self.old.over fault) }
         ensures kept { IfErr result (λ fault. self.new ≡ after_refusal fault self.old) }
         ensures untouched { IfErr result (λ fault. IfOver fault (line.new ≡ line.old)) }
@@ -160,10 +164,13 @@ impl ReceivingStation {
         ensures sent { OnOk result (Passes (L.talk line.old) (L.talk line.new) (Replied self.old.due)) }
         ensures state { OnOk result (self.new ≡ after_replying self.old) }
         ensures live { OnOk result (self.old.over ≡ false) }
+        ensures once { OnOk result (L.transmissions line.new ≡ with_reply self.old.due (L.transmissions line.old)) }
+        ensures ages { Ages (L.may_fail line.old) (L.may_fail line.new) }
 
         // The line failed, or the station was over before; it is over then, and the jobs stay.
-        ensures cause { IfErr result (λ fault. IsCause (Rose (L.failures line.old) (L.failures line.new)) ⊥ self.old.over fault) }
+        ensures cause { IfErr result (λ fault. IsCause (Fails (MayNotSend (L.may_fail line.old)) (L.failures line.old) (L.failures line.new) (L.last_fault line.new)) ⊥ self.old.over fault) }
         ensures kept { IfErr result (λ fault. self.new ≡ after_refusal fault self.old) }
+        ensures tried { IfErr result (λ fault. IfLine fault (L.transmissions line.new ≡ one_more (L.transmissions line.old))) }
         ensures untouched { IfErr result (λ fault. IfOver fault (line.new ≡ line.old)) }
     {
         if self.over {

@@ -4,10 +4,10 @@ ghost use Rattle.std.specs.List.{AllByRecursion};
 ghost use Rattle.bsc_link.specs.Sender.{say_in, sender_yielded};
 ghost use Rattle.rje_jobs.specs.Fitting.{JobFits};
 ghost use Rattle.rje_station.specs.Hearing.{HearsSound, Babbling};
-ghost use Rattle.rje_station.specs.Line.{Passes, Rose};
+ghost use Rattle.rje_station.specs.Line.{Passes, Ages, MayNotHear, MayNotSend, Fails, one_more};
 ghost use Rattle.rje_station.specs.Sending.{first_sending, after_speaking, after_hearing, after_fault, after_refusal, Spoke, IsWrittenOf, outcome_of, next_for, counted_events};
 ghost use Rattle.rje_station.specs.Station.{due_in};
-ghost use Rattle.rje_station.specs.StationFault.{IsCause, IsNewCause, IfOver};
+ghost use Rattle.rje_station.specs.StationFault.{IsCause, IsNewCause, IfLine, IfOver};
 ghost use Rattle.rje_station.specs.Trace.{last_events};
 ghost use Rattle.rje_station.specs.declared.event.Event.TheVariants as event;
 
@@ -126,10 +126,13 @@ impl<'a> SendingStation<'a> {
         ensures sent { OnOk result (Passes (L.talk line.old) (L.talk line.new) (Spoke (say_in self.old.core.place) self.old.rest)) }
         ensures state { OnOk result (self.new ≡ after_speaking self.old) }
         ensures live { OnOk result (self.old.over ≡ false) }
+        ensures once { OnOk result (L.transmissions line.new ≡ one_more (L.transmissions line.old)) }
+        ensures ages { Ages (L.may_fail line.old) (L.may_fail line.new) }
 
         // The line failed, or the station was over before; it is over then, and jobs and counts stay.
-        ensures cause { IfErr result (λ fault. IsCause (Rose (L.failures line.old) (L.failures line.new)) ⊥ self.old.over fault) }
+        ensures cause { IfErr result (λ fault. IsCause (Fails (MayNotSend (L.may_fail line.old)) (L.failures line.old) (L.failures line.new) (L.last_fault line.new)) ⊥ self.old.over fault) }
         ensures kept { IfErr result (λ fault. self.new ≡ after_refusal fault self.old) }
+        ensures tried { IfErr result (λ fault. IfLine fault (L.transmissions line.new ≡ one_more (L.transmissions line.old))) }
         ensures untouched { IfErr result (λ fault. IfOver fault (line.new ≡ line.old)) }
     {
         if self.over {
@@ -150,9 +153,11 @@ impl<'a> SendingStation<'a> {
         ensures heard { IfOk result (λ sound. Passes (L.talk line.old) (L.talk line.new) (λ t u. HearsSound t u sound)) }
         ensures state { IfOk result (λ sound. self.new ≡ after_hearing self.old sound pause) }
         ensures live { OnOk result (self.old.over ≡ false) }
+        ensures none { L.transmissions line.new ≡ L.transmissions line.old }
+        ensures ages { Ages (L.may_fail line.old) (L.may_fail line.new) }
 
         // The line failed or babbled, or the station was over before; it is over then, and jobs and counts stay.
-        ensures cause { IfErr result (λ fault. IsCause (Rose (L.failures line.old) (L.failures line.new))
+        ensures cause { IfErr result (λ fault. IsCause (Fails (MayNotHear (L.may_fail line.old)) (L.failures line.old) (L.failures line.new) (L.last_fault line.new))
             (Passes (L.talk line.old) (L.talk line.new) Babbling) self.old.over fault) }
         ensures kept { IfErr result (λ fault. self.new ≡ after_refusal fault self.old) }
         ensures untouched { IfErr result (λ fault. IfOver fault (line.new ≡ line.old)) }

@@ -5,10 +5,10 @@ ghost use Rattle.bsc_link.specs.declared.say.Say.TheVariants as said;
 ghost use Rattle.bsc_link.specs.declared.sound.Sound.TheVariants as heard;
 ghost use Rattle.rje_jobs.specs.Fitting.{JobFits};
 ghost use Rattle.rje_station.specs.Hearing.{HearsSound, Hearing, Babbling};
-ghost use Rattle.rje_station.specs.Line.{Passes, Rose};
-ghost use Rattle.rje_station.specs.Receiving.{Replied};
-ghost use Rattle.rje_station.specs.Station.{first_contending, due_at, after_own_speaking, SpokeDue, IfSilent, HeardAnswer, after_answer, after_own_refusal, HeardOther, after_own_reply, after_other_refusal, after_other_ended, after_note, is_deaf, lets_in, contender_said, contender_answered, contender_hears};
-ghost use Rattle.rje_station.specs.StationFault.{IsCause, IsNewCause, IfOver};
+ghost use Rattle.rje_station.specs.Line.{Passes, Ages, MayNotHear, MayNotSend, Fails, one_more};
+ghost use Rattle.rje_station.specs.Receiving.{Replied, with_reply};
+ghost use Rattle.rje_station.specs.Station.{first_contending, due_at, after_own_speaking, SpokeDue, with_said, IfSilent, HeardAnswer, after_answer, after_own_refusal, HeardOther, after_own_reply, after_other_refusal, after_other_ended, after_note, is_deaf, lets_in, contender_said, contender_answered, contender_hears};
+ghost use Rattle.rje_station.specs.StationFault.{IsCause, IsNewCause, IfLine, IfOver};
 
 use crate::sound_heard::sound_of;
 use crate::{Line, ReceivingStation, SendingStation, StationFault};
@@ -100,10 +100,13 @@ impl<'a> Station<'a> {
         ensures silent { OnOk result (IfSilent (due_at self.old) (line.new ≡ line.old)) }
         ensures state { OnOk result (self.new ≡ after_own_speaking self.old) }
         ensures live { OnOk result (self.old.failed ≡ false) }
+        ensures once { OnOk result (L.transmissions line.new ≡ with_said (due_at self.old) (L.transmissions line.old)) }
+        ensures ages { Ages (L.may_fail line.old) (L.may_fail line.new) }
 
         // The line failed, or a fault came before; jobs and counts stay.
-        ensures cause { IfErr result (λ fault. IsCause (Rose (L.failures line.old) (L.failures line.new)) ⊥ self.old.failed fault) }
+        ensures cause { IfErr result (λ fault. IsCause (Fails (MayNotSend (L.may_fail line.old)) (L.failures line.old) (L.failures line.new) (L.last_fault line.new)) ⊥ self.old.failed fault) }
         ensures kept { IfErr result (λ fault. self.new ≡ after_own_refusal fault self.old) }
+        ensures tried { IfErr result (λ fault. IfLine fault (L.transmissions line.new ≡ one_more (L.transmissions line.old))) }
         ensures untouched { IfErr result (λ fault. IfOver fault (line.new ≡ line.old)) }
     {
         if self.failed {
@@ -128,9 +131,11 @@ impl<'a> Station<'a> {
         ensures silent { OnOk result (IfSilent (due_at self.old) (line.new ≡ line.old)) }
         ensures state { IfOk result (λ sound. self.new ≡ after_answer self.old sound pause) }
         ensures live { OnOk result (self.old.failed ≡ false) }
+        ensures none { L.transmissions line.new ≡ L.transmissions line.old }
+        ensures ages { Ages (L.may_fail line.old) (L.may_fail line.new) }
 
         // The line failed or babbled, or a fault came before; jobs and counts stay.
-        ensures cause { IfErr result (λ fault. IsCause (Rose (L.failures line.old) (L.failures line.new))
+        ensures cause { IfErr result (λ fault. IsCause (Fails (MayNotHear (L.may_fail line.old)) (L.failures line.old) (L.failures line.new) (L.last_fault line.new))
             (Passes (L.talk line.old) (L.talk line.new) Babbling) self.old.failed fault) }
         ensures kept { IfErr result (λ fault. self.new ≡ after_own_refusal fault self.old) }
         ensures untouched { IfErr result (λ fault. IfOver fault (line.new ≡ line.old)) }
@@ -161,9 +166,11 @@ impl<'a> Station<'a> {
         ensures heard { IfOk result (λ reply. HeardOther self.old self.new wish reply
             (λ what. Passes (L.talk line.old) (L.talk line.new) (λ t u. Hearing t u what))) }
         ensures live { OnOk result (is_deaf self.old ≡ false) }
+        ensures none { L.transmissions line.new ≡ L.transmissions line.old }
+        ensures ages { Ages (L.may_fail line.old) (L.may_fail line.new) }
 
         // The line failed or babbled, or a fault came before, or the other station's transmission is over; jobs and counts stay.
-        ensures cause { IfErr result (λ fault. IsCause (Rose (L.failures line.old) (L.failures line.new))
+        ensures cause { IfErr result (λ fault. IsCause (Fails (MayNotHear (L.may_fail line.old)) (L.failures line.old) (L.failures line.new) (L.last_fault line.new))
             (Passes (L.talk line.old) (L.talk line.new) Babbling) (is_deaf self.old) fault) }
         ensures kept { IfErr result (λ fault. self.new ≡ after_other_refusal fault self.old) }
         ensures untouched { IfErr result (λ fault. IfOver fault (line.new ≡ line.old)) }
@@ -183,10 +190,13 @@ impl<'a> Station<'a> {
         ensures sent { OnOk result (Passes (L.talk line.old) (L.talk line.new) (Replied self.old.receiver.due)) }
         ensures state { OnOk result (self.new ≡ after_own_reply self.old) }
         ensures live { OnOk result (is_deaf self.old ≡ false) }
+        ensures once { OnOk result (L.transmissions line.new ≡ with_reply self.old.receiver.due (L.transmissions line.old)) }
+        ensures ages { Ages (L.may_fail line.old) (L.may_fail line.new) }
 
         // The line failed, or a fault came before, or the other station's transmission is over; jobs and counts stay.
-        ensures cause { IfErr result (λ fault. IsCause (Rose (L.failures line.old) (L.failures line.new)) ⊥ (is_deaf self.old) fault) }
+        ensures cause { IfErr result (λ fault. IsCause (Fails (MayNotSend (L.may_fail line.old)) (L.failures line.old) (L.failures line.new) (L.last_fault line.new)) ⊥ (is_deaf self.old) fault) }
         ensures kept { IfErr result (λ fault. self.new ≡ after_other_refusal fault self.old) }
+        ensures tried { IfErr result (λ fault. IfLine fault (L.transmissions line.new ≡ one_more (L.transmissions line.old))) }
         ensures untouched { IfErr result (λ fault. IfOver fault (line.new ≡ line.old)) }
     {
         if self.failed {

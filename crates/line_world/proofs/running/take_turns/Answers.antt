@@ -9,7 +9,17 @@ use Rattle.line_world.proofs.running.take_turns.Goals as goal
 pub loop-turn-init : goal.loop-turn-init
 loop-turn-init c = record {
   running = running_first c.args.ends.sender.jobs c.args.turns.now _ _ _ c.new-spoken.ensures.items (c.requires.sender) (c.requires.receiver);
+  sending = c.requires.sending_line;
+  receiving = c.requires.receiving_line;
 }
+
+pub returns-in-Ok-None-clause-drive : goal.returns-in-Ok-None-clause-drive
+returns-in-Ok-None-clause-drive c =
+    let laws : Laws = record { one = c.one_hearing.ensures; every = c.every_hearing.ensures; transmits = c.written_is_transmission.ensures; sending = c.stations_keep_history.ensures.sending; receiving = c.stations_keep_history.ensures.receiving } in
+    let running = c.loop-turn.invariant.running in
+    let taken = c.in-Ok-None.ensures.taken in
+    let over : Takes None c.turn-item.result _ _ _ _ = rw c.in-Ok-None.field-0-is at taken in
+    rw (c.driven.ensures.turns, c.driven.ensures.sender, c.driven.ensures.receiver, over.1, over.2) (running_over laws _ _ _ _ _ _ running over.0)
 
 pub returns-in-Ok-None-clause-run : goal.returns-in-Ok-None-clause-run
 returns-in-Ok-None-clause-run c =
@@ -17,7 +27,7 @@ returns-in-Ok-None-clause-run c =
     let running = c.loop-turn.invariant.running in
     let taken = c.in-Ok-None.ensures.taken in
     let over : Takes None c.turn-item.result _ _ _ _ = rw c.in-Ok-None.field-0-is at taken in
-    rw (c.driven.ensures.turns, c.driven.ensures.sender, c.driven.ensures.receiver, over.1, over.2) (running_over laws _ _ _ _ _ _ running over.0)
+    rw (c.driven.ensures.turns, c.driven.ensures.sender, c.driven.ensures.receiver, over.1, over.2) (running_over laws _ _ _ _ _ _ running over.0).run
 
 pub returns-in-Ok-None-clause-jobs : goal.returns-in-Ok-None-clause-jobs
 returns-in-Ok-None-clause-jobs c =
@@ -41,14 +51,21 @@ loop-turn-preserved c =
     let here : slice_get c.args.turns.now c.loop-turn.turn-index ≡ Some c.turn-item.result = slice_get_read _ _ _ _ refl c.loop-turn-test.true c.turn-item.is in
     let taken = c.in-Ok-Some.ensures.taken in
     let took : TakesTurn c.turn-item.result c.loop-turn.ends.sender c.take_turn.new.self.sender c.loop-turn.ends.receiver c.take_turn.new.self.receiver c.in-Ok-Some.one = rw c.in-Ok-Some.field-0-is at taken in
-    record { running = running_more laws _ _ _ _ _ _ _ _ _ c.turn-item.result c.in-Ok-Some.one running here took (search rules) }
+    record { running = running_more laws _ _ _ _ _ _ _ _ _ c.turn-item.result c.in-Ok-Some.one running here took (search rules); sending = c.in-Ok-Some.ensures.sending; receiving = c.in-Ok-Some.ensures.receiving }
+
+pub returns-clause-drive : goal.returns-clause-drive
+returns-clause-drive c =
+    let laws : Laws = record { one = c.one_hearing.ensures; every = c.every_hearing.ensures; transmits = c.written_is_transmission.ensures; sending = c.stations_keep_history.ensures.sending; receiving = c.stations_keep_history.ensures.receiving } in
+    let running = c.loop-turn.invariant.running in
+    let out : c.loop-turn.turn-index ≡ length c.args.turns.now = search rules in
+    rw (c.driven-2.ensures.turns, c.driven-2.ensures.sender, c.driven-2.ensures.receiver) (running_out laws _ _ _ _ _ _ running out)
 
 pub returns-clause-run : goal.returns-clause-run
 returns-clause-run c =
     let laws : Laws = record { one = c.one_hearing.ensures; every = c.every_hearing.ensures; transmits = c.written_is_transmission.ensures; sending = c.stations_keep_history.ensures.sending; receiving = c.stations_keep_history.ensures.receiving } in
     let running = c.loop-turn.invariant.running in
     let out : c.loop-turn.turn-index ≡ length c.args.turns.now = search rules in
-    rw (c.driven-2.ensures.turns, c.driven-2.ensures.sender, c.driven-2.ensures.receiver) (running_out laws _ _ _ _ _ _ running out)
+    rw (c.driven-2.ensures.turns, c.driven-2.ensures.sender, c.driven-2.ensures.receiver) (running_out laws _ _ _ _ _ _ running out).run
 
 pub returns-clause-jobs : goal.returns-clause-jobs
 returns-clause-jobs c = rw c.driven-2.ensures.sender (running_jobs _ _ _ _ _ _ c.loop-turn.invariant.running)

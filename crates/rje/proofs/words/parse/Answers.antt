@@ -1,5 +1,5 @@
-use Rattle.std.proofs.Common.{◌≡◌, rules, codes, ap, ap₂, ◌∙◌}
-use Rattle.clap.specs.Words.{found_of, is_simple, takes, subcommand_of, subcommand_rows_of}
+use Rattle.std.proofs.Common.{rules, codes, ap, ap₂, ◌∙◌}
+use Rattle.clap.specs.Words.{found_of, is_simple, takes, subcommand_of}
 use Rattle.clap.proofs.WalkLemmas.{first_value-rows, one_text-rows}
 use Rattle.rje.proofs.FileWords.{seen, simple, seen_in, name_is, deck_in, jobs_in, blocks_found, blocks_taken, show_found, show_taken, check_found, check_taken, print_found, print_taken, files_in, try_found, try_taken}
 use Rattle.rje.proofs.CardsWords.{cards_in, cards_found, cards_taken}

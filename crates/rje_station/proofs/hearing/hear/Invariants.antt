@@ -1,6 +1,6 @@
--- The bytes so far were fed, and there is room for the others of the first 8,192.
-use Rattle.std.proofs.Common.{◌≤◌}
-use Rattle.rje_station.specs.Line.{Passes}
+-- The bytes so far were fed, and there is room for the others of the first 8,192; nothing was transmitted.
+use Rattle.std.proofs.Common.{◌≡◌, ◌≤◌}
+use Rattle.rje_station.specs.Line.{Passes, Ages}
 use Rattle.rje_station.proofs.Hearings.{FedSo}
 use Rattle.rje_station.proofs.hearing.hear.Given as goal
 
@@ -8,6 +8,8 @@ abbrev pub invariant-loop-listener : goal.invariant-loop-listener
 invariant-loop-listener g l =
     (g.L.Line.failures l.fn.line ≤ g.L.Line.failures l.line)
     × Passes (g.L.Line.talk l.fn.line) (g.L.Line.talk l.line) (λ t u. FedSo l.listener l.room t u)
+    × (g.L.Line.transmissions l.line ≡ g.L.Line.transmissions l.fn.line)
+    × Ages (g.L.Line.may_fail l.fn.line) (g.L.Line.may_fail l.line)
 
 abbrev pub decreases-loop-listener : goal.decreases-loop-listener
 decreases-loop-listener g l = l.room

@@ -12,33 +12,33 @@ pub returns-in_default-clause-down : goal.returns-in_default-clause-down
 returns-in_default-clause-down c =
     let none : c.args.self.now.receiver.due ≡ None = search rules in
     let nothing : flat_map (λ p. p) c.put.new.self.waiting ≡ [] = rw (c.put.ensures, c.new.ensures.items) refl in
-    let heard = c.in_ok-hear.ensures.heard in
-    goes_down c.args.turn.now c.args.self.now.sender c.hear.new.self c.args.self.now.receiver c.speak.new.self c.in_ok-hear.field-0
-    (nothing_carried c.args.turn.now.down _ c.put.new.self c.hear.new.line c.in_ok-hear.field-0 none nothing heard) c.in_ok-hear.ensures.state c.in_ok-reply.ensures.state
+    let heard = c.hear_down.ensures.heard in
+    goes_down c.args.turn.now c.args.self.now.sender c.hear_down.new.sender c.args.self.now.receiver c.speak_down.new.receiver c.hear_down.result
+    (nothing_carried c.args.turn.now.down _ c.put.new.self c.hear_down.new.line c.hear_down.result none nothing heard) c.hear_down.ensures.state c.speak_down.ensures.state
 
 pub returns-in_err-carry-clause-fault : goal.returns-in_err-carry-clause-fault
 returns-in_err-carry-clause-fault c =
-    let told : c.from_residual-in_err-carry.result ≡ Err c.in_err-carry.field-0.0 = search rules in
+    let told : c.from_residual.result ≡ Err c.in_err-carry.field-0.0 = search rules in
     let is : Some c.in-Some.reply ≡ c.args.self.now.receiver.due = search rules in
-    let written : Written (frame_of c.in-Some.reply) c.speak.new.line.sent = reply_written _ _ _ (talk_of c.speak.new.line) is c.in_ok-reply.ensures.sent in
-    rw told (reply_fault c.args.turn.now.down _ c.in-Some.reply c.speak.new.line.sent _ is written (c.in_err-carry.ensures.fault (sound_of_reply (Some c.in-Some.reply))))
+    let written : Written (frame_of c.in-Some.reply) c.speak_down.new.line.sent = reply_written _ _ _ (talk_of c.speak_down.new.line) is c.speak_down.ensures.sent in
+    rw told (reply_fault c.args.turn.now.down _ c.in-Some.reply c.speak_down.new.line.sent _ is written (c.in_err-carry.ensures.fault (sound_of_reply (Some c.in-Some.reply))))
 
 pub returns-in_err-check_damage-clause-fault : goal.returns-in_err-check_damage-clause-fault
 returns-in_err-check_damage-clause-fault c =
     let told : c.from_residual-in_err-check_damage.result ≡ Err c.in_err-check_damage.field-0.0 = search rules in
     let is : Some c.in-Some.reply ≡ c.args.self.now.receiver.due = search rules in
-    let written : Written (frame_of c.in-Some.reply) c.speak.new.line.sent = reply_written _ _ _ (talk_of c.speak.new.line) is c.in_ok-reply.ensures.sent in
-    let heard = c.in_ok-heard.ensures.heard in
-    let hears = line_hears c.carry.new.to c.hear-2.new.line heard.what _ c.in_ok-carry.ensures.comes heard.hearing in
+    let written : Written (frame_of c.in-Some.reply) c.speak_down.new.line.sent = reply_written _ _ _ (talk_of c.speak_down.new.line) is c.speak_down.ensures.sent in
+    let heard = c.hear_down-heard.ensures.heard in
+    let hears = line_hears c.carry.new.to c.hear_down-heard.new.line heard.what _ c.in_ok-carry.ensures.comes heard.hearing in
     let wrong = c.in_err-check_damage.ensures.wrong in
-    rw told (reply_fault c.args.turn.now.down _ c.in-Some.reply c.speak.new.line.sent _ is written
+    rw told (reply_fault c.args.turn.now.down _ c.in-Some.reply c.speak_down.new.line.sent _ is written
     (rw (← c.sound_of_reply.ensures) (damage_fault _ _ _ _ heard.what _ c.in_err-check_damage.ensures.fault wrong hears heard.sound_is)))
 
 pub returns-clause-down : goal.returns-clause-down
 returns-clause-down c =
     let is : Some c.in-Some.reply ≡ c.args.self.now.receiver.due = search rules in
-    let written : Written (frame_of c.in-Some.reply) c.speak.new.line.sent = reply_written _ _ _ (talk_of c.speak.new.line) is c.in_ok-reply.ensures.sent in
+    let written : Written (frame_of c.in-Some.reply) c.speak_down.new.line.sent = reply_written _ _ _ (talk_of c.speak_down.new.line) is c.speak_down.ensures.sent in
     let may = c.in_ok-check_damage.ensures.may in
-    goes_down c.args.turn.now c.args.self.now.sender c.hear-2.new.self c.args.self.now.receiver c.speak.new.self c.in_ok-heard.heard
-    (reply_carried c.args.turn.now.down _ c.in-Some.reply c.speak.new.line.sent c.carry.new.to c.hear-2.new.line c.in_ok-heard.heard is written c.in_ok-carry.ensures.fits c.in_ok-carry.ensures.comes c.in_ok-heard.ensures.heard (rw c.sound_of_reply.ensures at may))
-    c.in_ok-heard.ensures.state c.in_ok-reply.ensures.state
+    goes_down c.args.turn.now c.args.self.now.sender c.hear_down-heard.new.sender c.args.self.now.receiver c.speak_down.new.receiver c.hear_down-heard.result
+    (reply_carried c.args.turn.now.down _ c.in-Some.reply c.speak_down.new.line.sent c.carry.new.to c.hear_down-heard.new.line c.hear_down-heard.result is written c.in_ok-carry.ensures.fits c.in_ok-carry.ensures.comes c.hear_down-heard.ensures.heard (rw c.sound_of_reply.ensures at may))
+    c.hear_down-heard.ensures.state c.speak_down.ensures.state

@@ -1,5 +1,3 @@
-use Rattle.std.proofs.Common.{◌≡◌, subst, sym, OnOk}
-use Rattle.std.specs.Io.KnownBytes.{Appends}
 use Rattle.rje.specs.Commands.{IsRunText}
 use Rattle.rje.proofs.Stores.{same_twice, run_printed}
 use Rattle.rje.proofs.commands.trial.trial.Goals as goal

@@ -1,4 +1,4 @@
-use Rattle.std.proofs.Common.{◌≡◌, ◌<◌, ◌++◌, [], length, subst, arith, rules}
+use Rattle.std.proofs.Common.{◌≡◌, ◌<◌, [], length, subst, rules}
 use Rattle.std.proofs.lemmas.List.{append-nil}
 use Rattle.std.proofs.lemmas.List.{nil_from_length}
 use Rattle.rje.specs.Script.{IsHexOf}
