@@ -4,6 +4,8 @@
 mod check;
 mod laws;
 mod table;
+#[cfg(test)]
+mod tests;
 
 pub use check::Check;
 pub use laws::one_remainder;

@@ -13,6 +13,8 @@ mod sound_report;
 mod sound_turn;
 mod sounds;
 mod spoken_turn;
+#[cfg(test)]
+mod tests;
 
 pub use bids::Bids;
 pub use cores::{converse, hear_answer, next_of, taken};

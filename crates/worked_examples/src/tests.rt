@@ -1,16 +1,11 @@
 //! What no clause says: worked examples from the field, and that calls succeed where memory is ample.
-mod conversations;
-mod decks;
 mod fairness;
-mod files;
-mod frames;
-mod links;
+mod pairs;
 mod refusals;
 mod runs;
 mod schedules;
 mod series;
 mod stations;
-mod texts;
 
 use arrayvec::ArrayVec;
 use bsc_codes::{Block, Closing};

@@ -1,7 +1,7 @@
 //! Schedules, jobs and printed turns, for the tests of runs.
 use super::record;
 use bsc_link::{Outcome, Reply, Say, Sound, Wish};
-use line_world::{Fate, Report, Spoken, Turn, run};
+use line_world::{Bids, Fate, PairTurn, Report, Spoken, Turn, run};
 use rje_jobs::Job;
 use rje_text::{Action, Mode, Records, Select};
 use std::alloc::{AllocError, AllocGlobal, Global};
@@ -90,15 +90,35 @@ fn fate(alloc: Global, way: Way) -> Result<Fate, AllocError> {
     })
 }
 
+/// The turn.
+fn turn_of(alloc: Global, place: Place) -> Result<Turn, AllocError> {
+    Ok(Turn {
+        up: fate(alloc, place.up)?,
+        down: fate(alloc, place.down)?,
+        wish: place.wish,
+        pause: place.pause,
+    })
+}
+
 /// The schedule.
 pub(super) fn schedule(alloc: Global, places: &[Place]) -> Result<Vec<Turn>, AllocError> {
     let mut turns = Vec::new(alloc);
     for place in places {
-        turns.push(Turn {
-            up: fate(alloc, place.up)?,
-            down: fate(alloc, place.down)?,
-            wish: place.wish,
-            pause: place.pause,
+        turns.push(turn_of(alloc, *place)?)?;
+    }
+    Ok(turns)
+}
+
+/// The schedule of two stations that both have jobs: who speaks where both could, and what the line does.
+pub(super) fn pair_schedule(
+    alloc: Global,
+    places: &[(Bids, Place)],
+) -> Result<Vec<PairTurn>, AllocError> {
+    let mut turns = Vec::new(alloc);
+    for (bids, place) in places {
+        turns.push(PairTurn {
+            bids: *bids,
+            turn: turn_of(alloc, *place)?,
         })?;
     }
     Ok(turns)
@@ -132,11 +152,19 @@ pub(super) fn unfit_job(rt: &(impl Abort + AllocGlobal)) -> Result<Job, Fail> {
     Ok(job)
 }
 
-/// The jobs are the same, but for those that aren't whole.
+/// The jobs are the same, and all are whole.
 pub(super) fn assert_same_jobs(rt: &impl Abort, handed: &[Job], jobs: &[Job]) {
+    assert_equal_jobs(rt, handed, jobs);
+    for given in handed {
+        assert!(rt; given.whole);
+    }
+}
+
+/// The jobs are the same, and the same of them are whole.
+pub(super) fn assert_equal_jobs(rt: &impl Abort, handed: &[Job], jobs: &[Job]) {
     assert_eq!(rt; handed.len(), jobs.len());
     for (given, job) in handed.iter().zip(jobs) {
-        assert!(rt; given.whole);
+        assert!(rt; given.whole == job.whole);
         assert!(rt; given.select == job.select);
         assert!(rt; given.mode == job.mode);
         assert!(rt; given.records.as_slice() == job.records.as_slice());
@@ -185,12 +213,17 @@ pub(super) const END: Line = Line(Say::End, Sound::Eot, None, Sound::Quiet);
 pub(super) fn assert_turns(rt: &impl Abort, turns: &[Spoken], lines: &[Line]) {
     assert_eq!(rt; turns.len(), lines.len());
     for (turn, line) in turns.iter().zip(lines) {
-        assert_eq!(rt; turn.said, line.0, "said at {line:?}");
-        assert_eq!(rt; turn.arrived, line.1, "arrived at {line:?}");
-        assert!(rt; !turn.refused);
-        assert_eq!(rt; turn.reply, line.2, "reply at {line:?}");
-        assert_eq!(rt; turn.heard, line.3, "heard at {line:?}");
+        assert_turn(rt, turn, line);
     }
+}
+
+/// The turn is what is printed, and wasn't refused.
+pub(super) fn assert_turn(rt: &impl Abort, turn: &Spoken, line: &Line) {
+    assert_eq!(rt; turn.said, line.0, "said at {line:?}");
+    assert_eq!(rt; turn.arrived, line.1, "arrived at {line:?}");
+    assert!(rt; !turn.refused);
+    assert_eq!(rt; turn.reply, line.2, "reply at {line:?}");
+    assert_eq!(rt; turn.heard, line.3, "heard at {line:?}");
 }
 
 /// A report of what is printed, in which so many jobs were counted, and it ended so.

@@ -15,7 +15,7 @@ use std::process::Abort;
 use std::test::Fail;
 
 /// An ENQ on the line.
-const ENQ: [u8; 4] = [0x32, 0x32, 0x2D, 0xFF];
+pub(super) const ENQ: [u8; 4] = [0x32, 0x32, 0x2D, 0xFF];
 
 /// A whole, normal job of this many records of so many bytes C1 for the default device.
 fn job_of(rt: &(impl Abort + AllocGlobal), records: usize, length: usize) -> Result<Job, Fail> {
@@ -35,7 +35,7 @@ fn job_of(rt: &(impl Abort + AllocGlobal), records: usize, length: usize) -> Res
 }
 
 /// These bytes in one piece.
-fn one_piece(alloc: Global, bytes: &[u8]) -> Result<Vec<Vec<u8>>, AllocError> {
+pub(super) fn one_piece(alloc: Global, bytes: &[u8]) -> Result<Vec<Vec<u8>>, AllocError> {
     let piece = Vec::from_slice(alloc, bytes)?;
     let mut pieces = Vec::with_capacity(alloc, 1)?;
     pieces.push(piece)?;
@@ -106,7 +106,7 @@ fn send_jobs(alloc: Global, jobs: &[Job]) -> Result<(Ends<'_>, u64), StationFaul
 }
 
 /// The events of a trace are these.
-fn assert_events(rt: &impl Abort, trace: &Trace, events: &[Event]) {
+pub(super) fn assert_events(rt: &impl Abort, trace: &Trace, events: &[Event]) {
     assert!(rt; trace.len() == events.len());
     for (i, event) in events.iter().enumerate() {
         assert!(rt; trace.get(i) == Some(*event));
@@ -239,7 +239,10 @@ fn open_receiver(alloc: Global) -> Result<(ReceivingStation, MemoryLine), Statio
 }
 
 /// The transmission of a transparent block of this many bytes C1, in one piece.
-fn transparent_block(rt: &(impl Abort + AllocGlobal), length: usize) -> Result<Vec<Vec<u8>>, Fail> {
+pub(super) fn transparent_block(
+    rt: &(impl Abort + AllocGlobal),
+    length: usize,
+) -> Result<Vec<Vec<u8>>, Fail> {
     let bytes = [0xC1; 512];
     assert!(rt; length <= bytes.len());
     let mut out = ArrayVec::new();
@@ -279,7 +282,7 @@ fn a_block_that_cannot_be_read_leaves_the_jobs(rt: HostRuntime) -> Result<(), Fa
 }
 
 /// This many SYN, and then an ENQ or nothing, in one piece.
-fn syns(alloc: Global, count: usize, enq: bool) -> Result<Vec<Vec<u8>>, AllocError> {
+pub(super) fn syns(alloc: Global, count: usize, enq: bool) -> Result<Vec<Vec<u8>>, AllocError> {
     let mut bytes = Vec::new(alloc);
     for _i in 0..count {
         bytes.push(SYN)?;
@@ -388,7 +391,7 @@ fn converse(ends: &mut Ends<'_>, alloc: Global) -> Result<(), StationFault> {
     Ok(())
 }
 
-const FAILED: Option<StationFault> = Some(StationFault::Line(LineFault::Failed));
+pub(super) const FAILED: Option<StationFault> = Some(StationFault::Line(LineFault::Failed));
 
 #[test]
 fn each_call_of_the_senders_line_fails_once(rt: HostRuntime) -> Result<(), Fail> {

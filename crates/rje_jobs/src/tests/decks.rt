@@ -1,5 +1,5 @@
 //! Decks and their jobs.
-use rje_jobs::{DeckFault, cards_of_deck, job_of_deck};
+use crate::{DeckFault, cards_of_deck, job_of_deck};
 use rje_text::{Action, Mode, Select};
 use std::process::Abort;
 use std::test::Fail;

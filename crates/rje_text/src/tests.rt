@@ -1,9 +1,33 @@
-//! Records, and the texts that carry them.
-use super::{block, record};
-use bsc_codes::{Closing, is_normal_text, to_ascii, to_ebcdic};
-use rje_text::{Action, Mode, PackFault, Packer, Pushed, Records, Select, TextFault, unpack};
+//! What no clause says: worked records, and the texts that carry them.
+use crate::{Action, Mode, PackFault, Packer, Pushed, Record, Records, Select, TextFault, unpack};
+use arrayvec::ArrayVec;
+use bsc_codes::{Block, Closing};
 use std::process::Abort;
 use std::test::Fail;
+
+/// A record of these bytes.
+fn record(rt: &impl Abort, action: Action, bytes: &[u8]) -> Record {
+    Record {
+        action,
+        bytes: buffer(rt, bytes),
+    }
+}
+
+/// A block of this text that ends its job.
+fn block(rt: &impl Abort, text: &[u8], transparent: bool) -> Block {
+    Block {
+        text: buffer(rt, text),
+        closing: Closing::Etx,
+        transparent,
+    }
+}
+
+/// A buffer of these bytes, for which it has room.
+fn buffer<const N: usize>(rt: &impl Abort, bytes: &[u8]) -> ArrayVec<u8, N> {
+    let mut buffer = ArrayVec::new();
+    assert!(rt; buffer.try_extend_from_slice(bytes).is_ok());
+    buffer
+}
 
 /// A card of 80 bytes C1.
 const CARD: [u8; 80] = [0xC1; 80];
@@ -71,6 +95,34 @@ fn a_job_without_records_has_one_block(rt: HostRuntime) {
     let block = packer.close(true);
     assert!(rt; block.text.as_slice() == b"\x11".as_slice());
     assert!(rt; block.closing == Closing::Etx);
+}
+
+#[test]
+fn a_punch_job_without_records_has_one_block(rt: HostRuntime) {
+    let mut packer = Packer::new(Select::Punch, Mode::Normal);
+    let block = packer.close(true);
+    assert!(rt; block.text.as_slice() == b"\x12".as_slice());
+    assert!(rt; block.closing == Closing::Etx);
+    assert!(rt; !block.transparent);
+}
+
+#[test]
+fn two_bytes_select_the_punch_in_a_first_text(rt: HostRuntime) -> Result<(), Fail> {
+    for first in [0x12, 0x13] {
+        let text = [first, 0xC1, 0x1E];
+        let read = unpack(rt.alloc(), &block(&rt, &text, false), None)?;
+        assert!(rt; read.select == Select::Punch);
+        assert!(rt; read.mode == Mode::Normal);
+        assert!(rt; read.records.as_slice() == [record(&rt, Action::Plain, &[0xC1])].as_slice());
+
+        // Behind the first text both are data.
+        let later = unpack(rt.alloc(), &block(&rt, &text, false), Some(Mode::Normal))?;
+        assert!(rt; later.select == Select::Unset);
+        assert!(rt;
+            later.records.as_slice() == [record(&rt, Action::Plain, &[first, 0xC1])].as_slice()
+        );
+    }
+    Ok(())
 }
 
 #[test]
@@ -187,17 +239,6 @@ fn transparent_texts_are_cards(rt: HostRuntime) -> Result<(), Fail> {
             .all(|card| card.bytes.as_slice() == CARD.as_slice())
     );
     Ok(())
-}
-
-#[test]
-fn characters_have_their_codes(rt: HostRuntime) {
-    assert!(rt; to_ebcdic(b'A') == Some(0xC1));
-    assert!(rt; to_ebcdic(b'~') == Some(0xA1));
-    assert!(rt; to_ebcdic(b'\t').is_none());
-    assert!(rt; to_ascii(0x4F) == Some(b'|'));
-    assert!(rt; to_ascii(0x00).is_none());
-    assert!(rt; is_normal_text(0x11));
-    assert!(rt; !is_normal_text(0x1F));
 }
 
 #[test]

@@ -1,7 +1,7 @@
 //! The link cores: short histories, and each line of both tables.
 ghost use Rattle.std.specs.Prelude.{◌≤◌};
 
-use bsc_link::{Next, Outcome, Receiver, Reply, Say, Sender, Sound, Wish};
+use crate::{Next, Outcome, Receiver, Reply, Say, Sender, Sound, Wish};
 use std::process::Abort;
 
 /// A state of a sender from which lines of its table are tried. The number is that of the outstanding block.

@@ -1,7 +1,7 @@
 //! Conversations over schedules of sounds: the printed ones, and that the cores and the rules tell the same.
 ghost use Rattle.bsc_history.specs.History.{MayBegin};
 
-use bsc_history::{SoundFate, SoundFault, SoundReport, SoundTurn, converse, converse_by_rules};
+use crate::{SoundFate, SoundFault, SoundReport, SoundTurn, converse, converse_by_rules};
 use bsc_link::{Outcome, Reply, Say, Sound, Wish};
 use std::alloc::AllocGlobal;
 use std::process::Abort;

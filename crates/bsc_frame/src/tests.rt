@@ -1,11 +1,11 @@
-//! The check and the frames of the line: worked transmissions, cuttings, refusals and damage.
-use arrayvec::{ArrayString, ArrayVec};
-use bsc_check::{Check, one_remainder};
-use bsc_codes::{Block, Closing};
-use bsc_frame::{
+//! What no clause says: worked transmissions, cuttings, refusals and damage.
+use crate::{
     Fed, Frame, FrameFault, Heard, Listener, every_hearing, one_hearing, one_transmission,
     write_frame, written_is_transmission,
 };
+use arrayvec::{ArrayString, ArrayVec};
+use bsc_check::Check;
+use bsc_codes::{Block, Closing};
 use std::fmt::Write;
 
 /// A block of this text.
@@ -129,58 +129,6 @@ fn makes_no_frame(listener: &mut Listener, bytes: &[u8]) -> bool {
         }
     }
     true
-}
-
-/// The register after eight shifts.
-fn eight_shifts(register: u16) -> u16 {
-    let mut register = register;
-    for _ in 0..8u8 {
-        let low = register & 1;
-        register >>= 1;
-        if low == 1 {
-            register ^= 0xA001;
-        }
-    }
-    register
-}
-
-#[test]
-fn known_bytes_have_known_checks(rt: HostRuntime) {
-    let cases: [(&[u8], [u8; 2]); 6] = [
-        (b"123456789", [0x3D, 0xBB]),
-        (&[], [0x00, 0x00]),
-        (&[0x03], [0x40, 0x01]),
-        (&[0x26], [0x81, 0xDA]),
-        (&[0xC1, 0x1E, 0x03], [0x18, 0x5D]),
-        (&[0x10, 0x03], [0x4D, 0xC1]),
-    ];
-    for (bytes, want) in &cases {
-        let mut whole = Check::new();
-        whole.add_all(bytes);
-        assert!(rt; whole.bytes() == *want);
-        let mut each = Check::new();
-        for byte in *bytes {
-            each.add(*byte);
-        }
-        assert!(rt; each.bytes() == *want);
-    }
-    one_remainder();
-}
-
-#[test]
-fn the_table_is_eight_shifts(rt: HostRuntime) {
-    let mut check = Check::new();
-    let mut register = 0u16;
-    for high in 0..=255u8 {
-        for low in 0..=255u8 {
-            check.add(low ^ high);
-            register = eight_shifts(register ^ u16::from(low ^ high));
-            assert!(rt; check.bytes() == register.to_le_bytes());
-        }
-        let mut one = Check::new();
-        one.add(high);
-        assert!(rt; one.bytes() == eight_shifts(u16::from(high)).to_le_bytes());
-    }
 }
 
 #[test]

@@ -1,9 +1,9 @@
 //! Job files, listings, punched decks, and which jobs can be sent.
-use super::{buffer, record};
-use rje_jobs::{
+use super::record;
+use crate::{
     FileFault, Form, Job, Jobs, job_fits, job_of_deck, list_job, punch_job, read_jobs, write_jobs,
 };
-use rje_text::{Action, Mode, Record, Records, Select};
+use rje_text::{Action, Mode, Records, Select};
 use std::process::Abort;
 use std::test::Fail;
 

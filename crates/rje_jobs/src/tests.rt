@@ -1,0 +1,17 @@
+//! What no clause says: worked decks, files, listings and cards.
+mod decks;
+mod files;
+
+use arrayvec::ArrayVec;
+use rje_text::{Action, Record};
+use std::process::Abort;
+
+/// A record of these bytes.
+fn record(rt: &impl Abort, action: Action, bytes: &[u8]) -> Record {
+    let mut kept = ArrayVec::new();
+    assert!(rt; kept.try_extend_from_slice(bytes).is_ok());
+    Record {
+        action,
+        bytes: kept,
+    }
+}

@@ -1,0 +1,519 @@
+//! Runs of two stations that both have jobs: who speaks, who gives way, and that each way is a conversation of its own.
+use super::schedules::{
+    BID, BLOCK_ACK1, DOWN_LOST, END, GOOD, HOLD, Line, PAUSE, Place, TURN, UP_LOST, Way,
+    assert_equal_jobs, assert_turn, cut, damaged, job_of, pair_schedule, schedule, unfit_job,
+};
+use bsc_link::{Outcome, Rank, Reply, Say, Sound, Wish};
+use line_world::{
+    Bids, PairReport, PairTurn, Paired, Side, Spoken, WorldFault, drive_pair, run, run_pair,
+};
+use rje_jobs::{Job, Jobs};
+use rje_station::Station;
+use rje_text::{Mode, Select};
+use std::alloc::{AllocGlobal, Global};
+use std::process::Abort;
+use std::test::Fail;
+
+/// A turn of a schedule: who speaks where both could, and what the line does.
+type Pairing = (Bids, Place);
+
+const BOTH: Pairing = (Bids::Both, GOOD);
+
+const P: Pairing = (Bids::Primary, GOOD);
+
+const S: Pairing = (Bids::Secondary, GOOD);
+
+const P_LOST: Pairing = (Bids::Primary, UP_LOST);
+
+const S_LOST: Pairing = (Bids::Secondary, UP_LOST);
+
+const P_UNHEARD: Pairing = (Bids::Primary, DOWN_LOST);
+
+const S_HELD: Pairing = (Bids::Secondary, HOLD);
+
+/// A printed turn: what the primary and the secondary said, where they spoke.
+type PairLine = (Option<Line>, Option<Line>);
+
+const VAIN: Line = Line(Say::Bid, Sound::Quiet, None, Sound::Quiet);
+
+const LAST: Line = Line(Say::End, Sound::Quiet, None, Sound::Quiet);
+
+const UNHEARD: Line = Line(Say::Bid, Sound::Enq, Some(Reply::Ack0), Sound::Quiet);
+
+const HELD: Line = Line(Say::Bid, Sound::Enq, Some(Reply::Wack), Sound::Wack);
+
+const COLLISION: PairLine = (Some(VAIN), Some(VAIN));
+
+const END_VAIN: PairLine = (Some(LAST), Some(VAIN));
+
+const PASSED: PairLine = (None, Some(Line(Say::Bid, Sound::Enq, None, Sound::Quiet)));
+
+const UP_BID: PairLine = (Some(BID), None);
+
+const UP_UNHEARD: PairLine = (Some(UNHEARD), None);
+
+const UP_VAIN: PairLine = (Some(VAIN), None);
+
+const UP_BLOCK: PairLine = (Some(BLOCK_ACK1), None);
+
+const UP_END: PairLine = (Some(END), None);
+
+const UP_LAST: PairLine = (Some(LAST), None);
+
+const DOWN_BID: PairLine = (None, Some(BID));
+
+const DOWN_HELD: PairLine = (None, Some(HELD));
+
+const DOWN_VAIN: PairLine = (None, Some(VAIN));
+
+const DOWN_BLOCK: PairLine = (None, Some(BLOCK_ACK1));
+
+const DOWN_END: PairLine = (None, Some(END));
+
+const DOWN_LAST: PairLine = (None, Some(LAST));
+
+/// What becomes of a station's jobs: those that the other one hands out, how many are counted, and the outcome.
+type Fares<'a> = (&'a [Job], usize, Option<Outcome>);
+
+fn all_sent(jobs: &[Job]) -> Fares<'_> {
+    (jobs, jobs.len(), Some(Outcome::Done))
+}
+
+/// Nothing becomes of the jobs.
+fn nothing<'a>(outcome: Option<Outcome>) -> Fares<'a> {
+    (&[], 0, outcome)
+}
+
+const GAVE_UP: Option<Outcome> = Some(Outcome::GaveUp);
+
+/// The call that makes a report.
+#[derive(Clone, Copy)]
+pub(super) enum Call {
+    Run,
+    Drive,
+}
+
+const CALLS: [Call; 2] = [Call::Run, Call::Drive];
+
+/// The report of these jobs of the primary and of the secondary, by this call.
+pub(super) fn report_by(
+    call: Call,
+    alloc: Global,
+    jobs: (&[Job], &[Job]),
+    turns: &[PairTurn],
+) -> Result<PairReport, WorldFault> {
+    if let Call::Run = call {
+        return run_pair(alloc, jobs.0, jobs.1, turns);
+    }
+    let primary = Station::new(alloc, Rank::Primary, jobs.0)?;
+    let secondary = Station::new(alloc, Rank::Secondary, jobs.1)?;
+    let Paired {
+        turns,
+        primary,
+        secondary,
+    } = drive_pair(alloc, primary, secondary, turns)?;
+    let up = (primary.sender().counted(), primary.sender().outcome());
+    let down = (secondary.sender().counted(), secondary.sender().outcome());
+    Ok(PairReport {
+        turns,
+        up: side(secondary.take(), up),
+        down: side(primary.take(), down),
+    })
+}
+
+fn side(handed: Vec<Job>, (counted, outcome): (usize, Option<Outcome>)) -> Side {
+    Side {
+        handed: Jobs::from(handed),
+        counted,
+        outcome,
+    }
+}
+
+/// What one station said is what is printed, or it didn't speak and nothing is.
+fn assert_part(rt: &impl Abort, shows: &str, spoken: Option<Spoken>, line: Option<Line>) {
+    match (spoken, line) {
+        (None, None) => {}
+        (Some(spoken), Some(line)) => assert_turn(rt, &spoken, &line),
+        (_, line) => assert!(rt; false, "{line:?} where {shows}"),
+    }
+}
+
+fn assert_side(rt: &impl Abort, side: &Side, fares: Fares<'_>) {
+    assert_equal_jobs(rt, side.handed.as_slice(), fares.0);
+    assert_eq!(rt; side.counted, fares.1);
+    assert_eq!(rt; side.outcome, fares.2);
+}
+
+/// Over this schedule both calls tell the turns that are printed, and this becomes of the jobs of the primary and of the secondary.
+fn assert_pair(
+    rt: &(impl Abort + AllocGlobal),
+    shows: &str,
+    jobs: (&[Job], &[Job]),
+    places: &[Pairing],
+    lines: &[PairLine],
+    fares: (Fares<'_>, Fares<'_>),
+) -> Result<(), Fail> {
+    let turns = pair_schedule(rt.alloc(), places)?;
+    for call in CALLS {
+        let report = report_by(call, rt.alloc(), jobs, &turns)?;
+        assert_eq!(rt; report.turns.len(), lines.len(), "turns where {shows}");
+        for (turn, line) in report.turns.iter().zip(lines) {
+            assert_part(rt, shows, turn.primary, line.0);
+            assert_part(rt, shows, turn.secondary, line.1);
+        }
+        assert_side(rt, &report.up, fares.0);
+        assert_side(rt, &report.down, fares.1);
+    }
+    Ok(())
+}
+
+/// One job of one block each way: the turns, and what becomes of the jobs.
+fn assert_one_each(
+    rt: &(impl Abort + AllocGlobal),
+    places: &[Pairing],
+    lines: &[PairLine],
+) -> Result<(), Fail> {
+    let (ups, downs) = ([job_of(rt, 1, 1)?], [job_of(rt, 1, 2)?]);
+    let fares = (all_sent(&ups), all_sent(&downs));
+    assert_pair(rt, "both are done", (&ups, &downs), places, lines, fares)
+}
+
+/// A conversation of one job of one block each way: what it shows, the schedule, the turns, and whether each way is done or given up.
+struct Talk(
+    &'static str,
+    &'static [Pairing],
+    &'static [PairLine],
+    (bool, bool),
+);
+
+static TALKS: [Talk; 8] = [
+    Talk(
+        "after a collision the secondary gives way",
+        &[BOTH, S, P, BOTH, BOTH, BOTH, BOTH, BOTH, BOTH],
+        &[
+            COLLISION, PASSED, UP_BID, UP_BLOCK, UP_END, DOWN_BID, DOWN_BLOCK, DOWN_END,
+        ],
+        (true, true),
+    ),
+    Talk(
+        "a lost end is told all the same, and whoever may bid, a granted transmission goes on",
+        &[BOTH, S, P, S, S_LOST, P, P, P, P],
+        &[
+            COLLISION, PASSED, UP_BID, UP_BLOCK, UP_LAST, DOWN_BID, DOWN_BLOCK, DOWN_END,
+        ],
+        (true, true),
+    ),
+    Talk(
+        "a secondary that gave up says so once it may speak",
+        &[BOTH, S, S, S, S, S, S, P, P, P, P, P],
+        &[
+            COLLISION, PASSED, PASSED, PASSED, PASSED, PASSED, PASSED, UP_BID, UP_BLOCK, UP_END,
+            DOWN_END,
+        ],
+        (true, false),
+    ),
+    Talk(
+        "a secondary that took a bid is silent until the end",
+        &[P_UNHEARD, S, S, S, S, S, S],
+        &[
+            UP_UNHEARD, UP_BID, UP_BLOCK, UP_END, DOWN_BID, DOWN_BLOCK, DOWN_END,
+        ],
+        (true, true),
+    ),
+    Talk(
+        "a primary that holds a bid is silent until the end",
+        &[S_HELD, P, P, P, P, P, P],
+        &[
+            DOWN_HELD, DOWN_BID, DOWN_BLOCK, DOWN_END, UP_BID, UP_BLOCK, UP_END,
+        ],
+        (true, true),
+    ),
+    Talk(
+        "a secondary that takes a bid counts its own anew",
+        &[
+            S_LOST, S_LOST, S_LOST, P, P, P, S_LOST, S_LOST, S_LOST, S_LOST, S_LOST, S_LOST,
+            S_LOST, S_LOST, P,
+        ],
+        &[
+            DOWN_VAIN, DOWN_VAIN, DOWN_VAIN, UP_BID, UP_BLOCK, UP_END, DOWN_VAIN, DOWN_VAIN,
+            DOWN_VAIN, DOWN_VAIN, DOWN_VAIN, DOWN_VAIN, DOWN_VAIN, DOWN_LAST,
+        ],
+        (true, false),
+    ),
+    Talk(
+        "a primary passes bids over until it said its end",
+        &[
+            P_LOST, P_LOST, P_LOST, S, S, P_LOST, P_LOST, P_LOST, P_LOST, S, P, S, S, S, S,
+        ],
+        &[
+            UP_VAIN, UP_VAIN, UP_VAIN, PASSED, PASSED, UP_VAIN, UP_VAIN, UP_VAIN, UP_VAIN, PASSED,
+            UP_END, DOWN_BID, DOWN_BLOCK, DOWN_END,
+        ],
+        (false, true),
+    ),
+    Talk(
+        "an end that meets a bid is told all the same",
+        &[
+            P_LOST, P_LOST, P_LOST, P_LOST, P_LOST, P_LOST, P_LOST, BOTH, P, P, P, P,
+        ],
+        &[
+            UP_VAIN, UP_VAIN, UP_VAIN, UP_VAIN, UP_VAIN, UP_VAIN, UP_VAIN, END_VAIN, DOWN_BID,
+            DOWN_BLOCK, DOWN_END,
+        ],
+        (false, true),
+    ),
+];
+
+fn fares(done: bool, jobs: &[Job]) -> Fares<'_> {
+    if done {
+        all_sent(jobs)
+    } else {
+        nothing(GAVE_UP)
+    }
+}
+
+#[test]
+fn each_conversation_goes_turn_by_turn(rt: HostRuntime) -> Result<(), Fail> {
+    let (ups, downs) = ([job_of(&rt, 1, 1)?], [job_of(&rt, 1, 2)?]);
+    for Talk(shows, places, lines, (up, down)) in &TALKS {
+        let fares = (fares(*up, &ups), fares(*down, &downs));
+        assert_pair(&rt, shows, (&ups, &downs), places, lines, fares)?;
+    }
+    Ok(())
+}
+
+// ONE WAY ALONE
+
+const L: Place = UP_LOST;
+
+static SCHEDULES: [&'static [Place]; 7] = [
+    &[GOOD, GOOD, GOOD, GOOD, GOOD, GOOD],
+    &[L, GOOD, DOWN_LOST, GOOD, L, DOWN_LOST, GOOD, GOOD, GOOD],
+    &[TEXT, GOOD, GOOD, GOOD],
+    &[HOLD, GOOD, HOLD, GOOD, PAUSE, PAUSE, GOOD, GOOD, GOOD, GOOD],
+    &[GOOD, GOOD, TURN, GOOD, GOOD],
+    &[L, L, L, L, L, L, L, GOOD],
+    &[GOOD, GOOD, L, L, L, L, L, L, L, GOOD],
+];
+
+#[test]
+fn without_jobs_of_the_secondary_the_primarys_way_is_a_run(rt: HostRuntime) -> Result<(), Fail> {
+    let jobs = [job_of(&rt, 7, 80)?, job_of(&rt, 1, 1)?];
+    for places in SCHEDULES {
+        let turns = schedule(rt.alloc(), places)?;
+        let mut pairings = Vec::new(rt.alloc());
+        for place in places {
+            pairings.push((Bids::Secondary, *place))?;
+        }
+        let pair_turns = pair_schedule(rt.alloc(), &pairings)?;
+        for call in CALLS {
+            let pair = report_by(call, rt.alloc(), (&jobs, &[]), &pair_turns);
+            let (report, pair) = match (run(rt.alloc(), &jobs, &turns), pair) {
+                (Ok(report), Ok(pair)) => (report, pair),
+                (report, pair) => {
+                    assert_eq!(rt; report.err(), pair.err());
+                    continue;
+                }
+            };
+            let handed = report.handed.as_slice();
+            assert_side(&rt, &pair.up, (handed, report.counted, report.outcome));
+            assert_side(&rt, &pair.down, all_sent(&[]));
+            assert_eq!(rt; pair.turns.len(), report.turns.len());
+            for (turn, spoken) in pair.turns.iter().zip(&report.turns) {
+                assert_eq!(rt; turn.primary, Some(*spoken));
+                assert_eq!(rt; turn.secondary, None);
+            }
+        }
+    }
+    Ok(())
+}
+
+#[test]
+fn with_no_jobs_or_no_schedule_nothing_is_said(rt: HostRuntime) -> Result<(), Fail> {
+    let (none, open) = (all_sent(&[]), nothing(None));
+    let unread = [(Bids::Both, cut(&[0]))];
+    assert_pair(
+        &rt,
+        "nobody has jobs",
+        (&[], &[]),
+        &unread,
+        &[],
+        (none, none),
+    )?;
+    assert_pair(&rt, "nobody has jobs", (&[], &[]), &[], &[], (none, none))?;
+    let jobs = [job_of(&rt, 1, 1)?];
+    assert_pair(
+        &rt,
+        "the schedule ends",
+        (&jobs, &jobs),
+        &[],
+        &[],
+        (open, open),
+    )?;
+    // The last block was counted, and the schedule ends before EOT.
+    let (lines, fares) = ([UP_BID, UP_BLOCK], (all_sent(&jobs), open));
+    assert_pair(
+        &rt,
+        "the schedule ends",
+        (&jobs, &jobs),
+        &[P; 2],
+        &lines,
+        fares,
+    )
+}
+
+// JOBS
+
+/// On a clean line all these jobs are sent, in so many turns.
+fn assert_all_sent(
+    rt: &(impl Abort + AllocGlobal),
+    ups: &[Job],
+    downs: &[Job],
+    count: usize,
+) -> Result<(), Fail> {
+    let mut pairings = Vec::new(rt.alloc());
+    for _ in 0..=count {
+        pairings.push(S)?;
+    }
+    let turns = pair_schedule(rt.alloc(), &pairings)?;
+    for call in CALLS {
+        let report = report_by(call, rt.alloc(), (ups, downs), &turns)?;
+        assert_eq!(rt; report.turns.len(), count);
+        assert_side(rt, &report.up, all_sent(ups));
+        assert_side(rt, &report.down, all_sent(downs));
+    }
+    Ok(())
+}
+
+/// Jobs of two cards for these devices.
+fn cards<const N: usize>(
+    rt: &(impl Abort + AllocGlobal),
+    kinds: [(Select, Mode); N],
+) -> Result<Vec<Job>, Fail> {
+    let mut jobs = Vec::new(rt.alloc());
+    for (select, mode) in kinds {
+        let mut job = job_of(rt, 2, 80)?;
+        job.select = select;
+        job.mode = mode;
+        jobs.push(job)?;
+    }
+    Ok(jobs)
+}
+
+#[test]
+fn jobs_of_each_device_and_mode_go_each_way(rt: HostRuntime) -> Result<(), Fail> {
+    let plain = (Select::Unset, Mode::Normal);
+    let printed = (Select::Printer, Mode::Normal);
+    let punched = (Select::Punch, Mode::Normal);
+    let transparent = (Select::Punch, Mode::Transparent);
+    let ups = cards(&rt, [plain, printed, punched, transparent])?;
+    let downs = cards(&rt, [transparent, punched, plain, printed])?;
+    assert_all_sent(&rt, &ups, &downs, 12)
+}
+
+#[test]
+fn a_hundred_jobs_go_each_way(rt: HostRuntime) -> Result<(), Fail> {
+    let (mut ups, mut downs) = (Vec::new(rt.alloc()), Vec::new(rt.alloc()));
+    for i in 0..100 {
+        ups.push(job_of(&rt, 1, i + 1)?)?;
+        downs.push(job_of(&rt, 2, 100 - i)?)?;
+    }
+    assert_all_sent(&rt, &ups, &downs, 204)
+}
+
+// FAULTS
+
+/// Over this schedule one job of one block each way is refused so, by both calls.
+fn assert_refused(
+    rt: &(impl Abort + AllocGlobal),
+    places: &[Pairing],
+    fault: WorldFault,
+) -> Result<(), Fail> {
+    let jobs = [job_of(rt, 1, 1)?];
+    let turns = pair_schedule(rt.alloc(), places)?;
+    for call in CALLS {
+        let refused = report_by(call, rt.alloc(), (&jobs, &jobs), &turns).err();
+        assert_eq!(rt; refused, Some(fault));
+    }
+    Ok(())
+}
+
+/// A good turn but for the fate of the reply.
+fn answered(down: Way) -> Place {
+    Place { down, ..GOOD }
+}
+
+const TEXT: Place = Place {
+    up: Way::Damaged(&[0x32, 0x32, 0x02, 0xC1]),
+    ..GOOD
+};
+
+#[test]
+fn in_a_collision_fates_and_wish_are_not_looked_at(rt: HostRuntime) -> Result<(), Fail> {
+    let eot: &[u8] = &[0x32, 0x32, 0x37];
+    let (no_damage, bad_cut) = (WorldFault::NotDamage(1, 1), WorldFault::BadCut(1, 1));
+    for (place, fault) in [
+        (TEXT, no_damage),
+        (damaged(eot), no_damage),
+        (answered(Way::Damaged(eot)), no_damage),
+        (cut(&[0]), bad_cut),
+        (cut(&[4]), bad_cut),
+        (answered(Way::Cut(&[5])), bad_cut),
+    ] {
+        assert_refused(&rt, &[(Bids::Primary, place)], fault)?;
+        assert_refused(&rt, &[(Bids::Secondary, place)], fault)?;
+        let (wish, pause) = (Wish::Hold, true);
+        let vain = Place {
+            wish,
+            pause,
+            ..place
+        };
+        let lines = [
+            COLLISION, COLLISION, UP_BID, UP_BLOCK, UP_END, DOWN_BID, DOWN_BLOCK, DOWN_END,
+        ];
+        let (both, p) = (Bids::Both, P);
+        assert_one_each(
+            &rt,
+            &[(both, place), (both, vain), p, p, p, p, p, p],
+            &lines,
+        )?;
+    }
+    Ok(())
+}
+
+#[test]
+fn where_one_speaks_the_first_broken_fate_is_told(rt: HostRuntime) -> Result<(), Fail> {
+    let (p, s) = (Bids::Primary, Bids::Secondary);
+    let (no_damage, bad_cut) = (WorldFault::NotDamage(1, 2), WorldFault::BadCut(1, 2));
+    assert_refused(&rt, &[BOTH, (p, TEXT)], no_damage)?;
+    // A bid that is passed over arrives all the same, and no answer to it does.
+    assert_refused(&rt, &[BOTH, (s, TEXT)], no_damage)?;
+    assert_refused(&rt, &[BOTH, (s, cut(&[4]))], bad_cut)?;
+    let places = [BOTH, (s, answered(Way::Cut(&[0]))), (p, TEXT)];
+    assert_refused(&rt, &places, WorldFault::NotDamage(1, 3))?;
+    // The acknowledgement has five bytes. Where both fates break a rule, that of the block is told.
+    let down = answered(Way::Cut(&[5]));
+    assert_refused(&rt, &[S, (p, down)], bad_cut)?;
+    let up = Way::Damaged(&[0x32, 0x32, 0x37]);
+    let places = [P, P, P, P, (p, Place { up, ..down })];
+    assert_refused(&rt, &places, WorldFault::NotDamage(1, 5))
+}
+
+#[test]
+fn jobs_that_cannot_be_sent_count_from_the_primarys_first(rt: HostRuntime) -> Result<(), Fail> {
+    let good = [job_of(&rt, 1, 1)?, job_of(&rt, 1, 1)?];
+    let bad = [job_of(&rt, 1, 1)?, unfit_job(&rt)?];
+    let turns = pair_schedule(rt.alloc(), &[(Bids::Primary, cut(&[0]))])?;
+    let cases: [(&[Job], &[Job], usize); 5] = [
+        (&bad, &good, 2),
+        (&good, &bad, 4),
+        (&bad, &bad, 2),
+        (&[], &bad, 2),
+        (&bad, &[], 2),
+    ];
+    for (ups, downs, number) in cases {
+        let fault = run_pair(rt.alloc(), ups, downs, &turns).err();
+        assert_eq!(rt; fault, Some(WorldFault::BadJob(number)));
+    }
+    Ok(())
+}
