@@ -1,110 +1,150 @@
--- The table and its reverse.
-use Rattle.std.proofs.Common.{◌≡◌, ℕ, zero, suc, ◌+◌, ◌-◌, ◌<◌, ◌≤◌, Bool, true, false, eqb, List, [], ◌∷◌, length, get_or, Option, Some, None, IsSome, refl, ap, sym, ◌∙◌, subst, arith, ⊎_elim, ◌&&◌}
-use Rattle.std.specs.List.{position, slice_get}
+-- The page, read both ways; and the program's table of codes is the page.
+use Rattle.std.proofs.Common.{◌≡◌, ℕ, ◌-◌, ◌<◌, ◌≤◌, ◌&&◌, Bool, true, false, cond, eqb, leb, List, [], ◌∷◌, length, get_or, map, Option, Some, None, IsSome, refl, ap, sym, ◌∙◌, subst, arith, ◌⊎◌, inl, inr, ⊎_elim}
+use Rattle.std.specs.List.{find, list_all, slice_get, range_with_len}
 use Rattle.std.specs.Option.{option_map}
-use Rattle.std.proofs.lemmas.Bool.{cases_lt, le-ltb, lt-ltb}
-use Rattle.std.proofs.lemmas.Option.{slice_get-get_or, slice_get_past}
-use Rattle.std.proofs.lemmas.List.Quantifiers.{position-Some}
+use Rattle.std.specs.Prelude.{nat_lt, if◌then◌else◌}
+use Rattle.std.proofs.lemmas.Bool.{le-ltb, lt-ltb}
+use Rattle.std.proofs.lemmas.Option.{slice_get-get_or}
+use Rattle.std.proofs.lemmas.List.FromFn.{get_or-map-range_with_len}
 use Rattle.std.proofs.lemmas.Bool.Decides.{nat_tests}
-use Rattle.bsc_codes.specs.CodePage.{ebcdic_of, ascii_of, page_037}
+use Rattle.bsc_codes.specs.declared.code_page.TheConstants.{PRINTABLE}
+use Rattle.bsc_codes.specs.CodePage.{Entry, ebcdic_of, ascii_of, page_037}
 
-abbrev same_place : Option ℕ → ℕ → Bool
-same_place None i = false
-same_place (Some j) i = eqb j i
+-- ---- What is found in a list passes the test, and what every entry passes.
 
--- each of these codes is found in all at its own place, the first at i
-abbrev found_at : List ℕ → ℕ → List ℕ → Bool
-found_at all i [] = true
-found_at all i (x ∷ xs) = same_place (position (λ y. eqb y x) all) i && found_at all (suc i) xs
-
-and_both : (a b : Bool) → (a && b) ≡ true → (a ≡ true) × (b ≡ true)
-and_both true b h = (refl, h)
-and_both false b h = absurd (no h)
+both : (a b : Bool) → (a && b) ≡ true → (a ≡ true) × (b ≡ true)
+both true b h = (refl, h)
+both false b h = absurd (no h)
   where
     no : false ≡ true → ⊥
     no e = cc
-
-place_is : (o : Option ℕ) (i : ℕ) → same_place o i ≡ true → o ≡ Some i
-place_is None i h = absurd (no h)
-  where
-    no : false ≡ true → ⊥
-    no e = cc
-place_is (Some j) i h = let e : j ≡ i = grind (arith, nat_tests) in ap Some e
-
-found : (all : List ℕ) (i : ℕ) (xs : List ℕ) (k e : ℕ) → found_at all i xs ≡ true → slice_get xs k ≡ Some e → position (λ y. eqb y e) all ≡ Some (i + k)
-found all i [] k e h s = absurd (no s)
-  where
-    no : ◌≡◌ {A = Option ℕ} None (Some e) → ⊥
-    no q = cc
-found all i (x ∷ xs) zero e h s =
-    let same : x ≡ e = cc in
-    subst (λ y. position (λ z. eqb z y) all ≡ Some (i + 0)) same (place_is _ (i + 0) (subst (λ j. same_place (position (λ z. eqb z x) all) j ≡ true) (omega arith) (and_both _ _ h).0))
-found all i (x ∷ xs) (suc k) e h s =
-    found all (suc i) xs k e (and_both _ _ h).1 s ∙ ap Some (omega arith)
-
-pub all_found : found_at page_037 0 page_037 ≡ true
-unfolding page_037
-all_found = refl
-
-length-page_037 : length page_037 ≡ 95
-unfolding page_037
-length-page_037 = refl
 
 none_some : {X : Type 0} (x : X) → ◌≡◌ {A = Option X} None (Some x) → ⊥
 none_some x q = cc
 
-low_none : (a : ℕ) → a < 32 → ebcdic_of a ≡ None
-unfolding ebcdic_of
-low_none a l = rw (lt-ltb a 32 l) refl
+some_same : {X : Type 0} (x y : X) → ◌≡◌ {A = Option X} (Some x) (Some y) → x ≡ y
+some_same x y q = cc
 
-high_get : (a : ℕ) → 32 ≤ a → ebcdic_of a ≡ slice_get page_037 (a - 32)
-unfolding ebcdic_of
-high_get a l = rw (le-ltb a 32 l) refl
+first_or : {X : Type 0} (b : Bool) (x y : X) (o : Option X) → cond b (Some x) o ≡ Some y → ((b ≡ true) × (x ≡ y)) ⊎ (o ≡ Some y)
+first_or true x y o h = inl (refl, some_same x y h)
+first_or false x y o h = inr h
 
-code_found : (a e : ℕ) → 32 ≤ a → slice_get page_037 (a - 32) ≡ Some e → ascii_of e ≡ Some a
+found_passes : (test every : Entry → Bool) (page : List Entry) (e : Entry) → list_all every page ≡ true → find test page ≡ Some e → (test e ≡ true) × (every e ≡ true)
+found_passes test every [] e h f = absurd (none_some e f)
+found_passes test every (x ∷ xs) e h f =
+    ⊎_elim (λ (w : (test x ≡ true) × (x ≡ e)). subst (λ y. (test y ≡ true) × (every y ≡ true)) w.1 (w.0, (both _ _ h).0))
+    (λ (w : find test xs ≡ Some e). found_passes test every xs e (both _ _ h).1 w)
+    (first_or (test x) x e (find test xs) f)
+
+mapped : {X Y : Type 0} (f : X → Y) (o : Option X) (y : Y) → option_map f o ≡ Some y → (x : X) × (o ≡ Some x) × (f x ≡ y)
+mapped f None y h = absurd (none_some y h)
+mapped f (Some x) y h = (x, refl, some_same (f x) y h)
+
+-- ---- Each entry's character has its code, each entry's code its character, and no other.
+
+same : Option ℕ → ℕ → Bool
+same None n = false
+same (Some m) n = eqb m n
+
+same_is : (o : Option ℕ) (n : ℕ) → same o n ≡ true → o ≡ Some n
+unfolding same
+same_is None n h = absurd (no h)
+  where
+    no : false ≡ true → ⊥
+    no e = cc
+same_is (Some m) n h = let e : m ≡ n = grind (arith, nat_tests) in ap Some e
+
+good : Entry → Bool
+good e = same (ascii_of e.code) e.character && (same (ebcdic_of e.character) e.code && (leb 32 e.character && leb e.character 126))
+
+all_good : list_all good page_037 ≡ true
+unfolding good same ebcdic_of ascii_of page_037
+all_good = refl
+
+good_entry : (test : Entry → Bool) (e : Entry) → find test page_037 ≡ Some e → (test e ≡ true) × (ascii_of e.code ≡ Some e.character) × (ebcdic_of e.character ≡ Some e.code) × (32 ≤ e.character) × (e.character ≤ 126)
+unfolding good
+good_entry test e f =
+    let p = found_passes test good page_037 e all_good f in
+    let q = both (same (ascii_of e.code) e.character) _ p.1 in
+    let r = both (same (ebcdic_of e.character) e.code) _ q.1 in
+    let s = both (leb 32 e.character) (leb e.character 126) r.1 in
+    let low : 32 ≤ e.character = grind (arith, nat_tests, s.0) in
+    let high : e.character ≤ 126 = grind (arith, nat_tests, s.1) in
+    (p.0, same_is _ _ q.0, same_is _ _ r.0, low, high)
+
+entry_of : (a e : ℕ) → ebcdic_of a ≡ Some e → (x : Entry) × (find (λ y. eqb y.character a) page_037 ≡ Some x) × (x.code ≡ e)
+unfolding ebcdic_of
+entry_of a e h = mapped (λ (x : Entry). x.code) (find (λ y. eqb y.character a) page_037) e h
+
+entry_for : (a e : ℕ) → ascii_of e ≡ Some a → (x : Entry) × (find (λ y. eqb y.code e) page_037 ≡ Some x) × (x.character ≡ a)
 unfolding ascii_of
-code_found a e l s =
-    let sum : (0 + (a - 32)) + 32 ≡ a = omega arith in
-    ap (option_map (λ i. i + 32)) (found page_037 0 page_037 (a - 32) e all_found s) ∙ ap Some sum
+entry_for a e h = mapped (λ (x : Entry). x.character) (find (λ y. eqb y.code e) page_037) a h
 
 pub forward : (a e : ℕ) → ebcdic_of a ≡ Some e → ascii_of e ≡ Some a
 forward a e h =
-    ⊎_elim (λ (l : a < 32). absurd (none_some e (sym (low_none a l) ∙ h))) (λ (l : 32 ≤ a). code_found a e l (sym (high_get a l) ∙ h)) (cases_lt a 32)
-
-map_some : (o : Option ℕ) (a : ℕ) → option_map (λ i. i + 32) o ≡ Some a → (i : ℕ) × (o ≡ Some i) × (a ≡ i + 32)
-map_some None a h = absurd (none_some a h)
-map_some (Some i) a h = let e : a ≡ i + 32 = cc in (i, refl, e)
-
-place_code : (i e : ℕ) → position (λ y. eqb y e) page_037 ≡ Some i → ebcdic_of (i + 32) ≡ Some e
-place_code i e h =
-    let p = position-Some (λ y. eqb y e) page_037 i 0 h in
-    let at = p.1 in
-    let same : get_or page_037 i 0 ≡ e = grind (arith, nat_tests) in
-    let back : (i + 32) - 32 ≡ i = omega arith in
-    high_get (i + 32) (omega arith) ∙ ap (slice_get page_037) back ∙ slice_get-get_or page_037 i 0 p.0 ∙ ap Some same
+    let x = entry_of a e h in
+    let g = good_entry (λ y. eqb y.character a) x.0 x.1 in
+    let at : x.0.character ≡ a = grind (arith, nat_tests, g.0) in
+    sym (ap ascii_of x.2) ∙ g.1 ∙ ap Some at
 
 pub backward : (a e : ℕ) → ascii_of e ≡ Some a → ebcdic_of a ≡ Some e
-unfolding ascii_of
 backward a e h =
-    let m = map_some _ a h in
-    ap ebcdic_of m.2 ∙ place_code m.0 e m.1
+    let x = entry_for a e h in
+    let g = good_entry (λ y. eqb y.code e) x.0 x.1 in
+    let at : x.0.code ≡ e = grind (arith, nat_tests, g.0) in
+    sym (ap ebcdic_of x.2) ∙ g.2 ∙ ap Some at
+
+-- a character that has a code is printable
+pub character_within : (a e : ℕ) → ebcdic_of a ≡ Some e → (32 ≤ a) × (a ≤ 126)
+character_within a e h =
+    let x = entry_of a e h in
+    let g = good_entry (λ y. eqb y.character a) x.0 x.1 in
+    let at : x.0.character ≡ a = grind (arith, nat_tests, g.0) in
+    subst (λ y. (32 ≤ y) × (y ≤ 126)) at (g.3, g.4)
+
+is_some_some : (o : Option ℕ) → IsSome o → (e : ℕ) × (o ≡ Some e)
+is_some_some None h = absurd (no h)
+  where
+    no : false ≡ true → ⊥
+    no q = cc
+is_some_some (Some e) h = (e, refl)
+
+pub has_printable : (a : ℕ) → IsSome (ebcdic_of a) → (32 ≤ a) × (a ≤ 126)
+has_printable a h = let e = is_some_some (ebcdic_of a) h in character_within a e.0 e.1
+
+-- what holds of the code of each entry holds of the code of each character
+pub code_passes : (every : ℕ → Bool) → list_all (λ (e : Entry). every e.code) page_037 ≡ true → (a e : ℕ) → ebcdic_of a ≡ Some e → every e ≡ true
+code_passes every h a e f =
+    let x = entry_of a e f in
+    subst (λ y. every y ≡ true) x.2 (found_passes (λ y. eqb y.character a) (λ z. every z.code) page_037 x.0 h x.1).1
+
+-- ---- The program's table.
+
+-- the code of a character by the program's table
+abbrev by_table : ℕ → Option ℕ
+by_table a = if nat_lt a 32 then None else slice_get PRINTABLE (a - 32)
+
+-- the page by the program's table, computed
+page_is : map by_table (range_with_len 0 256) ≡ map ebcdic_of (range_with_len 0 256)
+unfolding ebcdic_of page_037
+page_is = refl
+
+code_is : (a : ℕ) → a < 256 → by_table a ≡ ebcdic_of a
+code_is a h =
+    sym (get_or-map-range_with_len by_table 0 256 a a None h (omega arith))
+    ∙ ap (λ t. get_or t a None) page_is
+    ∙ get_or-map-range_with_len ebcdic_of 0 256 a a None h (omega arith)
+
+pub low_none : (a : ℕ) → a < 32 → ebcdic_of a ≡ None
+low_none a l = sym (code_is a (omega arith)) ∙ rw (lt-ltb a 32 l) refl
+
+pub high_get : (a : ℕ) → 32 ≤ a → a < 256 → slice_get PRINTABLE (a - 32) ≡ ebcdic_of a
+high_get a l h = sym (rw (le-ltb a 32 l) refl) ∙ code_is a h
+
+length-table : length PRINTABLE ≡ 95
+length-table = refl
 
 pub printable_has : (a : ℕ) → 32 ≤ a → a ≤ 126 → IsSome (ebcdic_of a)
 printable_has a l h =
-    let len = length-page_037 in
-    rw (high_get a l ∙ slice_get-get_or page_037 (a - 32) 0 (omega arith)) refl
-
-has_none : (a : ℕ) → ebcdic_of a ≡ None → IsSome (ebcdic_of a) → ⊥
-has_none a e h = let q = rw e at h in false_true q
-  where
-    false_true : false ≡ true → ⊥
-    false_true q = cc
-
-pub has_printable : (a : ℕ) → IsSome (ebcdic_of a) → (32 ≤ a) × (a ≤ 126)
-has_printable a h =
-    let len = length-page_037 in
-    ⊎_elim (λ (l : a < 32). absurd (has_none a (low_none a l) h))
-    (λ (l : 32 ≤ a).
-    ⊎_elim (λ (m : a < 127). (l, omega arith))
-    (λ (m : 127 ≤ a). absurd (has_none a (high_get a l ∙ slice_get_past page_037 (a - 32) (omega arith)) h)) (cases_lt a 127))
-    (cases_lt a 32)
+    let len = length-table in
+    rw (sym (high_get a l (omega arith)) ∙ slice_get-get_or PRINTABLE (a - 32) 0 (omega arith)) refl

@@ -1,20 +1,35 @@
--- Code page 037 for the printable ASCII characters.
-use Rattle.std.specs.Prelude.{ℕ, ◌+◌, ◌-◌, List, [], ◌∷◌, Option, None, slice_get, position, option_map, nat_lt, ◌==◌, if◌then◌else◌}
+-- Code page 037 for the 95 printable ASCII characters.
+use Rattle.std.specs.Prelude.{ℕ, ◌+◌, List, [], ◌∷◌, ◌++◌, Option, option_map, find, codes, ◌==◌}
 
--- the EBCDIC codes of the 95 printable ASCII characters, in the order of ASCII from the blank (20) to the tilde (7E)
-unfoldable pub page_037 : List ℕ
+-- an ASCII character and its EBCDIC code
+pub record Entry : Type 0 where
+  pub character : ℕ
+  pub code : ℕ
+
+-- these characters have codes in a row, the first of them this one
+abbrev pub from : ℕ → List ℕ → List Entry
+from code [] = []
+from code (character ∷ characters) = record { character = character; code = code } ∷ from (code + 1) characters
+
+-- the printable ASCII characters: the letters and digits, which have codes in rows, and the blank and the 32 others, each with its own
+unfoldable pub page_037 : List Entry
 page_037 =
-    0x40 ∷ 0x5A ∷ 0x7F ∷ 0x7B ∷ 0x5B ∷ 0x6C ∷ 0x50 ∷ 0x7D ∷ 0x4D ∷ 0x5D ∷ 0x5C ∷ 0x4E ∷ 0x6B ∷ 0x60 ∷ 0x4B ∷ 0x61 ∷
-    0xF0 ∷ 0xF1 ∷ 0xF2 ∷ 0xF3 ∷ 0xF4 ∷ 0xF5 ∷ 0xF6 ∷ 0xF7 ∷ 0xF8 ∷ 0xF9 ∷ 0x7A ∷ 0x5E ∷ 0x4C ∷ 0x7E ∷ 0x6E ∷ 0x6F ∷
-    0x7C ∷ 0xC1 ∷ 0xC2 ∷ 0xC3 ∷ 0xC4 ∷ 0xC5 ∷ 0xC6 ∷ 0xC7 ∷ 0xC8 ∷ 0xC9 ∷ 0xD1 ∷ 0xD2 ∷ 0xD3 ∷ 0xD4 ∷ 0xD5 ∷ 0xD6 ∷
-    0xD7 ∷ 0xD8 ∷ 0xD9 ∷ 0xE2 ∷ 0xE3 ∷ 0xE4 ∷ 0xE5 ∷ 0xE6 ∷ 0xE7 ∷ 0xE8 ∷ 0xE9 ∷ 0xBA ∷ 0xE0 ∷ 0xBB ∷ 0xB0 ∷ 0x6D ∷
-    0x79 ∷ 0x81 ∷ 0x82 ∷ 0x83 ∷ 0x84 ∷ 0x85 ∷ 0x86 ∷ 0x87 ∷ 0x88 ∷ 0x89 ∷ 0x91 ∷ 0x92 ∷ 0x93 ∷ 0x94 ∷ 0x95 ∷ 0x96 ∷
-    0x97 ∷ 0x98 ∷ 0x99 ∷ 0xA2 ∷ 0xA3 ∷ 0xA4 ∷ 0xA5 ∷ 0xA6 ∷ 0xA7 ∷ 0xA8 ∷ 0xA9 ∷ 0xC0 ∷ 0x4F ∷ 0xD0 ∷ 0xA1 ∷ []
+    from 0xC1 (codes "ABCDEFGHI") ++ from 0xD1 (codes "JKLMNOPQR") ++ from 0xE2 (codes "STUVWXYZ")
+    ++ from 0x81 (codes "abcdefghi") ++ from 0x91 (codes "jklmnopqr") ++ from 0xA2 (codes "stuvwxyz")
+    ++ from 0xF0 (codes "0123456789") ++ from 0x40 (codes " ")
+    ++ from 0x5A (codes "!") ++ from 0x7F (codes "\"") ++ from 0x7B (codes "#") ++ from 0x5B (codes "$")
+    ++ from 0x6C (codes "%") ++ from 0x50 (codes "&") ++ from 0x7D (codes "'") ++ from 0x4D (codes "(")
+    ++ from 0x5D (codes ")") ++ from 0x5C (codes "*") ++ from 0x4E (codes "+") ++ from 0x6B (codes ",")
+    ++ from 0x60 (codes "-") ++ from 0x4B (codes ".") ++ from 0x61 (codes "/") ++ from 0x7A (codes ":")
+    ++ from 0x5E (codes ";") ++ from 0x4C (codes "<") ++ from 0x7E (codes "=") ++ from 0x6E (codes ">")
+    ++ from 0x6F (codes "?") ++ from 0x7C (codes "@") ++ from 0xBA (codes "[") ++ from 0xE0 (codes "\\")
+    ++ from 0xBB (codes "]") ++ from 0xB0 (codes "^") ++ from 0x6D (codes "_") ++ from 0x79 (codes "`")
+    ++ from 0xC0 (codes "{") ++ from 0x4F (codes "|") ++ from 0xD0 (codes "}") ++ from 0xA1 (codes "~")
 
 -- the EBCDIC code of an ASCII character, if it is printable
 unfoldable pub ebcdic_of : ℕ → Option ℕ
-ebcdic_of ascii = if nat_lt ascii 0x20 then None else slice_get page_037 (ascii - 0x20)
+ebcdic_of ascii = option_map (λ (e : Entry). e.code) (find (λ e. e.character == ascii) page_037)
 
 -- the ASCII character of an EBCDIC code, if that is the code of a printable one
 unfoldable pub ascii_of : ℕ → Option ℕ
-ascii_of ebcdic = option_map (λ i. i + 0x20) (position (λ code. code == ebcdic) page_037)
+ascii_of ebcdic = option_map (λ (e : Entry). e.character) (find (λ e. e.code == ebcdic) page_037)

@@ -5,6 +5,8 @@ mod block;
 mod bytes;
 mod code_page;
 mod laws;
+#[cfg(test)]
+mod tests;
 
 pub use block::{Block, Closing, MAX_TEXT};
 pub use bytes::{
@@ -12,4 +14,4 @@ pub use bytes::{
     is_normal_text,
 };
 pub use code_page::{to_ascii, to_ebcdic};
-pub use laws::code_page_is_inverse;
+pub use laws::{code_page_is_inverse, named_bytes_have_their_codes};

@@ -12,12 +12,11 @@ use Rattle.bsc_frame.specs.Listening.Run.{Hears, run}
 use Rattle.bsc_codes.specs.declared.block.Block.{Block}
 use Rattle.bsc_codes.specs.declared.block.Closing.{Closing}
 use Rattle.bsc_codes.specs.declared.block.Closing.TheVariants.{Etb, Etx}
-use Rattle.bsc_codes.specs.declared.bytes.TheConstants.{STX, ETX, DLE, ETB, ENQ, SYN, EOT, NAK, PAD}
-use Rattle.bsc_frame.specs.declared.frame.TheConstants.{LEADING_PAD}
+use Rattle.bsc_codes.specs.Bytes.{STX, ETX, DLE, ETB, ENQ, SYN, EOT, NAK, PAD}
+use Rattle.bsc_frame.specs.Bytes.{LEADING_PAD, ACK0, ACK1, WACK, RVI}
 use Rattle.bsc_check.specs.Check.{check_of}
 use Rattle.bsc_frame.specs.declared.frame.Frame.{Frame}
 use Rattle.bsc_frame.specs.declared.frame.Frame.TheVariants as frame
-use Rattle.bsc_frame.specs.declared.frame.TheConstants.{ACK0, ACK1, WACK, RVI}
 use Rattle.bsc_frame.proofs.NormalBytes.{means_normal}
 use Rattle.bsc_frame.proofs.Hearing.{data_of, AllNormal, check_pair}
 

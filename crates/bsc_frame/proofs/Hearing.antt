@@ -13,7 +13,7 @@ use Rattle.bsc_frame.specs.Listening.Run.{Hears, run}
 use Rattle.bsc_codes.specs.declared.block.Block.{Block}
 use Rattle.bsc_codes.specs.declared.block.Closing.{Closing}
 use Rattle.bsc_codes.specs.declared.block.Closing.TheVariants.{Etb, Etx}
-use Rattle.bsc_codes.specs.declared.bytes.TheConstants.{DLE, ENQ, SYN}
+use Rattle.bsc_codes.specs.Bytes.{DLE, ENQ, SYN}
 use Rattle.bsc_check.specs.Check.{check_of}
 use Rattle.bsc_frame.specs.declared.frame.Frame.{Frame}
 use Rattle.bsc_frame.specs.declared.frame.Frame.TheVariants as frame

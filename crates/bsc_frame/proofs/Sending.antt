@@ -7,7 +7,7 @@ use Rattle.bsc_frame.specs.Body.{on_line, IsText, IsNormalText}
 use Rattle.bsc_frame.specs.Written.{text_without_fill, body_without_fill, Written}
 use Rattle.bsc_frame.specs.Laws.{WrittenIsTransmission}
 use Rattle.bsc_codes.specs.declared.block.Block.{Block}
-use Rattle.bsc_codes.specs.declared.bytes.TheConstants.{SYN, PAD}
+use Rattle.bsc_codes.specs.Bytes.{SYN, PAD}
 use Rattle.bsc_frame.specs.declared.frame.Frame.TheVariants as frame
 
 on_line_without_fill : (transparent : Bool) (text : List ℕ) → text_without_fill transparent text ≡ flat_map (on_line transparent) (map (λ byte. Some byte) text)

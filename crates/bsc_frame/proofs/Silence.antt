@@ -5,9 +5,9 @@ use Rattle.std.specs.List.{AllByRecursion}
 use Rattle.bsc_frame.specs.Heard.{IsPadOrSyn}
 use Rattle.bsc_frame.specs.Listening.HeardSoFar.{HeardSoFar, Pads, OneSyn, Syns, Dle, Text, TextDle, AwaitsCheck, AwaitsSecondCheck, BadText, OnlyPads, OnlyNoise, Progress, On, Got, is_pad, after_no_sync, next}
 use Rattle.bsc_frame.specs.Listening.Run.{Waits, Hears, run}
-use Rattle.bsc_codes.specs.declared.bytes.TheConstants.{STX, DLE, ENQ, SYN, EOT, NAK}
+use Rattle.bsc_codes.specs.Bytes.{STX, DLE, ENQ, SYN, EOT, NAK}
 use Rattle.bsc_frame.specs.declared.frame.Frame.TheVariants as frame
-use Rattle.bsc_frame.specs.declared.frame.TheConstants.{ACK0, ACK1, WACK, RVI}
+use Rattle.bsc_frame.specs.Bytes.{ACK0, ACK1, WACK, RVI}
 use Rattle.bsc_frame.proofs.Found.{pad_is}
 use Rattle.bsc_frame.proofs.Kept.{KeepsAt, keep}
 use Rattle.bsc_frame.proofs.TextStarts.{HasText, has_text_stays}

@@ -9,9 +9,9 @@ use Rattle.bsc_frame.specs.Listening.NormalText.{is_normal_text}
 use Rattle.bsc_frame.specs.Listening.HeardSoFar.{HeardSoFar, Pads, OneSyn, Syns, Dle, Text, TextDle, AwaitsCheck, AwaitsSecondCheck, BadText, OnlyPads, OnlyNoise, Progress, On, Got, is_pad, with_byte, frame_of_enq, closed, is_check, after_no_sync, next}
 use Rattle.bsc_frame.specs.Listening.Run.{Waits, Hears, run}
 use Rattle.bsc_codes.specs.declared.block.Closing.TheVariants.{Etb, Etx}
-use Rattle.bsc_codes.specs.declared.bytes.TheConstants.{STX, ETX, DLE, ETB, ENQ, SYN, EOT, NAK}
+use Rattle.bsc_codes.specs.Bytes.{STX, ETX, DLE, ETB, ENQ, SYN, EOT, NAK}
 use Rattle.bsc_frame.specs.declared.frame.Frame.TheVariants as frame
-use Rattle.bsc_frame.specs.declared.frame.TheConstants.{ACK0, ACK1, WACK, RVI}
+use Rattle.bsc_frame.specs.Bytes.{ACK0, ACK1, WACK, RVI}
 use Rattle.bsc_frame.proofs.Hearing.{run_sync}
 use Rattle.bsc_frame.proofs.Found.{pad_is}
 use Rattle.bsc_frame.proofs.Kept.{KeepsAt, keep}

@@ -4,15 +4,14 @@ use Rattle.std.specs.Prelude.{ℕ, ◌≡◌, ◌≢◌, ◌≤◌, ◌==◌, �
 use Rattle.std.specs.Bool.{OnFalse}
 use Rattle.std.specs.List.{flat_map, AllByRecursion}
 use Rattle.std.specs.Option.{option_to_list}
-use Rattle.bsc_codes.specs.Bytes.{control_bytes}
+use Rattle.bsc_codes.specs.Bytes.{STX, ETX, DLE, ETB, ENQ, SYN, EOT, NAK, control_bytes}
 use Rattle.bsc_codes.specs.declared.block.Block.{Block}
 use Rattle.bsc_codes.specs.declared.block.Closing.{Closing}
 use Rattle.bsc_codes.specs.declared.block.Closing.TheVariants.{Etb, Etx}
-use Rattle.bsc_codes.specs.declared.bytes.TheConstants.{STX, ETX, DLE, ETB, ENQ, SYN, EOT, NAK}
 use Rattle.bsc_check.specs.Check.{check_of}
 use Rattle.bsc_frame.specs.declared.frame.Frame.{Frame}
 use Rattle.bsc_frame.specs.declared.frame.Frame.TheVariants as frame
-use Rattle.bsc_frame.specs.declared.frame.TheConstants.{ACK0, ACK1, WACK, RVI}
+use Rattle.bsc_frame.specs.Bytes.{ACK0, ACK1, WACK, RVI}
 
 -- ---- Text: data bytes, and fill. A text is transparent or normal.
 

@@ -1,7 +1,7 @@
 -- What is heard of all bytes between two turnarounds of the line.
 use Rattle.std.specs.Prelude.{ℕ, ◌≡◌, ◌⊎◌, Bool, List, ◌++◌}
 use Rattle.std.specs.List.{AllByRecursion}
-use Rattle.bsc_codes.specs.declared.bytes.TheConstants.{SYN}
+use Rattle.bsc_codes.specs.Bytes.{SYN}
 use Rattle.bsc_frame.specs.declared.heard.Heard.{Heard}
 use Rattle.bsc_frame.specs.declared.heard.Heard.TheVariants as heard
 use Rattle.bsc_frame.specs.Body.{start_of_text}

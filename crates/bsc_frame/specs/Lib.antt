@@ -1,3 +1,4 @@
+pub mod Bytes
 pub mod Body
 pub mod Transmission
 pub mod Heard

@@ -1,9 +1,9 @@
 -- Transmissions: a synchronization pattern, and then a body (GA27-3004). Which bytes are pads, and two or more SYN, are this project's own.
 use Rattle.std.specs.Prelude.{ℕ, ◌≡◌, ◌⊎◌, List, ◌∷◌, ◌++◌, replicate}
 use Rattle.std.specs.List.{AllByRecursion}
-use Rattle.bsc_codes.specs.declared.bytes.TheConstants.{SYN, PAD}
+use Rattle.bsc_codes.specs.Bytes.{SYN, PAD}
 use Rattle.bsc_frame.specs.declared.frame.Frame.{Frame}
-use Rattle.bsc_frame.specs.declared.frame.TheConstants.{LEADING_PAD}
+use Rattle.bsc_frame.specs.Bytes.{LEADING_PAD}
 use Rattle.bsc_frame.specs.Body.{Body}
 
 -- a byte that may stand in front of the first SYN

@@ -1,10 +1,10 @@
 -- The form in which a frame is written: one transmission of it, without pads in front and without fill, and one pad behind it.
 use Rattle.std.specs.Prelude.{ℕ, ◌≡◌, Bool, Some, List, [], ◌∷◌, ◌++◌}
 use Rattle.std.specs.List.{flat_map}
-use Rattle.bsc_codes.specs.declared.bytes.TheConstants.{STX, DLE, ENQ, SYN, EOT, NAK, PAD}
+use Rattle.bsc_codes.specs.Bytes.{STX, DLE, ENQ, SYN, EOT, NAK, PAD}
 use Rattle.bsc_frame.specs.declared.frame.Frame.{Frame}
 use Rattle.bsc_frame.specs.declared.frame.Frame.TheVariants as frame
-use Rattle.bsc_frame.specs.declared.frame.TheConstants.{ACK0, ACK1, WACK, RVI}
+use Rattle.bsc_frame.specs.Bytes.{ACK0, ACK1, WACK, RVI}
 use Rattle.bsc_frame.specs.Body.{on_line, start_of_text, block_end, Body}
 
 -- a text without fill

@@ -1,5 +1,5 @@
 //! What the definitions of the line promise beyond the calls.
-ghost use Rattle.bsc_frame.specs.Laws.{OneTransmission, OneHearing, EveryHearing, WrittenIsTransmission};
+ghost use Rattle.bsc_frame.specs.Laws.{OneTransmission, OneHearing, EveryHearing, WrittenIsTransmission, NamedBytesHaveTheirCodes};
 
 /// Of any bytes at most one prefix is a transmission, and of at most one frame.
 pub fn one_transmission()
@@ -19,4 +19,9 @@ pub fn every_hearing()
 /// What is written of a frame is a transmission of it, and one pad.
 pub fn written_is_transmission()
     ensures { WrittenIsTransmission }
+{}
+
+/// The second bytes of the acknowledgements that DLE begins have the codes of the line, and the second pad is 55.
+pub fn named_bytes_have_their_codes()
+    ensures codes { NamedBytesHaveTheirCodes }
 {}

@@ -9,12 +9,17 @@ mod heard;
 mod laws;
 mod listener;
 mod normal_text;
+#[cfg(test)]
+mod tests;
 mod writer;
 
 pub use fed::Fed;
 pub use frame::Frame;
 pub use frame_fault::FrameFault;
 pub use heard::Heard;
-pub use laws::{every_hearing, one_hearing, one_transmission, written_is_transmission};
+pub use laws::{
+    every_hearing, named_bytes_have_their_codes, one_hearing, one_transmission,
+    written_is_transmission,
+};
 pub use listener::Listener;
 pub use writer::write_frame;

@@ -1,13 +1,14 @@
 -- The cards of a deck without a fault can be sent.
-use Rattle.std.proofs.Common.{◌≡◌, ℕ, zero, suc, ◌+◌, ◌-◌, ◌<◌, ◌≤◌, Bool, true, false, cond, List, [], ◌∷◌, length, map, Option, Some, None, refl, ap, subst, arith, not, ⊎_elim, ◌&&◌}
+use Rattle.std.proofs.Common.{◌≡◌, ℕ, ◌+◌, ◌<◌, ◌≤◌, Bool, true, false, cond, List, [], ◌∷◌, length, map, Option, Some, None, refl, ap, arith, not, ⊎_elim, ◌&&◌}
 use Rattle.std.specs.Prelude.{nat_le}
-use Rattle.std.specs.List.{prefix_len, slice_get, filter_map, cons_option, AllByRecursion}
+use Rattle.std.specs.List.{prefix_len, list_all, filter_map, cons_option, AllByRecursion}
 use Rattle.std.specs.Option.{option_or}
 use Rattle.std.specs.Str.Lines.{lines}
 use Rattle.std.proofs.lemmas.Bool.{cases_lt, lt-ltb, le-ltb}
 use Rattle.std.proofs.lemmas.Bool.Decides.{nat_tests}
 use Rattle.std.proofs.lemmas.List.{length-append, length-replicate}
-use Rattle.bsc_codes.specs.CodePage.{ebcdic_of, page_037}
+use Rattle.bsc_codes.specs.CodePage.{Entry, ebcdic_of, page_037}
+use Rattle.bsc_codes.proofs.Tables.{code_passes}
 use Rattle.rje_text.specs.declared.mode.Mode.{Mode}
 use Rattle.rje_text.specs.declared.mode.Mode.TheVariants.{Normal, Transparent}
 use Rattle.rje_text.specs.declared.select.Select.{Select}
@@ -22,26 +23,18 @@ abbrev are_data : List ℕ → Bool
 are_data [] = true
 are_data (b ∷ bs) = not (is_no_data_byte b) && are_data bs
 
-page_is_data : are_data page_037 ≡ true
+-- each code of the page is a data byte
+page_is_data : list_all (λ (e : Entry). not (is_no_data_byte e.code)) page_037 ≡ true
 unfolding page_037
 page_is_data = refl
 
-both : (a b : Bool) → (not a && b) ≡ true → (a ≡ false) × (b ≡ true)
-both true b h = cc
-both false b h = (refl, h)
-
-data_at : (bytes : List ℕ) (place code : ℕ) → are_data bytes ≡ true → slice_get bytes place ≡ Some code → is_no_data_byte code ≡ false
-data_at [] place code h s = cc
-data_at (b ∷ bs) zero code h s = let e : b ≡ code = cc in subst (λ x. is_no_data_byte x ≡ false) e (both _ _ h).0
-data_at (b ∷ bs) (suc place) code h s = data_at bs place code (both _ _ h).1 s
+not_false : (b : Bool) → not b ≡ true → b ≡ false
+not_false true h = cc
+not_false false h = refl
 
 -- a character's code is a data byte
 code_is_data : (character code : ℕ) → ebcdic_of character ≡ Some code → is_no_data_byte code ≡ false
-unfolding ebcdic_of
-code_is_data x code h =
-    ⊎_elim (λ (l : x < 32). let none = rw (lt-ltb x 32 l) at h in cc)
-    (λ (l : 32 ≤ x). data_at page_037 (x - 32) code page_is_data (rw (le-ltb x 32 l) at h))
-    (cases_lt x 32)
+code_is_data x code h = not_false _ (code_passes (λ b. not (is_no_data_byte b)) page_is_data x code h)
 
 with_code : (code : Option ℕ) (rest : List ℕ) → ((c : ℕ) → code ≡ Some c → is_no_data_byte c ≡ false) → are_data rest ≡ true → are_data (cons_option code rest) ≡ true
 with_code None rest h e = e
@@ -58,6 +51,10 @@ at_most_one (Some c) rest = omega arith
 length-codes : (line : List ℕ) → length (filter_map ebcdic_of line) ≤ length line
 length-codes [] = omega arith
 length-codes (x ∷ xs) = omega (arith, at_most_one (ebcdic_of x) (filter_map ebcdic_of xs), length-codes xs)
+
+both : (a b : Bool) → (not a && b) ≡ true → (a ≡ false) × (b ≡ true)
+both true b h = cc
+both false b h = (refl, h)
 
 data_from_front : (bytes : List ℕ) → are_data bytes ≡ true → prefix_len (λ b. not (is_no_data_byte b)) bytes ≡ length bytes
 data_from_front [] h = refl

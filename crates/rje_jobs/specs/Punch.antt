@@ -1,7 +1,7 @@
 -- The punched cards of a job (own profile).
 use Rattle.std.specs.Prelude.{ℕ, ◌-◌, List, [], ◌∷◌, ◌++◌, length, replicate}
 use Rattle.std.specs.List.{flat_map}
-use Rattle.bsc_codes.specs.declared.bytes.TheConstants.{BLANK}
+use Rattle.bsc_codes.specs.Bytes.{BLANK}
 use Rattle.rje_text.specs.declared.record.Record.{Record}
 use Rattle.rje_jobs.specs.declared.job.Job.{Job}
 use Rattle.rje_jobs.specs.declared.punch.Form.{Form}

@@ -3,7 +3,7 @@ use Rattle.std.proofs.Common.{◌≡◌, ◌≢◌, ℕ, zero, suc, ◌+◌, ◌
 use Rattle.std.proofs.lemmas.List.{append_assoc, append-nil, drop_more}
 use Rattle.std.proofs.lemmas.Bool.Decides.{nat_tests}
 use Rattle.std.specs.List.{flat_map}
-use Rattle.bsc_codes.specs.declared.bytes.TheConstants.{BLANK, IGS}
+use Rattle.bsc_codes.specs.Bytes.{BLANK, IGS}
 use Rattle.rje_text.specs.Spelling.{Run, full_counts, run_text, with_blank, runs_of}
 use Rattle.rje_text.specs.Spelling.Run.{Blanks, Byte}
 

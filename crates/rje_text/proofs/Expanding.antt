@@ -5,7 +5,7 @@ use Rattle.std.proofs.lemmas.List.{append_assoc, length-append, append-nil, take
 use Rattle.std.proofs.lemmas.Option.{slice_get-get_or, slice_get_past}
 use Rattle.std.proofs.lemmas.Bool.{cases_lt}
 use Rattle.std.proofs.lemmas.Bool.Decides.{nat_tests}
-use Rattle.bsc_codes.specs.declared.bytes.TheConstants.{BLANK, IGS, ESC}
+use Rattle.bsc_codes.specs.Bytes.{BLANK, IGS, ESC}
 use Rattle.rje_text.specs.declared.action.Action.{Action}
 use Rattle.rje_text.specs.declared.action.Action.TheVariants.{Plain}
 use Rattle.rje_text.specs.Action.{action_of}

@@ -3,7 +3,7 @@ use Rattle.std.proofs.Common.{◌≡◌, ◌≢◌, ℕ, zero, suc, ◌+◌, ◌
 use Rattle.std.proofs.lemmas.Bool.{cases_lt, cases_eq}
 use Rattle.std.specs.Option.{option_map, option_and_then}
 use Rattle.std.proofs.lemmas.List.{append_assoc, append-nil, take_more, get_or-take, get_or-drop, take_all, drop_all, length-take-le, length-drop, take-append-drop, take-take, drop-take, drop-drop}
-use Rattle.bsc_codes.specs.declared.bytes.TheConstants.{IRS}
+use Rattle.bsc_codes.specs.Bytes.{IRS}
 use Rattle.rje_text.specs.declared.record.Record.{Record}
 use Rattle.rje_text.specs.Reading.{is_count, record_of, record_texts, onto_first, records_in}
 use Rattle.rje_text.specs.RecordText.{reads_record, reads_records}

@@ -3,7 +3,7 @@ use Rattle.std.proofs.Common.{◌≡◌, ℕ, ◌+◌, ◌<◌, ◌≤◌, Bool,
 use Rattle.std.proofs.lemmas.Bool.{cases_lt}
 use Rattle.std.proofs.lemmas.Option.{slice_get-get_or}
 use Rattle.std.proofs.lemmas.List.{length-drop, get_or-drop, drop-take}
-use Rattle.bsc_codes.specs.declared.bytes.TheConstants.{IGS}
+use Rattle.bsc_codes.specs.Bytes.{IGS}
 use Rattle.rje_text.specs.declared.text_fault.TextFault.{TextFault}
 use Rattle.rje_text.specs.declared.text_fault.TextFault.TheVariants.{OutOfMemory, BadCount, RecordTooLong, CardsNot80, MixedModes}
 use Rattle.rje_text.specs.Reading.{is_count}

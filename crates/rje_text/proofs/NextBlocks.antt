@@ -7,8 +7,7 @@ use Rattle.std.specs.List.{AllByRecursion, list_any}
 use Rattle.std.proofs.lemmas.List.{append_assoc, length-append, drop_more, length-drop}
 use Rattle.std.proofs.lemmas.Map.Views.{list_any-from_Contains}
 use Rattle.std.proofs.lemmas.Bool.Decides.{nat_tests}
-use Rattle.bsc_codes.specs.Bytes.{control_bytes}
-use Rattle.bsc_codes.specs.declared.bytes.TheConstants.{IRS, IGS, ESC}
+use Rattle.bsc_codes.specs.Bytes.{IRS, IGS, ESC, control_bytes}
 use Rattle.bsc_codes.specs.declared.block.Block.{Block}
 use Rattle.bsc_codes.specs.declared.block.Closing.{Closing}
 use Rattle.bsc_codes.specs.declared.block.Closing.TheVariants.{Etb, Etx}

@@ -4,7 +4,7 @@ use Rattle.std.specs.Option.{option_map, option_and_then, option_map_or}
 use Rattle.std.proofs.lemmas.List.{append_assoc, length-append, length-replicate}
 use Rattle.std.proofs.lemmas.Bool.{cases_eq, cases_lt}
 use Rattle.std.proofs.lemmas.Bool.Decides.{nat_tests}
-use Rattle.bsc_codes.specs.declared.bytes.TheConstants.{BLANK, IGS, IRS, ESC}
+use Rattle.bsc_codes.specs.Bytes.{BLANK, IGS, IRS, ESC}
 use Rattle.rje_text.specs.declared.mode.Mode.{Mode}
 use Rattle.rje_text.specs.declared.select.Select.{Select}
 use Rattle.rje_text.specs.declared.action.Action.{Action}

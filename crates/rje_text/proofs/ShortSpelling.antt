@@ -2,7 +2,7 @@
 use Rattle.std.proofs.Common.{◌≡◌, ◌≢◌, ℕ, zero, suc, ◌+◌, ◌/◌, ◌%◌, ◌<◌, ◌≤◌, List, [], ◌∷◌, ◌++◌, length, refl, arith, ⊎_elim, Option, Some, None}
 use Rattle.std.proofs.lemmas.List.{length-append}
 use Rattle.std.proofs.lemmas.Bool.{cases_eq}
-use Rattle.bsc_codes.specs.declared.bytes.TheConstants.{BLANK, IGS, IRS}
+use Rattle.bsc_codes.specs.Bytes.{BLANK, IGS, IRS}
 use Rattle.rje_text.specs.declared.mode.Mode.{Mode}
 use Rattle.rje_text.specs.declared.mode.Mode.TheVariants.{Normal, Transparent}
 use Rattle.rje_text.specs.declared.record.Record.{Record}

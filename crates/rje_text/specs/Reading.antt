@@ -1,7 +1,7 @@
 -- What a block's text stands for (3780 text; own profile for selection, actions and the limits).
 use Rattle.std.specs.Prelude.{◌≡◌, ℕ, zero, suc, ◌-◌, ◌/◌, ◌%◌, Bool, true, false, ◌&&◌, ◌||◌, List, [], ◌∷◌, ◌++◌, length, take, drop, replicate, Option, Some, None, option_map, option_and_then, ◌==◌, nat_lt, nat_le, if◌then◌else◌}
 use Rattle.std.specs.Option.{option_map_or}
-use Rattle.bsc_codes.specs.declared.bytes.TheConstants.{BLANK, IGS, IRS, ESC, DC1, DC2, DC3}
+use Rattle.bsc_codes.specs.Bytes.{BLANK, IGS, IRS, ESC, DC1, DC2, DC3}
 use Rattle.bsc_codes.specs.declared.block.Block.{Block}
 use Rattle.rje_text.specs.declared.mode.Mode.{Mode}
 use Rattle.rje_text.specs.declared.mode.Mode.TheVariants.{Normal, Transparent}

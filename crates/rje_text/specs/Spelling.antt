@@ -1,7 +1,7 @@
 -- How a record is written in a text (3780 text; how blanks are counted and what an ESC begins is own profile).
 use Rattle.std.specs.Prelude.{ℕ, zero, suc, ◌+◌, ◌/◌, ◌%◌, List, [], ◌∷◌, ◌++◌, Option, Some, None, ◌==◌, if◌then◌else◌}
 use Rattle.std.specs.List.{flat_map}
-use Rattle.bsc_codes.specs.declared.bytes.TheConstants.{BLANK, IGS, IRS, ESC, DC1, DC2}
+use Rattle.bsc_codes.specs.Bytes.{BLANK, IGS, IRS, ESC, DC1, DC2}
 use Rattle.rje_text.specs.declared.mode.Mode.{Mode}
 use Rattle.rje_text.specs.declared.mode.Mode.TheVariants.{Normal, Transparent}
 use Rattle.rje_text.specs.declared.select.Select.{Select}

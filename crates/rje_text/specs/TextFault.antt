@@ -1,7 +1,7 @@
 -- Why a block's text isn't read. A fault is told where the text stops reading: it reads up to here, and no longer.
 -- Below, reads says of a text whether it reads: a record's, a block's, or a part of one.
 use Rattle.std.specs.Prelude.{◌≡◌, ℕ, ◌+◌, ◌<◌, ◌≤◌, Bool, true, false, List, length, take, IsSome, IsNone, IfSome, is_some, slice_get, slice_index, ◌==◌, if◌then◌else◌, Option}
-use Rattle.bsc_codes.specs.declared.bytes.TheConstants.{IGS}
+use Rattle.bsc_codes.specs.Bytes.{IGS}
 use Rattle.bsc_codes.specs.declared.block.Block.{Block}
 use Rattle.rje_text.specs.declared.mode.Mode.{Mode}
 use Rattle.rje_text.specs.declared.text_fault.TextFault.{TextFault}

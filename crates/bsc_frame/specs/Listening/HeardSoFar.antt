@@ -4,11 +4,11 @@ use Rattle.std.specs.Prelude.{ℕ, ◌==◌, ◌||◌, ◌&&◌, slice_index, Bo
 use Rattle.bsc_codes.specs.declared.block.Block.{Block}
 use Rattle.bsc_codes.specs.declared.block.Closing.{Closing}
 use Rattle.bsc_codes.specs.declared.block.Closing.TheVariants.{Etb, Etx}
-use Rattle.bsc_codes.specs.declared.bytes.TheConstants.{STX, ETX, DLE, ETB, ENQ, SYN, EOT, NAK, PAD}
+use Rattle.bsc_codes.specs.Bytes.{STX, ETX, DLE, ETB, ENQ, SYN, EOT, NAK, PAD}
 use Rattle.bsc_check.specs.Check.{check_of}
 use Rattle.bsc_frame.specs.declared.frame.Frame.{Frame}
 use Rattle.bsc_frame.specs.declared.frame.Frame.TheVariants as frame
-use Rattle.bsc_frame.specs.declared.frame.TheConstants.{ACK0, ACK1, WACK, RVI, LEADING_PAD}
+use Rattle.bsc_frame.specs.Bytes.{ACK0, ACK1, WACK, RVI, LEADING_PAD}
 use Rattle.bsc_frame.specs.declared.heard.Heard.{Heard}
 use Rattle.bsc_frame.specs.declared.heard.Heard.TheVariants as heard
 use Rattle.bsc_frame.specs.Body.{covered}

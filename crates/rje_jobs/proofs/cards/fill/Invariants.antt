@@ -1,6 +1,6 @@
 use Rattle.std.proofs.Common.{◌≡◌, ◌++◌}
 use Rattle.std.specs.Prelude.{replicate}
-use Rattle.bsc_codes.specs.declared.bytes.TheConstants.{BLANK}
+use Rattle.bsc_codes.specs.Bytes.{BLANK}
 use Rattle.rje_jobs.proofs.cards.fill.Given as goal
 
 abbrev pub invariant-loop : goal.invariant-loop

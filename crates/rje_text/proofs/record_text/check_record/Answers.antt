@@ -1,7 +1,7 @@
 use Rattle.std.proofs.Common.{◌+◌, ◌-◌, ◌++◌, ◌∷◌, [], get_or, replicate, ap, sym, ◌∙◌, arith}
 use Rattle.std.specs.Option.{is_some}
 use Rattle.std.proofs.lemmas.List.{length-append, length-replicate}
-use Rattle.bsc_codes.specs.declared.bytes.TheConstants.{BLANK}
+use Rattle.bsc_codes.specs.Bytes.{BLANK}
 use Rattle.rje_text.proofs.Expanding.{nothing_behind, stands_byte, stands_count, whole_record, lacks_count, passes_count, passes_byte, no_count_past, no_count_at}
 use Rattle.rje_text.specs.TextFault.{HasNoCount}
 use Rattle.rje_text.proofs.record_text.check_record.Goals as goal

@@ -1,5 +1,5 @@
 use Rattle.std.proofs.Common.{◌≡◌, ◌++◌, replicate}
-use Rattle.bsc_codes.specs.declared.bytes.TheConstants.{BLANK}
+use Rattle.bsc_codes.specs.Bytes.{BLANK}
 use Rattle.rje_text.proofs.record_text.fill.Given as goal
 
 abbrev pub invariant-loop-i : goal.invariant-loop-i

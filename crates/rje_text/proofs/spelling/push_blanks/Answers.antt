@@ -1,6 +1,6 @@
 use Rattle.std.proofs.Common.{◌++◌, ◌∷◌, [], ap, sym, ◌∙◌, arith}
 use Rattle.std.proofs.lemmas.List.{append_assoc}
-use Rattle.bsc_codes.specs.declared.bytes.TheConstants.{IGS}
+use Rattle.bsc_codes.specs.Bytes.{IGS}
 use Rattle.rje_text.specs.Spelling.{full_counts}
 use Rattle.rje_text.proofs.Blanks.{full_counts-more}
 use Rattle.rje_text.proofs.spelling.push_blanks.Goals as goal
