@@ -1,5 +1,6 @@
 //! What no clause says: worked examples from the field, and that calls succeed where memory is ample.
 mod fairness;
+mod pair_stations;
 mod pairs;
 mod refusals;
 mod runs;

@@ -1,0 +1,491 @@
+//! Two stations that both have jobs, by hand over lines in memory: a conversation, what isn't taken or can't be read, and lines of which
+//! a call fails.
+use super::schedules::{assert_same_jobs, job_of, unfit_job};
+use super::stations::{ENQ, FAILED, assert_events, one_piece, syns, transparent_block};
+use bsc_link::{Outcome, Rank, Reply, Say, Sound, Wish};
+use line_world::MemoryLine;
+use rje_jobs::Job;
+use rje_station::{Came, Event, Line, LineFault, MAX_HEARD, Station, StationFault, Trace};
+use std::alloc::{AllocGlobal, Global};
+use std::process::Abort;
+use std::test::Fail;
+
+const RANKS: [Rank; 2] = [Rank::Primary, Rank::Secondary];
+
+const ACK0: [u8; 5] = [0x32, 0x32, 0x10, 0x70, 0xFF];
+
+const EOT: [u8; 4] = [0x32, 0x32, 0x37, 0xFF];
+
+const OVER: Option<StationFault> = Some(StationFault::Over);
+
+/// A station at its end of a line.
+#[derive(Drop)]
+struct End<'a> {
+    station: Station<'a>,
+    line: MemoryLine,
+}
+
+impl<'a> End<'a> {
+    fn new(alloc: Global, rank: Rank, jobs: &'a [Job]) -> Result<Self, StationFault> {
+        Ok(End {
+            station: Station::new(alloc, rank, jobs)?,
+            line: MemoryLine::new(alloc),
+        })
+    }
+
+    fn speak(&mut self) -> Result<Say, StationFault> {
+        self.station.speak(&mut self.line)
+    }
+
+    fn reply(&mut self) -> Result<Option<Reply>, StationFault> {
+        self.station.reply(&mut self.line)
+    }
+
+    /// It hears these pieces of the other station.
+    fn hear(&mut self, pieces: Vec<Vec<u8>>) -> Result<Option<Reply>, StationFault> {
+        self.line.put(pieces);
+        self.station.hear_other(&mut self.line, Wish::Go)
+    }
+
+    /// It hears these pieces as an answer.
+    fn hear_answer(&mut self, pieces: Vec<Vec<u8>>) -> Result<Sound, StationFault> {
+        self.line.put(pieces);
+        self.station.hear_answer(&mut self.line, false)
+    }
+
+    /// It listens to the other station, to whatever comes.
+    fn listen(&mut self) -> Result<Option<Reply>, StationFault> {
+        self.station.hear_other(&mut self.line, Wish::Go)
+    }
+
+    /// It listens for an answer, to whatever comes.
+    fn await_answer(&mut self) -> Result<Sound, StationFault> {
+        self.station.hear_answer(&mut self.line, false)
+    }
+
+    fn due(&self) -> Say {
+        self.station.due()
+    }
+
+    fn other_ended(&mut self) {
+        self.station.other_ended();
+    }
+
+    fn counted(&self) -> usize {
+        self.station.sender().counted()
+    }
+
+    fn outcome(&self) -> Option<Outcome> {
+        self.station.sender().outcome()
+    }
+
+    fn jobs(&self) -> &[Job] {
+        self.station.receiver().jobs()
+    }
+
+    fn take(self) -> Vec<Job> {
+        let End { station, line: _ } = self;
+        station.take()
+    }
+
+    /// The events of what it sends.
+    fn sending(&self) -> &Trace {
+        self.station.sender().trace()
+    }
+
+    /// The events of what it receives.
+    fn receiving(&self) -> &Trace {
+        self.station.receiver().trace()
+    }
+
+    /// What went over its line last.
+    fn sent(&self) -> &[u8] {
+        self.line.sent()
+    }
+
+    /// This call of its line will fail.
+    fn fail_at(&mut self, call: u64) {
+        self.line.fail_at(call);
+    }
+
+    /// It bids so many times and hears nothing.
+    fn bid_in_vain(&mut self, alloc: Global, times: usize) -> Result<(), StationFault> {
+        for _ in 0..times {
+            self.speak()?;
+            self.hear_answer(Vec::new(alloc))?;
+        }
+        Ok(())
+    }
+}
+
+/// Nothing is due, and every call answers so and touches no line: the call of the line that is to fail is still to come.
+fn assert_over(rt: &impl Abort, end: &mut End<'_>) {
+    end.fail_at(1);
+    assert!(rt; end.due() == Say::Nothing);
+    assert!(rt; end.speak().err() == OVER);
+    assert!(rt; end.await_answer().err() == OVER);
+    assert!(rt; end.listen().err() == OVER);
+    assert!(rt; end.reply().err() == OVER);
+}
+
+/// One speaks, and all arrives; so does the reply.
+fn turn(alloc: Global, speaker: &mut End<'_>, listener: &mut End<'_>) -> Result<(), StationFault> {
+    let say = speaker.speak()?;
+    listener.hear(one_piece(alloc, speaker.sent())?)?;
+    if say == Say::End {
+        listener.other_ended();
+        return Ok(());
+    }
+    listener.reply()?;
+    speaker.hear_answer(one_piece(alloc, listener.sent())?)?;
+    Ok(())
+}
+
+/// A bid, a block and the end of the primary, and then of the secondary.
+fn converse(
+    alloc: Global,
+    primary: &mut End<'_>,
+    secondary: &mut End<'_>,
+) -> Result<(), StationFault> {
+    for _ in 0..3 {
+        turn(alloc, primary, secondary)?;
+    }
+    for _ in 0..3 {
+        turn(alloc, secondary, primary)?;
+    }
+    Ok(())
+}
+
+const SENT: [Event; 6] = [
+    Event::Said(Say::Bid),
+    Event::Heard(Sound::Ack0),
+    Event::Said(Say::Block),
+    Event::Heard(Sound::Ack1),
+    Event::Counted,
+    Event::Said(Say::End),
+];
+
+const RECEIVED: [Event; 6] = [
+    Event::Heard(Sound::Enq),
+    Event::Replied(Reply::Ack0),
+    Event::Heard(Sound::Block),
+    Event::Accepted,
+    Event::Replied(Reply::Ack1),
+    Event::Heard(Sound::Eot),
+];
+
+/// The station sent its job, received the other's, and has nothing more to do.
+fn assert_both_done(rt: &(impl Abort + AllocGlobal), end: &mut End<'_>) -> Result<(), Fail> {
+    assert_events(rt, end.sending(), &SENT);
+    assert_events(rt, end.receiving(), &RECEIVED);
+    assert_nothing_is_due(rt, end)?;
+    assert!(rt; end.listen().err() == OVER);
+    assert!(rt; end.reply().err() == OVER);
+    Ok(())
+}
+
+#[test]
+fn each_station_sends_and_then_receives(rt: HostRuntime) -> Result<(), Fail> {
+    let (ups, downs) = ([job_of(&rt, 1, 1)?], [job_of(&rt, 2, 2)?]);
+    let mut primary = End::new(rt.alloc(), Rank::Primary, &ups)?;
+    let mut secondary = End::new(rt.alloc(), Rank::Secondary, &downs)?;
+    converse(rt.alloc(), &mut primary, &mut secondary)?;
+    assert_both_done(&rt, &mut primary)?;
+    assert_both_done(&rt, &mut secondary)?;
+    assert_sent(&rt, &primary, &secondary, &ups, 1, 1);
+    assert_sent(&rt, &secondary, &primary, &downs, 1, 1);
+    assert_same_jobs(&rt, primary.take().as_slice(), &downs);
+    assert_same_jobs(&rt, secondary.take().as_slice(), &ups);
+    Ok(())
+}
+
+// A LINE OF WHICH A CALL FAILS
+
+/// So many of a station's jobs are counted, and so many are handed out by the other.
+fn assert_sent(
+    rt: &impl Abort,
+    sender: &End<'_>,
+    receiver: &End<'_>,
+    jobs: &[Job],
+    counted: usize,
+    handed: usize,
+) {
+    assert_eq!(rt; sender.counted(), counted);
+    let outcome = if counted == jobs.len() {
+        Some(Outcome::Done)
+    } else {
+        None
+    };
+    assert_eq!(rt; sender.outcome(), outcome);
+    assert!(rt; handed <= jobs.len());
+    assert_same_jobs(rt, receiver.jobs(), &jobs[..handed]);
+}
+
+/// Counted and handed out of the primary's jobs, and of the secondary's.
+type Counts = (usize, usize, usize, usize);
+
+/// What is counted and handed out, by the call of the primary's line that fails: a transmit, a listen, and so on, and five for the other way.
+const PRIMARY_FAILS: [Counts; 10] = [
+    (0, 0, 0, 0),
+    (0, 0, 0, 0),
+    (0, 0, 0, 0),
+    (0, 1, 0, 0),
+    (1, 1, 0, 0),
+    (1, 1, 0, 0),
+    (1, 1, 0, 0),
+    (1, 1, 0, 0),
+    (1, 1, 0, 1),
+    (1, 1, 1, 1),
+];
+
+/// The station of this rank.
+fn of_rank<'e, 'a>(rank: Rank, up: &'e mut End<'a>, down: &'e mut End<'a>) -> &'e mut End<'a> {
+    match rank {
+        Rank::Primary => up,
+        Rank::Secondary => down,
+    }
+}
+
+#[test]
+fn each_call_of_either_line_fails_once(rt: HostRuntime) -> Result<(), Fail> {
+    let jobs = [job_of(&rt, 1, 1)?];
+    // The counts are those of the secondary's line too: where one transmits the other listens.
+    for (i, counts) in PRIMARY_FAILS.iter().enumerate() {
+        for rank in RANKS {
+            let mut up = End::new(rt.alloc(), Rank::Primary, &jobs)?;
+            let mut down = End::new(rt.alloc(), Rank::Secondary, &jobs)?;
+            of_rank(rank, &mut up, &mut down).fail_at(i as u64 + 1);
+            assert!(rt; converse(rt.alloc(), &mut up, &mut down).err() == FAILED);
+            assert_over(&rt, of_rank(rank, &mut up, &mut down));
+            assert_sent(&rt, &up, &down, &jobs, counts.0, counts.1);
+            assert_sent(&rt, &down, &up, &jobs, counts.2, counts.3);
+        }
+    }
+    Ok(())
+}
+
+#[test]
+fn babble_ends_a_station(rt: HostRuntime) -> Result<(), Fail> {
+    let jobs = [job_of(&rt, 1, 1)?];
+    let babble = Some(StationFault::Babble);
+    for rank in RANKS {
+        let mut end = End::new(rt.alloc(), rank, &jobs)?;
+        let pieces = syns(rt.alloc(), MAX_HEARD, true)?;
+        assert!(rt; end.hear(pieces).err() == babble);
+        assert_over(&rt, &mut end);
+        assert_events(&rt, end.receiving(), &[Event::Over]);
+        let mut end = End::new(rt.alloc(), rank, &jobs)?;
+        end.speak()?;
+        let pieces = syns(rt.alloc(), MAX_HEARD, true)?;
+        assert!(rt; end.hear_answer(pieces).err() == babble);
+        assert_over(&rt, &mut end);
+        let events = [Event::Said(Say::Bid), Event::Over];
+        assert_events(&rt, end.sending(), &events);
+        assert!(rt; end.counted() == 0);
+        assert!(rt; end.take().is_empty());
+    }
+    Ok(())
+}
+
+// NOTHING IS DUE
+
+/// Nothing is due, and neither call touches the line or adds an event.
+fn assert_nothing_is_due(rt: &(impl Abort + AllocGlobal), end: &mut End<'_>) -> Result<(), Fail> {
+    let events = end.sending().len();
+    end.line.transmit(&[1, 2])?;
+    end.line.put(one_piece(rt.alloc(), &[3])?);
+    end.fail_at(1);
+    assert!(rt; end.due() == Say::Nothing);
+    assert!(rt; end.speak()? == Say::Nothing);
+    assert!(rt; end.await_answer()? == Sound::Quiet);
+    assert!(rt; end.sent() == [1, 2].as_slice());
+    assert!(rt; end.line.transmit(&[4]).err() == Some(LineFault::Failed));
+    let mut piece = [0, 0];
+    assert!(rt; end.line.listen(&mut piece)? == Came::Bytes(1));
+    assert!(rt; piece == [3, 0]);
+    assert!(rt; end.due() == Say::Nothing);
+    assert!(rt; end.sending().len() == events);
+    Ok(())
+}
+
+#[test]
+fn without_jobs_no_line_is_touched(rt: HostRuntime) -> Result<(), Fail> {
+    for rank in RANKS {
+        let mut idle = End::new(rt.alloc(), rank, &[])?;
+        assert_nothing_is_due(&rt, &mut idle)?;
+        assert!(rt; idle.outcome() == Some(Outcome::Done));
+    }
+    Ok(())
+}
+
+#[test]
+fn a_station_that_receives_is_silent(rt: HostRuntime) -> Result<(), Fail> {
+    let jobs = [job_of(&rt, 1, 1)?];
+    for rank in RANKS {
+        let mut receiving = End::new(rt.alloc(), rank, &jobs)?;
+        assert!(rt; receiving.due() == Say::Bid);
+        assert!(rt; receiving.hear(one_piece(rt.alloc(), &ENQ)?)? == Some(Reply::Ack0));
+        assert_nothing_is_due(&rt, &mut receiving)?;
+        assert!(rt; receiving.reply()? == Some(Reply::Ack0));
+        assert!(rt; receiving.sent() == ACK0.as_slice());
+        assert!(rt; receiving.reply()?.is_none());
+    }
+    Ok(())
+}
+
+// An EOT for an answer ends the own transmission, and then the bid is no longer out.
+#[test]
+fn after_an_eot_for_an_answer_nothing_is_due(rt: HostRuntime) -> Result<(), Fail> {
+    let jobs = [job_of(&rt, 1, 1)?];
+    for rank in RANKS {
+        let mut ended = End::new(rt.alloc(), rank, &jobs)?;
+        ended.speak()?;
+        assert!(rt; ended.hear_answer(one_piece(rt.alloc(), &EOT)?)? == Sound::Eot);
+        assert!(rt; ended.outcome() == Some(Outcome::Ended));
+        assert_nothing_is_due(&rt, &mut ended)?;
+        assert!(rt; ended.hear(one_piece(rt.alloc(), &ENQ)?)? == Some(Reply::Ack0));
+    }
+    Ok(())
+}
+
+// BIDS OF THE OTHER STATION
+
+/// An ENQ comes that isn't taken: no reply is due, none is sent, and the ENQ is the one event more.
+fn assert_passed_over(rt: &(impl Abort + AllocGlobal), end: &mut End<'_>) -> Result<(), Fail> {
+    let events = end.receiving().len();
+    let due = end.due();
+    assert!(rt; end.hear(one_piece(rt.alloc(), &ENQ)?)?.is_none());
+    end.fail_at(1);
+    assert!(rt; end.reply()?.is_none());
+    end.fail_at(0);
+    assert!(rt; end.receiving().len().checked_sub(events) == Some(1));
+    assert!(rt; end.receiving().get(events) == Some(Event::Heard(Sound::Enq)));
+    assert!(rt; end.due() == due);
+    Ok(())
+}
+
+#[test]
+fn a_bid_is_not_taken_while_the_own_stands(rt: HostRuntime) -> Result<(), Fail> {
+    let jobs = [job_of(&rt, 1, 1)?];
+    for rank in RANKS {
+        let mut end = End::new(rt.alloc(), rank, &jobs)?;
+        end.speak()?;
+        if rank == Rank::Primary {
+            assert_passed_over(&rt, &mut end)?;
+        }
+        end.hear_answer(one_piece(rt.alloc(), &ACK0)?)?;
+        assert_passed_over(&rt, &mut end)?;
+        assert!(rt; end.speak()? == Say::Block);
+        assert_passed_over(&rt, &mut end)?;
+        end.hear_answer(one_piece(rt.alloc(), &[0x32, 0x32, 0x10, 0x61])?)?;
+        assert_passed_over(&rt, &mut end)?;
+        assert!(rt; end.speak()? == Say::End);
+        assert!(rt; end.hear(one_piece(rt.alloc(), &ENQ)?)? == Some(Reply::Ack0));
+    }
+    Ok(())
+}
+
+#[test]
+fn a_secondary_gives_way_and_counts_its_bids_anew(rt: HostRuntime) -> Result<(), Fail> {
+    let jobs = [job_of(&rt, 1, 1)?];
+    let gave_up = Some(Outcome::GaveUp);
+    let mut secondary = End::new(rt.alloc(), Rank::Secondary, &jobs)?;
+    secondary.bid_in_vain(rt.alloc(), 6)?;
+    assert!(rt; secondary.hear(one_piece(rt.alloc(), &ENQ)?)? == Some(Reply::Ack0));
+    assert!(rt; secondary.due() == Say::Nothing);
+    secondary.other_ended();
+    secondary.bid_in_vain(rt.alloc(), 6)?;
+    assert!(rt; secondary.due() == Say::Bid);
+    secondary.bid_in_vain(rt.alloc(), 1)?;
+    assert!(rt; secondary.due() == Say::End);
+    assert!(rt; secondary.outcome() == gave_up);
+    let mut primary = End::new(rt.alloc(), Rank::Primary, &jobs)?;
+    primary.bid_in_vain(rt.alloc(), 6)?;
+    assert_passed_over(&rt, &mut primary)?;
+    assert!(rt; primary.due() == Say::Bid);
+    primary.bid_in_vain(rt.alloc(), 1)?;
+    assert!(rt; primary.due() == Say::End);
+    assert!(rt; primary.outcome() == gave_up);
+    Ok(())
+}
+
+#[test]
+fn a_block_that_cannot_be_read_leaves_the_jobs_of_either_station(
+    rt: HostRuntime,
+) -> Result<(), Fail> {
+    for rank in RANKS {
+        let mut end = End::new(rt.alloc(), rank, &[])?;
+        assert!(rt; end.hear(one_piece(rt.alloc(), &ENQ)?)? == Some(Reply::Ack0));
+        assert!(rt; end.hear(transparent_block(&rt, 79)?)? == Some(Reply::Nak));
+        assert!(rt; end.jobs().is_empty());
+        let events = [
+            Event::Heard(Sound::Enq),
+            Event::Heard(Sound::Block),
+            Event::Refused,
+        ];
+        assert_events(&rt, end.receiving(), &events);
+        assert!(rt; end.hear(transparent_block(&rt, 480)?)? == Some(Reply::Ack1));
+        let jobs = end.take();
+        assert!(rt; jobs.len() == 1);
+        assert!(rt; jobs[0].records.len() == 6);
+    }
+    Ok(())
+}
+
+// THE END OF THE OTHER STATION
+
+/// The other station's transmission ended: this one no longer hears it, keeps the jobs handed out, and sends its own.
+fn assert_left(
+    rt: &(impl Abort + AllocGlobal),
+    end: &mut End<'_>,
+    handed: usize,
+) -> Result<(), Fail> {
+    let events = end.receiving().len();
+    end.other_ended();
+    end.other_ended();
+    assert!(rt; end.receiving().len().checked_sub(events) == Some(1));
+    assert!(rt; end.receiving().get(events) == Some(Event::Over));
+    assert!(rt; end.hear(one_piece(rt.alloc(), &ENQ)?).err() == OVER);
+    assert!(rt; end.reply().err() == OVER);
+    assert!(rt; end.jobs().len() == handed);
+    assert!(rt; end.speak()? == Say::Bid);
+    assert!(rt; end.hear_answer(one_piece(rt.alloc(), &ACK0)?)? == Sound::Ack0);
+    Ok(())
+}
+
+// Its EOT was lost before its bid came.
+#[test]
+fn once_the_other_ended_a_station_no_longer_hears_it(rt: HostRuntime) -> Result<(), Fail> {
+    let jobs = [job_of(&rt, 1, 1)?];
+    for rank in RANKS {
+        let mut end = End::new(rt.alloc(), rank, &jobs)?;
+        assert_left(&rt, &mut end, 0)?;
+    }
+    Ok(())
+}
+
+// Its EOT was lost after a block.
+#[test]
+fn once_the_other_ended_its_job_is_kept(rt: HostRuntime) -> Result<(), Fail> {
+    let jobs = [job_of(&rt, 1, 1)?];
+    for rank in RANKS {
+        let mut end = End::new(rt.alloc(), rank, &jobs)?;
+        end.hear(one_piece(rt.alloc(), &ENQ)?)?;
+        end.hear(transparent_block(&rt, 80)?)?;
+        assert_left(&rt, &mut end, 1)?;
+        let received = end.take();
+        assert!(rt; received.len() == 1);
+        assert!(rt; received[0].whole);
+    }
+    Ok(())
+}
+
+#[test]
+fn a_station_tells_the_first_job_that_cannot_be_sent(rt: HostRuntime) -> Result<(), Fail> {
+    let jobs = [job_of(&rt, 1, 1)?, unfit_job(&rt)?, unfit_job(&rt)?];
+    for rank in RANKS {
+        let refused = Station::new(rt.alloc(), rank, &jobs).err();
+        assert!(rt; refused == Some(StationFault::BadJob(2)));
+    }
+    Ok(())
+}
