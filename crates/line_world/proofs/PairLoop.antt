@@ -1,10 +1,12 @@
 -- The loop of a run of two stations that both have jobs: the turns so far are those of a history, and both stations stand where it left them.
-use Rattle.std.proofs.Common.{◌≡◌, ◌⊎◌, inl, inr, ℕ, ◌+◌, ◌<◌, ◌==◌, false, List, [], ◌∷◌, ◌++◌, length, map, reverse, take, drop, slice_get, Option, Some, None, refl, ap, sym, ◌∙◌, subst, arith}
+use Rattle.std.proofs.Common.{Bool, ◌≡◌, ◌⊎◌, inl, inr, ℕ, ◌+◌, ◌<◌, ◌==◌, false, List, [], ◌∷◌, ◌++◌, length, map, reverse, take, drop, slice_get, Option, Some, None, refl, ap, sym, ◌∙◌, subst, arith}
 use Rattle.std.proofs.lemmas.List.{take-append-drop, map-append, length-map, length-reverse, reverse-append}
 use Rattle.bsc_link.specs.declared.rank.Rank.{Rank}
 use Rattle.rje_jobs.specs.declared.job.Job.{Job}
 use Rattle.rje_jobs.specs.Blocks.{blocks}
-use Rattle.rje_station.specs.Sending.{outcome_of}
+use Rattle.bsc_codes.specs.declared.block.Block.{Block}
+use Rattle.rje_station.specs.Receiving.{Receiving}
+use Rattle.rje_station.specs.Sending.{Sending, outcome_of}
 use Rattle.rje_station.specs.Station.{Contending, first_contending}
 use Rattle.line_world.specs.declared.spoken.Spoken.{Spoken}
 use Rattle.bsc_history.specs.History.{Plan, History}
@@ -18,8 +20,9 @@ use Rattle.bsc_history.specs.PairCount.{spent, down_gives_up, down_gave_up}
 use Rattle.bsc_history.specs.PairConversation.{down_outcome}
 use Rattle.line_world.specs.PairDriving.{TakesPair}
 use Rattle.bsc_history.specs.PairSchedule.{NothingIsDue}
-use Rattle.line_world.specs.PairRun.{TellsPairs, pair_of, spoken_pairs, told_by, IsPairRun}
-use Rattle.line_world.proofs.Alone.{Laws}
+use Rattle.line_world.specs.PairDrive.{SendsAfter, ReceivesAfter, StandPair, IsPairDrive}
+use Rattle.line_world.specs.PairRun.{TellsPairs, pair_of, spoken_pairs}
+use Rattle.line_world.proofs.Alone.{Laws, Listens}
 use Rattle.line_world.proofs.Contends.{contends_first}
 use Rattle.line_world.proofs.PairRuns.{StandsPairRun, plan_some, cases_jobs, primary_more, secondary_more, both_more, nothing_due}
 use Rattle.line_world.proofs.PairTelling.{pairs_append, pairs_any, pairs_length, pairs_longer}
@@ -106,8 +109,38 @@ down_ending downs h s p = elim (cases_jobs downs) [
       rw some (p.core.ends ∙ sym (down_outcome_some (plan_of (blocks downs)) h (plan_some downs l)))
 ]
 
+sends_after : (jobs : List Job) (own : History) (b : Bool) (m n : ℕ) (s : Sending) → SendsBy jobs own b m n s → SendsAfter jobs own m n s
+sends_after jobs own b m n s p = record {
+  jobs_are = p.jobs_are;
+  says = p.core.says;
+  parity = p.core.parity;
+  rvi = p.core.rvi;
+  tried = p.core.tried;
+  held = p.core.held;
+  counted = p.counted;
+  over = p.over;
+}
+
+receives_after : (blocks : List Block) (own : History) (r : Receiving) → Listens blocks own r → ReceivesAfter blocks own r
+receives_after blocks own r p = record { jobs = p.jobs; live = p.live }
+
+stand_pair : (ups downs : List Job) (turns : List PairTurn) (h : PairHistory) (a b : Contending) → StandsPairRun ups downs turns h a b → StandPair ups downs h a b
+stand_pair ups downs turns h a b s = record {
+  a_live = s.a_live;
+  b_live = s.b_live;
+  a_rank = s.contends.p_rank;
+  b_rank = s.contends.q_rank;
+  a_place = s.contends.p_place;
+  b_place = s.contends.q_place;
+  a_noted = s.contends.p_noted;
+  a_sends = sends_after ups (up h) (gave_up_before (up h)) (tries (up h)) (holds (up h)) a.sender s.up_sends;
+  b_sends = sends_after downs (down h) (down_gave_up h) (spent h).tries (spent h).holds b.sender s.down_sends;
+  a_receives = receives_after (blocks downs) (down h) a.receiver s.down_receives;
+  b_receives = receives_after (blocks ups) (up h) b.receiver s.up_receives;
+}
+
 whole_pair : Laws → (ups downs : List Job) (turns : List PairTurn) (n : ℕ) (spoken : List PairSpoken) (a b : Contending) → (p : PairRunning ups downs turns n spoken a b) → (length p.history ≡ length turns) ⊎ NothingIsDue (plan_of (blocks ups)) (plan_of (blocks downs)) p.history
-    → IsPairRun ups downs turns spoken (told_by b a) (told_by a b)
+    → IsPairDrive ups downs turns spoken a b
 whole_pair laws ups downs turns n spoken a b p whole =
     let h = p.history in
     let s = p.stands in
@@ -118,27 +151,30 @@ whole_pair laws ups downs turns n spoken a b p whole =
     let long : length turns ≡ length places = pairs_length turns places told in
     let whole_places : (length h ≡ length turns) ⊎ NothingIsDue (plan_of (blocks ups)) (plan_of (blocks downs)) h → (length h ≡ length places) ⊎ NothingIsDue (plan_of (blocks ups)) (plan_of (blocks downs)) h = λ w. elim w [ inl e ↦ inl (e ∙ long) | inr none ↦ inr none ] in
     record {
-      history = h;
-      places = places;
-      conversation = record {
-        told = told;
-        conversation = record { spoken = pairs_longer (plan_of (blocks ups)) (plan_of (blocks downs)) s.before rest.0 h s.spoken; whole = whole_places whole };
-        fits = s.fits;
+      run = record {
+        history = h;
+        places = places;
+        conversation = record {
+          told = told;
+          conversation = record { spoken = pairs_longer (plan_of (blocks ups)) (plan_of (blocks downs)) s.before rest.0 h s.spoken; whole = whole_places whole };
+          fits = s.fits;
+        };
+        spoken_is = p.spoken_is;
+        up_side = record { handed_is = s.up_receives.jobs; counted_is = s.up_sends.counted.counted };
+        down_side = record { handed_is = s.down_receives.jobs; counted_is = s.down_sends.counted.counted };
+        up_ending = up_ending ups (up h) a s.up_sends;
+        down_ending = down_ending downs h b s.down_sends;
       };
-      spoken_is = p.spoken_is;
-      up_side = record { handed_is = s.up_receives.jobs; counted_is = s.up_sends.counted.counted };
-      down_side = record { handed_is = s.down_receives.jobs; counted_is = s.down_sends.counted.counted };
-      up_ending = up_ending ups (up h) a s.up_sends;
-      down_ending = down_ending downs h b s.down_sends;
+      stand = stand_pair ups downs turns h a b s;
     }
 
 pub pair_over : Laws → (ups downs : List Job) (turns : List PairTurn) (n : ℕ) (spoken : List PairSpoken) (a b a' b' : Contending) (turn : PairTurn) → PairRunning ups downs turns n spoken a b → slice_get turns n ≡ Some turn → TakesPair None turn a a' b b'
-    → IsPairRun ups downs turns spoken (told_by b' a') (told_by a' b')
+    → IsPairDrive ups downs turns spoken a' b'
 pair_over laws ups downs turns n spoken a b a' b' turn p here took =
     let there : slice_get turns (length p.history) ≡ Some turn = subst (λ k. slice_get turns k ≡ Some turn) (sym p.long) here in
     rw (took.2, took.3) (whole_pair laws ups downs turns n spoken a b p (inr (nothing_due laws ups downs turns p.history a a b b turn (record { primary = None; secondary = None }) p.stands there took.0 took.1)))
 
-pub pair_out : Laws → (ups downs : List Job) (turns : List PairTurn) (n : ℕ) (spoken : List PairSpoken) (a b : Contending) → PairRunning ups downs turns n spoken a b → n ≡ length turns → IsPairRun ups downs turns spoken (told_by b a) (told_by a b)
+pub pair_out : Laws → (ups downs : List Job) (turns : List PairTurn) (n : ℕ) (spoken : List PairSpoken) (a b : Contending) → PairRunning ups downs turns n spoken a b → n ≡ length turns → IsPairDrive ups downs turns spoken a b
 pair_out laws ups downs turns n spoken a b p out = whole_pair laws ups downs turns n spoken a b p (inl (p.long ∙ out))
 
 pub pair_length : (ups downs : List Job) (turns : List PairTurn) (n : ℕ) (spoken : List PairSpoken) (a b : Contending) → PairRunning ups downs turns n spoken a b → length spoken ≡ n

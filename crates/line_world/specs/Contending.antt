@@ -1,4 +1,4 @@
--- Where a contender stands after a turn. Private functions cite this; no promise rests on it.
+-- Where a contender stands after a turn (own_turn, other_turn: private functions alone cite these), and where it stands in its place.
 use Rattle.std.specs.Prelude.{Bool, not, ◌&&◌, if◌then◌else◌}
 use Rattle.bsc_link.specs.declared.contender_place.ContenderPlace.{ContenderPlace}
 use Rattle.bsc_link.specs.declared.say.Say.{Say}

@@ -16,3 +16,4 @@ pub mod PairHeadline
 pub mod PairDriving
 pub mod OneWay
 pub mod Drive
+pub mod PairDrive

@@ -6,6 +6,7 @@ ghost use Rattle.rje_jobs.specs.Fitting.{JobFits};
 ghost use Rattle.rje_station.specs.Sending.{outcome_of};
 ghost use Rattle.rje_station.specs.Station.{first_contending};
 ghost use Rattle.line_world.specs.Headline.{AreHandedInOrder, AreHandedWhole, HandsFirstJobs};
+ghost use Rattle.line_world.specs.PairDrive.{IsPairDrive};
 ghost use Rattle.line_world.specs.PairRun.{IsPairRun, told, told_by, IsPairDriveFault, IsPairRunFault};
 
 use crate::pair_ends::PairEnds;
@@ -87,6 +88,9 @@ pub fn drive_pair<'a>(
     requires secondary { secondary ≡ first_contending rank.Secondary secondary.sender.jobs }
     ensures run { IfOk result (λ p. IsPairRun primary.entry.sender.jobs secondary.entry.sender.jobs turns.now p.turns.items (told_by p.secondary p.primary) (told_by p.primary p.secondary)) }
 
+    // Both stations stand where the turns left them.
+    ensures drive { IfOk result (λ p. IsPairDrive primary.entry.sender.jobs secondary.entry.sender.jobs turns.now p.turns.items p.primary p.secondary) }
+
     // The headline, each way, of the stations that are given back.
     ensures up_in_order { IfOk result (λ p. AreHandedInOrder primary.entry.sender.jobs p.secondary.receiver.jobs) }
     ensures down_in_order { IfOk result (λ p. AreHandedInOrder secondary.entry.sender.jobs p.primary.receiver.jobs) }
@@ -112,6 +116,7 @@ fn take_turns<'a>(
     requires primary { primary ≡ first_contending rank.Primary primary.sender.jobs }
     requires secondary { secondary ≡ first_contending rank.Secondary secondary.sender.jobs }
     ensures run { IfOk result (λ p. IsPairRun primary.entry.sender.jobs secondary.entry.sender.jobs turns.now p.turns.items (told_by p.secondary p.primary) (told_by p.primary p.secondary)) }
+    ensures drive { IfOk result (λ p. IsPairDrive primary.entry.sender.jobs secondary.entry.sender.jobs turns.now p.turns.items p.primary p.secondary) }
     ensures fault { IfErr result (IsPairDriveFault primary.entry.sender.jobs secondary.entry.sender.jobs turns.now) }
 {
     one_hearing();

@@ -12,6 +12,15 @@ loop-turn-init c = record {
   running = pair_first c.args.primary.sender.jobs c.args.secondary.sender.jobs c.args.turns.now _ _ _ c.new-spoken.ensures.items (search rules) (search rules);
 }
 
+pub returns-in-Ok-None-clause-drive : goal.returns-in-Ok-None-clause-drive
+returns-in-Ok-None-clause-drive c =
+    let laws : Laws = record { one = c.one_hearing.ensures; every = c.every_hearing.ensures; transmits = c.written_is_transmission.ensures; counts = c.counted_blocks_end_counted_jobs.ensures; receiving = c.stations_keep_history.ensures.receiving } in
+    let running = c.loop-turn.invariant.running in
+    let here : slice_get c.args.turns.now c.loop-turn.turn-index ≡ Some c.turn-item.result = slice_get_read _ _ _ _ refl c.loop-turn-test.true c.turn-item.is in
+    let taken = c.in-Ok-None.ensures.taken in
+    let over : TakesPair None c.turn-item.result c.loop-turn.ends.primary c.take_turn.new.self.primary c.loop-turn.ends.secondary c.take_turn.new.self.secondary = rw c.in-Ok-None.field-0-is at taken in
+    rw (c.paired.ensures.turns, c.paired.ensures.primary, c.paired.ensures.secondary) (pair_over laws _ _ _ _ _ _ _ _ _ c.turn-item.result running here over)
+
 pub returns-in-Ok-None-clause-run : goal.returns-in-Ok-None-clause-run
 returns-in-Ok-None-clause-run c =
     let laws : Laws = record { one = c.one_hearing.ensures; every = c.every_hearing.ensures; transmits = c.written_is_transmission.ensures; counts = c.counted_blocks_end_counted_jobs.ensures; receiving = c.stations_keep_history.ensures.receiving } in
@@ -19,7 +28,7 @@ returns-in-Ok-None-clause-run c =
     let here : slice_get c.args.turns.now c.loop-turn.turn-index ≡ Some c.turn-item.result = slice_get_read _ _ _ _ refl c.loop-turn-test.true c.turn-item.is in
     let taken = c.in-Ok-None.ensures.taken in
     let over : TakesPair None c.turn-item.result c.loop-turn.ends.primary c.take_turn.new.self.primary c.loop-turn.ends.secondary c.take_turn.new.self.secondary = rw c.in-Ok-None.field-0-is at taken in
-    rw (c.paired.ensures.turns, c.paired.ensures.primary, c.paired.ensures.secondary) (pair_over laws _ _ _ _ _ _ _ _ _ c.turn-item.result running here over)
+    rw (c.paired.ensures.turns, c.paired.ensures.primary, c.paired.ensures.secondary) (pair_over laws _ _ _ _ _ _ _ _ _ c.turn-item.result running here over).run
 
 pub returns-in-Err-clause-fault : goal.returns-in-Err-clause-fault
 returns-in-Err-clause-fault c =
@@ -38,8 +47,14 @@ loop-turn-preserved c =
     let took : TakesPair (Some c.in-Ok-Some.one) c.turn-item.result c.loop-turn.ends.primary c.take_turn.new.self.primary c.loop-turn.ends.secondary c.take_turn.new.self.secondary = rw c.in-Ok-Some.field-0-is at taken in
     record { running = pair_more laws _ _ _ _ _ _ _ _ _ _ c.turn-item.result c.in-Ok-Some.one running here took (search rules) }
 
+pub returns-clause-drive : goal.returns-clause-drive
+returns-clause-drive c =
+    let laws : Laws = record { one = c.one_hearing.ensures; every = c.every_hearing.ensures; transmits = c.written_is_transmission.ensures; counts = c.counted_blocks_end_counted_jobs.ensures; receiving = c.stations_keep_history.ensures.receiving } in
+    let out : c.loop-turn.turn-index ≡ length c.args.turns.now = search rules in
+    rw (c.paired-2.ensures.turns, c.paired-2.ensures.primary, c.paired-2.ensures.secondary) (pair_out laws _ _ _ _ _ _ _ c.loop-turn.invariant.running out)
+
 pub returns-clause-run : goal.returns-clause-run
 returns-clause-run c =
     let laws : Laws = record { one = c.one_hearing.ensures; every = c.every_hearing.ensures; transmits = c.written_is_transmission.ensures; counts = c.counted_blocks_end_counted_jobs.ensures; receiving = c.stations_keep_history.ensures.receiving } in
     let out : c.loop-turn.turn-index ≡ length c.args.turns.now = search rules in
-    rw (c.paired-2.ensures.turns, c.paired-2.ensures.primary, c.paired-2.ensures.secondary) (pair_out laws _ _ _ _ _ _ _ c.loop-turn.invariant.running out)
+    rw (c.paired-2.ensures.turns, c.paired-2.ensures.primary, c.paired-2.ensures.secondary) (pair_out laws _ _ _ _ _ _ _ c.loop-turn.invariant.running out).run
