@@ -1,16 +1,16 @@
 //! Both ends of a line on which both stations have jobs: each station at its own line in memory.
-ghost use Rattle.std.specs.Prelude.{◌≡◌, ◌∷◌, [], IfOk, OnOk, IfErr, Some, None};
+ghost use Rattle.std.specs.Prelude.{◌≡◌, ◌≢◌, ◌∷◌, [], true, false, IfOk, OnOk, IfErr, Some, None};
 ghost use Rattle.bsc_link.specs.declared.say.Say.TheVariants as said;
 ghost use Rattle.bsc_history.specs.Fate.{sound_of as up_sound};
-ghost use Rattle.line_world.specs.declared.turn_fault.TurnFault.TheVariants as Fault;
 ghost use Rattle.line_world.specs.Driving.{IsFateFault, IsReplyFault};
-ghost use Rattle.rje_station.specs.Station.{due_at};
+ghost use Rattle.rje_station.specs.Station.{due_at, is_deaf};
 ghost use Rattle.line_world.specs.PairDriving.{GoesAcross, ComesBack, SpeaksAlone, IsAloneFault, Collides, SpeaksInVain, after_end_of, TakesPair, IsPairTurnFault};
 
 use crate::carrying::carry;
 use crate::ends::{check_damage, last_hearing};
 use crate::speaking::speaks;
 use crate::turn_fault::TurnFault;
+use crate::unfailing::{hear_across, hear_back, reply_back, say_due};
 use crate::{MemoryLine, PairSpoken, PairTurn, Paired, Spoken, Turn};
 use bsc_history::{sound_of, sound_of_reply};
 use bsc_link::{Reply, Say, Sound};
@@ -38,6 +38,8 @@ impl<'a> PairEnds<'a> {
     pub(crate) fn new(alloc: Global, primary: Station<'a>, secondary: Station<'a>) -> PairEnds<'a>
         ensures primary { result.primary ≡ primary.entry }
         ensures secondary { result.secondary ≡ secondary.entry }
+        ensures primary_line { result.primary_line.until_failure ≡ 0 }
+        ensures secondary_line { result.secondary_line.until_failure ≡ 0 }
     {
         PairEnds {
             primary,
@@ -72,6 +74,12 @@ impl<'a> PairEnds<'a> {
         alloc: Global,
         turn: &PairTurn,
     ) -> Result<Option<PairSpoken>, TurnFault>
+        requires primary_line { self.old.primary_line.until_failure ≡ 0 }
+        requires secondary_line { self.old.secondary_line.until_failure ≡ 0 }
+        requires primary_hears { due_at self.old.secondary ≢ said.Nothing → is_deaf self.old.primary ≡ false }
+        requires secondary_hears { due_at self.old.primary ≢ said.Nothing → is_deaf self.old.secondary ≡ false }
+        ensures primary_line { OnOk result (self.new.primary_line.until_failure ≡ 0) }
+        ensures secondary_line { OnOk result (self.new.secondary_line.until_failure ≡ 0) }
         ensures taken { IfOk result (λ spoken. TakesPair spoken turn.now self.old.primary self.new.primary self.old.secondary self.new.secondary) }
         ensures fault { IfErr result (IsPairTurnFault turn.now self.old.primary self.old.secondary) }
     {
@@ -80,7 +88,7 @@ impl<'a> PairEnds<'a> {
         let primary_speaks = speaks(up, down, turn.bids.lets_primary());
         let secondary_speaks = speaks(down, up, turn.bids.lets_secondary());
         match (primary_speaks, secondary_speaks) {
-            (true, true) => Ok(Some(self.collide(alloc, turn.turn.pause)?)),
+            (true, true) => Ok(Some(self.collide(alloc, turn.turn.pause))),
             (true, false) => {
                 let spoken = speak_alone(
                     alloc,
@@ -114,20 +122,23 @@ impl<'a> PairEnds<'a> {
     }
 
     /// Both speak, and neither is heard.
-    fn collide(&mut self, alloc: Global, pause: bool) -> Result<PairSpoken, TurnFault>
-        requires primary { due_at self.old.primary ≡ said.Nothing → ⊥ }
-        requires secondary { due_at self.old.secondary ≡ said.Nothing → ⊥ }
-        ensures collide { IfOk result (λ spoken. Collides pause self.old.primary self.new.primary self.old.secondary self.new.secondary spoken) }
-        ensures fault { IfErr result (λ fault. fault ≡ Fault.OutOfMemory) }
+    fn collide(&mut self, alloc: Global, pause: bool) -> PairSpoken
+        requires primary_line { self.old.primary_line.until_failure ≡ 0 }
+        requires secondary_line { self.old.secondary_line.until_failure ≡ 0 }
+        requires primary { due_at self.old.primary ≢ said.Nothing }
+        requires secondary { due_at self.old.secondary ≢ said.Nothing }
+        ensures primary_line { self.new.primary_line.until_failure ≡ 0 }
+        ensures secondary_line { self.new.secondary_line.until_failure ≡ 0 }
+        ensures collide { Collides pause self.old.primary self.new.primary self.old.secondary self.new.secondary result }
     {
-        let first = speak_in_vain(alloc, pause, &mut self.primary, &mut self.primary_line)?;
-        let second = speak_in_vain(alloc, pause, &mut self.secondary, &mut self.secondary_line)?;
+        let first = speak_in_vain(alloc, pause, &mut self.primary, &mut self.primary_line);
+        let second = speak_in_vain(alloc, pause, &mut self.secondary, &mut self.secondary_line);
         end_of(&mut self.primary, second.said);
         end_of(&mut self.secondary, first.said);
-        Ok(PairSpoken {
+        PairSpoken {
             primary: Some(first),
             secondary: Some(second),
-        })
+        }
     }
 }
 
@@ -140,11 +151,16 @@ fn speak_alone<'a>(
     listener: &mut Station<'a>,
     far: &mut MemoryLine,
 ) -> Result<Spoken, TurnFault>
-    requires due { due_at speaker.old ≡ said.Nothing → ⊥ }
+    requires near { near.old.until_failure ≡ 0 }
+    requires far { far.old.until_failure ≡ 0 }
+    requires due { due_at speaker.old ≢ said.Nothing }
+    requires hears { is_deaf listener.old ≡ false }
+    ensures near { OnOk result (near.new.until_failure ≡ 0) }
+    ensures far { OnOk result (far.new.until_failure ≡ 0) }
     ensures spoke { IfOk result (λ spoken. SpeaksAlone turn.now speaker.old speaker.new listener.old listener.new spoken) }
     ensures fault { IfErr result (IsAloneFault turn.now speaker.old listener.old) }
 {
-    let said = speaker.speak(near)?;
+    let said = say_due(speaker, near);
     let Arrival {
         arrived,
         refused,
@@ -173,11 +189,16 @@ fn go_across(
     listener: &mut Station<'_>,
     far: &mut MemoryLine,
 ) -> Result<Arrival, TurnFault>
+    requires far { far.old.until_failure ≡ 0 }
+    requires hears { is_deaf listener.old ≡ false }
+    ensures far { OnOk result (far.new.until_failure ≡ 0) }
+    ensures live { OnOk result (listener.new.failed ≡ false) }
+    ensures owes { OnOk result (listener.new.receiver.over ≡ true → listener.new.receiver.due ≡ None) }
     ensures across { IfOk result (λ a. GoesAcross turn.now (up_sound said) near.now.sent listener.old listener.new a.arrived a.refused a.reply) }
     ensures fault { IfErr result (IsFateFault turn.now.up (up_sound said) near.now.sent) }
 {
     carry(alloc, &turn.up, near, far)?;
-    let reply = listener.hear_other(far, turn.wish)?;
+    let reply = hear_across(listener, far, turn.wish);
     let (arrived, refused) = last_hearing(listener.receiver().trace());
     check_damage(&turn.up, sound_of(said), arrived)?;
     Ok(Arrival {
@@ -196,16 +217,22 @@ fn come_back(
     listener: &mut Station<'_>,
     far: &mut MemoryLine,
 ) -> Result<Sound, TurnFault>
-    requires due { due_at speaker.old ≡ said.Nothing → ⊥ }
+    requires near { near.old.until_failure ≡ 0 }
+    requires far { far.old.until_failure ≡ 0 }
+    requires due { due_at speaker.old ≢ said.Nothing }
+    requires live { listener.old.failed ≡ false }
+    requires owes { listener.old.receiver.over ≡ true → listener.old.receiver.due ≡ None }
+    ensures near { OnOk result (near.new.until_failure ≡ 0) }
+    ensures far { OnOk result (far.new.until_failure ≡ 0) }
     ensures back { IfOk result (λ heard. ComesBack turn.now speaker.old speaker.new listener.old listener.new heard) }
     ensures fault { IfErr result (IsReplyFault turn.now.down listener.old.receiver.due) }
 {
-    let Some(reply) = listener.reply(far)? else {
+    let Some(reply) = reply_back(listener, far) else {
         near.put(Vec::new(alloc));
-        return Ok(speaker.hear_answer(near, turn.pause)?);
+        return Ok(hear_back(speaker, near, turn.pause));
     };
     carry(alloc, &turn.down, far, near)?;
-    let heard = speaker.hear_answer(near, turn.pause)?;
+    let heard = hear_back(speaker, near, turn.pause);
     check_damage(&turn.down, sound_of_reply(Some(reply)), heard)?;
     Ok(heard)
 }
@@ -216,26 +243,27 @@ fn speak_in_vain(
     pause: bool,
     station: &mut Station<'_>,
     line: &mut MemoryLine,
-) -> Result<Spoken, TurnFault>
-    requires due { due_at station.old ≡ said.Nothing → ⊥ }
-    ensures vain { IfOk result (λ spoken. SpeaksInVain pause station.old station.new spoken) }
-    ensures fault { IfErr result (λ fault. fault ≡ Fault.OutOfMemory) }
+) -> Spoken
+    requires calm { line.old.until_failure ≡ 0 }
+    requires due { due_at station.old ≢ said.Nothing }
+    ensures calm { line.new.until_failure ≡ 0 }
+    ensures vain { SpeaksInVain pause station.old station.new result }
 {
-    let said = station.speak(line)?;
+    let said = say_due(station, line);
     let heard = match said {
         Say::End => Sound::Quiet,
         _ => {
             line.put(Vec::new(alloc));
-            station.hear_answer(line, pause)?
+            hear_back(station, line, pause)
         }
     };
-    Ok(Spoken {
+    Spoken {
         said,
         arrived: Sound::Quiet,
         refused: false,
         reply: None,
         heard,
-    })
+    }
 }
 
 /// Tells a station that the other one's transmission ended, where it did.

@@ -4,7 +4,6 @@ ghost use Rattle.line_world.specs.declared.turn_fault.TurnFault.TheVariants.{Out
 ghost use Rattle.line_world.specs.Driving.{fault_at};
 
 use crate::WorldFault;
-use rje_station::StationFault;
 use std::alloc::AllocError;
 
 /// Why a turn of two stations came to nothing.
@@ -35,16 +34,6 @@ impl From<AllocError> for TurnFault {
     ghost from_gives = { λ _ fault. fault ≡ OutOfMemory };
 
     fn from(_refused: AllocError) -> TurnFault {
-        TurnFault::OutOfMemory
-    }
-}
-
-/// For the turns of a pair, whose stations can't fail: no call of their lines in memory is named to fail, and no transmission is too long.
-/// No contract says so yet, so the fault needs an answer.
-impl From<StationFault> for TurnFault {
-    ghost from_gives = { λ _ fault. fault ≡ OutOfMemory };
-
-    fn from(_lost: StationFault) -> TurnFault {
         TurnFault::OutOfMemory
     }
 }

@@ -16,14 +16,14 @@ returns-in_err-carry-clause-fault c =
 pub returns-in_err-check_damage-clause-fault : goal.returns-in_err-check_damage-clause-fault
 returns-in_err-check_damage-clause-fault c =
     let told : c.from_residual-in_err-check_damage.result ≡ Err c.in_err-check_damage.field-0.0 = search rules in
-    let heard = c.in_ok-reply.ensures.heard in
-    let seen : ◌≡◌ {A = Sound × Bool} (c.last_hearing-arrived.result.0, c.last_hearing-arrived.result.1) (heard_at_end (from_end c.hear_other.new.self.receiver.trace 1) (from_end c.hear_other.new.self.receiver.trace 2)) = search rules in
-    let is : c.last_hearing-arrived.result.0 ≡ sound_heard heard.what = arrived_across _ _ _ _ c.carry.new.to c.hear_other.new.line _ _ heard seen in
+    let heard = c.hear_across-reply.ensures.heard in
+    let seen : ◌≡◌ {A = Sound × Bool} (c.last_hearing-arrived.result.0, c.last_hearing-arrived.result.1) (heard_at_end (from_end c.hear_across-reply.new.station.receiver.trace 1) (from_end c.hear_across-reply.new.station.receiver.trace 2)) = search rules in
+    let is : c.last_hearing-arrived.result.0 ≡ sound_heard heard.what = arrived_across _ _ _ _ c.carry.new.to c.hear_across-reply.new.line _ _ heard seen in
     let wrong = c.in_err-check_damage.ensures.wrong in
-    rw (told, ← c.sound_of.ensures) (damage_fault _ _ _ _ heard.what _ c.in_err-check_damage.ensures.fault wrong (line_hears c.carry.new.to c.hear_other.new.line heard.what _ c.in_ok-carry.ensures.comes heard.told) is)
+    rw (told, ← c.sound_of.ensures) (damage_fault _ _ _ _ heard.what _ c.in_err-check_damage.ensures.fault wrong (line_hears c.carry.new.to c.hear_across-reply.new.line heard.what _ c.in_ok-carry.ensures.comes heard.told) is)
 
 pub returns-clause-across : goal.returns-clause-across
 returns-clause-across c =
     let may = c.in_ok-check_damage.ensures.may in
-    goes_across c.args.turn.now (sound_of c.args.said) c.args.near.now.sent c.args.listener.now c.hear_other.new.self c.in_ok-reply.reply c.carry.new.to c.hear_other.new.line
-    c.last_hearing-arrived.result.0 c.last_hearing-arrived.result.1 c.in_ok-carry.ensures.fits c.in_ok-carry.ensures.comes c.in_ok-reply.ensures.heard (search rules) (rw c.sound_of.ensures at may)
+    goes_across c.args.turn.now (sound_of c.args.said) c.args.near.now.sent c.args.listener.now c.hear_across-reply.new.station c.hear_across-reply.result c.carry.new.to c.hear_across-reply.new.line
+    c.last_hearing-arrived.result.0 c.last_hearing-arrived.result.1 c.in_ok-carry.ensures.fits c.in_ok-carry.ensures.comes c.hear_across-reply.ensures.heard (search rules) (rw c.sound_of.ensures at may)

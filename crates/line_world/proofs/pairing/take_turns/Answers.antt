@@ -10,6 +10,8 @@ use Rattle.line_world.proofs.pairing.take_turns.Goals as goal
 pub loop-turn-init : goal.loop-turn-init
 loop-turn-init c = record {
   running = pair_first c.args.primary.sender.jobs c.args.secondary.sender.jobs c.args.turns.now _ _ _ c.new-spoken.ensures.items (search rules) (search rules);
+  primary_line = search rules;
+  secondary_line = search rules;
 }
 
 pub returns-in-Ok-None-clause-drive : goal.returns-in-Ok-None-clause-drive
@@ -45,7 +47,11 @@ loop-turn-preserved c =
     let here : slice_get c.args.turns.now c.loop-turn.turn-index ≡ Some c.turn-item.result = slice_get_read _ _ _ _ refl c.loop-turn-test.true c.turn-item.is in
     let taken = c.in-Ok-Some.ensures.taken in
     let took : TakesPair (Some c.in-Ok-Some.one) c.turn-item.result c.loop-turn.ends.primary c.take_turn.new.self.primary c.loop-turn.ends.secondary c.take_turn.new.self.secondary = rw c.in-Ok-Some.field-0-is at taken in
-    record { running = pair_more laws _ _ _ _ _ _ _ _ _ _ c.turn-item.result c.in-Ok-Some.one running here took (search rules) }
+    record {
+      running = pair_more laws _ _ _ _ _ _ _ _ _ _ c.turn-item.result c.in-Ok-Some.one running here took (search rules);
+      primary_line = c.in-Ok-Some.ensures.primary_line;
+      secondary_line = c.in-Ok-Some.ensures.secondary_line;
+    }
 
 pub returns-clause-drive : goal.returns-clause-drive
 returns-clause-drive c =
