@@ -19,7 +19,7 @@ use Rattle.rje_jobs.specs.Blocks.{blocks}
 use Rattle.rje_jobs.specs.Joined.{joined}
 use Rattle.rje_station.specs.Hearing.{sound_of as sound_heard}
 use Rattle.rje_station.specs.JoinedJobs.{begun_in}
-use Rattle.rje_station.specs.Laws.{CountsBlocks}
+use Rattle.rje_station.specs.Laws.{CountsBlocks, TraceGoesOn}
 use Rattle.rje_station.specs.Receiving.{Receiving, MayRefuse, after_receiving, after_abandon}
 use Rattle.rje_station.specs.Sending.{after_speaking, after_hearing, IsWrittenOf}
 use Rattle.rje_station.specs.Station.{Contending, due_at, after_own_speaking, after_other, after_passing, after_own_reply, lets_in, gives_way, contender_said, contender_answered, contender_hears}
@@ -58,6 +58,7 @@ pub record Laws : Type 0 where
   pub transmits : WrittenIsTransmission
   pub counts : CountsBlocks
   pub receiving : ReceivingTurns
+  pub notes : TraceGoesOn
 
 -- a receiving station: it holds the jobs of the blocks that it got, and while its direction goes on it stands where the history left it
 pub record Listens (blocks : List Block) (own : History) (r : Receiving) : Type 0 where
@@ -97,7 +98,7 @@ block_sound refused Sound.Block e = refl
 block_sound true _ e = absurd (false≢true e)
 block_sound false _ e = absurd (false≢true e)
 
-other_than_enq : (c : ContenderState) (sound : Sound) (bid_out : Bool) → takes_enq c ≡ not bid_out → lets_in c sound ≡ true → (if bid_out then without_enq sound else sound) ≡ sound
+pub other_than_enq : (c : ContenderState) (sound : Sound) (bid_out : Bool) → takes_enq c ≡ not bid_out → lets_in c sound ≡ true → (if bid_out then without_enq sound else sound) ≡ sound
 other_than_enq c sound false takes e = refl
 other_than_enq c Sound.Enq true takes e = absurd (true≢false (sym e ∙ takes))
 other_than_enq c _ true takes e = refl
@@ -198,12 +199,12 @@ module _ (laws : Laws) (jobs : List Job) (own : History) (g : Bool) (bid_out : B
 -- ---- The speaker.
 
 -- an EOT isn't answered
-unanswered : (own : History) (said : Say) (arrived : Sound) (refused : Bool) (reply : Option Reply) (wish : Wish) → said ≡ Say.End → MayBeHeardAs (sound_of said) arrived → reply ≡ replying own arrived refused wish → reply ≡ None
+pub unanswered : (own : History) (said : Say) (arrived : Sound) (refused : Bool) (reply : Option Reply) (wish : Wish) → said ≡ Say.End → MayBeHeardAs (sound_of said) arrived → reply ≡ replying own arrived refused wish → reply ≡ None
 unanswered own said arrived refused reply wish end may e =
     let eot : sound_of said ≡ Sound.Eot = rw end refl in
     e ∙ no-answer own arrived refused wish (comes Sound.Eot arrived (subst (λ x. MayBeHeardAs x arrived) eot may))
 
-back_more : (say : Say) (turn : Turn) (s s' l l' : Contending) (heard : Sound) → say ≢ Say.End → ComesBackAfter say turn s s' l l' heard → ComesBack turn s s' l l' heard
+pub back_more : (say : Say) (turn : Turn) (s s' l l' : Contending) (heard : Sound) → say ≢ Say.End → ComesBackAfter say turn s s' l l' heard → ComesBack turn s s' l l' heard
 back_more Say.End turn s s' l l' heard n d = absurd (n refl)
 back_more Say.Bid turn s s' l l' heard n d = d
 back_more Say.Block turn s s' l l' heard n d = d

@@ -79,7 +79,7 @@ goes_up turn said sent r r' reply l m arrived refused fits comes g seen may =
 pub goes_down : (turn : Turn) (s s' : Sending) (r r' : Receiving) (sound : Sound) → IsReplyCarried turn.down r.due sound → s' ≡ after_hearing s sound turn.pause → r' ≡ after_replying r
     → GoesDown turn s s' r r' sound
 goes_down turn s s' r r' sound carried sender state =
-    record { carried = carried; sender = sender; core = ap (λ x. x.core) state; jobs = ap (λ x. x.jobs) state; over = ap (λ x. x.over) state; silent = ap (λ x. x.due) state }
+    record { carried = carried; sender = sender; receiver = state }
 
 -- where no reply is due, nothing comes
 pub nothing_carried : (fate : Fate) (due : Option Reply) (l m : LineInMemory) (sound : Sound) → due ≡ None → flat_map (λ p. p) l.waiting ≡ []

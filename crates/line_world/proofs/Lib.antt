@@ -6,6 +6,7 @@ pub mod TurnFaults
 pub mod Planned
 pub mod SendingTurns
 pub mod ReceivingTurns
+pub mod Noted
 pub mod Comings
 pub mod Telling
 pub mod RunTurns
@@ -33,6 +34,7 @@ pub mod PairLoop
 pub mod PairRuns
 pub mod PairTelling
 pub mod PairVain
+pub mod PairNoted
 pub mod Sends
 pub mod OneWay
 pub mod Calm

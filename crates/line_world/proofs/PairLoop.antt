@@ -49,6 +49,12 @@ stands_first ups downs turns = record {
   down_sends = sends_first downs;
   up_receives = record { jobs = refl; live = λ g. record { core = refl; jobs = refl; over = λ e. refl } };
   down_receives = record { jobs = refl; live = λ g. record { core = refl; jobs = refl; over = λ e. refl } };
+  a_silent = refl;
+  b_silent = refl;
+  a_said = refl;
+  b_said = refl;
+  a_heard = refl;
+  b_heard = refl;
 }
 
 pub pair_first : (ups downs : List Job) (turns : List PairTurn) (spoken : List PairSpoken) (a b : Contending) → spoken ≡ [] → a ≡ first_contending Rank.Primary ups → b ≡ first_contending Rank.Secondary downs → PairRunning ups downs turns 0 spoken a b
@@ -138,6 +144,12 @@ stand_pair ups downs turns h a b s = record {
   b_sends = sends_after downs (down h) (down_gave_up h) (spent h).tries (spent h).holds b.sender s.down_sends;
   a_receives = receives_after (blocks downs) (down h) a.receiver s.down_receives;
   b_receives = receives_after (blocks ups) (up h) b.receiver s.up_receives;
+  a_silent = s.a_silent;
+  b_silent = s.b_silent;
+  a_said = s.a_said;
+  b_said = s.b_said;
+  a_heard = s.a_heard;
+  b_heard = s.b_heard;
 }
 
 whole_pair : Laws → (ups downs : List Job) (turns : List PairTurn) (n : ℕ) (spoken : List PairSpoken) (a b : Contending) → (p : PairRunning ups downs turns n spoken a b) → (length p.history ≡ length turns) ⊎ NothingIsDue (plan_of (blocks ups)) (plan_of (blocks downs)) p.history

@@ -1,5 +1,5 @@
 -- One turn of two stations that both have jobs is one turn of the conversation.
-use Rattle.std.proofs.Common.{◌≡◌, ◌≢◌, ◌⊎◌, inl, inr, ℕ, ◌<◌, ◌==◌, Bool, true, false, not, ◌||◌, List, [], ◌∷◌, ◌++◌, length, take, slice_get, Some, None, if◌then◌else◌, refl, ap, sym, ◌∙◌, subst, arith, length-append}
+use Rattle.std.proofs.Common.{◌≡◌, ◌≢◌, ◌⊎◌, inl, inr, ℕ, ◌<◌, ◌==◌, Bool, true, false, not, ◌||◌, List, [], ◌∷◌, ◌++◌, length, take, slice_get, Some, None, if◌then◌else◌, refl, ap, sym, ◌∙◌, subst, arith, length-append, append-nil}
 use Rattle.std.proofs.lemmas.Bool.{false≢true, cases_Bool}
 use Rattle.bsc_link.specs.declared.contender_place.ContenderPlace.{ContenderPlace}
 use Rattle.bsc_link.specs.declared.rank.Rank.{Rank}
@@ -10,7 +10,8 @@ use Rattle.bsc_link.specs.Sender.{is_enough, say_in}
 use Rattle.rje_jobs.specs.declared.job.Job.{Job}
 use Rattle.rje_jobs.specs.Blocks.{blocks}
 use Rattle.rje_station.specs.Sending.{Sending}
-use Rattle.rje_station.specs.Station.{Contending, due_at, due_in, is_receiving, gives_way}
+use Rattle.rje_station.specs.Station.{Contending, due_at, due_in, is_receiving, gives_way, lets_in}
+use Rattle.rje_station.specs.Trace.{last_events, IsTraceOf}
 use Rattle.bsc_history.specs.declared.spoken_turn.SpokenTurn.{SpokenTurn}
 use Rattle.bsc_history.specs.History.{Plan, History, is_over}
 use Rattle.bsc_history.specs.Known.{has_grant, tries, holds, gives_up_now}
@@ -18,6 +19,7 @@ use Rattle.bsc_history.specs.Outcome.{gave_up_before}
 use Rattle.bsc_history.specs.Conversation.{Follows, MayBeSpoken}
 use Rattle.bsc_history.specs.declared.sound_fate.SoundFate.{SoundFate}
 use Rattle.bsc_history.specs.Fate.{sound_of}
+use Rattle.line_world.specs.Traces.{sender_events, primary_events, secondary_events}
 use Rattle.line_world.specs.Turns.{after_turn}
 use Rattle.line_world.proofs.Comings.{tell}
 use Rattle.line_world.specs.Plan.{plan_of}
@@ -36,6 +38,7 @@ use Rattle.line_world.specs.PairDriving.{PrimaryAlone, SecondaryAlone, BothSpeak
 use Rattle.bsc_history.specs.PairSchedule.{PairPlace, IsPairAt, IsPairSpokenOver, NothingIsDue}
 use Rattle.line_world.specs.PairRun.{TellsPair, TellsPairs, FitParts, AllPairsFit}
 use Rattle.line_world.proofs.Alone.{Laws, Listens, Turned, turned}
+use Rattle.line_world.proofs.PairNoted.{alone_silent, alone_noted, vain_noted, ended_silent, sends_noted, way_noted}
 use Rattle.line_world.proofs.PairVain.{vainly, vain_follows, vain_listens, end_contender, end_sender_kept}
 use Rattle.line_world.proofs.Contends.{Contends, due-closed, closed-ungranted, primary_takes, secondary_takes, primary_alone, secondary_alone, both_speak}
 use Rattle.bsc_history.proofs.ForRuns.{and-left, counted-quiet, silent-says, lost-after, directions_may_be_spoken, pair_conversations_may_be_spoken}
@@ -56,6 +59,12 @@ pub record StandsPairRun (ups downs : List Job) (turns : List PairTurn) (h : Pai
   pub down_sends : SendsBy downs (down h) (down_gave_up h) (spent h).tries (spent h).holds b.sender
   pub up_receives : Listens (blocks ups) (up h) b.receiver
   pub down_receives : Listens (blocks downs) (down h) a.receiver
+  pub a_silent : a.receiver.due ≡ None
+  pub b_silent : b.receiver.due ≡ None
+  pub a_said : IsTraceOf (sender_events (up h)) a.sender.trace
+  pub b_said : IsTraceOf (sender_events (down h)) b.sender.trace
+  pub a_heard : IsTraceOf (primary_events h) a.receiver.trace
+  pub b_heard : IsTraceOf (secondary_events h) b.receiver.trace
 
 -- ---- What is due.
 
@@ -234,6 +243,12 @@ module _ (laws : Laws) (ups downs : List Job) (turns : List PairTurn) (h : PairH
             (hears_up w.spoken.arrived b.contender.rank (takes_enq b.contender) p.contends.q_rank takes (closed-ungranted down_plan (down h) may.1 closed));
         up_receives = x.l_receives;
         down_receives = subst (Listens (blocks downs) (down h)) (sym x.s_receiver) p.down_receives;
+        a_silent = ap (λ z. z.due) x.s_receiver ∙ p.a_silent;
+        b_silent = alone_silent laws.notes up_plan (up h) (gives_up_now (up h)) false a a' b b' turn.turn w.spoken (p.up_receives.live goes).core ((p.up_receives.live goes).over goes) may.0 takes x.follows w.alone;
+        a_said = ap (λ z. z.trace) x.s_sender ∙ sends_noted laws.notes ups (up h) (gave_up_before (up h)) (tries (up h)) (holds (up h)) a.sender u p.up_sends x.follows p.a_said;
+        b_said = ap (λ z. z.trace) x.l_sender ∙ way_noted (lets_in b.contender w.spoken.arrived) b.contender.rank w.spoken.arrived b.sender ∙ p.b_said;
+        a_heard = ap (λ z. z.trace) x.s_receiver ∙ p.a_heard ∙ ap last_events (sym (append-nil (primary_events h)));
+        b_heard = alone_noted laws.notes up_plan (up h) (gives_up_now (up h)) false a a' b b' turn.turn w.spoken (p.up_receives.live goes).core ((p.up_receives.live goes).over goes) may.0 takes x.follows w.alone (secondary_events h) p.b_heard;
       }
 
   -- THE SECONDARY ALONE
@@ -275,6 +290,12 @@ module _ (laws : Laws) (ups downs : List Job) (turns : List PairTurn) (h : PairH
             (sends_turn laws.counts downs (down h) (down_gave_up h) (spent h).tries (spent h).holds b.sender v l p.down_sends x.follows);
         up_receives = subst (Listens (blocks ups) (up h)) (sym x.s_receiver) p.up_receives;
         down_receives = x.l_receives;
+        a_silent = alone_silent laws.notes down_plan (down h) (down_gives_up h) bid_out b b' a a' turn.turn w.spoken (p.down_receives.live goes).core ((p.down_receives.live goes).over goes) may.1 takes x.follows w.alone;
+        b_silent = ap (λ z. z.due) x.s_receiver ∙ p.b_silent;
+        a_said = ap (λ z. z.trace) x.l_sender ∙ way_noted (lets_in a.contender w.spoken.arrived) a.contender.rank w.spoken.arrived a.sender ∙ p.a_said;
+        b_said = ap (λ z. z.trace) x.s_sender ∙ sends_noted laws.notes downs (down h) (down_gave_up h) (spent h).tries (spent h).holds b.sender v p.down_sends x.follows p.b_said;
+        a_heard = alone_noted laws.notes down_plan (down h) (down_gives_up h) bid_out b b' a a' turn.turn w.spoken (p.down_receives.live goes).core ((p.down_receives.live goes).over goes) may.1 takes x.follows w.alone (primary_events h) p.a_heard;
+        b_heard = ap (λ z. z.trace) x.s_receiver ∙ p.b_heard ∙ ap last_events (sym (append-nil (secondary_events h)));
       }
 
   -- BOTH AT ONCE
@@ -337,6 +358,12 @@ module _ (laws : Laws) (ups downs : List Job) (turns : List PairTurn) (h : PairH
             (sends_turn laws.counts downs (down h) (down_gave_up h) (spent h).tries (spent h).holds b.sender v q_l p.down_sends d);
         up_receives = subst (Listens (blocks ups) (u ∷ up h)) (sym (ap (λ z. z.receiver) k.b_ended)) ups_heard;
         down_receives = subst (Listens (blocks downs) (v ∷ down h)) (sym (ap (λ z. z.receiver) k.a_ended)) downs_heard;
+        a_silent = ap (λ z. z.receiver.due) k.a_ended ∙ ended_silent k.second.said k.a_after (ap (λ z. z.due) x.receiver ∙ p.a_silent);
+        b_silent = ap (λ z. z.receiver.due) k.b_ended ∙ ended_silent k.first.said k.b_after (ap (λ z. z.due) y.receiver ∙ p.b_silent);
+        a_said = ap (λ z. z.trace) a_sender ∙ sends_noted laws.notes ups (up h) (gave_up_before (up h)) (tries (up h)) (holds (up h)) a.sender u p.up_sends f p.a_said;
+        b_said = ap (λ z. z.trace) b_sender ∙ sends_noted laws.notes downs (down h) (down_gave_up h) (spent h).tries (spent h).holds b.sender v p.down_sends d p.b_said;
+        a_heard = ap (λ z. z.receiver.trace) k.a_ended ∙ vain_noted laws.notes u2 k.a_after (primary_events h) k.secondary.arrived (ap (λ z. z.over) x.receiver ∙ (p.down_receives.live q_goes).over q_goes) (ap (λ z. z.trace) x.receiver ∙ p.a_heard);
+        b_heard = ap (λ z. z.receiver.trace) k.b_ended ∙ vain_noted laws.notes u k.b_after (secondary_events h) k.primary.arrived (ap (λ z. z.over) y.receiver ∙ (p.up_receives.live p_goes).over p_goes) (ap (λ z. z.trace) y.receiver ∙ p.b_heard);
       }
 
   -- nothing is due at either where neither speaks

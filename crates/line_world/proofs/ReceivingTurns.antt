@@ -16,13 +16,14 @@ use Rattle.rje_jobs.specs.declared.job.Job.{Job}
 use Rattle.rje_jobs.specs.Joined.{joined}
 use Rattle.rje_station.specs.Hearing.{sound_of as sound_heard}
 use Rattle.rje_station.specs.Laws.{HearsJobs, accepted_after}
-use Rattle.rje_station.specs.Receiving.{MayRefuse, sound_taken}
+use Rattle.rje_station.specs.JoinedJobs.{begun_in}
+use Rattle.rje_station.specs.Receiving.{Receiving, MayRefuse, sound_taken}
 use Rattle.bsc_history.specs.declared.spoken_turn.SpokenTurn.{SpokenTurn}
 use Rattle.bsc_history.specs.History.{Plan, History, is_over}
 use Rattle.bsc_history.specs.Known.{known}
 use Rattle.bsc_history.specs.Got.{got, brings_block}
 use Rattle.bsc_history.specs.Conversation.{MayBeSpoken, is_block}
-use Rattle.bsc_history.specs.Cores.{taken}
+use Rattle.bsc_history.specs.Cores.{taken, receiver_after}
 use Rattle.line_world.specs.Plan.{plan_of, numbered}
 use Rattle.line_world.specs.Turns.{ReceivingTurns}
 use Rattle.bsc_history.proofs.ForRuns.{comes, receiver_core_accepts, eot-said}
@@ -73,24 +74,24 @@ abbrev pub IsOutstanding : List Block → History → Heard → Type 0
 IsOutstanding blocks h what = (b : Block) → what ≡ heard.Frame (frame.Block b) → slice_get blocks (known h) ≡ Some b
 
 -- a block that is accepted stands behind those that were got before
-accepted_is : (blocks : List Block) (h : History) (t : SpokenTurn) (what : Heard) → t.arrived ≡ sound_heard what → IsOutstanding blocks h what
+blocks_are : (blocks : List Block) (h : History) (t : SpokenTurn) (what : Heard) → t.arrived ≡ sound_heard what → IsOutstanding blocks h what
     → accepted_after what (brings_block t) (numbered blocks (got h)) ≡ numbered blocks (got (t ∷ h))
-accepted_is blocks h t (heard.Frame (frame.Block b)) e out = elim (cases_Bool (brings_block t)) [
+blocks_are blocks h t (heard.Frame (frame.Block b)) e out = elim (cases_Bool (brings_block t)) [
   | inl brings ↦ rw brings (sym (numbered_more blocks (got h) (known h) b (out b refl)))
   | inr none ↦ rw none refl
 ]
-accepted_is blocks h t (heard.Frame frame.Enq) e out = rw e refl
-accepted_is blocks h t (heard.Frame frame.Ack0) e out = rw e refl
-accepted_is blocks h t (heard.Frame frame.Ack1) e out = rw e refl
-accepted_is blocks h t (heard.Frame frame.Nak) e out = rw e refl
-accepted_is blocks h t (heard.Frame frame.Wack) e out = rw e refl
-accepted_is blocks h t (heard.Frame frame.Rvi) e out = rw e refl
-accepted_is blocks h t (heard.Frame frame.Ttd) e out = rw e refl
-accepted_is blocks h t (heard.Frame frame.Abort) e out = rw e refl
-accepted_is blocks h t (heard.Frame frame.Eot) e out = rw e refl
-accepted_is blocks h t heard.Bad e out = rw e refl
-accepted_is blocks h t heard.Noise e out = rw e refl
-accepted_is blocks h t heard.Quiet e out = rw e refl
+blocks_are blocks h t (heard.Frame frame.Enq) e out = rw e refl
+blocks_are blocks h t (heard.Frame frame.Ack0) e out = rw e refl
+blocks_are blocks h t (heard.Frame frame.Ack1) e out = rw e refl
+blocks_are blocks h t (heard.Frame frame.Nak) e out = rw e refl
+blocks_are blocks h t (heard.Frame frame.Wack) e out = rw e refl
+blocks_are blocks h t (heard.Frame frame.Rvi) e out = rw e refl
+blocks_are blocks h t (heard.Frame frame.Ttd) e out = rw e refl
+blocks_are blocks h t (heard.Frame frame.Abort) e out = rw e refl
+blocks_are blocks h t (heard.Frame frame.Eot) e out = rw e refl
+blocks_are blocks h t heard.Bad e out = rw e refl
+blocks_are blocks h t heard.Noise e out = rw e refl
+blocks_are blocks h t heard.Quiet e out = rw e refl
 
 -- ---- The end.
 
@@ -104,22 +105,28 @@ ended_idle s sound wish ReceiverPlace.Idle e n = rw e refl
 ended_idle s sound wish ReceiverPlace.InTransmission e n = rw e refl
 ended_idle s sound wish ReceiverPlace.Ended e n = rw e refl
 
-taken_eot : (arrived : Sound) (refused : Bool) → arrived ≢ Sound.Eot → taken arrived refused ≢ Sound.Eot
+pub taken_eot : (arrived : Sound) (refused : Bool) → arrived ≢ Sound.Eot → taken arrived refused ≢ Sound.Eot
 taken_eot Sound.Block true n = λ e. cc
 taken_eot Sound.Block false n = λ e. cc
 taken_eot _ refused n = n
 
-no_eot : (plan : Plan) (t : SpokenTurn) (h : History) → MayBeSpoken plan (t ∷ h) → is_over (t ∷ h) ≡ false → t.arrived ≢ Sound.Eot
+pub no_eot : (plan : Plan) (t : SpokenTurn) (h : History) → MayBeSpoken plan (t ∷ h) → is_over (t ∷ h) ≡ false → t.arrived ≢ Sound.Eot
 no_eot plan t h spoken goes = λ e. let said : t.said ≡ Say.End = eot-said t.said (rw e at (comes _ _ spoken.0.1.arrived)) in true≢false (rw said at goes)
+
+-- the core accepts just the blocks that are brought
+pub accepted_is : (plan : Plan) (h : History) (r : Receiving) (t : SpokenTurn) (what : Heard) → r.core ≡ receiver_after h → MayBeSpoken plan (t ∷ h) → t.arrived ≡ sound_heard what → MayRefuse what (begun_in r.jobs) t.refused
+    → (receiver_news r.core (sound_taken what t.refused) t.wish).accepted ≡ brings_block t
+accepted_is plan h r t what core spoken arrived may =
+    ap (λ x. (receiver_news r.core x t.wish).accepted) (taken_is what _ t.refused may ∙ ap (λ s. taken s t.refused) (sym arrived))
+    ∙ ap (λ x. (receiver_news x (taken t.arrived t.refused) t.wish).accepted) core ∙ receiver_core_accepts plan t h spoken
 
 pub receiving_turns : HearsJobs → ReceivingTurns
 receiving_turns law blocks h r t what p spoken arrived may out =
     let plan = plan_of blocks in
     let sound : sound_taken what t.refused ≡ taken t.arrived t.refused = taken_is what _ t.refused may ∙ ap (λ s. taken s t.refused) (sym arrived) in
-    let accepts : (receiver_news r.core (sound_taken what t.refused) t.wish).accepted ≡ brings_block t =
-    ap (λ x. (receiver_news r.core x t.wish).accepted) sound ∙ ap (λ x. (receiver_news x (taken t.arrived t.refused) t.wish).accepted) p.core ∙ receiver_core_accepts plan t h spoken in
+    let accepts = accepted_is plan h r t what p.core spoken arrived may in
     record {
       core = ap (λ s. receiver_hears r.core s t.wish) sound ∙ ap (λ c. receiver_hears c (taken t.arrived t.refused) t.wish) p.core;
-      jobs = law (numbered blocks (got h)) r what t.refused t.wish p.jobs ∙ ap (λ a. joined (accepted_after what a (numbered blocks (got h)))) accepts ∙ ap joined (accepted_is blocks h t what arrived out);
+      jobs = law (numbered blocks (got h)) r what t.refused t.wish p.jobs ∙ ap (λ a. joined (accepted_after what a (numbered blocks (got h)))) accepts ∙ ap joined (blocks_are blocks h t what arrived out);
       over = λ goes. ap (λ x. (receiver_news r.core x t.wish).ended) sound ∙ ended_idle r.core (taken t.arrived t.refused) t.wish r.core.place refl (taken_eot t.arrived t.refused (no_eot plan t h spoken goes));
     }

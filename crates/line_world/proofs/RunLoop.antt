@@ -80,7 +80,7 @@ whole_run laws jobs turns h s r l p whole =
         counted_is = p.sends.counted.counted;
         ending_is = outcome_is jobs turns h s r l p;
       };
-      stand = record { idle = λ none. absurd (no_jobs jobs l none); sends = λ some. p.sends; receives = p.receives; silent = p.silent };
+      stand = record { idle = λ none. absurd (no_jobs jobs l none); sends = λ some. p.sends; receives = p.receives; silent = p.silent; said = p.said; heard = p.heard };
     }
 
 -- with no jobs nothing is said
@@ -97,7 +97,7 @@ empty_run laws turns =
         counted_is = refl;
         ending_is = refl;
       };
-      stand = record { idle = λ none. (refl, refl); sends = λ some. absurd (some refl); receives = record { core = refl; jobs = refl; over = λ e. refl }; silent = refl };
+      stand = record { idle = λ none. (refl, refl); sends = λ some. absurd (some refl); receives = record { core = refl; jobs = refl; over = λ e. refl }; silent = refl; said = refl; heard = refl };
     }
 
 -- ---- A broken rule.
@@ -195,6 +195,8 @@ stands_first jobs turns l = record {
   sends = record { jobs_are = refl; core = refl; counted = record { rest = refl; counted = refl }; over = some_jobs jobs l };
   receives = record { core = refl; jobs = refl; over = λ e. refl };
   silent = refl;
+  said = refl;
+  heard = refl;
 }
 
 first_of : (jobs : List Job) (turns : List Turn) → Running jobs turns 0 [] (first_sending jobs) first_receiving

@@ -8,13 +8,16 @@ use Rattle.bsc_link.specs.declared.reply.Reply.{Reply}
 use Rattle.bsc_link.specs.declared.say.Say.{Say}
 use Rattle.bsc_link.specs.declared.sound.Sound.{Sound}
 use Rattle.bsc_link.specs.declared.wish.Wish.{Wish}
-use Rattle.bsc_link.specs.Sender.{say_in}
+use Rattle.bsc_link.specs.Sender.{say_in, counts_block, line_for}
 use Rattle.bsc_link.specs.Receiver.{receiver_news}
 use Rattle.rje_jobs.specs.declared.job.Job.{Job}
 use Rattle.rje_jobs.specs.Blocks.{blocks}
 use Rattle.rje_station.specs.Hearing.{sound_of as sound_heard}
-use Rattle.rje_station.specs.Receiving.{Receiving}
+use Rattle.rje_station.specs.declared.event.Event.TheVariants as event
+use Rattle.rje_station.specs.Laws.{TraceGoesOn}
+use Rattle.rje_station.specs.Receiving.{Receiving, received_events, trace_after_reply}
 use Rattle.rje_station.specs.Sending.{Sending, IsWrittenOf, after_speaking}
+use Rattle.rje_station.specs.Trace.{IsTraceOf}
 use Rattle.line_world.specs.declared.fate.Fate.{Fate}
 use Rattle.bsc_history.specs.declared.sound_turn.SoundTurn.{SoundTurn}
 use Rattle.line_world.specs.declared.spoken.Spoken.{Spoken}
@@ -24,17 +27,20 @@ use Rattle.bsc_history.specs.History.{Plan, History, is_over}
 use Rattle.bsc_history.specs.Known.{known, gives_up_now}
 use Rattle.bsc_history.specs.Conversation.{IsAt, IsSpokenOver, MayBeSpoken, is_block}
 use Rattle.bsc_history.specs.Cores.{taken}
+use Rattle.bsc_history.specs.Got.{brings_block}
 use Rattle.line_world.specs.Driving.{IsCarried, GoesUp, GoesDown, GoesDownAfter, IsReplyCarried, TakesTurn}
 use Rattle.bsc_history.specs.Fate.{sound_of, sound_of_reply, after_fate, MayBeHeardAs}
 use Rattle.line_world.specs.Plan.{plan_of}
 use Rattle.bsc_history.specs.ReplyRule.{replying}
 use Rattle.bsc_history.specs.SayingRule.{saying}
 use Rattle.line_world.specs.Run.{TellsTurn, TellsSchedule, IsDue, FitsReply, AllFit}
+use Rattle.line_world.specs.Traces.{sender_events, receiver_events}
 use Rattle.line_world.specs.Turns.{StandsSending, StandsReceiving, SendingTurns, ReceivingTurns, after_turn}
-use Rattle.bsc_history.proofs.ForRuns.{conversations_may_be_spoken, comes, no-answer, receiver_core_replies, conversations_are_spoken, spoken-more, sender_core_says}
+use Rattle.bsc_history.proofs.ForRuns.{conversations_may_be_spoken, comes, no-answer, receiver_core_replies, conversations_are_spoken, spoken-more, sender_core_says, sender_core_counts}
 use Rattle.line_world.proofs.Comings.{Told, tell, said_told, reply_told, reply_fits, block_carried, first_left}
 use Rattle.line_world.proofs.Planned.{begins}
-use Rattle.line_world.proofs.ReceivingTurns.{taken_is, refused_block}
+use Rattle.line_world.proofs.Noted.{turn_noted, hearing_noted, answer_noted}
+use Rattle.line_world.proofs.ReceivingTurns.{taken_is, refused_block, accepted_is}
 use Rattle.line_world.proofs.SendingTurns.{turn_ends, turn_hears, cases_end}
 use Rattle.line_world.proofs.Telling.{told_append, get_seam, spoken_longer, take_one}
 
@@ -45,6 +51,7 @@ pub record Laws : Type 0 where
   pub transmits : WrittenIsTransmission
   pub sending : SendingTurns
   pub receiving : ReceivingTurns
+  pub notes : TraceGoesOn
 
 -- the turns so far were spoken over what the schedule tells of them, and both stations stand where they left them
 pub record StandsRun (jobs : List Job) (turns : List Turn) (h : History) (s : Sending) (r : Receiving) : Type 0 where
@@ -56,6 +63,8 @@ pub record StandsRun (jobs : List Job) (turns : List Turn) (h : History) (s : Se
   pub sends : StandsSending jobs h s
   pub receives : StandsReceiving (blocks jobs) h r
   pub silent : r.due ≡ None
+  pub said : IsTraceOf (sender_events h) s.trace
+  pub heard : IsTraceOf (receiver_events h) r.trace
 
 -- the turn with the wish and the pause of its place
 abbrev pub turn_of : Turn → Spoken → SpokenTurn
@@ -98,6 +107,7 @@ record IsDown (turn : Turn) (s s' : Sending) (middle r' : Receiving) (t : Spoken
   jobs : r'.jobs ≡ middle.jobs
   over : r'.over ≡ middle.over
   silent : r'.due ≡ None
+  noted : r'.trace ≡ trace_after_reply t.reply middle.trace
 
 down_ends : Laws → (turn : Turn) (s s' : Sending) (middle r' : Receiving) (t : Spoken) → t.said ≡ Say.End → t.reply ≡ None → t.reply ≡ middle.due → GoesDownAfter Say.End turn (after_speaking s) s' middle r' t.heard → IsDown turn s s' middle r' t
 down_ends laws turn s s' middle r' t end none due (sender, receiver, quiet) =
@@ -112,6 +122,7 @@ down_ends laws turn s s' middle r' t end none due (sender, receiver, quiet) =
       jobs = ap (λ x. x.jobs) receiver;
       over = ap (λ x. x.over) receiver;
       silent = ap (λ x. x.due) receiver ∙ sym due ∙ none;
+      noted = ap (λ x. x.trace) receiver ∙ ap (λ x. trace_after_reply x middle.trace) (sym none);
     }
 
 down_more : (say : Say) (turn : Turn) (s s' : Sending) (r r' : Receiving) (heard : Sound) → say ≢ Say.End → GoesDownAfter say turn s s' r r' heard → GoesDown turn s s' r r' heard
@@ -129,10 +140,11 @@ down_hears laws turn s s' middle r' t more due d =
     record {
       down = record { told = reply_told laws.one laws.transmits laws.every turn.down t.reply t.heard carried; fits = reply_fits turn.down t.reply t.heard carried };
       sender = d.sender ∙ sym (turn_hears s (turn_of turn t) t.said refl more);
-      core = d.core;
-      jobs = d.jobs;
-      over = d.over;
-      silent = d.silent;
+      core = ap (λ x. x.core) d.receiver;
+      jobs = ap (λ x. x.jobs) d.receiver;
+      over = ap (λ x. x.over) d.receiver;
+      silent = ap (λ x. x.due) d.receiver;
+      noted = ap (λ x. x.trace) d.receiver ∙ ap (λ x. trace_after_reply x middle.trace) (sym due);
     }
 
 -- an EOT isn't answered
@@ -216,6 +228,19 @@ module _ (laws : Laws) (jobs : List Job) (turns : List Turn) (h : History) (s s'
   long_on : length longer ≡ length (turn_of turn t ∷ h)
   long_on = omega (arith, length-append p.before (place ∷ []), p.long)
 
+  said_noted : IsTraceOf (sender_events (turn_of turn t ∷ h)) s'.trace
+  said_noted =
+      ap (λ x. x.trace) is_down.sender
+      ∙ turn_noted laws.notes h s (turn_of turn t) (sym took.said) p.said
+      (λ more. ap (λ x. counts_block (line_for x t.heard turn.pause)) p.sends.core ∙ sender_core_counts plan (turn_of turn t) h (begins jobs l) (conversations_are_spoken plan (turn_of turn t ∷ h) spoken.conversation))
+
+  heard_noted : IsTraceOf (receiver_events (turn_of turn t ∷ h)) r'.trace
+  heard_noted =
+      let middle : IsTraceOf (receiver_events h ++ event.Heard t.arrived ∷ received_events (brings_block (turn_of turn t)) t.refused) took.middle.trace =
+      ap (λ x. x.trace) took.up.state
+      ∙ hearing_noted laws.notes (receiver_events h) r took.up.what (turn_of turn t) took.up.arrived_is (accepted_is plan h r (turn_of turn t) took.up.what p.receives.core may_be took.up.arrived_is took.up.may) p.heard in
+      is_down.noted ∙ answer_noted laws.notes (receiver_events h) (turn_of turn t) took.middle.trace middle
+
   pub turn_more : StandsRun jobs turns (turn_of turn t ∷ h) s' r'
   turn_more = record {
     before = longer;
@@ -230,4 +255,6 @@ module _ (laws : Laws) (jobs : List Job) (turns : List Turn) (h : History) (s s'
       over = λ e. is_down.over ∙ received.over e;
     };
     silent = is_down.silent;
+    said = said_noted;
+    heard = heard_noted;
   }

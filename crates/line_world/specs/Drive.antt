@@ -4,10 +4,12 @@ use Rattle.rje_jobs.specs.declared.job.Job.{Job}
 use Rattle.rje_jobs.specs.Blocks.{blocks}
 use Rattle.rje_station.specs.Receiving.{Receiving, first_receiving}
 use Rattle.rje_station.specs.Sending.{Sending, first_sending, outcome_of}
+use Rattle.rje_station.specs.Trace.{IsTraceOf}
 use Rattle.line_world.specs.declared.spoken.Spoken.{Spoken}
 use Rattle.line_world.specs.declared.turn.Turn.{Turn}
 use Rattle.bsc_history.specs.History.{History}
 use Rattle.line_world.specs.Run.{IsRun}
+use Rattle.line_world.specs.Traces.{sender_events, receiver_events}
 use Rattle.line_world.specs.Turns.{StandsSending, StandsReceiving}
 
 -- where both stations stand after a history of these jobs
@@ -20,6 +22,9 @@ pub record StandBoth (jobs : List Job) (h : History) (s : Sending) (r : Receivin
   pub receives : StandsReceiving (blocks jobs) h r
   -- no reply is due
   pub silent : r.due ≡ None
+  -- each trace is that of a station that did what the history tells
+  pub said : IsTraceOf (sender_events h) s.trace
+  pub heard : IsTraceOf (receiver_events h) r.trace
 
 -- the turns told are those of a run, and both stations stand after its history
 pub record IsDrive (jobs : List Job) (turns : List Turn) (spoken : List Spoken) (s : Sending) (r : Receiving) : Type 0 where

@@ -10,7 +10,7 @@ use Rattle.bsc_link.specs.Sender.{say_in}
 use Rattle.rje_station.specs.declared.station_fault.StationFault.{StationFault}
 use Rattle.rje_station.specs.Hearing.{sound_of as sound_heard}
 use Rattle.rje_station.specs.JoinedJobs.{begun_in}
-use Rattle.rje_station.specs.Receiving.{Receiving, MayRefuse, after_receiving, frame_of}
+use Rattle.rje_station.specs.Receiving.{Receiving, MayRefuse, after_receiving, after_replying, frame_of}
 use Rattle.rje_station.specs.Sending.{Sending, IsWrittenOf, after_speaking, after_hearing}
 use Rattle.line_world.specs.declared.fate.Fate.{Fate}
 use Rattle.line_world.specs.declared.spoken.Spoken.{Spoken}
@@ -77,10 +77,7 @@ IsReplyFault fate (Some reply) fault = (sent : List ℕ) × Written (frame_of re
 pub record GoesDown (turn : Turn) (s s' : Sending) (r r' : Receiving) (heard : Sound) : Type 0 where
   pub carried : IsReplyCarried turn.down r.due heard
   pub sender : s' ≡ after_hearing s heard turn.pause
-  pub core : r'.core ≡ r.core
-  pub jobs : r'.jobs ≡ r.jobs
-  pub over : r'.over ≡ r.over
-  pub silent : r'.due ≡ None
+  pub receiver : r' ≡ after_replying r
 
 -- ---- One turn.
 

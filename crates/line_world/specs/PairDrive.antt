@@ -1,6 +1,6 @@
 -- Driving two new stations that both have jobs over a schedule: the run that is told of it, and where both stations stand after it. Own
 -- profile.
-use Rattle.std.specs.Prelude.{◌≡◌, ℕ, false, not, ◌||◌, ◌==◌, List, length}
+use Rattle.std.specs.Prelude.{◌≡◌, ℕ, false, not, ◌||◌, ◌==◌, List, length, None}
 use Rattle.bsc_codes.specs.declared.block.Block.{Block}
 use Rattle.bsc_link.specs.declared.rank.Rank.{Rank}
 use Rattle.bsc_link.specs.Sender.{say_in, is_enough}
@@ -11,6 +11,7 @@ use Rattle.rje_station.specs.Laws.{HasCounted}
 use Rattle.rje_station.specs.Receiving.{Receiving}
 use Rattle.rje_station.specs.Sending.{Sending}
 use Rattle.rje_station.specs.Station.{Contending}
+use Rattle.rje_station.specs.Trace.{IsTraceOf}
 use Rattle.bsc_history.specs.History.{History, is_over, is_even}
 use Rattle.bsc_history.specs.Known.{known, tries, holds, has_heard_rvi}
 use Rattle.bsc_history.specs.Got.{got}
@@ -21,6 +22,7 @@ use Rattle.line_world.specs.declared.pair_spoken.PairSpoken.{PairSpoken}
 use Rattle.line_world.specs.declared.pair_turn.PairTurn.{PairTurn}
 use Rattle.line_world.specs.Contending.{is_sending, place_of}
 use Rattle.line_world.specs.Plan.{plan_of, numbered}
+use Rattle.line_world.specs.Traces.{sender_events, primary_events, secondary_events}
 use Rattle.line_world.specs.Turns.{StandsReceiving}
 use Rattle.line_world.specs.PairRun.{IsPairRun, told_by}
 
@@ -56,6 +58,14 @@ pub record StandPair (ups downs : List Job) (h : PairHistory) (a b : Contending)
   pub b_sends : SendsAfter downs (down h) (spent h).tries (spent h).holds b.sender
   pub a_receives : ReceivesAfter (blocks downs) (down h) a.receiver
   pub b_receives : ReceivesAfter (blocks ups) (up h) b.receiver
+  -- no reply is due
+  pub a_silent : a.receiver.due ≡ None
+  pub b_silent : b.receiver.due ≡ None
+  -- each trace is that of a station that did what the history tells
+  pub a_said : IsTraceOf (sender_events (up h)) a.sender.trace
+  pub b_said : IsTraceOf (sender_events (down h)) b.sender.trace
+  pub a_heard : IsTraceOf (primary_events h) a.receiver.trace
+  pub b_heard : IsTraceOf (secondary_events h) b.receiver.trace
 
 -- the turns told are those of a run of the pair, and both stations stand after its history
 pub record IsPairDrive (ups downs : List Job) (turns : List PairTurn) (spoken : List PairSpoken) (a b : Contending) : Type 0 where

@@ -16,7 +16,7 @@ use crate::{
 use bsc_frame::{every_hearing, one_hearing, written_is_transmission};
 use bsc_link::Rank;
 use rje_jobs::{Job, Jobs};
-use rje_station::{Station, counted_blocks_end_counted_jobs, first_unfit};
+use rje_station::{Station, counted_blocks_end_counted_jobs, first_unfit, trace_goes_on};
 use std::alloc::{AllocError, Global};
 
 /// Two transmissions on one line over a schedule: the primary's jobs go up, and the secondary's down.
@@ -124,6 +124,7 @@ fn take_turns<'a>(
     written_is_transmission();
     counted_blocks_end_counted_jobs();
     stations_keep_history();
+    trace_goes_on();
     let mut ends = PairEnds::new(alloc, primary, secondary);
     let mut spoken = Vec::new(alloc);
     for turn in turns {

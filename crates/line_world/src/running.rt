@@ -18,7 +18,7 @@ use crate::{
 };
 use bsc_frame::{every_hearing, one_hearing, written_is_transmission};
 use rje_jobs::{Job, Jobs};
-use rje_station::{ReceivingStation, SendingStation};
+use rje_station::{ReceivingStation, SendingStation, trace_goes_on};
 use std::alloc::{AllocError, Global};
 
 /// One transmission of these jobs over a schedule: two new stations in conversation, over lines that do to their bytes what the turns say.
@@ -116,6 +116,7 @@ fn take_turns<'a>(
     every_hearing();
     written_is_transmission();
     stations_keep_history();
+    trace_goes_on();
     let mut spoken = Vec::new(alloc);
     for turn in turns {
         match ends.take_turn(alloc, turn) {

@@ -16,7 +16,7 @@ loop-turn-init c = record {
 
 pub returns-in-Ok-None-clause-drive : goal.returns-in-Ok-None-clause-drive
 returns-in-Ok-None-clause-drive c =
-    let laws : Laws = record { one = c.one_hearing.ensures; every = c.every_hearing.ensures; transmits = c.written_is_transmission.ensures; counts = c.counted_blocks_end_counted_jobs.ensures; receiving = c.stations_keep_history.ensures.receiving } in
+    let laws : Laws = record { one = c.one_hearing.ensures; every = c.every_hearing.ensures; transmits = c.written_is_transmission.ensures; counts = c.counted_blocks_end_counted_jobs.ensures; receiving = c.stations_keep_history.ensures.receiving; notes = c.trace_goes_on.ensures } in
     let running = c.loop-turn.invariant.running in
     let here : slice_get c.args.turns.now c.loop-turn.turn-index ≡ Some c.turn-item.result = slice_get_read _ _ _ _ refl c.loop-turn-test.true c.turn-item.is in
     let taken = c.in-Ok-None.ensures.taken in
@@ -25,7 +25,7 @@ returns-in-Ok-None-clause-drive c =
 
 pub returns-in-Ok-None-clause-run : goal.returns-in-Ok-None-clause-run
 returns-in-Ok-None-clause-run c =
-    let laws : Laws = record { one = c.one_hearing.ensures; every = c.every_hearing.ensures; transmits = c.written_is_transmission.ensures; counts = c.counted_blocks_end_counted_jobs.ensures; receiving = c.stations_keep_history.ensures.receiving } in
+    let laws : Laws = record { one = c.one_hearing.ensures; every = c.every_hearing.ensures; transmits = c.written_is_transmission.ensures; counts = c.counted_blocks_end_counted_jobs.ensures; receiving = c.stations_keep_history.ensures.receiving; notes = c.trace_goes_on.ensures } in
     let running = c.loop-turn.invariant.running in
     let here : slice_get c.args.turns.now c.loop-turn.turn-index ≡ Some c.turn-item.result = slice_get_read _ _ _ _ refl c.loop-turn-test.true c.turn-item.is in
     let taken = c.in-Ok-None.ensures.taken in
@@ -34,7 +34,7 @@ returns-in-Ok-None-clause-run c =
 
 pub returns-in-Err-clause-fault : goal.returns-in-Err-clause-fault
 returns-in-Err-clause-fault c =
-    let laws : Laws = record { one = c.one_hearing.ensures; every = c.every_hearing.ensures; transmits = c.written_is_transmission.ensures; counts = c.counted_blocks_end_counted_jobs.ensures; receiving = c.stations_keep_history.ensures.receiving } in
+    let laws : Laws = record { one = c.one_hearing.ensures; every = c.every_hearing.ensures; transmits = c.written_is_transmission.ensures; counts = c.counted_blocks_end_counted_jobs.ensures; receiving = c.stations_keep_history.ensures.receiving; notes = c.trace_goes_on.ensures } in
     let running = c.loop-turn.invariant.running in
     let here : slice_get c.args.turns.now c.loop-turn.turn-index ≡ Some c.turn-item.result = slice_get_read _ _ _ _ refl c.loop-turn-test.true c.turn-item.is in
     let long : c.len.result ≡ c.loop-turn.turn-index = c.len.ensures ∙ c.loop-turn.spoken.ok.0 ∙ pair_length _ _ _ _ _ _ _ running in
@@ -42,7 +42,7 @@ returns-in-Err-clause-fault c =
 
 pub loop-turn-preserved : goal.loop-turn-preserved
 loop-turn-preserved c =
-    let laws : Laws = record { one = c.one_hearing.ensures; every = c.every_hearing.ensures; transmits = c.written_is_transmission.ensures; counts = c.counted_blocks_end_counted_jobs.ensures; receiving = c.stations_keep_history.ensures.receiving } in
+    let laws : Laws = record { one = c.one_hearing.ensures; every = c.every_hearing.ensures; transmits = c.written_is_transmission.ensures; counts = c.counted_blocks_end_counted_jobs.ensures; receiving = c.stations_keep_history.ensures.receiving; notes = c.trace_goes_on.ensures } in
     let running = c.loop-turn.invariant.running in
     let here : slice_get c.args.turns.now c.loop-turn.turn-index ≡ Some c.turn-item.result = slice_get_read _ _ _ _ refl c.loop-turn-test.true c.turn-item.is in
     let taken = c.in-Ok-Some.ensures.taken in
@@ -55,12 +55,12 @@ loop-turn-preserved c =
 
 pub returns-clause-drive : goal.returns-clause-drive
 returns-clause-drive c =
-    let laws : Laws = record { one = c.one_hearing.ensures; every = c.every_hearing.ensures; transmits = c.written_is_transmission.ensures; counts = c.counted_blocks_end_counted_jobs.ensures; receiving = c.stations_keep_history.ensures.receiving } in
+    let laws : Laws = record { one = c.one_hearing.ensures; every = c.every_hearing.ensures; transmits = c.written_is_transmission.ensures; counts = c.counted_blocks_end_counted_jobs.ensures; receiving = c.stations_keep_history.ensures.receiving; notes = c.trace_goes_on.ensures } in
     let out : c.loop-turn.turn-index ≡ length c.args.turns.now = search rules in
     rw (c.paired-2.ensures.turns, c.paired-2.ensures.primary, c.paired-2.ensures.secondary) (pair_out laws _ _ _ _ _ _ _ c.loop-turn.invariant.running out)
 
 pub returns-clause-run : goal.returns-clause-run
 returns-clause-run c =
-    let laws : Laws = record { one = c.one_hearing.ensures; every = c.every_hearing.ensures; transmits = c.written_is_transmission.ensures; counts = c.counted_blocks_end_counted_jobs.ensures; receiving = c.stations_keep_history.ensures.receiving } in
+    let laws : Laws = record { one = c.one_hearing.ensures; every = c.every_hearing.ensures; transmits = c.written_is_transmission.ensures; counts = c.counted_blocks_end_counted_jobs.ensures; receiving = c.stations_keep_history.ensures.receiving; notes = c.trace_goes_on.ensures } in
     let out : c.loop-turn.turn-index ≡ length c.args.turns.now = search rules in
     rw (c.paired-2.ensures.turns, c.paired-2.ensures.primary, c.paired-2.ensures.secondary) (pair_out laws _ _ _ _ _ _ _ c.loop-turn.invariant.running out).run

@@ -15,7 +15,7 @@ loop-turn-init c = record {
 
 pub returns-in-Ok-None-clause-drive : goal.returns-in-Ok-None-clause-drive
 returns-in-Ok-None-clause-drive c =
-    let laws : Laws = record { one = c.one_hearing.ensures; every = c.every_hearing.ensures; transmits = c.written_is_transmission.ensures; sending = c.stations_keep_history.ensures.sending; receiving = c.stations_keep_history.ensures.receiving } in
+    let laws : Laws = record { one = c.one_hearing.ensures; every = c.every_hearing.ensures; transmits = c.written_is_transmission.ensures; sending = c.stations_keep_history.ensures.sending; receiving = c.stations_keep_history.ensures.receiving; notes = c.trace_goes_on.ensures } in
     let running = c.loop-turn.invariant.running in
     let taken = c.in-Ok-None.ensures.taken in
     let over : Takes None c.turn-item.result _ _ _ _ = rw c.in-Ok-None.field-0-is at taken in
@@ -23,7 +23,7 @@ returns-in-Ok-None-clause-drive c =
 
 pub returns-in-Ok-None-clause-run : goal.returns-in-Ok-None-clause-run
 returns-in-Ok-None-clause-run c =
-    let laws : Laws = record { one = c.one_hearing.ensures; every = c.every_hearing.ensures; transmits = c.written_is_transmission.ensures; sending = c.stations_keep_history.ensures.sending; receiving = c.stations_keep_history.ensures.receiving } in
+    let laws : Laws = record { one = c.one_hearing.ensures; every = c.every_hearing.ensures; transmits = c.written_is_transmission.ensures; sending = c.stations_keep_history.ensures.sending; receiving = c.stations_keep_history.ensures.receiving; notes = c.trace_goes_on.ensures } in
     let running = c.loop-turn.invariant.running in
     let taken = c.in-Ok-None.ensures.taken in
     let over : Takes None c.turn-item.result _ _ _ _ = rw c.in-Ok-None.field-0-is at taken in
@@ -38,7 +38,7 @@ returns-in-Ok-None-clause-jobs c =
 
 pub returns-in-Err-clause-fault : goal.returns-in-Err-clause-fault
 returns-in-Err-clause-fault c =
-    let laws : Laws = record { one = c.one_hearing.ensures; every = c.every_hearing.ensures; transmits = c.written_is_transmission.ensures; sending = c.stations_keep_history.ensures.sending; receiving = c.stations_keep_history.ensures.receiving } in
+    let laws : Laws = record { one = c.one_hearing.ensures; every = c.every_hearing.ensures; transmits = c.written_is_transmission.ensures; sending = c.stations_keep_history.ensures.sending; receiving = c.stations_keep_history.ensures.receiving; notes = c.trace_goes_on.ensures } in
     let running = c.loop-turn.invariant.running in
     let here : slice_get c.args.turns.now c.loop-turn.turn-index ≡ Some c.turn-item.result = slice_get_read _ _ _ _ refl c.loop-turn-test.true c.turn-item.is in
     let long : c.len.result ≡ c.loop-turn.turn-index = c.len.ensures ∙ c.loop-turn.spoken.ok.0 ∙ running_length _ _ _ _ _ _ running in
@@ -46,7 +46,7 @@ returns-in-Err-clause-fault c =
 
 pub loop-turn-preserved : goal.loop-turn-preserved
 loop-turn-preserved c =
-    let laws : Laws = record { one = c.one_hearing.ensures; every = c.every_hearing.ensures; transmits = c.written_is_transmission.ensures; sending = c.stations_keep_history.ensures.sending; receiving = c.stations_keep_history.ensures.receiving } in
+    let laws : Laws = record { one = c.one_hearing.ensures; every = c.every_hearing.ensures; transmits = c.written_is_transmission.ensures; sending = c.stations_keep_history.ensures.sending; receiving = c.stations_keep_history.ensures.receiving; notes = c.trace_goes_on.ensures } in
     let running = c.loop-turn.invariant.running in
     let here : slice_get c.args.turns.now c.loop-turn.turn-index ≡ Some c.turn-item.result = slice_get_read _ _ _ _ refl c.loop-turn-test.true c.turn-item.is in
     let taken = c.in-Ok-Some.ensures.taken in
@@ -55,14 +55,14 @@ loop-turn-preserved c =
 
 pub returns-clause-drive : goal.returns-clause-drive
 returns-clause-drive c =
-    let laws : Laws = record { one = c.one_hearing.ensures; every = c.every_hearing.ensures; transmits = c.written_is_transmission.ensures; sending = c.stations_keep_history.ensures.sending; receiving = c.stations_keep_history.ensures.receiving } in
+    let laws : Laws = record { one = c.one_hearing.ensures; every = c.every_hearing.ensures; transmits = c.written_is_transmission.ensures; sending = c.stations_keep_history.ensures.sending; receiving = c.stations_keep_history.ensures.receiving; notes = c.trace_goes_on.ensures } in
     let running = c.loop-turn.invariant.running in
     let out : c.loop-turn.turn-index ≡ length c.args.turns.now = search rules in
     rw (c.driven-2.ensures.turns, c.driven-2.ensures.sender, c.driven-2.ensures.receiver) (running_out laws _ _ _ _ _ _ running out)
 
 pub returns-clause-run : goal.returns-clause-run
 returns-clause-run c =
-    let laws : Laws = record { one = c.one_hearing.ensures; every = c.every_hearing.ensures; transmits = c.written_is_transmission.ensures; sending = c.stations_keep_history.ensures.sending; receiving = c.stations_keep_history.ensures.receiving } in
+    let laws : Laws = record { one = c.one_hearing.ensures; every = c.every_hearing.ensures; transmits = c.written_is_transmission.ensures; sending = c.stations_keep_history.ensures.sending; receiving = c.stations_keep_history.ensures.receiving; notes = c.trace_goes_on.ensures } in
     let running = c.loop-turn.invariant.running in
     let out : c.loop-turn.turn-index ≡ length c.args.turns.now = search rules in
     rw (c.driven-2.ensures.turns, c.driven-2.ensures.sender, c.driven-2.ensures.receiver) (running_out laws _ _ _ _ _ _ running out).run
