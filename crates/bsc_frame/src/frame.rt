@@ -3,9 +3,9 @@
 //! | Frame | Body | Means |
 //! |---|---|---|
 //! | Enq | 2D | a bid for the line; or a question for the last answer again |
-//! | Ack0, Ack1 | 10 70, 10 61 | the last block arrived; a bid is granted by Ack0 |
-//! | Nak | 3D | the last block didn't arrive |
-//! | Wack | 10 6B | the last block arrived; wait |
+//! | Ack0, Ack1 | 10 70, 10 61 | the last block arrived; a bid is granted by Ack0; at a question the parity says whether the last block arrived |
+//! | Nak | 3D | the last block didn't arrive; also the answer to Ttd |
+//! | Wack | 10 6B | the last block arrived, or the bid isn't granted yet; wait |
 //! | Rvi | 10 7C | the last block arrived; please stop |
 //! | Ttd | 02, fill, 2D | the sender isn't ready |
 //! | Abort | 02, data and fill, 2D, with data; or 10 02, data and fill, 10 2D | a block is given up |

@@ -18,7 +18,7 @@ use step::step;
 use text::keeps;
 
 /// Hears frames in bytes that come in any pieces. It keeps what has come of one transmission, at most 512 data bytes of it, and their
-/// running check; each byte is looked at once, and no call takes memory. Bytes that can no longer become a transmission are taken until
+/// running check; each byte is looked at once, or twice where it may be one of a text and isn't kept, and no call takes memory. Bytes that can no longer become a transmission are taken until
 /// `quiet` or `reset`.
 #[derive(Drop)]
 pub struct Listener {

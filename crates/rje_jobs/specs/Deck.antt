@@ -58,6 +58,6 @@ IsTold deck OutOfMemory = deck_fault deck ≡ None
 IsTold deck (LongLine number) = deck_fault deck ≡ Some (LongLine number)
 IsTold deck (BadCharacter number column) = deck_fault deck ≡ Some (BadCharacter number column)
 
--- no line of this part of a deck has a fault; a private type's invariant cites it
+-- no line of this part of a deck has a fault; the invariant of `Cards`, the iterator over a deck's cards, cites it
 abbrev pub AreSound : List ℕ → Type 0
 AreSound rest = (number : ℕ) × (first_fault number (lines rest) ≡ None)
