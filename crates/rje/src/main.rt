@@ -1,31 +1,7 @@
 //! The program `rje`: jobs of cards and lines over a Binary Synchronous line.
 #![tactic(auto)]
 
-mod address;
-mod command;
-mod command_fault;
-mod commands;
-mod device;
-mod exchange;
-mod file_store;
-mod memory_store;
-mod order;
-mod printing;
-mod reading;
-mod script;
-mod socket_command;
-mod socket_commands;
-mod socket_line;
-mod store;
-mod telling;
-#[cfg(test)]
-mod tests;
-mod words;
-
-use command::command;
-use command_fault::CommandFault;
-use file_store::FileStore;
-use socket_command::{is_for_sockets, socket_command};
+use rje_commands::{CommandFault, FileStore, command, is_for_sockets, socket_command};
 use std::process::ExitCode;
 use std::{env, io};
 

@@ -1,5 +1,0 @@
-use Rattle.rje.proofs.Listings.{IsOnTheWay}
-use Rattle.rje.proofs.commands.blocks.list_blocks.Given as goal
-
-abbrev pub invariant-loop-item : goal.invariant-loop-item
-invariant-loop-item l = IsOnTheWay l.fn.cards l.packer l.item-iterator l.listing.text.items l.listing.number l.listing.so_far l.listing.count

@@ -1,9 +1,0 @@
-use Rattle.std.proofs.Common.{◌≡◌, ◌+◌, ◌≤◌, drop}
-use Rattle.rje.specs.ReportTexts.{whole_jobs}
-use Rattle.rje.proofs.printing.report.whole_jobs.Given as goal
-
-abbrev pub invariant-loop-job : goal.invariant-loop-job
-invariant-loop-job l = record {
-  few : l.count ≤ l.job-index;
-  counted : l.count + whole_jobs (drop l.job-index l.jobs) ≡ whole_jobs l.jobs;
-}

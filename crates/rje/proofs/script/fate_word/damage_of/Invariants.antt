@@ -1,9 +1,0 @@
-use Rattle.std.proofs.Common.{ℕ, List, ◌++◌, length}
-use Rattle.rje.specs.Script.{IsHexOf}
-use Rattle.rje.proofs.script.fate_word.damage_of.Given as goal
-
-abbrev pub invariant-loop-byte : goal.invariant-loop-byte
-invariant-loop-byte l = (more : List ℕ) → IsHexOf more l.rest → IsHexOf (l.bytes.items ++ more) l.digits
-
-abbrev pub decreases-loop-byte : goal.decreases-loop-byte
-decreases-loop-byte l = length l.rest

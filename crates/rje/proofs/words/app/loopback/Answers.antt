@@ -1,7 +1,0 @@
-use Rattle.std.proofs.Common.{codes}
-use Rattle.rje.specs.CommandLine.{file_app, timeout_rule}
-use Rattle.rje.proofs.words.app.loopback.Goals as goal
-
-pub returns : goal.returns
-returns c =
-    c.with_arg.ensures (file_app (codes "loop") (codes "JOBS")) timeout_rule c.in_ok-command.ensures c.timeout.ensures

@@ -1,8 +1,0 @@
-use Rattle.std.proofs.Common.{codes}
-use Rattle.rje.specs.CommandLine.{file_app, address_rule, timeout_rule}
-use Rattle.rje.proofs.words.app.receive.Goals as goal
-
-pub returns : goal.returns
-returns c =
-    let listen = c.in_ok-command-2.ensures (file_app (codes "receive") (codes "JOBS")) (address_rule (codes "listen")) c.in_ok-command.ensures c.address-listen.ensures in
-    c.with_arg-2.ensures _ timeout_rule listen c.timeout.ensures

@@ -1,8 +1,0 @@
-use Rattle.std.proofs.Common.{codes}
-use Rattle.rje.specs.CommandLine.{file_app, address_rule, timeout_rule}
-use Rattle.rje.proofs.words.app.send.Goals as goal
-
-pub returns : goal.returns
-returns c =
-    let to = c.in_ok-command-2.ensures (file_app (codes "send") (codes "JOBS")) (address_rule (codes "to")) c.in_ok-command.ensures c.address-to.ensures in
-    c.with_arg-2.ensures _ timeout_rule to c.timeout.ensures

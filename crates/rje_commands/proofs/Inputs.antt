@@ -1,0 +1,110 @@
+-- What holds of the bytes that were read holds of the file, and of the deck, that they are.
+use Rattle.std.proofs.Common.{◌≡◌, ℕ, List, Option, Some, None, Result, Ok, Err, OnOk, IfErr, inl, inr, sym, subst, ◌∙◌}
+use Rattle.std.specs.Prelude.{IfSome, bytes_eq, if◌then◌else◌}
+use Rattle.std.specs.Option.{IsSomeAnd}
+use Rattle.std.specs.Result.{IsErrAnd}
+use Rattle.rje_words.specs.declared.device.Device.{Device}
+use Rattle.rje_words.specs.declared.order.CardsOrder.{CardsOrder}
+use Rattle.rje_words.specs.declared.order.TryOrder.{TryOrder}
+use Rattle.rje_words.specs.declared.order.FileOrder.{FileOrder}
+use Rattle.rje_words.specs.declared.order.Order.TheVariants.{Files}
+use Rattle.rje_words.specs.Asking.{AsksFor}
+use Rattle.rje_commands.specs.declared.command_fault.CommandFault.{CommandFault}
+use Rattle.rje_commands.specs.declared.command_fault.CommandFault.TheVariants as told
+use Rattle.rje_commands.specs.Command.{LeavesAsAsked}
+use Rattle.rje_commands.specs.Commands.{OfFile, OfFiles, OfDeck, IsFault, IsCardFile, MakesFile, Leaves}
+use Rattle.rje_commands.specs.Inside.{IsDeckFault, IsTryFault}
+use Rattle.rje_commands.specs.Store.{FileMap, Tells, IsSame, Sets}
+
+-- files that stayed the same twice stayed the same
+pub same_twice : (f g h : Option FileMap) → Tells f g IsSame → Tells g h IsSame → Tells f h IsSame
+same_twice None g h p q = tt
+same_twice (Some f) None h p q = absurd p
+same_twice (Some f) (Some g) None p q = absurd q
+same_twice (Some f) (Some g) (Some h) p q = λ name. q name ∙ p name
+
+module _ (P : List ℕ → Type 0) (bytes : List ℕ) (holds : P bytes) where
+  of_known : (known : Option (List ℕ)) → IsSomeAnd known (λ file. bytes ≡ file) → IsSomeAnd known P
+  of_known None is = absurd is
+  of_known (Some file) is = subst P is holds
+
+  pub of_file : (name : List ℕ) (files : Option FileMap) → OfFile name files (λ file. bytes ≡ file) → OfFile name files P
+  of_file name None is = tt
+  of_file name (Some known) is = of_known (known name) is
+
+  of_input : (input : Option (List ℕ)) → IfSome input (λ deck. bytes ≡ deck) → IfSome input P
+  of_input None is = tt
+  of_input (Some deck) is = subst P is holds
+
+  pub of_deck : (name : List ℕ) (files : Option FileMap) (input : Option (List ℕ)) → OfDeck name files input (λ deck. bytes ≡ deck) → OfDeck name files input P
+  of_deck name files input is = (λ hyphen. of_input input (is.0 hyphen), λ other. of_file name files (is.1 other))
+
+-- two files that were read one after the other
+pub of_files : (P : List ℕ → List ℕ → Type 0) (first second : List ℕ) (f g : Option FileMap) (a b : List ℕ) → P a b
+    → OfFile first f (λ file. a ≡ file) → Tells f g IsSame → OfFile second g (λ file. b ≡ file) → OfFiles first second f P
+of_files P first second None g a b holds one same two = tt
+of_files P first second (Some f) None a b holds one same two = absurd same
+of_files P first second (Some f) (Some g) a b holds one same two =
+    of_known (λ x. IsSomeAnd (f second) (λ y. P x y)) a
+    (of_known (P a) b holds (f second) (subst (λ (known : Option (List ℕ)). IsSomeAnd known (λ file. b ≡ file)) (same second) two)) (f first) one
+
+-- what holds of a fault holds of it as it is told
+pub told_as : {T : Type 0} (result : Result T CommandFault) (fault : CommandFault) (P : CommandFault → Type 0)
+    → IsErrAnd result (λ e. e ≡ fault) → P fault → IfErr result P
+told_as (Err e) fault P is holds = subst P (sym is) holds
+told_as (Ok x) fault P is holds = absurd is
+
+-- what was read and printed
+pub done_as : {T E : Type 0} (result : Result T E) (P Q : Type 0) → OnOk result P → (P → Q) → OnOk result Q
+done_as (Ok x) P Q done go = go done
+done_as (Err e) P Q done go = tt
+
+-- the fault of a deck's file is one of `cards`
+pub cards_fault : (order : CardsOrder) (files : Option FileMap) (input : Option (List ℕ)) (deck : List ℕ) (fault : CommandFault)
+    → OfDeck order.deck.now files input (λ read. deck ≡ read) → IsDeckFault deck fault → IsFault (FileOrder.Cards order) files input fault
+cards_fault order files input deck told.OutOfMemory is h = tt
+cards_fault order files input deck (told.Deck fault) is h = of_deck (λ read. IsDeckFault read (told.Deck fault)) deck h order.deck.now files input is
+cards_fault order files input deck _ is h = absurd h
+
+-- the fault of a run of two files is one of `try`
+module _ (order : TryOrder) (f g : Option FileMap) (a b : List ℕ)
+    (one : OfFile order.jobs.now f (λ file. a ≡ file)) (same : Tells f g IsSame) (two : OfFile order.script.now g (λ file. b ≡ file)) where
+  both : (P : List ℕ → List ℕ → Type 0) → P a b → OfFiles order.jobs.now order.script.now f P
+  both P holds = of_files P order.jobs.now order.script.now f g a b holds one same two
+
+  pub try_fault : (fault : CommandFault) → IsTryFault a b fault → IsFault (FileOrder.Try order) f None fault
+  try_fault told.OutOfMemory h = tt
+  try_fault (told.File fault) h = of_file (λ file. IsTryFault file b (told.File fault)) a h order.jobs.now f one
+  try_fault (told.Script line) h = both (λ file script. IsTryFault file script (told.Script line)) h
+  try_fault (told.BadJob number) h = both (λ file script. IsTryFault file script (told.BadJob number)) h
+  try_fault (told.NotDamage turn) h = both (λ file script. IsTryFault file script (told.NotDamage turn)) h
+  try_fault (told.BadCut turn) h = both (λ file script. IsTryFault file script (told.BadCut turn)) h
+  try_fault _ h = absurd h
+
+-- what an order leaves of the files is what the words that ask for it do
+pub leaves : (words : List (List ℕ)) (order : FileOrder) (f g : Option FileMap) (input : Option (List ℕ))
+    → AsksFor words (Files order) → Leaves order f g input → LeavesAsAsked words f g input
+leaves words (FileOrder.Cards order) f g input asked (inl same) = inl same
+leaves words (FileOrder.Cards order) f g input asked (inr made) = inr (order, asked, made)
+leaves words (FileOrder.Blocks deck) f g input asked same = inl same
+leaves words (FileOrder.Show jobs) f g input asked same = inl same
+leaves words (FileOrder.Check jobs) f g input asked same = inl same
+leaves words (FileOrder.Print jobs) f g input asked same = inl same
+leaves words (FileOrder.Try order) f g input asked same = inl same
+
+-- a file that was made after a read that left the files as they were
+pub made_file : (device : Device) (deck name bytes : List ℕ) (f g h : Option FileMap) → IsCardFile device deck bytes
+    → Tells f g IsSame → Tells g h (Sets name bytes) → MakesFile device deck name f h
+made_file device deck name bytes f g h card same sets = (bytes, card, go f g h same sets)
+  where
+    go : (f g h : Option FileMap) → Tells f g IsSame → Tells g h (Sets name bytes) → Tells f h (Sets name bytes)
+    go None g h p q = tt
+    go (Some f) None h p q = absurd p
+    go (Some f) (Some g) None p q = absurd q
+    go (Some f) (Some g) (Some h) p q = λ other.
+        subst (λ (had : Option (List ℕ)). h other ≡ (if bytes_eq other name then Some bytes else had)) (p other) (q other)
+
+-- what is so whatever is told
+pub whatever : {T E : Type 0} (result : Result T E) (P : E → Type 0) (Q : Type 0) → Q → IfErr result (λ e. P e → Q)
+whatever (Ok x) P Q q = tt
+whatever (Err e) P Q q = λ _. q

@@ -1,0 +1,41 @@
+-- What one run of the program over files does, by the words that it was given (own profile).
+use Rattle.std.specs.Prelude.{◌≡◌, ◌⊎◌, ℕ, List, Option}
+use Rattle.rje_words.specs.declared.order.CardsOrder.{CardsOrder}
+use Rattle.rje_words.specs.declared.order.FileOrder.{FileOrder}
+use Rattle.rje_words.specs.declared.order.Order.TheVariants.{Files, Sockets}
+use Rattle.rje_words.specs.declared.order.SocketOrder.{SocketOrder}
+use Rattle.rje_words.specs.declared.words_fault.WordsFault.{WordsFault}
+use Rattle.rje_words.specs.Asking.{AsksFor, IsTold}
+use Rattle.rje_commands.specs.declared.command_fault.CommandFault.{CommandFault}
+use Rattle.rje_commands.specs.CommandFault.{status_of, IsHelp}
+use Rattle.rje_commands.specs.Commands.{Does, IsFault, MakesFile, OfDeck}
+use Rattle.rje_commands.specs.Store.{FileMap, Tells, IsSame}
+
+-- the words ask for help
+abbrev pub AsksForHelp : List (List ℕ) → Type 0
+AsksForHelp words = (fault : WordsFault) × IsTold words fault × IsHelp fault
+
+-- the words ask for a command over files, and this is what it does; or they ask for help
+abbrev pub DoesAsAsked : List (List ℕ) → (files made : Option FileMap) (input before after : Option (List ℕ)) → Type 0
+DoesAsAsked words files made input before after =
+    ((order : FileOrder) × AsksFor words (Files order) × Does order files made input before after) ⊎ AsksForHelp words
+
+-- the words ask for a command over files, and what it reads is refused
+abbrev pub IsRefused : List (List ℕ) → Option FileMap → (input : Option (List ℕ)) → Type 0
+IsRefused words files input =
+    (order : FileOrder) × (fault : CommandFault) × AsksFor words (Files order) × IsFault order files input fault × (status_of fault ≡ 1)
+
+-- the words ask for nothing that can be done, or for a command over sockets
+abbrev pub AsksForNoFiles : List (List ℕ) → Type 0
+AsksForNoFiles words = ((fault : WordsFault) × IsTold words fault) ⊎ ((order : SocketOrder) × AsksFor words (Sockets order))
+
+-- the exit statuses of a command over files
+abbrev pub IsStatus : ℕ → Type 0
+IsStatus status = (status ≡ 0) ⊎ ((status ≡ 1) ⊎ ((status ≡ 2) ⊎ ((status ≡ 3) ⊎ (status ≡ 5))))
+
+-- all files are as they were, or the words ask for `cards` and just the file that it makes was made
+abbrev pub LeavesAsAsked : List (List ℕ) → (files made : Option FileMap) (input : Option (List ℕ)) → Type 0
+LeavesAsAsked words files made input =
+    Tells files made IsSame
+    ⊎ ((order : CardsOrder) × AsksFor words (Files (FileOrder.Cards order))
+    × OfDeck order.deck.now files input (λ deck. MakesFile order.device deck order.jobs.now files made))

@@ -1,0 +1,66 @@
+-- The exit status that a fault ends the program with (own profile).
+use Rattle.std.specs.Prelude.{◌≡◌, ◌⊎◌, ℕ}
+use Rattle.clap.specs.Words.{kind_of}
+use Rattle.clap.specs.declared.error.Error.{Error}
+use Rattle.clap.specs.declared.error.kind.ErrorKind.TheVariants.{DisplayHelp, DisplayVersion}
+use Rattle.rje_jobs.specs.declared.deck_fault.DeckFault.{DeckFault}
+use Rattle.rje_jobs.specs.declared.file_fault.FileFault.{FileFault}
+use Rattle.rje_print.specs.declared.script_fault.ScriptFault.{ScriptFault}
+use Rattle.rje_station.specs.declared.station_fault.StationFault.{StationFault}
+use Rattle.line_world.specs.declared.world_fault.WorldFault.{WorldFault}
+use Rattle.rje_words.specs.declared.words_fault.WordsFault.{WordsFault}
+use Rattle.rje_commands.specs.declared.command_fault.CommandFault.{CommandFault}
+use Rattle.rje_commands.specs.declared.command_fault.CommandFault.TheVariants.{OutOfMemory, Deck, File, BadJob, Script, NotDamage, BadCut, NoCommand, LineFailed, Babble, CannotRead, CannotWrite, Output}
+
+-- an input that is refused has status 1, want of memory 5
+abbrev pub deck_status : DeckFault → ℕ
+deck_status DeckFault.OutOfMemory = 5
+deck_status (DeckFault.LongLine line) = 1
+deck_status (DeckFault.BadCharacter line column) = 1
+
+abbrev pub file_status : FileFault → ℕ
+file_status FileFault.OutOfMemory = 5
+file_status _ = 1
+
+-- words that name no command over files or none over sockets have status 2, a file, a line or an output that fails 3
+abbrev pub status_of : CommandFault → ℕ
+status_of OutOfMemory = 5
+status_of (Deck fault) = deck_status fault
+status_of (File fault) = file_status fault
+status_of (BadJob number) = 1
+status_of (Script line) = 1
+status_of (NotDamage turn) = 1
+status_of (BadCut turn) = 1
+status_of NoCommand = 2
+status_of LineFailed = 3
+status_of Babble = 3
+status_of (CannotRead name) = 3
+status_of (CannotWrite name) = 3
+status_of Output = 3
+
+-- what the faults of the layers below are told as
+abbrev pub of_script : ScriptFault → CommandFault
+of_script ScriptFault.OutOfMemory = OutOfMemory
+of_script (ScriptFault.NotATurn line) = Script line
+
+abbrev pub of_station : StationFault → CommandFault
+of_station StationFault.OutOfMemory = OutOfMemory
+of_station (StationFault.BadJob number) = BadJob number
+of_station StationFault.Babble = Babble
+of_station (StationFault.Line fault) = LineFailed
+of_station StationFault.Over = LineFailed
+
+abbrev pub of_world : WorldFault → CommandFault
+of_world WorldFault.OutOfMemory = OutOfMemory
+of_world (WorldFault.NotDamage attempt turn) = NotDamage turn
+of_world (WorldFault.BadCut attempt turn) = BadCut turn
+of_world (WorldFault.BadJob number) = BadJob number
+
+-- clap's error gives help, or the version
+abbrev pub IsHelpError : Error → Type 0
+IsHelpError error = (kind_of error ≡ DisplayHelp) ⊎ (kind_of error ≡ DisplayVersion)
+
+-- the words ask for help
+abbrev pub IsHelp : WordsFault → Type 0
+IsHelp (WordsFault.Refused error) = IsHelpError error
+IsHelp _ = ⊥

@@ -1,0 +1,166 @@
+-- What the commands over files do, and why they do nothing, by what files, input and output tell (own profile).
+use Rattle.std.specs.Prelude.{◌≡◌, ◌≢◌, ◌⊎◌, ℕ, List, [], ◌∷◌, codes, length, Option, None, IfSome, ⊤}
+use Rattle.std.specs.Io.KnownBytes.{Appends}
+use Rattle.std.specs.Option.{IsSomeAnd}
+use Rattle.bsc_link.specs.declared.outcome.Outcome.{Outcome}
+use Rattle.rje_jobs.specs.declared.job.Job.{Job}
+use Rattle.rje_jobs.specs.Deck.{deck_fault, job_of, IsTold as IsToldOfDeck}
+use Rattle.rje_jobs.specs.FileFault.{IsTold as IsToldOfFile}
+use Rattle.rje_jobs.specs.JobFile.{IsFileOf, IsJobFile}
+use Rattle.rje_station.specs.StationFault.{IsFirstUnfit}
+use Rattle.line_world.specs.declared.spoken.Spoken.{Spoken}
+use Rattle.line_world.specs.declared.turn.Turn.{Turn}
+use Rattle.line_world.specs.declared.world_fault.WorldFault.TheVariants as world
+use Rattle.line_world.specs.declared.world_fault.WorldFault.{WorldFault}
+use Rattle.line_world.specs.Run.{IsRun, IsRunFault}
+use Rattle.rje_words.specs.declared.device.Device.{Device}
+use Rattle.rje_words.specs.Device.{selection, writing}
+use Rattle.rje_words.specs.declared.order.FileOrder.{FileOrder}
+use Rattle.rje_print.specs.BlockListing.{IsBlockListing}
+use Rattle.rje_print.specs.JobTexts.{cards_line, IsShown, IsGood, IsPaper}
+use Rattle.rje_print.specs.ReportTexts.{run_text}
+use Rattle.rje_print.specs.Script.{IsScript}
+use Rattle.rje_commands.specs.declared.command_fault.CommandFault.{CommandFault}
+use Rattle.rje_commands.specs.Store.{FileMap, Tells, IsSame, Sets}
+
+-- WHAT A COMMAND READS
+
+-- this holds of the file of this name: where files are told, there is such a file
+abbrev pub OfFile : List ℕ → Option FileMap → (List ℕ → Type 0) → Type 0
+OfFile name files P = IfSome files (λ known. IsSomeAnd (known name) P)
+
+-- this holds of the files of these two names
+abbrev pub OfFiles : (first second : List ℕ) → Option FileMap → (List ℕ → List ℕ → Type 0) → Type 0
+OfFiles first second files P = IfSome files (λ known. IsSomeAnd (known first) (λ a. IsSomeAnd (known second) (λ b. P a b)))
+
+-- this holds of the deck of this name: of standard input where the name is `-`, else of the file
+abbrev pub OfDeck : List ℕ → Option FileMap → Option (List ℕ) → (List ℕ → Type 0) → Type 0
+OfDeck name files input P = (name ≡ codes "-" → IfSome input P) × (name ≢ codes "-" → OfFile name files P)
+
+-- WHAT A COMMAND DOES
+
+-- just the block listing of this deck was printed
+abbrev pub PrintsBlocks : List ℕ → Option (List ℕ) → Option (List ℕ) → Type 0
+PrintsBlocks deck before after = (text : List ℕ) × IsBlockListing deck text × Appends before after text
+
+-- the bytes are the file of some jobs, and just a text that is one of these jobs was printed
+abbrev pub PrintsJobs : (List Job → List ℕ → Type 0) → List ℕ → Option (List ℕ) → Option (List ℕ) → Type 0
+PrintsJobs IsText file before after = (jobs : List Job) × (text : List ℕ) × IsFileOf jobs file × IsText jobs text × Appends before after text
+
+-- the job of this deck for this device
+abbrev pub deck_job : Device → List ℕ → Job
+deck_job device deck = job_of (selection device) (writing device) deck
+
+-- the deck has no fault, and these are the bytes of the file of its job
+pub record IsCardFile (device : Device) (deck bytes : List ℕ) : Type 0 where
+  pub good : deck_fault deck ≡ None
+  pub file : IsFileOf (deck_job device deck ∷ []) bytes
+
+-- the file of this name became that of the deck's job, and no other file changed
+abbrev pub MakesFile : Device → (deck name : List ℕ) → (files made : Option FileMap) → Type 0
+MakesFile device deck name files made = (bytes : List ℕ) × IsCardFile device deck bytes × Tells files made (Sets name bytes)
+
+-- so it did, and just the line of how many cards there are was printed
+abbrev pub MakesCards : Device → (deck name : List ℕ) → (files made : Option FileMap) → (before after : Option (List ℕ)) → Type 0
+MakesCards device deck name files made before after =
+    MakesFile device deck name files made × Appends before after (cards_line (length (deck_job device deck).records))
+
+-- these are the file of some jobs and a script of some turns, and this is the text of what a run of these jobs over these turns tells
+pub record IsRunText (file script text : List ℕ) : Type 0 where
+  pub jobs : List Job
+  pub turns : List Turn
+  pub spoken : List Spoken
+  pub handed : List Job
+  pub counted : ℕ
+  pub ending : Option Outcome
+  pub file_is : IsFileOf jobs file
+  pub script_is : IsScript turns script
+  pub run : IsRun jobs turns spoken handed counted ending
+  pub text_is : text ≡ run_text (length jobs) spoken handed counted ending
+
+-- just the text of a run of these files was printed
+abbrev pub PrintsRun : List ℕ → List ℕ → Option (List ℕ) → Option (List ℕ) → Type 0
+PrintsRun file script before after = (text : List ℕ) × IsRunText file script text × Appends before after text
+
+-- what is done where an order is carried out: what files and input were and held, what the files are then, and what was printed before and after
+abbrev pub Does : FileOrder → (files made : Option FileMap) (input before after : Option (List ℕ)) → Type 0
+Does (FileOrder.Blocks deck) files made input before after = OfDeck deck.now files input (λ bytes. PrintsBlocks bytes before after)
+Does (FileOrder.Cards order) files made input before after =
+    OfDeck order.deck.now files input (λ bytes. MakesCards order.device bytes order.jobs.now files made before after)
+Does (FileOrder.Show jobs) files made input before after = OfFile jobs.now files (λ bytes. PrintsJobs IsShown bytes before after)
+Does (FileOrder.Check jobs) files made input before after = OfFile jobs.now files (λ bytes. PrintsJobs IsGood bytes before after)
+Does (FileOrder.Print jobs) files made input before after = OfFile jobs.now files (λ bytes. PrintsJobs IsPaper bytes before after)
+Does (FileOrder.Try order) files made input before after =
+    OfFiles order.jobs.now order.script.now files (λ file script. PrintsRun file script before after)
+
+-- WHAT BECOMES OF THE FILES
+
+-- all files are as they were; those of `cards` as they were, or with just the file that it makes
+abbrev pub Leaves : FileOrder → (files made : Option FileMap) (input : Option (List ℕ)) → Type 0
+Leaves (FileOrder.Cards order) files made input =
+    Tells files made IsSame ⊎ OfDeck order.deck.now files input (λ bytes. MakesFile order.device bytes order.jobs.now files made)
+Leaves _ files made input = Tells files made IsSame
+
+-- WHY A COMMAND ISN'T CARRIED OUT
+
+-- this holds of the deck of the order
+abbrev pub OfItsDeck : FileOrder → Option FileMap → (input : Option (List ℕ)) → (List ℕ → Type 0) → Type 0
+OfItsDeck (FileOrder.Blocks deck) files input P = OfDeck deck.now files input P
+OfItsDeck (FileOrder.Cards order) files input P = OfDeck order.deck.now files input P
+OfItsDeck _ files input P = ⊥
+
+-- this holds of the job file that the order reads
+abbrev pub OfItsFile : FileOrder → Option FileMap → (List ℕ → Type 0) → Type 0
+OfItsFile (FileOrder.Show jobs) files P = OfFile jobs.now files P
+OfItsFile (FileOrder.Check jobs) files P = OfFile jobs.now files P
+OfItsFile (FileOrder.Print jobs) files P = OfFile jobs.now files P
+OfItsFile (FileOrder.Try order) files P = OfFile order.jobs.now files P
+OfItsFile _ files P = ⊥
+
+-- this holds of the job file and the script of `try`
+abbrev pub OfItsScript : FileOrder → Option FileMap → (List ℕ → List ℕ → Type 0) → Type 0
+OfItsScript (FileOrder.Try order) files P = OfFiles order.jobs.now order.script.now files P
+OfItsScript _ files P = ⊥
+
+-- this is the fault of a run of the jobs of this file over the turns of this script
+abbrev pub IsFaultOfRun : WorldFault → (file script : List ℕ) → Type 0
+IsFaultOfRun fault file script = (jobs : List Job) × (turns : List Turn) × IsFileOf jobs file × IsScript turns script × IsRunFault jobs turns fault
+
+-- the file is one of jobs of which the one of this number is the first that can't be sent
+abbrev pub HasBadJob : ℕ → List ℕ → Type 0
+HasBadJob number file = (jobs : List Job) × IsFileOf jobs file × IsFirstUnfit jobs number
+
+-- the job of this number is the first that can't be sent: of the jobs to check, or of those to try
+abbrev pub IsBadJob : FileOrder → Option FileMap → ℕ → Type 0
+IsBadJob (FileOrder.Check jobs) files number = OfFile jobs.now files (HasBadJob number)
+IsBadJob order files number = OfItsScript order files (IsFaultOfRun (world.BadJob number))
+
+-- the order reads what has this name
+abbrev pub Reads : FileOrder → List ℕ → Type 0
+Reads (FileOrder.Blocks deck) name = name ≡ deck.now
+Reads (FileOrder.Cards order) name = name ≡ order.deck.now
+Reads (FileOrder.Show jobs) name = name ≡ jobs.now
+Reads (FileOrder.Check jobs) name = name ≡ jobs.now
+Reads (FileOrder.Print jobs) name = name ≡ jobs.now
+Reads (FileOrder.Try order) name = (name ≡ order.jobs.now) ⊎ (name ≡ order.script.now)
+
+-- the order writes the file of this name
+abbrev pub Writes : FileOrder → List ℕ → Type 0
+Writes (FileOrder.Cards order) name = name ≡ order.jobs.now
+Writes _ name = ⊥
+
+-- why the order isn't carried out: there is no memory, the store, the reader or the output fails, or what it reads is refused
+abbrev pub IsFault : FileOrder → Option FileMap → (input : Option (List ℕ)) → CommandFault → Type 0
+IsFault order files input CommandFault.OutOfMemory = ⊤
+IsFault order files input CommandFault.Output = ⊤
+IsFault order files input (CommandFault.CannotRead name) = Reads order name.now
+IsFault order files input (CommandFault.CannotWrite name) = Writes order name.now
+IsFault order files input (CommandFault.Deck fault) = OfItsDeck order files input (λ deck. IsToldOfDeck deck fault)
+IsFault order files input (CommandFault.File fault) = OfItsFile order files (λ file. IsToldOfFile IsJobFile file fault)
+IsFault order files input (CommandFault.BadJob number) = IsBadJob order files number
+IsFault order files input (CommandFault.Script line) = OfItsScript order files (λ file script. IsJobFile file)
+IsFault order files input (CommandFault.NotDamage turn) =
+    OfItsScript order files (λ file script. (attempt : ℕ) × IsFaultOfRun (world.NotDamage attempt turn) file script)
+IsFault order files input (CommandFault.BadCut turn) =
+    OfItsScript order files (λ file script. (attempt : ℕ) × IsFaultOfRun (world.BadCut attempt turn) file script)
+IsFault order files input _ = ⊥

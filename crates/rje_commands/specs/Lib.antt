@@ -1,0 +1,6 @@
+pub mod Store
+pub mod MemoryStore
+pub mod Commands
+pub mod CommandFault
+pub mod Inside
+pub mod Command

@@ -1,0 +1,30 @@
+-- What a store of files is: names with their bytes, where it tells them.
+use Rattle.std.specs.Prelude.{◌≡◌, ℕ, ◌<◌, List, length, Option, Some, None, IfSome, ⊤, bytes_eq, if◌then◌else◌}
+use Rattle.rje_commands.specs.declared.reading.TheConstants.{MAX_INPUT}
+
+-- the files: the bytes of each name that has some
+abbrev pub FileMap : Type 0
+FileMap = List ℕ → Option (List ℕ)
+
+-- a store that tells its files goes on telling them, and this holds of the files before and after
+abbrev pub Tells : Option FileMap → Option FileMap → (FileMap → FileMap → Type 0) → Type 0
+Tells None new P = ⊤
+Tells (Some f) None P = ⊥
+Tells (Some f) (Some g) P = P f g
+
+-- each name has what it had
+abbrev pub IsSame : FileMap → FileMap → Type 0
+IsSame f g = (name : List ℕ) → g name ≡ f name
+
+-- this name has these bytes, and each other name what it had
+abbrev pub Sets : List ℕ → List ℕ → FileMap → FileMap → Type 0
+Sets name bytes f g = (other : List ℕ) → g other ≡ (if bytes_eq other name then Some bytes else f other)
+
+-- where the files are told, this name has these bytes
+abbrev pub Has : Option FileMap → List ℕ → List ℕ → Type 0
+Has None name bytes = ⊤
+Has (Some f) name bytes = f name ≡ Some bytes
+
+-- there is no such file, or it is too long
+abbrev pub CannotRead : Option (List ℕ) → Type 0
+CannotRead file = IfSome file (λ bytes. MAX_INPUT < length bytes)

@@ -1,0 +1,135 @@
+//! Why a command fails.
+ghost use Rattle.std.specs.Prelude.{◌≡◌};
+ghost use Rattle.rje_commands.specs.declared.command_fault.CommandFault.TheVariants.{Deck, File};
+ghost use Rattle.rje_commands.specs.CommandFault.{of_script, of_station, of_world};
+
+use line_world::WorldFault;
+use rje_jobs::{DeckFault, FileFault};
+use rje_print::ScriptFault;
+use rje_station::StationFault;
+use thiserror::Error;
+
+/// Why a command ends with another status than 0.
+#[derive(Clone, Copy, Debug, PartialEq, Eq, Error)]
+pub enum CommandFault<'a> {
+    /// There is no memory for it.
+    #[error("out of memory")]
+    OutOfMemory,
+    /// The deck makes no job.
+    #[error("{0}")]
+    Deck(DeckFault),
+    /// The job file isn't read, or can't be made.
+    #[error("{0}")]
+    File(FileFault),
+    /// The job of this number, from 1, can't be sent.
+    #[error("job {0} can't be sent")]
+    BadJob(usize),
+    /// The line of this number, from 1, of a script isn't a turn.
+    #[error("script line {0} is not a turn")]
+    Script(usize),
+    /// The turn of this number, from 1, has a fate whose bytes are no damage.
+    #[error("turn {0} is not damage")]
+    NotDamage(usize),
+    /// The turn of this number, from 1, has a fate whose cuts don't fit.
+    #[error("turn {0} has a bad cut")]
+    BadCut(usize),
+    /// The words ask for a command that isn't served here: one over sockets, or one over files.
+    #[error("no command")]
+    NoCommand,
+    /// A connection can't be had, or failed.
+    #[error("line failed")]
+    LineFailed,
+    /// More than 8,192 bytes came in one hearing, and no frame.
+    #[error("babble")]
+    Babble,
+    /// The file of this name can't be read.
+    #[error("can't read {0}")]
+    CannotRead(&'a str),
+    /// The file of this name can't be written.
+    #[error("can't write {0}")]
+    CannotWrite(&'a str),
+    /// Standard output can't be written.
+    #[error("can't write standard output")]
+    Output,
+}
+
+impl CommandFault<'_> {
+    ghost use Rattle.rje_commands.specs.CommandFault.{status_of};
+
+    /// The exit status: 1 for an input that is refused, 2 for words that ask for a command that isn't served here,
+    /// 3 for a file, a line or an output that fails, 5 for want of memory.
+    pub fn status(&self) -> u8
+        ensures { result ≡ status_of self.now }
+    {
+        match self {
+            CommandFault::OutOfMemory
+            | CommandFault::Deck(DeckFault::OutOfMemory)
+            | CommandFault::File(FileFault::OutOfMemory) => 5,
+            CommandFault::Deck(_)
+            | CommandFault::File(_)
+            | CommandFault::BadJob(_)
+            | CommandFault::Script(_)
+            | CommandFault::NotDamage(_)
+            | CommandFault::BadCut(_) => 1,
+            CommandFault::NoCommand => 2,
+            CommandFault::LineFailed
+            | CommandFault::Babble
+            | CommandFault::CannotRead(_)
+            | CommandFault::CannotWrite(_)
+            | CommandFault::Output => 3,
+        }
+    }
+}
+
+impl From<DeckFault> for CommandFault<'_> {
+    ghost from_gives = { λ fault told. told ≡ Deck fault };
+
+    fn from(fault: DeckFault) -> Self {
+        CommandFault::Deck(fault)
+    }
+}
+
+impl From<FileFault> for CommandFault<'_> {
+    ghost from_gives = { λ fault told. told ≡ File fault };
+
+    fn from(fault: FileFault) -> Self {
+        CommandFault::File(fault)
+    }
+}
+
+impl From<ScriptFault> for CommandFault<'_> {
+    ghost from_gives = { λ fault told. told ≡ of_script fault };
+
+    fn from(fault: ScriptFault) -> Self {
+        match fault {
+            ScriptFault::OutOfMemory => CommandFault::OutOfMemory,
+            ScriptFault::NotATurn(line) => CommandFault::Script(line),
+        }
+    }
+}
+
+impl From<StationFault> for CommandFault<'_> {
+    ghost from_gives = { λ fault told. told ≡ of_station fault };
+
+    fn from(fault: StationFault) -> Self {
+        match fault {
+            StationFault::OutOfMemory => CommandFault::OutOfMemory,
+            StationFault::BadJob(number) => CommandFault::BadJob(number),
+            StationFault::Babble => CommandFault::Babble,
+            StationFault::Line(_) | StationFault::Over => CommandFault::LineFailed,
+        }
+    }
+}
+
+impl From<WorldFault> for CommandFault<'_> {
+    ghost from_gives = { λ fault told. told ≡ of_world fault };
+
+    fn from(fault: WorldFault) -> Self {
+        match fault {
+            WorldFault::OutOfMemory => CommandFault::OutOfMemory,
+            WorldFault::BadJob(number) => CommandFault::BadJob(number),
+            WorldFault::NotDamage(_, turn) => CommandFault::NotDamage(turn),
+            WorldFault::BadCut(_, turn) => CommandFault::BadCut(turn),
+        }
+    }
+}

@@ -1,0 +1,18 @@
+//! The program's commands over files, each over a store of files, a reader and a writer.
+mod blocks_command;
+mod cards_command;
+mod check_command;
+mod inputs;
+mod output;
+mod print_command;
+mod show_command;
+mod try_command;
+
+pub use blocks_command::blocks;
+pub use cards_command::cards;
+pub use check_command::check;
+pub use inputs::read_job_file;
+pub use output::put;
+pub use print_command::print;
+pub use show_command::show;
+pub use try_command::trial;

@@ -1,0 +1,32 @@
+//! `blocks`: the blocks of a deck's job, and how many records come back.
+ghost use Rattle.std.specs.Prelude.{◌≡◌, ◌≢◌, IfErr, OnOk};
+ghost use Rattle.rje_words.specs.declared.order.FileOrder.{FileOrder};
+ghost use Rattle.rje_commands.specs.Commands.{Does, IsFault};
+ghost use Rattle.rje_commands.specs.Store.{Tells, IsSame};
+
+use crate::command_fault::CommandFault;
+use crate::commands::inputs::read_deck;
+use crate::commands::output::put;
+use crate::store::Store;
+use rje_print::block_listing;
+use std::alloc::Global;
+use std::io::{Read, Write};
+
+/// Prints the blocks of a deck's job, and how many records reading these blocks gives.
+pub fn blocks<'a, S: Store, I: Read, O: Write>(
+    alloc: Global,
+    name: &'a str,
+    store: &mut S,
+    input: &mut I,
+    out: &mut O,
+) -> Result<(), CommandFault<'a>>
+    ensures done { OnOk result (Does (FileOrder.Blocks name.entry) (S.files store.old) (S.files store.new)
+        (I.remaining input.old) (O.contents out.old) (O.contents out.new)) }
+    ensures fault { IfErr result (IsFault (FileOrder.Blocks name.entry) (S.files store.old) (I.remaining input.old)) }
+    ensures same { Tells (S.files store.old) (S.files store.new) IsSame }
+    ensures silent { IfErr result (λ fault. fault ≢ CommandFault.Output → out.new ≡ out.old) }
+{
+    let deck = read_deck(alloc, name, store, input)?;
+    let listing = block_listing(alloc, deck.as_slice())?;
+    put(listing.as_slice(), out)
+}

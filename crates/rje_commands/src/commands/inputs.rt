@@ -1,0 +1,79 @@
+//! What a command reads: a deck, or a job file.
+ghost use Rattle.std.specs.Prelude.{◌≡◌, IfOk, IfErr};
+ghost use Rattle.rje_jobs.specs.JobFile.{IsFileOf};
+ghost use Rattle.rje_commands.specs.Commands.{OfDeck, OfFile};
+ghost use Rattle.rje_commands.specs.Inside.{IsReadFault, IsInputFault};
+ghost use Rattle.rje_commands.specs.Store.{Tells, IsSame};
+
+use crate::command_fault::CommandFault;
+use crate::reading::read_all;
+use crate::store::{Store, StoreFault};
+use rje_jobs::{Jobs, read_jobs};
+use rje_words::STANDARD_INPUT;
+use std::alloc::Global;
+use std::io::Read;
+
+/// The bytes of a deck: of a file, or of standard input.
+pub fn read_deck<'a, S: Store, I: Read>(
+    alloc: Global,
+    name: &'a str,
+    store: &mut S,
+    input: &mut I,
+) -> Result<Vec<u8>, CommandFault<'a>>
+    ensures deck { IfOk result (λ bytes.
+        OfDeck name.entry.now (S.files store.old) (I.remaining input.old) (λ deck. bytes.items ≡ deck)) }
+    ensures fault { IfErr result (IsReadFault name.entry.now) }
+    ensures same { Tells (S.files store.old) (S.files store.new) IsSame }
+{
+    let read = if name == STANDARD_INPUT {
+        read_all(alloc, input)
+    } else {
+        store.read(alloc, name)
+    };
+    match read {
+        Ok(bytes) => Ok(bytes),
+        Err(fault) => Err(not_read(name, fault)),
+    }
+}
+
+/// The bytes of a file.
+pub fn read_file<'a, S: Store>(
+    alloc: Global,
+    name: &'a str,
+    store: &mut S,
+) -> Result<Vec<u8>, CommandFault<'a>>
+    ensures file { IfOk result (λ bytes.
+        OfFile name.entry.now (S.files store.old) (λ file. bytes.items ≡ file)) }
+    ensures fault { IfErr result (IsReadFault name.entry.now) }
+    ensures same { Tells (S.files store.old) (S.files store.new) IsSame }
+{
+    match store.read(alloc, name) {
+        Ok(bytes) => Ok(bytes),
+        Err(fault) => Err(not_read(name, fault)),
+    }
+}
+
+/// The jobs of a job file.
+pub fn read_job_file<'a, S: Store>(
+    alloc: Global,
+    name: &'a str,
+    store: &mut S,
+) -> Result<Jobs, CommandFault<'a>>
+    ensures file { IfOk result (λ jobs.
+        OfFile name.entry.now (S.files store.old) (λ file. IsFileOf jobs file)) }
+    ensures fault { IfErr result (IsInputFault name.entry.now (S.files store.old)) }
+    ensures same { Tells (S.files store.old) (S.files store.new) IsSame }
+{
+    let bytes = read_file(alloc, name, store)?;
+    Ok(read_jobs(alloc, bytes.as_slice())?)
+}
+
+/// Why the input of this name isn't read.
+fn not_read(name: &str, fault: StoreFault) -> CommandFault<'_>
+    ensures { IsReadFault name.entry.now result }
+{
+    match fault {
+        StoreFault::OutOfMemory => CommandFault::OutOfMemory,
+        StoreFault::Failed => CommandFault::CannotRead(name),
+    }
+}

@@ -1,0 +1,50 @@
+//! `try`: the run of a job file's jobs over a script of losses and damage.
+ghost use Rattle.std.specs.Prelude.{◌≡◌, ◌≢◌, IfErr, IfOk, OnOk, None};
+ghost use Rattle.rje_words.specs.declared.order.FileOrder.{FileOrder};
+ghost use Rattle.rje_commands.specs.Commands.{Does, IsFault, IsRunText};
+ghost use Rattle.rje_commands.specs.Inside.{IsTryFault};
+ghost use Rattle.rje_commands.specs.Store.{Tells, IsSame};
+
+use crate::command_fault::CommandFault;
+use crate::commands::inputs::read_file;
+use crate::commands::output::put;
+use crate::store::Store;
+use line_world::run;
+use rje_jobs::read_jobs;
+use rje_print::{read_script, run_text};
+use rje_words::TryOrder;
+use std::alloc::{AllocError, Global};
+use std::io::Write;
+
+/// Prints the run of a job file's jobs over a script, turn by turn, and what came of it.
+pub fn trial<'a, S: Store, O: Write>(
+    alloc: Global,
+    order: TryOrder<'a>,
+    store: &mut S,
+    out: &mut O,
+) -> Result<(), CommandFault<'a>>
+    ensures done { OnOk result (Does (FileOrder.Try order.entry) (S.files store.old) (S.files store.new)
+        None (O.contents out.old) (O.contents out.new)) }
+    ensures fault { IfErr result (IsFault (FileOrder.Try order.entry) (S.files store.old) None) }
+    ensures same { Tells (S.files store.old) (S.files store.new) IsSame }
+    ensures silent { IfErr result (λ fault. fault ≢ CommandFault.Output → out.new ≡ out.old) }
+{
+    let file = read_file(alloc, order.jobs, store)?;
+    let script = read_file(alloc, order.script, store)?;
+    let text = run_files(alloc, file.as_slice(), script.as_slice())?;
+    put(text.as_slice(), out)
+}
+
+/// What is printed of the run of a job file over a script.
+fn run_files<'a>(alloc: Global, file: &[u8], script: &[u8]) -> Result<Vec<u8>, CommandFault<'a>>
+    ensures text { IfOk result (λ text. IsRunText file.now script.now text.items) }
+    ensures fault { IfErr result (IsTryFault file.now script.now) }
+{
+    let jobs = read_jobs(alloc, file)?;
+    let turns = read_script(alloc, script)?;
+    let report = run(alloc, jobs.as_slice(), turns.as_slice())?;
+    match run_text(alloc, jobs.len(), &report) {
+        Ok(text) => Ok(text),
+        Err(AllocError) => Err(CommandFault::OutOfMemory),
+    }
+}

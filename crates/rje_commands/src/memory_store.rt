@@ -1,0 +1,63 @@
+//! Files in memory.
+ghost use Rattle.std.specs.Prelude.{◌≡◌, ◌≤◌, ◌↔◌, ℕ, List, None, Some, length, IfOk, OnOk, OnErr, IsErrOf, IsOkUnless};
+ghost use Rattle.rje_commands.specs.Store.{IsSame, Sets, CannotRead};
+ghost use Rattle.rje_commands.specs.MemoryStore.{files_of};
+
+use crate::reading::MAX_INPUT;
+use crate::store::{Store, StoreFault};
+use std::alloc::Global;
+use std::collections::BTreeMap;
+
+/// Files in memory. It tells its files, and fails only as it must.
+#[derive(Drop)]
+pub struct MemoryStore {
+    alloc: Global,
+    files: BTreeMap<String, Vec<u8>>,
+}
+
+impl MemoryStore {
+    /// No files yet. Takes no memory.
+    pub fn new(alloc: Global) -> Self
+        ensures { (name : List ℕ) → files_of result name ≡ None }
+    {
+        MemoryStore {
+            alloc,
+            files: BTreeMap::new(alloc),
+        }
+    }
+}
+
+impl Store for MemoryStore {
+    ghost files = { λ store. Some (files_of store) };
+
+    fn read(&mut self, alloc: Global, name: &str) -> Result<Vec<u8>, StoreFault>
+        ensures has { IfOk result (λ bytes. files_of self.old name.now ≡ Some bytes.items) }
+        ensures limit { IfOk result (λ bytes. length bytes.items ≤ MAX_INPUT) }
+        ensures failed { IsErrOf result StoreFault.Failed ↔ CannotRead (files_of self.old name.now) }
+        ensures same { IsSame (files_of self.old) (files_of self.new) }
+    {
+        match self.files.get(name) {
+            Some(bytes) if bytes.len() <= MAX_INPUT => {
+                Vec::from_slice(alloc, bytes.as_slice()).map_err(|_| StoreFault::OutOfMemory)
+            }
+            _ => Err(StoreFault::Failed),
+        }
+    }
+
+    fn write(&mut self, name: &str, bytes: &[u8]) -> Result<(), StoreFault>
+        ensures sets { OnOk result (Sets name.now bytes.now (files_of self.old) (files_of self.new)) }
+        ensures memory { IsOkUnless result StoreFault.OutOfMemory }
+        ensures same { OnErr result (IsSame (files_of self.old) (files_of self.new)) }
+    {
+        let Ok(bytes) = Vec::from_slice(self.alloc, bytes) else {
+            return Err(StoreFault::OutOfMemory);
+        };
+        let Ok(name) = String::from_str(self.alloc, name) else {
+            return Err(StoreFault::OutOfMemory);
+        };
+        match self.files.insert(name, bytes) {
+            Ok(_) => Ok(()),
+            Err(_) => Err(StoreFault::OutOfMemory),
+        }
+    }
+}

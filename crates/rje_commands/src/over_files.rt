@@ -1,0 +1,72 @@
+//! One run of the program over files, a reader and two writers.
+ghost use Rattle.std.specs.Prelude.{◌≡◌, ◌≢◌, ◌⊎◌, map, IfErr, OnOk};
+ghost use Rattle.rje_words.specs.declared.order.FileOrder.{FileOrder as Asked};
+ghost use Rattle.rje_words.specs.Asking.{AsksFor, IsTold};
+ghost use Rattle.rje_commands.specs.Commands.{Does, IsFault, Leaves};
+ghost use Rattle.rje_commands.specs.Command.{DoesAsAsked, IsRefused, LeavesAsAsked, AsksForNoFiles, IsStatus};
+ghost use Rattle.rje_commands.specs.Store.{Tells, IsSame};
+
+use crate::command_fault::CommandFault;
+use crate::commands::{blocks, cards, check, print, show, trial};
+use crate::store::Store;
+use crate::telling::{tell, tell_words};
+use rje_words::{FileOrder, Order, parse};
+use std::alloc::Global;
+use std::io::{Read, Write};
+
+/// Runs the command over files that these words ask for, which are those behind the program's name, and answers its exit status: 0 where
+/// it did what it is for (or gave help), 1 where what it reads is refused, 2 where the words ask for no command over files, 3 where the
+/// store, the reader or a writer failed, 5 where there was no memory. What the command gives goes to `out`, and why it fails to `err`.
+pub fn command<S: Store, I: Read, O: Write, E: Write>(
+    alloc: Global,
+    words: &[&str],
+    store: &mut S,
+    input: &mut I,
+    out: &mut O,
+    err: &mut E,
+) -> u8
+    ensures done { result ≡ 0 → DoesAsAsked (map (λ word. word.now) words.now)
+        (S.files store.old) (S.files store.new) (I.remaining input.old) (O.contents out.old) (O.contents out.new) }
+    ensures refused { result ≡ 1 → IsRefused (map (λ word. word.now) words.now) (S.files store.old) (I.remaining input.old) }
+    ensures words { result ≡ 2 → AsksForNoFiles (map (λ word. word.now) words.now) }
+    ensures status { IsStatus result }
+    ensures files { LeavesAsAsked (map (λ word. word.now) words.now) (S.files store.old) (S.files store.new) (I.remaining input.old) }
+    ensures files_kept { result ≢ 0 → result ≢ 3 → Tells (S.files store.old) (S.files store.new) IsSame }
+    ensures silent { result ≢ 0 → result ≢ 3 → out.new ≡ out.old }
+{
+    let order = match parse(alloc, words) {
+        Ok(Order::Files(order)) => order,
+        Ok(Order::Sockets(_)) => return tell(&CommandFault::NoCommand, err),
+        Err(fault) => return tell_words(&fault, out, err),
+    };
+    match carry_out(alloc, order, store, input, out) {
+        Ok(()) => 0,
+        Err(fault) => tell(&fault, err),
+    }
+}
+
+/// Does what an order over files asks for.
+pub fn carry_out<'a, S: Store, I: Read, O: Write>(
+    alloc: Global,
+    order: FileOrder<'a>,
+    store: &mut S,
+    input: &mut I,
+    out: &mut O,
+) -> Result<(), CommandFault<'a>>
+    ensures done { OnOk result (Does order.entry (S.files store.old) (S.files store.new)
+        (I.remaining input.old) (O.contents out.old) (O.contents out.new)) }
+    ensures fault { IfErr result (IsFault order.entry (S.files store.old) (I.remaining input.old)) }
+    ensures files { Leaves order.entry (S.files store.old) (S.files store.new) (I.remaining input.old) }
+    ensures kept { IfErr result (λ fault. fault ≢ CommandFault.Output
+        → Tells (S.files store.old) (S.files store.new) IsSame) }
+    ensures silent { IfErr result (λ fault. fault ≢ CommandFault.Output → out.new ≡ out.old) }
+{
+    match order {
+        FileOrder::Blocks(deck) => blocks(alloc, deck, store, input, out),
+        FileOrder::Cards(order) => cards(alloc, order, store, input, out),
+        FileOrder::Show(jobs) => show(alloc, jobs, store, out),
+        FileOrder::Check(jobs) => check(alloc, jobs, store, out),
+        FileOrder::Print(jobs) => print(alloc, jobs, store, out),
+        FileOrder::Try(order) => trial(alloc, order, store, out),
+    }
+}

@@ -1,0 +1,10 @@
+//! The program's commands over sockets, each over a store of files and a writer.
+mod ending;
+mod loop_command;
+mod receive_command;
+mod send_command;
+
+pub use ending::Ending;
+pub use loop_command::loopback;
+pub use receive_command::{receive, receive_over};
+pub use send_command::send;

@@ -1,0 +1,57 @@
+//! `loop`: both ends in one process, over a connection on this machine.
+use crate::command_fault::CommandFault;
+use crate::commands::{put, read_job_file};
+use crate::exchange::take_turns;
+use crate::socket_commands::Ending;
+use crate::socket_commands::ending::joined;
+use crate::socket_line::SocketLine;
+use crate::store::Store;
+use rje_print::{counted_text, handed_text, outcome_text};
+use rje_station::{ReceivingStation, SendingStation};
+use rje_words::LoopOrder;
+use std::alloc::Global;
+use std::io::{self, Write};
+use std::net::{Ipv4Addr, Net, OpenListener, SocketAddr, TcpListener, TcpStream};
+
+/// Sends the jobs of a job file from one end of a connection to the other, and prints how many were counted, how many handed out, and how
+/// it ended.
+pub fn loopback<'a, R: Net, S: Store, O: Write>(
+    rt: &R,
+    alloc: Global,
+    order: LoopOrder<'a>,
+    store: &mut S,
+    out: &mut O,
+) -> Result<Ending, CommandFault<'a>> {
+    let jobs = read_job_file(alloc, order.jobs, store)?;
+    let mut sender = SendingStation::new(alloc, jobs.as_slice())?;
+    let mut receiver = ReceivingStation::new(alloc)?;
+    let Ok((mut near, mut far)) = both_ends(rt, order.timeout) else {
+        return Err(CommandFault::LineFailed);
+    };
+    let taken = take_turns(&mut sender, &mut near, &mut receiver, &mut far);
+    let lines = [
+        counted_text(sender.counted(), jobs.len()),
+        handed_text(receiver.jobs()),
+        outcome_text(sender.outcome()),
+    ];
+    let text = joined(alloc, &lines)?;
+    let printed = put(text.as_slice(), out);
+    taken?;
+    printed?;
+    Ok(Ending::from(sender.outcome()))
+}
+
+/// Both ends of a line: a connection to a free port of this machine.
+fn both_ends<R: Net>(
+    rt: &R,
+    timeout: u16,
+) -> io::Result<(SocketLine<R::Stream>, SocketLine<R::Stream>)> {
+    let any = SocketAddr::from((Ipv4Addr::LOCALHOST, 0));
+    let listener = TcpListener::bind(rt, any)?;
+    let near = TcpStream::connect(rt, listener.local_addr()?)?;
+    let (far, _) = listener.accept()?;
+    Ok((
+        SocketLine::new(near, timeout)?,
+        SocketLine::new(far, timeout)?,
+    ))
+}

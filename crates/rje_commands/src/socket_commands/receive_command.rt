@@ -1,0 +1,91 @@
+//! `receive`: one transmission from whoever connects, into a job file.
+use crate::command_fault::CommandFault;
+use crate::commands::put;
+use crate::exchange::{Left, receive_all};
+use crate::socket_commands::Ending;
+use crate::socket_line::SocketLine;
+use crate::store::{Store, StoreFault};
+use crate::telling::tell;
+use rje_jobs::{Job, write_jobs};
+use rje_print::handed_text;
+use rje_station::{Line, ReceivingStation};
+use rje_words::PeerOrder;
+use std::alloc::Global;
+use std::io::{self, Write};
+use std::net::{Net, OpenListener, SocketAddr, TcpListener};
+
+/// Takes one connection at this address and one transmission, writes its jobs into a job file and prints how many there are. Answers
+/// the exit status.
+pub fn receive<R: Net, S: Store, O: Write, E: Write>(
+    rt: &R,
+    alloc: Global,
+    order: PeerOrder,
+    store: &mut S,
+    out: &mut O,
+    err: &mut E,
+) -> u8 {
+    match accepted(rt, order.address, order.timeout) {
+        Ok(mut line) => receive_over(alloc, &mut line, order.jobs, store, out, err),
+        Err(_) => tell(&CommandFault::LineFailed, err),
+    }
+}
+
+fn accepted<R: Net>(
+    rt: &R,
+    address: SocketAddr,
+    timeout: u16,
+) -> io::Result<SocketLine<R::Stream>> {
+    let listener = TcpListener::bind(rt, address)?;
+    let (stream, _) = listener.accept()?;
+    SocketLine::new(stream, timeout)
+}
+
+/// Receives one transmission over a line, writes its jobs into the job file of this name, also after a fault of the line, and prints
+/// how many there are. Answers the exit status, and tells why it isn't 0.
+pub fn receive_over<L: Line, S: Store, O: Write, E: Write>(
+    alloc: Global,
+    line: &mut L,
+    name: &str,
+    store: &mut S,
+    out: &mut O,
+    err: &mut E,
+) -> u8 {
+    match received(alloc, line, name, store, out) {
+        Ok(ending) => ending.status(),
+        Err(fault) => tell(&fault, err),
+    }
+}
+
+fn received<'a, L: Line, S: Store, O: Write>(
+    alloc: Global,
+    line: &mut L,
+    name: &'a str,
+    store: &mut S,
+    out: &mut O,
+) -> Result<Ending, CommandFault<'a>> {
+    let mut station = ReceivingStation::new(alloc)?;
+    let left = receive_all(&mut station, line);
+    let written = write_job_file(alloc, station.jobs(), name, store);
+    let printed = put(handed_text(station.jobs()).as_slice(), out);
+    let left = left?;
+    written?;
+    printed?;
+    match left {
+        Left::Ended => Ok(Ending::Done),
+        Left::Abandoned => Ok(Ending::Other),
+    }
+}
+
+fn write_job_file<'a, S: Store>(
+    alloc: Global,
+    jobs: &[Job],
+    name: &'a str,
+    store: &mut S,
+) -> Result<(), CommandFault<'a>> {
+    let file = write_jobs(alloc, jobs)?;
+    match store.write(name, file.as_slice()) {
+        Ok(()) => Ok(()),
+        Err(StoreFault::OutOfMemory) => Err(CommandFault::OutOfMemory),
+        Err(StoreFault::Failed) => Err(CommandFault::CannotWrite(name)),
+    }
+}

@@ -1,0 +1,35 @@
+//! The files that the program reads and writes by name.
+ghost use Rattle.std.specs.Prelude.{ℕ, ◌≤◌, List, Option, length, IfOk, OnOk, OnErr};
+ghost use Rattle.rje_commands.specs.Store.{FileMap, Tells, IsSame, Sets, Has};
+
+use crate::reading::MAX_INPUT;
+use std::alloc::Global;
+use thiserror::Error;
+
+/// Why a file isn't read or written.
+#[derive(Clone, Copy, Debug, PartialEq, Eq, Error)]
+pub enum StoreFault {
+    /// There is no memory for it.
+    #[error("out of memory")]
+    OutOfMemory,
+    /// It isn't there, it is too long, or the store fails.
+    #[error("the file can't be read or written")]
+    Failed,
+}
+
+/// Files by name. A store that tells its files is known to keep them; one that tells none may answer anything.
+pub trait Store {
+    /// The files, where the store tells them.
+    ghost files: { Self → Option FileMap };
+
+    /// The bytes of a file, which has at most 16,777,216. A store may fail at any time.
+    fn read(&mut self, alloc: Global, name: &str) -> Result<Vec<u8>, StoreFault>
+        ensures has { IfOk result (λ bytes. Has (files self.old) name.now bytes.items) }
+        ensures limit { IfOk result (λ bytes. length bytes.items ≤ MAX_INPUT) }
+        ensures same { Tells (files self.old) (files self.new) IsSame };
+
+    /// Makes these bytes the file of this name, in place of what it had. A store may fail at any time.
+    fn write(&mut self, name: &str, bytes: &[u8]) -> Result<(), StoreFault>
+        ensures sets { OnOk result (Tells (files self.old) (files self.new) (Sets name.now bytes.now)) }
+        ensures same { OnErr result (Tells (files self.old) (files self.new) IsSame) };
+}

@@ -1,0 +1,2 @@
+pub mod BlockListings
+pub mod Scripts

@@ -1,0 +1,5 @@
+pub mod BlockLines
+pub mod BlockListing
+pub mod JobTexts
+pub mod ReportTexts
+pub mod Script

@@ -1,0 +1,45 @@
+//! The texts of jobs, one after another.
+ghost use Rattle.std.specs.Prelude.{◌≡◌, IfOk};
+ghost use Rattle.rje_print.specs.JobTexts.{IsShown, IsPaper, paper};
+
+use crate::job_lines::push_job;
+use crate::printed_line::PrintedLine;
+use rje_jobs::{FileFault, Form, Job, list_job, punch_job};
+use rje_text::Select;
+use std::alloc::{AllocError, Global};
+
+/// A line for each of these jobs: its number from 1, its selection, its mode, whether it is whole, and how many records it has.
+pub fn jobs_text(alloc: Global, jobs: &[Job]) -> Result<Vec<u8>, AllocError>
+    ensures shown { IfOk result (λ text. IsShown jobs.now text.items) }
+{
+    let mut text = Vec::new(alloc);
+    let mut number = 1;
+    for job in jobs {
+        let mut line = PrintedLine::new();
+        push_job(&mut line, number, job);
+        text.extend_from_slice(line.as_slice())?;
+        number += 1;
+    }
+    Ok(text)
+}
+
+/// The paper of these jobs, one after another: the cards in ASCII of a job for the punch, and else its listing.
+pub fn papers_text(alloc: Global, jobs: &[Job]) -> Result<Vec<u8>, FileFault>
+    ensures paper { IfOk result (λ text. IsPaper jobs.now text.items) }
+{
+    let mut text = Vec::new(alloc);
+    for job in jobs {
+        let paper = paper_of(alloc, job)?;
+        text.extend_from_slice(paper.as_slice())?;
+    }
+    Ok(text)
+}
+
+fn paper_of(alloc: Global, job: &Job) -> Result<Vec<u8>, FileFault>
+    ensures { IfOk result (λ text. text.items ≡ paper job.now) }
+{
+    match job.select {
+        Select::Punch => punch_job(alloc, job, Form::Ascii),
+        Select::Unset | Select::Printer => list_job(alloc, job),
+    }
+}

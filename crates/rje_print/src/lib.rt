@@ -1,0 +1,21 @@
+//! What the program prints of blocks, jobs and transmissions, and the scripts that it reads: texts from values, and values from texts.
+#![tactic(auto)]
+
+mod block_lines;
+mod job_lines;
+mod job_texts;
+mod listing;
+mod printed_line;
+mod report_lines;
+mod report_text;
+mod script;
+mod script_fault;
+
+pub use job_lines::{cards_text, good_text};
+pub use job_texts::{jobs_text, papers_text};
+pub use listing::block_listing;
+pub use printed_line::{MAX_LINE, PrintedLine};
+pub use report_lines::{counted_text, handed_text, outcome_text};
+pub use report_text::run_text;
+pub use script::read_script;
+pub use script_fault::ScriptFault;

@@ -1,0 +1,132 @@
+//! The blocks of a deck's job, and how many records come back.
+ghost use Rattle.std.specs.Prelude.{◌≡◌, ◌+◌, ◌<◌, ◌≤◌, ◌^◌, ◌++◌, ◌∷◌, [], length, List, None, IfOk, IfErr, OnOk, option_to_list};
+ghost use Rattle.rje_jobs.specs.Deck.{IsTold};
+ghost use Rattle.rje_text.specs.PackFault.{Fits, pack_fault};
+ghost use Rattle.rje_text.specs.Packing.{packed};
+ghost use Rattle.rje_text.specs.declared.record.Record.{Record as Item};
+ghost use Rattle.rje_print.specs.BlockListing.{IsBlockListing, ListsBlocks, AddsBlock, CanAdd, CountsBlock};
+ghost use Rattle.rje_print.specs.BlockLines.{back_line};
+
+use crate::block_lines::{push_back, push_block};
+use crate::printed_line::PrintedLine;
+use bsc_codes::Block;
+use rje_jobs::{Cards, DeckFault, cards_of_deck, deck_jobs_fit};
+use rje_text::{
+    Mode, Packer, Pushed, Record, Records, Select, TextFault, cut_reads_back, one_fault,
+    packing_is_the_cut, unpack,
+};
+use std::alloc::{AllocError, Global};
+
+/// What `blocks` prints for a deck: a line for each block of its job, and how many records reading these blocks gives.
+pub fn block_listing(alloc: Global, deck: &[u8]) -> Result<Vec<u8>, DeckFault>
+    ensures listing { IfOk result (λ text. IsBlockListing deck.now text.items) }
+    ensures told { IfErr result (λ fault. IsTold deck.now fault) }
+{
+    let cards = cards_of_deck(deck, Mode::Normal)?;
+    deck_jobs_fit();
+    match list_blocks(alloc, cards) {
+        Ok(text) => Ok(text),
+        Err(AllocError) => Err(DeckFault::OutOfMemory),
+    }
+}
+
+/// The lines of the blocks of a normal job for the default device.
+fn list_blocks(alloc: Global, cards: Cards) -> Result<Vec<u8>, AllocError>
+    requires fits { Fits Select.Unset Mode.Normal cards }
+    requires few { length cards < 2 ^ 64 }
+    ensures { IfOk result (λ text. ListsBlocks cards.entry text.items) }
+{
+    packing_is_the_cut();
+    cut_reads_back();
+    let mut listing = Listing::new(alloc);
+    let mut packer = Packer::new(Select::Unset, Mode::Normal);
+    for item in cards {
+        if let Some(block) = pack(&mut packer, item) {
+            listing.add(&block)?;
+        }
+    }
+    listing.add(&packer.close(true))?;
+    listing.end()
+}
+
+/// Packs a record, and gives the block that was full before it.
+fn pack(packer: &mut Packer, item: Record) -> Option<Block>
+    requires { pack_fault packer.old.select packer.old.mode item ≡ None }
+    ensures blocks { (rest : List Item) → packed packer.old (item ∷ rest) ≡ option_to_list result ++ packed packer.new rest }
+    ensures select { packer.new.select ≡ packer.old.select }
+    ensures mode { packer.new.mode ≡ packer.old.mode }
+{
+    match packer.push(item) {
+        Ok(Pushed::Taken) => None,
+        Ok(Pushed::Full(item)) => {
+            let block = packer.close(false);
+            let _ = packer.push(item);
+            Some(block)
+        }
+        Err(_) => unreachable!(),
+    }
+}
+
+/// The listing of a job's blocks, as it grows.
+#[derive(Drop)]
+struct Listing {
+    alloc: Global,
+    text: Vec<u8>,
+    number: usize,
+    so_far: Option<Mode>,
+    count: usize,
+    ghost numbered: { number ≤ length text.items + 1 },
+}
+
+impl Listing {
+    fn new(alloc: Global) -> Self
+        ensures text { result.text.items ≡ [] }
+        ensures number { result.number ≡ 1 }
+        ensures so_far { result.so_far ≡ None }
+        ensures count { result.count ≡ 0 }
+    {
+        Listing {
+            alloc,
+            text: Vec::new(alloc),
+            number: 1,
+            so_far: None,
+            count: 0,
+        }
+    }
+
+    /// Puts the line of the next block behind the others, and counts the block's records.
+    fn add(&mut self, block: &Block) -> Result<(), AllocError>
+        requires { CanAdd block.now self.old.so_far self.old.count }
+        ensures lines { OnOk result (AddsBlock block.now self.old.text.items self.new.text.items self.old.number self.new.number) }
+        ensures reads { OnOk result (CountsBlock block.now self.old.so_far self.new.so_far self.old.count self.new.count) }
+    {
+        one_fault();
+        let mut line = PrintedLine::new();
+        push_block(&mut line, self.number, block);
+        self.text.extend_from_slice(line.as_slice())?;
+        match unpack(self.alloc, block, self.so_far) {
+            Ok(unpacked) => {
+                self.number += 1;
+                self.so_far = Some(unpacked.mode);
+                self.count += unpacked.records.len();
+                Ok(())
+            }
+            Err(fault) => {
+                // The block reads in its job's mode, so only memory can be missing.
+                prove!(matches!(&fault, TextFault::OutOfMemory));
+                Err(AllocError)
+            }
+        }
+    }
+
+    /// The whole listing: the lines, and how many records came back.
+    fn end(self) -> Result<Vec<u8>, AllocError>
+        ensures { IfOk result (λ text. text.items ≡ self.text.items ++ back_line self.count) }
+    {
+        let mut text = self.text;
+        let mut line = PrintedLine::new();
+        push_back(&mut line, self.count);
+        text.extend_from_slice(line.as_slice())?;
+        Ok(text)
+    }
+}

@@ -1,0 +1,84 @@
+-- What words ask for (own profile): clap finds a command's name and its rows, and these are read.
+use Rattle.std.specs.Prelude.{◌≡◌, ◌⊎◌, Bool, false, List, [], ◌∷◌, Option, None, Some, codes, unwrap_or}
+use Rattle.std.specs.Option.{IsSomeAnd, option_map_or}
+use Rattle.std.specs.Str.{bytes_eq}
+use Rattle.clap.specs.Words.{HasKind, Row, Text, fault_of, first_of, one_of, subcommand_of}
+use Rattle.rje_words.specs.declared.device.Device.{Device}
+use Rattle.rje_words.specs.declared.order.CardsOrder.{CardsOrder}
+use Rattle.rje_words.specs.declared.order.LoopOrder.{LoopOrder}
+use Rattle.rje_words.specs.declared.order.Order.{Order}
+use Rattle.rje_words.specs.declared.order.Order.TheVariants.{Files, Sockets}
+use Rattle.rje_words.specs.declared.order.FileOrder.TheVariants.{Blocks, Cards, Show, Check, Print, Try}
+use Rattle.rje_words.specs.declared.order.SocketOrder.TheVariants.{Loop, Send, Receive}
+use Rattle.rje_words.specs.declared.order.PeerOrder.{PeerOrder}
+use Rattle.rje_words.specs.declared.order.TryOrder.{TryOrder}
+use Rattle.rje_words.specs.declared.words_fault.WordsFault.{WordsFault}
+use Rattle.rje_words.specs.declared.words_fault.WordsFault.TheVariants.{Refused, TwoDevices, BadAddress}
+use Rattle.rje_words.specs.CommandLine.{rje_app}
+use Rattle.rje_words.specs.Device.{chosen}
+use Rattle.rje_words.specs.Orders.{IsBlocks}
+
+-- the word that was found for a value, and no character where none was
+abbrev pub word_in : Text → List Row → Text
+word_in id rows = unwrap_or (first_of id rows) []
+
+-- whether an option was given: clap finds `true` where it was
+abbrev pub is_on : Text → List Row → Bool
+is_on id rows = option_map_or (λ text. bytes_eq text (codes "true")) (one_of id rows) false
+
+-- the device that the options choose
+abbrev pub device_in : List Row → Option Device
+device_in rows = chosen (is_on (codes "printer") rows) (is_on (codes "punch") rows) (is_on (codes "transparent") rows)
+
+-- the order has the deck, the job file and the device that were found
+pub record IsCardsOrderOf (rows : List Row) (order : CardsOrder) : Type 0 where
+  pub deck : order.deck.now ≡ word_in (codes "DECK") rows
+  pub jobs : order.jobs.now ≡ word_in (codes "JOBS") rows
+  pub device : device_in rows ≡ Some order.device
+
+-- the order has the job file and the script that were found
+pub record IsTryOrderOf (rows : List Row) (order : TryOrder) : Type 0 where
+  pub jobs : order.jobs.now ≡ word_in (codes "JOBS") rows
+  pub script : order.script.now ≡ word_in (codes "SCRIPT") rows
+
+-- the order has the job file that was found
+pub record IsLoopOrderOf (rows : List Row) (order : LoopOrder) : Type 0 where
+  pub jobs : order.jobs.now ≡ word_in (codes "JOBS") rows
+
+-- the order has the job file that was found
+pub record IsPeerOrderOf (id : Text) (rows : List Row) (order : PeerOrder) : Type 0 where
+  pub jobs : order.jobs.now ≡ word_in (codes "JOBS") rows
+
+-- the order is that of the command of this name, with the values that were found
+abbrev pub IsOrderOf : Text → List Row → Order → Type 0
+IsOrderOf name rows (Files (Blocks deck)) = (name ≡ codes "blocks") × (deck.now ≡ word_in (codes "DECK") rows)
+IsOrderOf name rows (Files (Cards order)) = (name ≡ codes "cards") × IsCardsOrderOf rows order
+IsOrderOf name rows (Files (Show jobs)) = (name ≡ codes "show") × (jobs.now ≡ word_in (codes "JOBS") rows)
+IsOrderOf name rows (Files (Check jobs)) = (name ≡ codes "check") × (jobs.now ≡ word_in (codes "JOBS") rows)
+IsOrderOf name rows (Files (Print jobs)) = (name ≡ codes "print") × (jobs.now ≡ word_in (codes "JOBS") rows)
+IsOrderOf name rows (Files (Try order)) = (name ≡ codes "try") × IsTryOrderOf rows order
+IsOrderOf name rows (Sockets (Loop order)) = (name ≡ codes "loop") × IsLoopOrderOf rows order
+IsOrderOf name rows (Sockets (Send order)) = (name ≡ codes "send") × IsPeerOrderOf (codes "to") rows order
+IsOrderOf name rows (Sockets (Receive order)) = (name ≡ codes "receive") × IsPeerOrderOf (codes "listen") rows order
+
+-- the values that were found for the command of this name are none that can be carried out
+abbrev pub IsFaultOf : Text → List Row → WordsFault → Type 0
+IsFaultOf name rows (Refused error) = ⊥
+IsFaultOf name rows TwoDevices = (name ≡ codes "cards") × (device_in rows ≡ None)
+IsFaultOf name rows BadAddress = (name ≡ codes "send") ⊎ (name ≡ codes "receive")
+
+-- the words are taken, and what is found of the command that they name is this
+abbrev pub IsFound : List Text → (Text → List Row → Type 0) → Type 0
+IsFound words Found = (fault_of rje_app words ≡ []) × IsSomeAnd (subcommand_of rje_app words) (λ met. Found met.0 met.1)
+
+-- the words ask for this order; no words ask for the blocks of the deck on standard input
+abbrev pub AsksFor : List Text → Order → Type 0
+AsksFor [] order = IsBlocks (codes "-") order
+AsksFor (word ∷ words) order = IsFound (word ∷ words) (λ name rows. IsOrderOf name rows order)
+
+-- this is why the words ask for nothing that can be done: clap refuses them, memory ran out, or they choose two devices or an address
+-- that is none
+abbrev pub IsTold : List Text → WordsFault → Type 0
+IsTold [] fault = ⊥
+IsTold words (Refused error) = HasKind (fault_of rje_app words) error
+IsTold words fault = IsFound words (λ name rows. IsFaultOf name rows fault)

@@ -1,0 +1,109 @@
+-- The command line that clap is told of, and the words that name files and devices.
+use Rattle.std.specs.Prelude.{◌≡◌, ◌⊎◌, [], ◌∷◌, List, Some, Bool, true, false, not, codes, pos, ◌==◌}
+use Rattle.clap.specs.Words.{App, Rule, Text, app_of, new_app, new_rule, rule_of, with_rule, with_subcommand}
+use Rattle.clap.specs.Simple.{on_top}
+use Rattle.clap.specs.declared.builder.Command.TheViews.{out-Command as fields_of}
+use Rattle.clap.specs.declared.builder.arg.Arg.{Arg}
+use Rattle.clap.specs.declared.builder.command.Command.{Command}
+use Rattle.clap.specs.declared.builder.action.ArgAction.TheVariants.{Set, SetTrue}
+use Rattle.clap.specs.declared.builder.value_parser.ValueParser.TheVariants as parser
+use Rattle.rje_words.specs.declared.device.Device.{Device}
+
+-- the argument has this rule, and is its command's own
+abbrev pub IsArg : Rule → Arg → Type 0
+IsArg rule arg = (rule_of arg ≡ rule) × (arg.global ≡ false)
+
+-- the command has this form, and no argument that is every command's
+abbrev pub IsApp : App → Command → Type 0
+IsApp app command = (app_of command ≡ app) × ((fields_of command).has_globals ≡ false)
+
+-- a file that must be named
+abbrev pub file_rule : Text → Rule
+file_rule id = record (new_rule id) { required = true; action = Some Set }
+
+-- an option of this name
+abbrev pub flag_rule : Text → Rule
+flag_rule id = record (new_rule id) { long = Some id; action = Some SetTrue }
+
+-- an option that must be given an address
+abbrev pub address_rule : Text → Rule
+address_rule id = record (file_rule id) { long = Some id; value_names = 1 }
+
+-- the option for how long a hearing waits, in milliseconds
+abbrev pub timeout_rule : Rule
+timeout_rule = record (new_rule (codes "timeout")) {
+  long = Some (codes "timeout");
+  value_names = 1;
+  action = Some Set;
+  parser = Some (parser.Signed (pos 1) (pos 60000));
+  defaults = codes "3000" ∷ [];
+}
+
+-- a command of this name with one file
+abbrev pub file_app : Text → Text → App
+file_app name id = with_rule (new_app name) (file_rule id)
+
+-- `blocks DECK`
+abbrev pub blocks_app : App
+blocks_app = file_app (codes "blocks") (codes "DECK")
+
+-- `cards DECK JOBS`, with the options for the device
+abbrev pub cards_app : App
+cards_app =
+    with_rule (with_rule (with_rule (with_rule (file_app (codes "cards") (codes "DECK"))
+    (file_rule (codes "JOBS"))) (flag_rule (codes "printer"))) (flag_rule (codes "punch"))) (flag_rule (codes "transparent"))
+
+-- the program: its words hold no name of the program, and a command is required
+abbrev pub rje_top : App
+rje_top = on_top (λ s. record s { no_binary_name = true; subcommand_required = true }) (new_app (codes "rje"))
+
+-- `try JOBS SCRIPT`
+abbrev pub try_app : App
+try_app = with_rule (file_app (codes "try") (codes "JOBS")) (file_rule (codes "SCRIPT"))
+
+-- `loop JOBS`
+abbrev pub loop_app : App
+loop_app = with_rule (file_app (codes "loop") (codes "JOBS")) timeout_rule
+
+-- `send JOBS --to ADDR`
+abbrev pub send_app : App
+send_app = with_rule (with_rule (file_app (codes "send") (codes "JOBS")) (address_rule (codes "to"))) timeout_rule
+
+-- `receive JOBS --listen ADDR`
+abbrev pub receive_app : App
+receive_app = with_rule (with_rule (file_app (codes "receive") (codes "JOBS")) (address_rule (codes "listen"))) timeout_rule
+
+abbrev pub rje_app : App
+rje_app =
+    with_subcommand (with_subcommand (with_subcommand (with_subcommand (with_subcommand (with_subcommand (with_subcommand (with_subcommand (with_subcommand rje_top
+    cards_app.top) blocks_app.top) (file_app (codes "show") (codes "JOBS")).top)
+    (file_app (codes "check") (codes "JOBS")).top) (file_app (codes "print") (codes "JOBS")).top)
+    try_app.top) loop_app.top) send_app.top) receive_app.top
+
+-- a word that names a file: more than nothing, without a hyphen in front
+abbrev pub is_name : Text → Bool
+is_name [] = false
+is_name (c ∷ rest) = not (c == 45)
+
+-- a word that names a deck: a single character, which may be the hyphen, or more without a hyphen in front
+abbrev pub is_file : Text → Bool
+is_file [] = false
+is_file (c ∷ []) = true
+is_file (c ∷ d ∷ rest) = not (c == 45)
+
+-- the words that choose a device
+abbrev pub device_words : Device → List Text
+device_words Device.Default = []
+device_words Device.Printer = codes "--printer" ∷ []
+device_words Device.Punch = codes "--punch" ∷ []
+device_words Device.Transparent = codes "--transparent" ∷ []
+
+-- the names of the commands
+abbrev pub command_names : List Text
+command_names =
+    codes "cards" ∷ codes "blocks" ∷ codes "show" ∷ codes "check" ∷ codes "print" ∷ codes "try" ∷ codes "loop" ∷ codes "send" ∷ codes "receive" ∷ []
+
+-- the text is one of these
+abbrev pub IsOneOf : Text → List Text → Type 0
+IsOneOf text [] = ⊥
+IsOneOf text (name ∷ names) = (text ≡ name) ⊎ IsOneOf text names

@@ -1,0 +1,7 @@
+pub mod Device
+pub mod Orders
+pub mod WordsFault
+pub mod CommandLine
+pub mod Asking
+pub use Rattle.clap.specs.Words
+pub use Rattle.clap.specs.Simple

@@ -1,0 +1,37 @@
+-- What an order is for.
+use Rattle.std.specs.Prelude.{◌≡◌}
+use Rattle.clap.specs.Words.{Text}
+use Rattle.rje_words.specs.declared.device.Device.{Device}
+use Rattle.rje_words.specs.declared.order.Order.{Order}
+use Rattle.rje_words.specs.declared.order.Order.TheVariants.{Files}
+use Rattle.rje_words.specs.declared.order.FileOrder.TheVariants.{Blocks, Cards, Show, Check, Print, Try}
+
+-- the order is for the blocks of this deck
+abbrev pub IsBlocks : Text → Order → Type 0
+IsBlocks deck (Files (Blocks named)) = named.now ≡ deck
+IsBlocks deck _ = ⊥
+
+-- the order is for a file of this name, of the job of this deck for this device
+abbrev pub IsCards : Text → Text → Device → Order → Type 0
+IsCards deck jobs device (Files (Cards order)) = (order.deck.now ≡ deck) × (order.jobs.now ≡ jobs) × (order.device ≡ device)
+IsCards deck jobs device _ = ⊥
+
+-- the order is to show the jobs of this file
+abbrev pub IsShow : Text → Order → Type 0
+IsShow jobs (Files (Show named)) = named.now ≡ jobs
+IsShow jobs _ = ⊥
+
+-- the order is to check the jobs of this file
+abbrev pub IsCheck : Text → Order → Type 0
+IsCheck jobs (Files (Check named)) = named.now ≡ jobs
+IsCheck jobs _ = ⊥
+
+-- the order is to print the jobs of this file
+abbrev pub IsPrint : Text → Order → Type 0
+IsPrint jobs (Files (Print named)) = named.now ≡ jobs
+IsPrint jobs _ = ⊥
+
+-- the order is to try the jobs of this file over this script
+abbrev pub IsTry : Text → Text → Order → Type 0
+IsTry jobs script (Files (Try order)) = (order.jobs.now ≡ jobs) × (order.script.now ≡ script)
+IsTry jobs script _ = ⊥

@@ -1,0 +1,13 @@
+//! What the words of the command line ask for.
+#![tactic(auto)]
+
+mod address;
+mod device;
+mod order;
+mod words;
+mod words_fault;
+
+pub use device::Device;
+pub use order::{CardsOrder, FileOrder, LoopOrder, Order, PeerOrder, SocketOrder, TryOrder};
+pub use words::{STANDARD_INPUT, parse};
+pub use words_fault::WordsFault;

@@ -1,0 +1,80 @@
+//! What the words of the command line ask for.
+use crate::device::Device;
+use std::net::SocketAddr;
+
+/// What the words ask for.
+#[derive(Clone, Copy, Debug, PartialEq, Eq)]
+pub enum Order<'a> {
+    /// A command over files.
+    Files(FileOrder<'a>),
+    /// A command over sockets.
+    Sockets(SocketOrder<'a>),
+}
+
+/// A command over files.
+#[derive(Clone, Copy, Debug, PartialEq, Eq)]
+pub enum FileOrder<'a> {
+    /// The blocks of a deck. The deck `-` is standard input.
+    Blocks(&'a str),
+    /// A job file of a deck's job.
+    Cards(CardsOrder<'a>),
+    /// A line for each job of a job file.
+    Show(&'a str),
+    /// Whether the jobs of a job file can be sent.
+    Check(&'a str),
+    /// The listings and the punched cards of a job file.
+    Print(&'a str),
+    /// The run of a job file's jobs over a script.
+    Try(TryOrder<'a>),
+}
+
+/// A command over sockets.
+#[derive(Clone, Copy, Debug, PartialEq, Eq)]
+pub enum SocketOrder<'a> {
+    /// A transmission between both ends in this process.
+    Loop(LoopOrder<'a>),
+    /// A transmission to a receiver.
+    Send(PeerOrder<'a>),
+    /// A transmission from a sender.
+    Receive(PeerOrder<'a>),
+}
+
+/// What `cards` is asked for.
+#[derive(Clone, Copy, Debug, PartialEq, Eq)]
+pub struct CardsOrder<'a> {
+    /// The deck. `-` is standard input.
+    pub deck: &'a str,
+    /// The job file that is written.
+    pub jobs: &'a str,
+    /// The device of the deck's job.
+    pub device: Device,
+}
+
+/// What `try` is asked for.
+#[derive(Clone, Copy, Debug, PartialEq, Eq)]
+pub struct TryOrder<'a> {
+    /// The job file that is sent.
+    pub jobs: &'a str,
+    /// The script of losses and damage.
+    pub script: &'a str,
+}
+
+/// What `loop` is asked for.
+#[derive(Clone, Copy, Debug, PartialEq, Eq)]
+pub struct LoopOrder<'a> {
+    /// The job file that is sent.
+    pub jobs: &'a str,
+    /// How long a hearing waits for more bytes, in milliseconds, 1 to 60000.
+    pub timeout: u16,
+}
+
+/// What `send` and `receive` are asked for.
+#[derive(Clone, Copy, Debug, PartialEq, Eq)]
+pub struct PeerOrder<'a> {
+    /// The job file that is sent, or written.
+    pub jobs: &'a str,
+    /// Where the receiver listens.
+    pub address: SocketAddr,
+    /// How long a hearing waits for more bytes, in milliseconds, 1 to 60000.
+    pub timeout: u16,
+}

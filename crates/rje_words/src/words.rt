@@ -1,0 +1,112 @@
+//! The words of the command line.
+ghost use Rattle.std.specs.Prelude.{◌≡◌, Some, map, codes, IfOk, IfErr, option_map};
+ghost use Rattle.clap.specs.Words.{first_of, found_of, one_of, rows_of};
+ghost use Rattle.rje_words.specs.CommandLine.{IsOneOf, command_names};
+ghost use Rattle.rje_words.specs.Asking.{AsksFor, IsTold, IsOrderOf, IsFaultOf, IsCardsOrderOf, IsLoopOrderOf, IsPeerOrderOf, word_in, is_on, device_in};
+
+mod app;
+
+use crate::address::address_of;
+use crate::device::Device;
+use crate::order::{CardsOrder, FileOrder, LoopOrder, Order, PeerOrder, SocketOrder, TryOrder};
+use crate::words_fault::WordsFault;
+use app::program;
+use clap::ArgMatches;
+use std::alloc::Global;
+
+/// The deck that is standard input.
+pub const STANDARD_INPUT: &str = "-";
+
+/// What these words, which are those behind the program's name, ask for. No words ask for the blocks of the deck on standard input.
+pub fn parse<'a>(alloc: Global, words: &'a [&'a str]) -> Result<Order<'a>, WordsFault>
+    ensures asked { IfOk result (AsksFor (map (λ word. word.now) words.entry.now)) }
+    ensures told { IfErr result (IsTold (map (λ word. word.now) words.entry.now)) }
+{
+    if words.is_empty() {
+        return Ok(Order::Files(FileOrder::Blocks(STANDARD_INPUT)));
+    }
+    let matches = program(alloc)?.try_get_matches_from(words)?;
+    let (command, inner) = matches.subcommand().unwrap();
+    order_of(command, inner)
+}
+
+/// What the command of this name asks for, of which clap found this.
+fn order_of<'a>(command: &str, matches: &ArgMatches<'a>) -> Result<Order<'a>, WordsFault>
+    requires known { IsOneOf command.now command_names }
+    ensures asked { IfOk result (IsOrderOf command.now (rows_of (found_of matches.now))) }
+    ensures told { IfErr result (IsFaultOf command.now (rows_of (found_of matches.now))) }
+{
+    match command {
+        "blocks" => Ok(Order::Files(FileOrder::Blocks(word(matches, "DECK")))),
+        "cards" => Ok(Order::Files(FileOrder::Cards(cards_order(matches)?))),
+        "show" => Ok(Order::Files(FileOrder::Show(word(matches, "JOBS")))),
+        "check" => Ok(Order::Files(FileOrder::Check(word(matches, "JOBS")))),
+        "print" => Ok(Order::Files(FileOrder::Print(word(matches, "JOBS")))),
+        "try" => Ok(Order::Files(FileOrder::Try(TryOrder {
+            jobs: word(matches, "JOBS"),
+            script: word(matches, "SCRIPT"),
+        }))),
+        "loop" => Ok(Order::Sockets(SocketOrder::Loop(loop_order(matches)))),
+        "send" => Ok(Order::Sockets(SocketOrder::Send(peer_order(matches, "to")?))),
+        "receive" => Ok(Order::Sockets(SocketOrder::Receive(peer_order(matches, "listen")?))),
+        _ => unreachable!(),
+    }
+}
+
+fn cards_order<'a>(matches: &ArgMatches<'a>) -> Result<CardsOrder<'a>, WordsFault>
+    ensures asked { IfOk result (IsCardsOrderOf (rows_of (found_of matches.now))) }
+    ensures told { IfErr result (λ fault. (fault ≡ WordsFault.TwoDevices)
+        × (device_in (rows_of (found_of matches.now)) ≡ None)) }
+{
+    let deck = word(matches, "DECK");
+    let jobs = word(matches, "JOBS");
+    let printer = is_given(matches, "printer");
+    let punch = is_given(matches, "punch");
+    let transparent = is_given(matches, "transparent");
+    match Device::chosen(printer, punch, transparent) {
+        Some(device) => Ok(CardsOrder { deck, jobs, device }),
+        None => Err(WordsFault::TwoDevices),
+    }
+}
+
+fn loop_order<'a>(matches: &ArgMatches<'a>) -> LoopOrder<'a>
+    ensures { IsLoopOrderOf (rows_of (found_of matches.now)) result }
+{
+    LoopOrder {
+        jobs: word(matches, "JOBS"),
+        timeout: timeout_of(matches),
+    }
+}
+
+/// The address is the value of this option.
+fn peer_order<'a>(matches: &ArgMatches<'a>, id: &str) -> Result<PeerOrder<'a>, WordsFault>
+    ensures asked { IfOk result (IsPeerOrderOf id.now (rows_of (found_of matches.now))) }
+    ensures told { IfErr result (λ fault. fault ≡ WordsFault.BadAddress) }
+{
+    let Some(address) = address_of(word(matches, id)) else {
+        return Err(WordsFault::BadAddress);
+    };
+    Ok(PeerOrder {
+        jobs: word(matches, "JOBS"),
+        address,
+        timeout: timeout_of(matches),
+    })
+}
+
+/// How long a hearing waits, in milliseconds: clap tests the range.
+fn timeout_of(matches: &ArgMatches) -> u16 {
+    matches.get_one::<u16>("timeout").unwrap_or(3000)
+}
+
+/// The value that was found, and no character where none was.
+fn word<'a>(matches: &ArgMatches<'a>, id: &str) -> &'a str
+    ensures { result.now ≡ word_in id.now (rows_of (found_of matches.now)) }
+{
+    matches.get_str(id).unwrap_or("")
+}
+
+fn is_given(matches: &ArgMatches, id: &str) -> bool
+    ensures { result ≡ is_on id.now (rows_of (found_of matches.now)) }
+{
+    matches.get_one::<bool>(id).unwrap_or(false)
+}

@@ -1,0 +1,182 @@
+//! The command line that clap is told of.
+ghost use Rattle.std.specs.Prelude.{◌≡◌, codes, IfOk};
+ghost use Rattle.clap.specs.Words.{App, Rule, with_rule, with_subcommand};
+ghost use Rattle.rje_words.specs.CommandLine.{IsArg, IsApp, file_rule, flag_rule, address_rule, timeout_rule, file_app, blocks_app, cards_app, try_app, loop_app, send_app, receive_app, rje_app};
+
+use clap::{Arg, ArgAction, Command, value_parser};
+use std::alloc::{AllocError, Global};
+
+/// The program's command line.
+pub fn program<'a>(alloc: Global) -> Result<Command<'a>, AllocError>
+    ensures { IfOk result (IsApp rje_app) }
+{
+    let top = Command::new(alloc, "rje")
+        .about("Jobs of cards and lines over a Binary Synchronous line.")
+        .no_binary_name(true)
+        .subcommand_required(true)
+        .bin_name("rje")?;
+    let top = with_command(top, cards(alloc)?)?;
+    let top = with_command(top, blocks(alloc)?)?;
+    let show = of_jobs(alloc, "show", "Print a line for each job of a job file")?;
+    let top = with_command(top, show)?;
+    let check = of_jobs(
+        alloc,
+        "check",
+        "Tell whether the jobs of a job file can be sent",
+    )?;
+    let top = with_command(top, check)?;
+    let print = of_jobs(
+        alloc,
+        "print",
+        "Print the listings and punched cards of a job file",
+    )?;
+    let top = with_command(top, print)?;
+    let top = with_command(top, attempt(alloc)?)?;
+    let top = with_command(top, loopback(alloc)?)?;
+    let top = with_command(top, send(alloc)?)?;
+    with_command(top, receive(alloc)?)
+}
+
+fn attempt<'a>(alloc: Global) -> Result<Command<'a>, AllocError>
+    ensures { IfOk result (IsApp try_app) }
+{
+    let command = of_jobs(
+        alloc,
+        "try",
+        "Print what happens to the jobs of a job file on a line that loses and damages",
+    )?;
+    with_arg(
+        command,
+        file(alloc, "SCRIPT", "What the line does, a turn a line"),
+    )
+}
+
+fn loopback<'a>(alloc: Global) -> Result<Command<'a>, AllocError>
+    ensures { IfOk result (IsApp loop_app) }
+{
+    let command = of_jobs(
+        alloc,
+        "loop",
+        "Send the jobs of a job file over a connection on this machine, both ends in one process",
+    )?;
+    with_arg(command, timeout(alloc))
+}
+
+fn send<'a>(alloc: Global) -> Result<Command<'a>, AllocError>
+    ensures { IfOk result (IsApp send_app) }
+{
+    let command = of_jobs(
+        alloc,
+        "send",
+        "Send the jobs of a job file to a receiver that listens",
+    )?;
+    let to = address(alloc, "to", "Where the receiver listens, as 192.0.2.1:3780");
+    let command = with_arg(command, to)?;
+    with_arg(command, timeout(alloc))
+}
+
+fn receive<'a>(alloc: Global) -> Result<Command<'a>, AllocError>
+    ensures { IfOk result (IsApp receive_app) }
+{
+    let command = of_jobs(
+        alloc,
+        "receive",
+        "Take one transmission from whoever connects, into a job file",
+    )?;
+    let listen = address(alloc, "listen", "Where to listen, as 0.0.0.0:3780");
+    let command = with_arg(command, listen)?;
+    with_arg(command, timeout(alloc))
+}
+
+fn blocks<'a>(alloc: Global) -> Result<Command<'a>, AllocError>
+    ensures { IfOk result (IsApp blocks_app) }
+{
+    let command = Command::new(alloc, "blocks").about("Print the blocks of a deck's job");
+    with_arg(
+        command,
+        file(
+            alloc,
+            "DECK",
+            "A text file with a card a line; - is standard input",
+        ),
+    )
+}
+
+fn cards<'a>(alloc: Global) -> Result<Command<'a>, AllocError>
+    ensures { IfOk result (IsApp cards_app) }
+{
+    let command = Command::new(alloc, "cards").about("Make a job file of a deck");
+    let deck = file(
+        alloc,
+        "DECK",
+        "A text file with a card a line; - is standard input",
+    );
+    let command = with_arg(command, deck)?;
+    let command = with_arg(command, file(alloc, "JOBS", "The job file to write"))?;
+    let printer = flag(alloc, "printer", "The job is for the printer");
+    let command = with_arg(command, printer)?;
+    let punch = flag(alloc, "punch", "The job is for the punch");
+    let command = with_arg(command, punch)?;
+    let transparent = flag(
+        alloc,
+        "transparent",
+        "The job is for the punch, its cards filled to 80 bytes and sent as they are",
+    );
+    with_arg(command, transparent)
+}
+
+/// A command over a job file.
+fn of_jobs<'a>(alloc: Global, name: &'a str, about: &'a str) -> Result<Command<'a>, AllocError>
+    ensures { IfOk result (IsApp (file_app name.entry.now (codes "JOBS"))) }
+{
+    let command = Command::new(alloc, name).about(about);
+    with_arg(command, file(alloc, "JOBS", "A job file"))
+}
+
+fn file<'a>(alloc: Global, id: &'a str, help: &'a str) -> Arg<'a>
+    ensures { IsArg (file_rule id.entry.now) result }
+{
+    Arg::new(alloc, id)
+        .required(true)
+        .action(ArgAction::Set)
+        .help(help)
+}
+
+fn flag<'a>(alloc: Global, id: &'a str, help: &'a str) -> Arg<'a>
+    ensures { IsArg (flag_rule id.entry.now) result }
+{
+    Arg::new(alloc, id)
+        .long(id)
+        .action(ArgAction::SetTrue)
+        .help(help)
+}
+
+fn address<'a>(alloc: Global, id: &'a str, help: &'a str) -> Arg<'a>
+    ensures { IsArg (address_rule id.entry.now) result }
+{
+    file(alloc, id, help).long(id).value_name("ADDR")
+}
+
+fn timeout<'a>(alloc: Global) -> Arg<'a>
+    ensures { IsArg timeout_rule result }
+{
+    Arg::new(alloc, "timeout")
+        .long("timeout")
+        .value_name("MS")
+        .action(ArgAction::Set)
+        .value_parser(value_parser!(u16).range(1..=60000))
+        .default_value("3000")
+        .help("How long a hearing waits for more bytes, in milliseconds")
+}
+
+fn with_arg<'a>(command: Command<'a>, arg: Arg<'a>) -> Result<Command<'a>, AllocError>
+    ensures { (app : App) (rule : Rule) → IsApp app command.entry → IsArg rule arg.entry → IfOk result (IsApp (with_rule app rule)) }
+{
+    command.arg(arg)
+}
+
+fn with_command<'a>(top: Command<'a>, command: Command<'a>) -> Result<Command<'a>, AllocError>
+    ensures { (app under : App) → IsApp app top.entry → IsApp under command.entry → IfOk result (IsApp (with_subcommand app under.top)) }
+{
+    top.subcommand(command)
+}
