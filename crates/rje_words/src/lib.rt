@@ -3,11 +3,13 @@
 
 mod address;
 mod device;
+mod laws;
 mod order;
 mod words;
 mod words_fault;
 
 pub use device::Device;
+pub use laws::words_ask_for_orders;
 pub use order::{CardsOrder, FileOrder, LoopOrder, Order, PeerOrder, SocketOrder, TryOrder};
 pub use words::{STANDARD_INPUT, parse};
 pub use words_fault::WordsFault;

@@ -1,0 +1,263 @@
+-- What clap makes of canonical words over files, and what they ask for.
+use Rattle.std.proofs.Common.{ℕ, List, [], ◌∷◌, ◌≡◌, ◌==◌, arith, Option, Some, None, Bool, true, false, refl, codes, not, ap, ◌∙◌, inl, inr, sym, subst}
+use Rattle.std.specs.Prelude.{option_map, unwrap_or}
+use Rattle.std.specs.Option.{IsSomeAnd}
+use Rattle.std.specs.Str.{bytes_eq}
+use Rattle.std.proofs.lemmas.Bool.{true≢false}
+use Rattle.std.proofs.lemmas.Bool.Decides.{nat_tests}
+use Rattle.std.proofs.lemmas.Slice.Eq.{bytes_eq-Decides}
+use Rattle.clap.specs.Words.{HasKind, Row, Text, fault_of, subcommand_of}
+use Rattle.clap.proofs.OnLiterals.{clap_on_literals}
+use Rattle.clap.specs.declared.error.Error.{Error}
+use Rattle.rje_words.specs.declared.order.Order.{Order}
+use Rattle.rje_words.specs.declared.order.Order.TheVariants.{Files, Sockets}
+use Rattle.rje_words.specs.declared.order.FileOrder.TheVariants.{Blocks, Show, Check, Print, Try}
+use Rattle.rje_words.specs.declared.order.SocketOrder.{SocketOrder}
+use Rattle.rje_words.specs.declared.order.SocketOrder.TheVariants.{Loop, Send, Receive}
+use Rattle.rje_words.specs.declared.words_fault.WordsFault.{WordsFault}
+use Rattle.rje_words.specs.declared.words_fault.WordsFault.TheVariants.{Refused, TwoDevices, BadAddress}
+use Rattle.rje_words.specs.Asking.{AsksFor, IsFaultOf, IsOrderOf, IsTold, word_in}
+use Rattle.rje_words.specs.Canonical.{AskOnlyFor, BlocksAsked, ShowAsked, CheckAsked, PrintAsked, TryAsked}
+use Rattle.rje_words.specs.CommandLine.{rje_app, is_file, is_name}
+use Rattle.rje_words.specs.Orders.{IsBlocks, IsShow, IsCheck, IsPrint, IsTry}
+use Rattle.rje_words.specs.WordsFault.{IsWantOfMemory}
+
+-- WHAT IS FOUND OF ANY COMMAND
+
+-- the command that was met, and what is seen of its rows
+abbrev pub seen : {V : Type 0} → (List Row → V) → Option (Text × List Row) → Option (Text × V)
+seen view = option_map (λ found. (found.0, view found.1))
+
+-- what holds of the command that was met holds of its name and of what was seen
+pub as_seen : {V : Type 0} (view : List Row → V) (met : Option (Text × List Row)) (name : Text) (value : V) (P : Text → List Row → Type 0)
+    → seen view met ≡ Some (name, value) → IsSomeAnd met (λ m. P m.0 m.1) → (rows : List Row) × (view rows ≡ value) × P name rows
+as_seen view None name value P e h = absurd h
+as_seen {V} view (Some m) name value P e h =
+    let both = ap (λ (o : Option (Text × V)). unwrap_or o (name, value)) e in
+    (m.1, ap (λ (p : Text × V). p.1) both, subst (λ n. P n m.1) (ap (λ (p : Text × V). p.0) both) h)
+
+memory_only : (error : Error) → HasKind [] error → IsWantOfMemory (Refused error)
+memory_only error (inl h) = h
+memory_only error (inr h) = absurd h
+
+-- words of which clap finds no fault, and what is seen of the command that they name
+pub record AreTaken {V : Type 0} (view : List Row → V) (words : List Text) (name : Text) (value : V) : Type 0 where
+  pub faultless : fault_of rje_app words ≡ []
+  pub found : seen view (subcommand_of rje_app words) ≡ Some (name, value)
+
+module _ {V : Type 0} (view : List Row → V) (word : Text) (words : List Text) (name : Text) (value : V) (taken : AreTaken view (word ∷ words) name value) where
+  pub only_memory : ((rows : List Row) → view rows ≡ value → IsFaultOf name rows TwoDevices → ⊥) → ((rows : List Row) → IsFaultOf name rows BadAddress → ⊥)
+      → (fault : WordsFault) → IsTold (word ∷ words) fault → IsWantOfMemory fault
+  only_memory two bad (Refused error) h = memory_only error (subst (λ kinds. HasKind kinds error) taken.faultless h)
+  only_memory two bad TwoDevices h = let r = as_seen view _ name value (λ n rows. IsFaultOf n rows TwoDevices) taken.found h.1 in absurd (two r.0 r.1 r.2)
+  only_memory two bad BadAddress h = let r = as_seen view _ name value (λ n rows. IsFaultOf n rows BadAddress) taken.found h.1 in absurd (bad r.0 r.2)
+
+  pub only_order : (P : Order → Type 0) → ((rows : List Row) → view rows ≡ value → (order : Order) → IsOrderOf name rows order → P order)
+      → (order : Order) → AsksFor (word ∷ words) order → P order
+  only_order P reads order h = let r = as_seen view _ name value (λ n rows. IsOrderOf n rows order) taken.found h.1 in reads r.0 r.1 order r.2
+
+pub not_false : (b : Bool) → not b ≡ true → b ≡ false
+not_false true h = cc
+not_false false h = refl
+
+-- `blocks DECK`
+
+abbrev pub deck_in : List Row → Text
+deck_in = word_in (codes "DECK")
+
+deck_name : (c : ℕ) (rest : List ℕ) → (c == 45) ≡ false
+    → seen deck_in (subcommand_of rje_app (codes "blocks" ∷ (c ∷ rest) ∷ [])) ≡ Some (codes "blocks", c ∷ rest)
+unfolding clap_on_literals
+deck_name c rest h = rw (h, h) refl
+
+deck_name_taken : (c : ℕ) (rest : List ℕ) → (c == 45) ≡ false → fault_of rje_app (codes "blocks" ∷ (c ∷ rest) ∷ []) ≡ []
+unfolding clap_on_literals
+deck_name_taken c rest h = rw (h, h) refl
+
+deck_hyphen : seen deck_in (subcommand_of rje_app (codes "blocks" ∷ codes "-" ∷ [])) ≡ Some (codes "blocks", codes "-")
+unfolding clap_on_literals
+deck_hyphen = refl
+
+deck_hyphen_taken : fault_of rje_app (codes "blocks" ∷ codes "-" ∷ []) ≡ []
+unfolding clap_on_literals
+deck_hyphen_taken = refl
+
+deck_single : (c : ℕ) (hyphen : Bool) → (c == 45) ≡ hyphen
+    → seen deck_in (subcommand_of rje_app (codes "blocks" ∷ (c ∷ []) ∷ [])) ≡ Some (codes "blocks", c ∷ [])
+deck_single c true h = let is : c ≡ 45 = grind (arith, nat_tests) in rw is deck_hyphen
+deck_single c false h = deck_name c [] h
+
+deck_single_taken : (c : ℕ) (hyphen : Bool) → (c == 45) ≡ hyphen → fault_of rje_app (codes "blocks" ∷ (c ∷ []) ∷ []) ≡ []
+deck_single_taken c true h = let is : c ≡ 45 = grind (arith, nat_tests) in rw is deck_hyphen_taken
+deck_single_taken c false h = deck_name_taken c [] h
+
+-- clap finds the deck
+pub blocks_found : (deck : List ℕ) → is_file deck ≡ true → seen deck_in (subcommand_of rje_app (codes "blocks" ∷ deck ∷ [])) ≡ Some (codes "blocks", deck)
+blocks_found [] h = cc
+blocks_found (c ∷ []) h = deck_single c (c == 45) refl
+blocks_found (c ∷ d ∷ rest) h = deck_name c (d ∷ rest) (not_false (c == 45) h)
+
+-- clap takes the words
+pub blocks_taken : (deck : List ℕ) → is_file deck ≡ true → fault_of rje_app (codes "blocks" ∷ deck ∷ []) ≡ []
+blocks_taken [] h = cc
+blocks_taken (c ∷ []) h = deck_single_taken c (c == 45) refl
+blocks_taken (c ∷ d ∷ rest) h = deck_name_taken c (d ∷ rest) (not_false (c == 45) h)
+
+-- `show JOBS`, `check JOBS` AND `print JOBS`
+
+abbrev pub jobs_in : List Row → Text
+jobs_in = word_in (codes "JOBS")
+
+show_name : (c : ℕ) (rest : List ℕ) → (c == 45) ≡ false
+    → seen jobs_in (subcommand_of rje_app (codes "show" ∷ (c ∷ rest) ∷ [])) ≡ Some (codes "show", c ∷ rest)
+unfolding clap_on_literals
+show_name c rest h = rw (h, h) refl
+
+show_name_taken : (c : ℕ) (rest : List ℕ) → (c == 45) ≡ false → fault_of rje_app (codes "show" ∷ (c ∷ rest) ∷ []) ≡ []
+unfolding clap_on_literals
+show_name_taken c rest h = rw (h, h) refl
+
+pub show_found : (jobs : List ℕ) → is_name jobs ≡ true → seen jobs_in (subcommand_of rje_app (codes "show" ∷ jobs ∷ [])) ≡ Some (codes "show", jobs)
+show_found [] h = cc
+show_found (c ∷ rest) h = show_name c rest (not_false (c == 45) h)
+
+pub show_taken : (jobs : List ℕ) → is_name jobs ≡ true → fault_of rje_app (codes "show" ∷ jobs ∷ []) ≡ []
+show_taken [] h = cc
+show_taken (c ∷ rest) h = show_name_taken c rest (not_false (c == 45) h)
+
+check_name : (c : ℕ) (rest : List ℕ) → (c == 45) ≡ false
+    → seen jobs_in (subcommand_of rje_app (codes "check" ∷ (c ∷ rest) ∷ [])) ≡ Some (codes "check", c ∷ rest)
+unfolding clap_on_literals
+check_name c rest h = rw (h, h) refl
+
+check_name_taken : (c : ℕ) (rest : List ℕ) → (c == 45) ≡ false → fault_of rje_app (codes "check" ∷ (c ∷ rest) ∷ []) ≡ []
+unfolding clap_on_literals
+check_name_taken c rest h = rw (h, h) refl
+
+pub check_found : (jobs : List ℕ) → is_name jobs ≡ true → seen jobs_in (subcommand_of rje_app (codes "check" ∷ jobs ∷ [])) ≡ Some (codes "check", jobs)
+check_found [] h = cc
+check_found (c ∷ rest) h = check_name c rest (not_false (c == 45) h)
+
+pub check_taken : (jobs : List ℕ) → is_name jobs ≡ true → fault_of rje_app (codes "check" ∷ jobs ∷ []) ≡ []
+check_taken [] h = cc
+check_taken (c ∷ rest) h = check_name_taken c rest (not_false (c == 45) h)
+
+print_name : (c : ℕ) (rest : List ℕ) → (c == 45) ≡ false
+    → seen jobs_in (subcommand_of rje_app (codes "print" ∷ (c ∷ rest) ∷ [])) ≡ Some (codes "print", c ∷ rest)
+unfolding clap_on_literals
+print_name c rest h = rw (h, h) refl
+
+print_name_taken : (c : ℕ) (rest : List ℕ) → (c == 45) ≡ false → fault_of rje_app (codes "print" ∷ (c ∷ rest) ∷ []) ≡ []
+unfolding clap_on_literals
+print_name_taken c rest h = rw (h, h) refl
+
+pub print_found : (jobs : List ℕ) → is_name jobs ≡ true → seen jobs_in (subcommand_of rje_app (codes "print" ∷ jobs ∷ [])) ≡ Some (codes "print", jobs)
+print_found [] h = cc
+print_found (c ∷ rest) h = print_name c rest (not_false (c == 45) h)
+
+pub print_taken : (jobs : List ℕ) → is_name jobs ≡ true → fault_of rje_app (codes "print" ∷ jobs ∷ []) ≡ []
+print_taken [] h = cc
+print_taken (c ∷ rest) h = print_name_taken c rest (not_false (c == 45) h)
+
+-- `try JOBS SCRIPT`
+
+-- the two files that were found
+pub record TwoFiles : Type 0 where
+  pub jobs : Text
+  pub script : Text
+
+abbrev pub files_in : List Row → TwoFiles
+files_in rows = record { jobs = word_in (codes "JOBS") rows; script = word_in (codes "SCRIPT") rows }
+
+try_names : (c d : ℕ) (cs ds : List ℕ) → (c == 45) ≡ false → (d == 45) ≡ false
+    → seen files_in (subcommand_of rje_app (codes "try" ∷ (c ∷ cs) ∷ (d ∷ ds) ∷ [])) ≡ Some (codes "try", record { jobs = c ∷ cs; script = d ∷ ds })
+unfolding clap_on_literals
+try_names c d cs ds h k = rw (h, h, k, k) refl
+
+try_names_taken : (c d : ℕ) (cs ds : List ℕ) → (c == 45) ≡ false → (d == 45) ≡ false → fault_of rje_app (codes "try" ∷ (c ∷ cs) ∷ (d ∷ ds) ∷ []) ≡ []
+unfolding clap_on_literals
+try_names_taken c d cs ds h k = rw (h, h, k, k) refl
+
+pub try_found : (jobs script : List ℕ) → is_name jobs ≡ true → is_name script ≡ true
+    → seen files_in (subcommand_of rje_app (codes "try" ∷ jobs ∷ script ∷ [])) ≡ Some (codes "try", record { jobs = jobs; script = script })
+try_found [] script h k = cc
+try_found (c ∷ cs) [] h k = cc
+try_found (c ∷ cs) (d ∷ ds) h k = try_names c d cs ds (not_false (c == 45) h) (not_false (d == 45) k)
+
+pub try_taken : (jobs script : List ℕ) → is_name jobs ≡ true → is_name script ≡ true → fault_of rje_app (codes "try" ∷ jobs ∷ script ∷ []) ≡ []
+try_taken [] script h k = cc
+try_taken (c ∷ cs) [] h k = cc
+try_taken (c ∷ cs) (d ∷ ds) h k = try_names_taken c d cs ds (not_false (c == 45) h) (not_false (d == 45) k)
+
+-- WHAT THE WORDS ASK FOR
+
+apart : (a b : Text) → a ≡ b → bytes_eq a b ≡ false → ⊥
+apart a b e h = true≢false (sym ((bytes_eq-Decides a b).1 e) ∙ h)
+
+no_socket : (name : Text) (rows : List Row) (order : SocketOrder) → bytes_eq name (codes "loop") ≡ false → bytes_eq name (codes "send") ≡ false
+    → bytes_eq name (codes "receive") ≡ false → IsOrderOf name rows (Sockets order) → ⊥
+no_socket name rows (Loop order) loop send receive h = apart _ _ h.0 loop
+no_socket name rows (Send order) loop send receive h = apart _ _ h.0 send
+no_socket name rows (Receive order) loop send receive h = apart _ _ h.0 receive
+
+blocks_read : (deck : Text) (rows : List Row) → deck_in rows ≡ deck → (order : Order) → IsOrderOf (codes "blocks") rows order → IsBlocks deck order
+blocks_read deck rows e (Files (Blocks named)) h = h.1 ∙ e
+blocks_read deck rows e (Files _) h = absurd (apart _ _ h.0 refl)
+blocks_read deck rows e (Sockets order) h = absurd (no_socket (codes "blocks") rows order refl refl refl h)
+
+show_read : (jobs : Text) (rows : List Row) → jobs_in rows ≡ jobs → (order : Order) → IsOrderOf (codes "show") rows order → IsShow jobs order
+show_read jobs rows e (Files (Show named)) h = h.1 ∙ e
+show_read jobs rows e (Files _) h = absurd (apart _ _ h.0 refl)
+show_read jobs rows e (Sockets order) h = absurd (no_socket (codes "show") rows order refl refl refl h)
+
+check_read : (jobs : Text) (rows : List Row) → jobs_in rows ≡ jobs → (order : Order) → IsOrderOf (codes "check") rows order → IsCheck jobs order
+check_read jobs rows e (Files (Check named)) h = h.1 ∙ e
+check_read jobs rows e (Files _) h = absurd (apart _ _ h.0 refl)
+check_read jobs rows e (Sockets order) h = absurd (no_socket (codes "check") rows order refl refl refl h)
+
+print_read : (jobs : Text) (rows : List Row) → jobs_in rows ≡ jobs → (order : Order) → IsOrderOf (codes "print") rows order → IsPrint jobs order
+print_read jobs rows e (Files (Print named)) h = h.1 ∙ e
+print_read jobs rows e (Files _) h = absurd (apart _ _ h.0 refl)
+print_read jobs rows e (Sockets order) h = absurd (no_socket (codes "print") rows order refl refl refl h)
+
+try_read : (jobs script : Text) (rows : List Row) → files_in rows ≡ record { jobs = jobs; script = script } → (order : Order) → IsOrderOf (codes "try") rows order
+    → IsTry jobs script order
+try_read jobs script rows e (Files (Try order)) h = (h.1.jobs ∙ ap (λ f. f.jobs) e, h.1.script ∙ ap (λ f. f.script) e)
+try_read jobs script rows e (Files _) h = absurd (apart _ _ h.0 refl)
+try_read jobs script rows e (Sockets order) h = absurd (no_socket (codes "try") rows order refl refl refl h)
+
+no_devices : (name : Text) (rows : List Row) → bytes_eq name (codes "cards") ≡ false → IsFaultOf name rows TwoDevices → ⊥
+no_devices name rows ne h = apart _ _ h.0 ne
+
+no_address : (name : Text) (rows : List Row) → bytes_eq name (codes "send") ≡ false → bytes_eq name (codes "receive") ≡ false → IsFaultOf name rows BadAddress → ⊥
+no_address name rows ne ne' (inl e) = apart _ _ e ne
+no_address name rows ne ne' (inr e) = apart _ _ e ne'
+
+module _ {V : Type 0} (view : List Row → V) (word : Text) (words : List Text) (name : Text) (value : V) (P : Order → Type 0) where
+  ask_only : fault_of rje_app (word ∷ words) ≡ [] → seen view (subcommand_of rje_app (word ∷ words)) ≡ Some (name, value)
+      → bytes_eq name (codes "cards") ≡ false → bytes_eq name (codes "send") ≡ false → bytes_eq name (codes "receive") ≡ false
+      → ((rows : List Row) → view rows ≡ value → (order : Order) → IsOrderOf name rows order → P order) → AskOnlyFor (word ∷ words) P
+  ask_only none found cards send receive reads = let taken : AreTaken view (word ∷ words) name value = record { faultless = none; found = found } in record {
+    order = only_order view word words name value taken P reads;
+    fault = only_memory view word words name value taken (λ rows e. no_devices name rows cards) (λ rows. no_address name rows send receive);
+  }
+
+pub blocks_asked : BlocksAsked
+blocks_asked deck h = ask_only deck_in (codes "blocks") (deck ∷ []) (codes "blocks") deck (IsBlocks deck) (blocks_taken deck h) (blocks_found deck h)
+    refl refl refl (blocks_read deck)
+
+pub show_asked : ShowAsked
+show_asked jobs h = ask_only jobs_in (codes "show") (jobs ∷ []) (codes "show") jobs (IsShow jobs) (show_taken jobs h) (show_found jobs h)
+    refl refl refl (show_read jobs)
+
+pub check_asked : CheckAsked
+check_asked jobs h = ask_only jobs_in (codes "check") (jobs ∷ []) (codes "check") jobs (IsCheck jobs) (check_taken jobs h) (check_found jobs h)
+    refl refl refl (check_read jobs)
+
+pub print_asked : PrintAsked
+print_asked jobs h = ask_only jobs_in (codes "print") (jobs ∷ []) (codes "print") jobs (IsPrint jobs) (print_taken jobs h) (print_found jobs h)
+    refl refl refl (print_read jobs)
+
+pub try_asked : TryAsked
+try_asked jobs script h k = ask_only files_in (codes "try") (jobs ∷ script ∷ []) (codes "try") (record { jobs = jobs; script = script }) (IsTry jobs script)
+    (try_taken jobs script h k) (try_found jobs script h k) refl refl refl (try_read jobs script)

@@ -1,0 +1,12 @@
+//! What words promise beyond the calls: laws of the definitions that `parse` cites.
+ghost use Rattle.rje_words.specs.Canonical.{BlocksAsked, ShowAsked, CheckAsked, PrintAsked, TryAsked};
+
+/// A command's name and the files that it takes, in their order, ask for this command over these files: nothing is told of them but want
+/// of memory. A file's word has no hyphen in front; a deck may be `-`.
+pub fn words_ask_for_orders()
+    ensures blocks { BlocksAsked }
+    ensures show { ShowAsked }
+    ensures check { CheckAsked }
+    ensures print { PrintAsked }
+    ensures attempt { TryAsked }
+{}
