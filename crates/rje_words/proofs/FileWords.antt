@@ -36,7 +36,7 @@ as_seen {V} view (Some m) name value P e h =
     let both = ap (λ (o : Option (Text × V)). unwrap_or o (name, value)) e in
     (m.1, ap (λ (p : Text × V). p.1) both, subst (λ n. P n m.1) (ap (λ (p : Text × V). p.0) both) h)
 
-memory_only : (error : Error) → HasKind [] error → IsWantOfMemory (Refused error)
+pub memory_only : (error : Error) → HasKind [] error → IsWantOfMemory (Refused error)
 memory_only error (inl h) = h
 memory_only error (inr h) = absurd h
 
@@ -191,10 +191,10 @@ try_taken (c ∷ cs) (d ∷ ds) h k = try_names_taken c d cs ds (not_false (c ==
 
 -- WHAT THE WORDS ASK FOR
 
-apart : (a b : Text) → a ≡ b → bytes_eq a b ≡ false → ⊥
+pub apart : (a b : Text) → a ≡ b → bytes_eq a b ≡ false → ⊥
 apart a b e h = true≢false (sym ((bytes_eq-Decides a b).1 e) ∙ h)
 
-no_socket : (name : Text) (rows : List Row) (order : SocketOrder) → bytes_eq name (codes "loop") ≡ false → bytes_eq name (codes "send") ≡ false
+pub no_socket : (name : Text) (rows : List Row) (order : SocketOrder) → bytes_eq name (codes "loop") ≡ false → bytes_eq name (codes "send") ≡ false
     → bytes_eq name (codes "receive") ≡ false → IsOrderOf name rows (Sockets order) → ⊥
 no_socket name rows (Loop order) loop send receive h = apart _ _ h.0 loop
 no_socket name rows (Send order) loop send receive h = apart _ _ h.0 send
@@ -229,7 +229,7 @@ try_read jobs script rows e (Sockets order) h = absurd (no_socket (codes "try") 
 no_devices : (name : Text) (rows : List Row) → bytes_eq name (codes "cards") ≡ false → IsFaultOf name rows TwoDevices → ⊥
 no_devices name rows ne h = apart _ _ h.0 ne
 
-no_address : (name : Text) (rows : List Row) → bytes_eq name (codes "send") ≡ false → bytes_eq name (codes "receive") ≡ false → IsFaultOf name rows BadAddress → ⊥
+pub no_address : (name : Text) (rows : List Row) → bytes_eq name (codes "send") ≡ false → bytes_eq name (codes "receive") ≡ false → IsFaultOf name rows BadAddress → ⊥
 no_address name rows ne ne' (inl e) = apart _ _ e ne
 no_address name rows ne ne' (inr e) = apart _ _ e ne'
 

@@ -1,3 +1,5 @@
 pub mod Found
 pub mod Commands
 pub mod FileWords
+pub mod CardsLevel
+pub mod CardsWords

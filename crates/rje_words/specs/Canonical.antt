@@ -1,11 +1,14 @@
 -- What canonical words ask for (own profile).
-use Rattle.std.specs.Prelude.{◌≡◌, true, List, [], ◌∷◌, codes}
+use Rattle.std.specs.Prelude.{◌≡◌, ◌⊎◌, true, List, [], ◌∷◌, None, Some, codes, map}
 use Rattle.clap.specs.Words.{Text}
+use Rattle.rje_words.specs.declared.device.Device.{Device}
 use Rattle.rje_words.specs.declared.order.Order.{Order}
 use Rattle.rje_words.specs.declared.words_fault.WordsFault.{WordsFault}
+use Rattle.rje_words.specs.declared.words_fault.WordsFault.TheVariants.{TwoDevices}
 use Rattle.rje_words.specs.Asking.{AsksFor, IsTold}
+use Rattle.rje_words.specs.CardsWords.{CardsWord, HaveFiles, device_among, has_each_once, text_of}
 use Rattle.rje_words.specs.CommandLine.{is_file, is_name}
-use Rattle.rje_words.specs.Orders.{IsBlocks, IsShow, IsCheck, IsPrint, IsTry}
+use Rattle.rje_words.specs.Orders.{IsBlocks, IsCards, IsShow, IsCheck, IsPrint, IsTry}
 use Rattle.rje_words.specs.WordsFault.{IsWantOfMemory}
 
 -- each order that the words ask for is such a one, and nothing is told of them but want of memory
@@ -33,3 +36,21 @@ PrintAsked = (jobs : Text) → is_name jobs ≡ true → AskOnlyFor (codes "prin
 abbrev pub TryAsked : Type 0
 TryAsked =
     (jobs script : Text) → is_name jobs ≡ true → is_name script ≡ true → AskOnlyFor (codes "try" ∷ jobs ∷ script ∷ []) (IsTry jobs script)
+
+-- `cards` with a deck, a job file and options for a device among them, each at most once, asks for a job file of this deck for the device
+-- that the options choose
+abbrev pub CardsAsked : Type 0
+CardsAsked =
+    (words : List CardsWord) (deck jobs : Text) (device : Device) → HaveFiles words deck jobs → has_each_once words ≡ true → device_among words ≡ Some device
+    → AskOnlyFor (codes "cards" ∷ map text_of words) (IsCards deck jobs device)
+
+-- the words ask for no order, and nothing is told of them but such a fault, or want of memory
+pub record TellOnly (words : List Text) (IsOne : WordsFault → Type 0) : Type 0 where
+  pub order : (order : Order) → AsksFor words order → ⊥
+  pub fault : (fault : WordsFault) → IsTold words fault → IsOne fault ⊎ IsWantOfMemory fault
+
+-- where they choose more than one device, this is told
+abbrev pub TwoDevicesTold : Type 0
+TwoDevicesTold =
+    (words : List CardsWord) (deck jobs : Text) → HaveFiles words deck jobs → has_each_once words ≡ true → device_among words ≡ None
+    → TellOnly (codes "cards" ∷ map text_of words) (λ fault. fault ≡ TwoDevices)

@@ -2,6 +2,7 @@ pub mod Device
 pub mod Orders
 pub mod WordsFault
 pub mod CommandLine
+pub mod CardsWords
 pub mod Asking
 pub mod Canonical
 pub use Rattle.clap.specs.Words

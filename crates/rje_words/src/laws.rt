@@ -1,5 +1,5 @@
 //! What words promise beyond the calls: laws of the definitions that `parse` cites.
-ghost use Rattle.rje_words.specs.Canonical.{BlocksAsked, ShowAsked, CheckAsked, PrintAsked, TryAsked};
+ghost use Rattle.rje_words.specs.Canonical.{BlocksAsked, ShowAsked, CheckAsked, PrintAsked, TryAsked, CardsAsked, TwoDevicesTold};
 
 /// A command's name and the files that it takes, in their order, ask for this command over these files: nothing is told of them but want
 /// of memory. A file's word has no hyphen in front; a deck may be `-`.
@@ -9,4 +9,11 @@ pub fn words_ask_for_orders()
     ensures check { CheckAsked }
     ensures print { PrintAsked }
     ensures attempt { TryAsked }
+{}
+
+/// `cards` with a deck, a job file and options among them, in any order and each option at most once, asks for a job file of the deck for
+/// the device that the options choose. Where they choose more than one, that is told.
+pub fn options_choose_the_device()
+    ensures cards { CardsAsked }
+    ensures two_devices { TwoDevicesTold }
 {}

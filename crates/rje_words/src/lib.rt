@@ -9,7 +9,7 @@ mod words;
 mod words_fault;
 
 pub use device::Device;
-pub use laws::words_ask_for_orders;
+pub use laws::{options_choose_the_device, words_ask_for_orders};
 pub use order::{CardsOrder, FileOrder, LoopOrder, Order, PeerOrder, SocketOrder, TryOrder};
 pub use words::{STANDARD_INPUT, parse};
 pub use words_fault::WordsFault;

@@ -1,0 +1,645 @@
+-- What clap makes of the words behind `cards`, in any order.
+use Rattle.std.proofs.Common.{ℕ, List, [], ◌∷◌, ◌++◌, ◌≡◌, ◌==◌, arith, Option, Some, None, Bool, true, false, refl, codes, not, cond, ap, ap₂, ◌∙◌, ◌&&◌, ◌||◌, sym, subst, append_assoc, append-nil}
+use Rattle.std.specs.Prelude.{option_map, unwrap_or, is_some, find, fold, map, if◌then◌else◌, slice_get}
+use Rattle.std.specs.Str.{bytes_eq}
+use Rattle.std.proofs.lemmas.Bool.Decides.{nat_tests}
+use Rattle.clap.specs.Words.{Kinds, Row, Rule, Shape, Text, built, fault_of, new_rule, subcommand_of}
+use Rattle.clap.specs.Kinds.{or_else}
+use Rattle.clap.specs.Simple.{entered, names_of, new_shape}
+use Rattle.clap.specs.Faults.{check_fault, defaults_fault, entered_fault, given_default_fault, level_fault, react_fault, settle_fault, turn_fault, use_fault, walk_fault}
+use Rattle.clap.specs.Walk.{Held, Names, Walk, at_row, default_rows, finished, has_row, idle, is_empty, is_pending, more_values, nothing_held, positional_held, pushed, reacted, reading_by, rows_after, settled, takes_several, used, walk, walk_from, walked, with_default, with_values, without}
+use Rattle.clap.specs.declared.builder.value_parser.Reading.{Reading}
+use Rattle.clap.specs.declared.error.kind.ErrorKind.TheVariants.{ArgumentConflict}
+use Rattle.clap.specs.declared.parser.matches.ValueSource.{ValueSource}
+use Rattle.clap.specs.declared.parser.matches.ValueSource.TheVariants.{DefaultValue, CommandLine}
+use Rattle.clap.proofs.OnLiterals.{clap_on_literals}
+use Rattle.rje_words.specs.Asking.{is_on, word_in}
+use Rattle.rje_words.specs.CardsWords.{CardsWord, DeviceOption, file, option, printer, punch, transparent, text_of}
+use Rattle.rje_words.specs.CommandLine.{is_file, is_name, rje_app}
+
+-- THE ROW OF AN ID
+
+abbrev look : Text → List Row → Option Row
+look id rows = find (λ r. bytes_eq r.id id) rows
+
+look_other : (id : Text) (rows : List Row) (r : Row) → bytes_eq r.id id ≡ false → look id (rows ++ r ∷ []) ≡ look id rows
+look_other id [] r ne = rw ne refl
+look_other id (x ∷ xs) r ne = ap (λ o. cond (bytes_eq x.id id) (Some x) o) (look_other id xs r ne)
+
+look_kept : (id : Text) (rows more : List Row) (r : Row) → look id rows ≡ Some r → look id (rows ++ more) ≡ Some r
+look_kept id [] more r e = cc
+look_kept id (x ∷ xs) more r e = go (bytes_eq x.id id) (look_kept id xs more r) e
+  where
+    go : (b : Bool) → (look id xs ≡ Some r → look id (xs ++ more) ≡ Some r) → cond b (Some x) (look id xs) ≡ Some r
+        → cond b (Some x) (look id (xs ++ more)) ≡ Some r
+    go true later e = e
+    go false later e = later e
+
+look_new : (id : Text) (rows : List Row) (r : Row) → look id rows ≡ None → bytes_eq r.id id ≡ true → look id (rows ++ r ∷ []) ≡ Some r
+look_new id [] r none is = rw is refl
+look_new id (x ∷ xs) r none is = go (bytes_eq x.id id) (λ e. look_new id xs r e is) none
+  where
+    go : (b : Bool) → (look id xs ≡ None → look id (xs ++ r ∷ []) ≡ Some r) → cond b (Some x) (look id xs) ≡ None
+        → cond b (Some x) (look id (xs ++ r ∷ [])) ≡ Some r
+    go true later e = cc
+    go false later e = later e
+
+has_look : (id : Text) (rows : List Row) → has_row id rows ≡ is_some (look id rows)
+has_look id [] = refl
+has_look id (x ∷ xs) = go (bytes_eq x.id id) (has_look id xs)
+  where
+    go : (b : Bool) → has_row id xs ≡ is_some (look id xs) → (b || has_row id xs) ≡ is_some (cond b (Some x) (look id xs))
+    go true e = refl
+    go false e = e
+
+has_none : (id : Text) (rows : List Row) → look id rows ≡ None → has_row id rows ≡ false
+has_none id rows e = has_look id rows ∙ ap is_some e
+
+has_some : (id : Text) (rows : List Row) (r : Row) → look id rows ≡ Some r → has_row id rows ≡ true
+has_some id rows r e = has_look id rows ∙ ap is_some e
+
+row_added : (id : Text) (change : Row → List Row) (missing : List Row) (rows : List Row) → look id rows ≡ None → at_row id change missing rows ≡ rows ++ missing
+row_added id change missing [] none = refl
+row_added id change missing (x ∷ xs) none = go (bytes_eq x.id id) (row_added id change missing xs) none
+  where
+    go : (b : Bool) → (look id xs ≡ None → at_row id change missing xs ≡ xs ++ missing) → cond b (Some x) (look id xs) ≡ None
+        → (if b then change x ++ xs else x ∷ at_row id change missing xs) ≡ x ∷ (xs ++ missing)
+    go true later e = cc
+    go false later e = ap (λ ys. x ∷ ys) (later e)
+
+abbrev value_row : Text → Reading → ValueSource → List Text → Row
+value_row id how source values = record { id = id; values = values; count = None; source = Some source; reading = how }
+
+-- a use of an argument that has no row yet
+row_used : (id : Text) (how : Reading) (values : List Text) (rows : List Row) → look id rows ≡ None
+    → with_values id how CommandLine values (without id rows) ≡ rows ++ value_row id how CommandLine values ∷ []
+row_used id how values rows none =
+    let same : without id rows ≡ rows = row_added id (λ _. []) [] rows none ∙ append-nil rows in
+    ap (with_values id how CommandLine values) same ∙ row_added id (more_values CommandLine values) (value_row id how CommandLine values ∷ []) rows none
+
+-- DEFAULTS
+
+no_default : (a : Rule) (rows : List Row) → a.defaults ≡ [] → with_default rows a ≡ rows
+no_default a rows none = go (has_row a.id rows) a.defaults none
+  where
+    go : (b : Bool) (defaults : List Text) → defaults ≡ [] → (if b then rows else default_rows a.id (reading_by a) defaults rows) ≡ rows
+    go true defaults none = refl
+    go false [] none = refl
+    go false (d ∷ ds) none = cc
+
+default_more : (a : Rule) (rows : List Row) → (more : List Row) × (with_default rows a ≡ rows ++ more) × ((id : Text) → bytes_eq a.id id ≡ false → look id (rows ++ more) ≡ look id rows)
+default_more a rows = go (look a.id rows) refl a.defaults
+  where
+    go : (found : Option Row) → look a.id rows ≡ found → (defaults : List Text) → (more : List Row)
+        × ((if has_row a.id rows then rows else default_rows a.id (reading_by a) defaults rows) ≡ rows ++ more)
+        × ((id : Text) → bytes_eq a.id id ≡ false → look id (rows ++ more) ≡ look id rows)
+    go (Some r) e defaults = ([], rw (has_some a.id rows r e) (sym (append-nil rows)), λ id ne. ap (look id) (append-nil rows))
+    go None e [] = ([], rw (has_none a.id rows e) (sym (append-nil rows)), λ id ne. ap (look id) (append-nil rows))
+    go None e (d ∷ ds) = (
+      value_row a.id (reading_by a) DefaultValue (d ∷ ds) ∷ [],
+      rw (has_none a.id rows e) (row_added a.id (more_values DefaultValue (d ∷ ds)) (value_row a.id (reading_by a) DefaultValue (d ∷ ds) ∷ []) rows e),
+      λ id ne. look_other id rows (value_row a.id (reading_by a) DefaultValue (d ∷ ds)) ne,
+    )
+
+default_kept : (a : Rule) (rows : List Row) (id : Text) (r : Row) → look id rows ≡ Some r → look id (with_default rows a) ≡ Some r
+default_kept a rows id r e = let m = default_more a rows in ap (look id) m.1 ∙ look_kept id rows m.0 r e
+
+default_other : (a : Rule) (rows : List Row) (id : Text) → bytes_eq a.id id ≡ false → look id (with_default rows a) ≡ look id rows
+default_other a rows id ne = let m = default_more a rows in ap (look id) m.1 ∙ m.2 id ne
+
+defaults_kept : (rules : List Rule) (rows : List Row) (id : Text) (r : Row) → look id rows ≡ Some r → look id (fold with_default rows rules) ≡ Some r
+defaults_kept [] rows id r e = e
+defaults_kept (a ∷ rules) rows id r e = defaults_kept rules (with_default rows a) id r (default_kept a rows id r e)
+
+-- a default that stands in for an argument that wasn't given
+default_new : (a : Rule) (rows : List Row) (d : Text) → look a.id rows ≡ None → a.defaults ≡ d ∷ [] → bytes_eq a.id a.id ≡ true
+    → look a.id (with_default rows a) ≡ Some (value_row a.id (reading_by a) DefaultValue (d ∷ []))
+default_new a rows d none is same =
+    let grown : with_default rows a ≡ rows ++ value_row a.id (reading_by a) DefaultValue (d ∷ []) ∷ [] =
+    rw (has_none a.id rows none, is) (row_added a.id (more_values DefaultValue (d ∷ [])) (value_row a.id (reading_by a) DefaultValue (d ∷ []) ∷ []) rows none) in
+    ap (look a.id) grown ∙ look_new a.id rows (value_row a.id (reading_by a) DefaultValue (d ∷ [])) none same
+
+-- the defaults of these pass
+abbrev HaveGoodDefaults : List Rule → Type 0
+HaveGoodDefaults [] = Unit {0}
+HaveGoodDefaults (a ∷ rules) = ((if is_empty a.defaults then [] else given_default_fault a a.defaults) ≡ []) × HaveGoodDefaults rules
+
+good_defaults : (rules : List Rule) (rows : List Row) → HaveGoodDefaults rules → defaults_fault rows rules ≡ []
+unfolding defaults_fault
+good_defaults [] rows good = refl
+good_defaults (a ∷ rules) rows good = ap₂ or_else (one (has_row a.id rows) good.0) (good_defaults rules (with_default rows a) good.1)
+  where
+    one : (b : Bool) → (if is_empty a.defaults then [] else given_default_fault a a.defaults) ≡ []
+        → (if b || is_empty a.defaults then [] else given_default_fault a a.defaults) ≡ []
+    one true e = refl
+    one false e = e
+
+-- THE COMMAND `cards`
+
+abbrev pub cards : Shape
+cards = unwrap_or (find (λ s. bytes_eq s.name (codes "cards")) (built rje_app).subs) (new_shape [])
+
+abbrev pub rules : List Rule
+rules = cards.rules
+
+abbrev rule_at : ℕ → Rule
+rule_at i = unwrap_or (slice_get rules i) (new_rule [])
+
+abbrev deck_rule : Rule
+deck_rule = rule_at 0
+
+abbrev jobs_rule : Rule
+jobs_rule = rule_at 1
+
+abbrev option_rule : DeviceOption → Rule
+option_rule printer = rule_at 2
+option_rule punch = rule_at 3
+option_rule transparent = rule_at 4
+
+-- the walk between two words, before any of them stops it
+abbrev at : Held → ℕ → Walk
+at h position = record { held = h; waiting = idle; position = position; is_trailing = false; stopped = None }
+
+option_walked : (o : DeviceOption) (h : Held) (position : ℕ) → walked rules [] (at h position) (text_of (option o)) ≡ at (reacted rules (option_rule o) [] h) position
+unfolding clap_on_literals
+option_walked printer h position = refl
+option_walked punch h position = refl
+option_walked transparent h position = refl
+
+deck_walked : (c : ℕ) (cs : List ℕ) (h : Held) → (c == 45) ≡ false → walked rules [] (at h 1) (c ∷ cs) ≡ at (positional_held rules deck_rule (c ∷ cs) h) 2
+unfolding clap_on_literals
+deck_walked c cs h e = rw (e, e) refl
+
+input_walked : (h : Held) → walked rules [] (at h 1) (codes "-") ≡ at (positional_held rules deck_rule (codes "-") h) 2
+unfolding clap_on_literals
+input_walked h = refl
+
+jobs_walked : (c : ℕ) (cs : List ℕ) (h : Held) → (c == 45) ≡ false → walked rules [] (at h 2) (c ∷ cs) ≡ at (positional_held rules jobs_rule (c ∷ cs) h) 3
+unfolding clap_on_literals
+jobs_walked c cs h e = rw (e, e) refl
+
+-- WHAT WAS FOUND SO FAR
+
+pub record Seen : Type 0 where
+  pub deck : Option Text
+  pub jobs : Option Text
+  pub printer : Bool
+  pub punch : Bool
+  pub transparent : Bool
+
+abbrev pub is_seen : DeviceOption → Seen → Bool
+is_seen printer seen = seen.printer
+is_seen punch seen = seen.punch
+is_seen transparent seen = seen.transparent
+
+abbrev pub with_option : DeviceOption → Seen → Seen
+with_option printer seen = record seen { printer = true }
+with_option punch seen = record seen { punch = true }
+with_option transparent seen = record seen { transparent = true }
+
+abbrev pub with_file : Option Text → Text → Seen → Seen
+with_file None name seen = record seen { deck = Some name }
+with_file (Some deck) name seen = record seen { jobs = Some name }
+
+abbrev pub with_word : CardsWord → Seen → Seen
+with_word (file name) seen = with_file seen.deck name seen
+with_word (option o) seen = with_option o seen
+
+abbrev pub with_words : List CardsWord → Seen → Seen
+with_words [] seen = seen
+with_words (w ∷ ws) seen = with_words ws (with_word w seen)
+
+abbrev position_after : Option Text → Option Text → ℕ
+position_after None jobs = 1
+position_after (Some deck) None = 2
+position_after (Some deck) (Some jobs) = 3
+
+abbrev position : Seen → ℕ
+position seen = position_after seen.deck seen.jobs
+
+abbrev pub FileFits : Option Text → Option Text → Text → Type 0
+FileFits None None name = is_file name ≡ true
+FileFits None (Some jobs) name = ⊥
+FileFits (Some deck) None name = is_name name ≡ true
+FileFits (Some deck) (Some jobs) name = ⊥
+
+-- the word may stand behind those that were seen
+abbrev pub Fits : CardsWord → Seen → Type 0
+Fits (file name) seen = FileFits seen.deck seen.jobs name
+Fits (option o) seen = is_seen o seen ≡ false
+
+abbrev pub AllFit : List CardsWord → Seen → Type 0
+AllFit [] seen = Unit {0}
+AllFit (w ∷ ws) seen = Fits w seen × AllFit ws (with_word w seen)
+
+abbrev deck_row : Text → Row
+deck_row name = value_row (codes "DECK") (reading_by deck_rule) CommandLine (name ∷ [])
+
+abbrev jobs_row : Text → Row
+jobs_row name = value_row (codes "JOBS") (reading_by jobs_rule) CommandLine (name ∷ [])
+
+abbrev given_row : DeviceOption → Row
+given_row o = value_row (option_rule o).id (reading_by (option_rule o)) CommandLine (codes "true" ∷ [])
+
+abbrev if_given : DeviceOption → Bool → Option Row
+if_given o true = Some (given_row o)
+if_given o false = None
+
+-- the rows are those of what was seen
+record Holds (rows : List Row) (seen : Seen) : Type 0 where
+  deck : look (codes "DECK") rows ≡ option_map deck_row seen.deck
+  jobs : look (codes "JOBS") rows ≡ option_map jobs_row seen.jobs
+  for_printer : look (codes "printer") rows ≡ if_given printer seen.printer
+  for_punch : look (codes "punch") rows ≡ if_given punch seen.punch
+  for_transparent : look (codes "transparent") rows ≡ if_given transparent seen.transparent
+
+-- what is held is what was seen
+record Stands (h : Held) (seen : Seen) : Type 0 where
+  rows : Holds (settled rules h).rows seen
+  quiet : settle_fault rules false h ≡ []
+
+or_else-right : (ks : Kinds) → or_else ks [] ≡ ks
+or_else-right [] = refl
+or_else-right (k ∷ ks) = refl
+
+and_false : (b : Bool) → (b && false) ≡ false
+and_false true = refl
+and_false false = refl
+
+-- OPTIONS
+
+option_row : (o : DeviceOption) (rows : List Row) (seen : Seen) → Holds rows seen → look (option_rule o).id rows ≡ if_given o (is_seen o seen)
+option_row printer rows seen h = h.for_printer
+option_row punch rows seen h = h.for_punch
+option_row transparent rows seen h = h.for_transparent
+
+option_none : (o : DeviceOption) (rows : List Row) (seen : Seen) → Holds rows seen → is_seen o seen ≡ false → look (option_rule o).id rows ≡ None
+option_none o rows seen h e = option_row o rows seen h ∙ ap (if_given o) e
+
+option_used : (o : DeviceOption) (rows : List Row) → look (option_rule o).id rows ≡ None → used (option_rule o) [] rows ≡ rows ++ given_row o ∷ []
+option_used printer rows none = row_used (codes "printer") (reading_by (option_rule printer)) (codes "true" ∷ []) rows none
+option_used punch rows none = row_used (codes "punch") (reading_by (option_rule punch)) (codes "true" ∷ []) rows none
+option_used transparent rows none = row_used (codes "transparent") (reading_by (option_rule transparent)) (codes "true" ∷ []) rows none
+
+option_holds : (o : DeviceOption) (rows : List Row) (seen : Seen) → Holds rows seen → look (option_rule o).id rows ≡ None
+    → Holds (rows ++ given_row o ∷ []) (with_option o seen)
+option_holds printer rows seen h none = record {
+  deck = look_other (codes "DECK") rows (given_row printer) refl ∙ h.deck;
+  jobs = look_other (codes "JOBS") rows (given_row printer) refl ∙ h.jobs;
+  for_printer = look_new (codes "printer") rows (given_row printer) none refl;
+  for_punch = look_other (codes "punch") rows (given_row printer) refl ∙ h.for_punch;
+  for_transparent = look_other (codes "transparent") rows (given_row printer) refl ∙ h.for_transparent;
+}
+option_holds punch rows seen h none = record {
+  deck = look_other (codes "DECK") rows (given_row punch) refl ∙ h.deck;
+  jobs = look_other (codes "JOBS") rows (given_row punch) refl ∙ h.jobs;
+  for_printer = look_other (codes "printer") rows (given_row punch) refl ∙ h.for_printer;
+  for_punch = look_new (codes "punch") rows (given_row punch) none refl;
+  for_transparent = look_other (codes "transparent") rows (given_row punch) refl ∙ h.for_transparent;
+}
+option_holds transparent rows seen h none = record {
+  deck = look_other (codes "DECK") rows (given_row transparent) refl ∙ h.deck;
+  jobs = look_other (codes "JOBS") rows (given_row transparent) refl ∙ h.jobs;
+  for_printer = look_other (codes "printer") rows (given_row transparent) refl ∙ h.for_printer;
+  for_punch = look_other (codes "punch") rows (given_row transparent) refl ∙ h.for_punch;
+  for_transparent = look_new (codes "transparent") rows (given_row transparent) none refl;
+}
+
+option_turn : (o : DeviceOption) (h : Held) (position : ℕ) → turn_fault cards [] (at h position) (text_of (option o)) ≡ or_else (react_fault rules false (option_rule o) [] h) []
+unfolding clap_on_literals
+option_turn printer h position = refl
+option_turn punch h position = refl
+option_turn transparent h position = refl
+
+abbrev conflict : Bool → Kinds
+conflict true = ArgumentConflict ∷ []
+conflict false = []
+
+option_fault : (o : DeviceOption) (rows : List Row) (b : Bool) → has_row (option_rule o).id rows ≡ b → use_fault false (option_rule o) [] rows ≡ conflict b
+option_fault printer rows true e = rw e refl
+option_fault printer rows false e = rw e refl
+option_fault punch rows true e = rw e refl
+option_fault punch rows false e = rw e refl
+option_fault transparent rows true e = rw e refl
+option_fault transparent rows false e = rw e refl
+
+option_has : (o : DeviceOption) (rows : List Row) (seen : Seen) → Holds rows seen → has_row (option_rule o).id rows ≡ is_seen o seen
+option_has o rows seen h = has_look (option_rule o).id rows ∙ ap is_some (option_row o rows seen h) ∙ go (is_seen o seen)
+  where
+    go : (b : Bool) → is_some (if_given o b) ≡ b
+    go true = refl
+    go false = refl
+
+option_told : (o : DeviceOption) (h : Held) (position : ℕ) (seen : Seen) → Stands h seen
+    → turn_fault cards [] (at h position) (text_of (option o)) ≡ conflict (is_seen o seen)
+option_told o h position seen st =
+    option_turn o h position ∙ or_else-right (react_fault rules false (option_rule o) [] h)
+    ∙ ap (λ ks. or_else ks (use_fault false (option_rule o) [] (settled rules h).rows)) st.quiet
+    ∙ option_fault o (settled rules h).rows (is_seen o seen) (option_has o (settled rules h).rows seen st.rows)
+
+option_stands : (o : DeviceOption) (h : Held) (seen : Seen) → Stands h seen → is_seen o seen ≡ false → Stands (reacted rules (option_rule o) [] h) (with_option o seen)
+option_stands o h seen st e =
+    let none = option_none o (settled rules h).rows seen st.rows e in
+    record {
+      rows = subst (λ rows. Holds rows (with_option o seen)) (sym (option_used o (settled rules h).rows none)) (option_holds o (settled rules h).rows seen st.rows none);
+      quiet = refl;
+    }
+
+-- FILES
+
+not_false : (b : Bool) → not b ≡ true → b ≡ false
+not_false true h = cc
+not_false false h = refl
+
+-- a value of a file's rule is pending
+abbrev held_file : Text → Text → Held → Held
+held_file id name h = record h { rows = (settled rules h).rows; pending = Some (id, name ∷ []) }
+
+abbrev deck_kinds : Held → Kinds
+deck_kinds h = if is_pending deck_rule h.pending && takes_several deck_rule then [] else settle_fault rules false h
+
+abbrev jobs_kinds : Held → Kinds
+jobs_kinds h = if is_pending jobs_rule h.pending && takes_several jobs_rule then [] else settle_fault rules false h
+
+deck_turn : (c : ℕ) (cs : List ℕ) (h : Held) → (c == 45) ≡ false → turn_fault cards [] (at h 1) (c ∷ cs) ≡ deck_kinds h
+unfolding clap_on_literals
+deck_turn c cs h e = rw (e, e) refl
+
+input_turn : (h : Held) → turn_fault cards [] (at h 1) (codes "-") ≡ deck_kinds h
+unfolding clap_on_literals
+input_turn h = refl
+
+jobs_turn : (c : ℕ) (cs : List ℕ) (h : Held) → (c == 45) ≡ false → turn_fault cards [] (at h 2) (c ∷ cs) ≡ jobs_kinds h
+unfolding clap_on_literals
+jobs_turn c cs h e = rw (e, e) refl
+
+-- the word is taken for the deck
+abbrev IsDeck : Text → Held → Type 0
+IsDeck name h = (turn_fault cards [] (at h 1) name ≡ deck_kinds h) × (walked rules [] (at h 1) name ≡ at (positional_held rules deck_rule name h) 2)
+
+single_deck : (c : ℕ) (h : Held) (is_hyphen : Bool) → (c == 45) ≡ is_hyphen → IsDeck (c ∷ []) h
+single_deck c h true e = let is : c ≡ 45 = grind (arith, nat_tests) in subst (λ x. IsDeck (x ∷ []) h) (sym is) (input_turn h, input_walked h)
+single_deck c h false e = (deck_turn c [] h e, deck_walked c [] h e)
+
+is_deck : (name : Text) (h : Held) → is_file name ≡ true → IsDeck name h
+is_deck [] h e = cc
+is_deck (c ∷ []) h e = single_deck c h (c == 45) refl
+is_deck (c ∷ d ∷ rest) h e = (deck_turn c (d ∷ rest) h (not_false (c == 45) e), deck_walked c (d ∷ rest) h (not_false (c == 45) e))
+
+is_jobs : (name : Text) (h : Held) → is_name name ≡ true
+    → (turn_fault cards [] (at h 2) name ≡ jobs_kinds h) × (walked rules [] (at h 2) name ≡ at (positional_held rules jobs_rule name h) 3)
+is_jobs [] h e = cc
+is_jobs (c ∷ cs) h e = (jobs_turn c cs h (not_false (c == 45) e), jobs_walked c cs h (not_false (c == 45) e))
+
+quiet_kinds : (b : Bool) (ks : Kinds) → ks ≡ [] → (if b then [] else ks) ≡ []
+quiet_kinds true ks e = refl
+quiet_kinds false ks e = e
+
+deck_held : (name : Text) (h : Held) → positional_held rules deck_rule name h ≡ held_file (codes "DECK") name h
+deck_held name h = ap (λ (b : Bool). pushed (codes "DECK") name (if b then h else settled rules h)) (and_false (is_pending deck_rule h.pending))
+
+jobs_held : (name : Text) (h : Held) → positional_held rules jobs_rule name h ≡ held_file (codes "JOBS") name h
+jobs_held name h = ap (λ (b : Bool). pushed (codes "JOBS") name (if b then h else settled rules h)) (and_false (is_pending jobs_rule h.pending))
+
+deck_quiet : (name : Text) (rows : List Row) → has_row (codes "DECK") rows ≡ false → use_fault false deck_rule (name ∷ []) rows ≡ []
+deck_quiet name rows e = rw e refl
+
+jobs_quiet : (name : Text) (rows : List Row) → has_row (codes "JOBS") rows ≡ false → use_fault false jobs_rule (name ∷ []) rows ≡ []
+jobs_quiet name rows e = rw e refl
+
+deck_holds : (name : Text) (rows : List Row) (seen : Seen) → Holds rows seen → look (codes "DECK") rows ≡ None
+    → Holds (rows ++ deck_row name ∷ []) (record seen { deck = Some name })
+deck_holds name rows seen h none = record {
+  deck = look_new (codes "DECK") rows (deck_row name) none refl;
+  jobs = look_other (codes "JOBS") rows (deck_row name) refl ∙ h.jobs;
+  for_printer = look_other (codes "printer") rows (deck_row name) refl ∙ h.for_printer;
+  for_punch = look_other (codes "punch") rows (deck_row name) refl ∙ h.for_punch;
+  for_transparent = look_other (codes "transparent") rows (deck_row name) refl ∙ h.for_transparent;
+}
+
+jobs_holds : (name : Text) (rows : List Row) (seen : Seen) → Holds rows seen → look (codes "JOBS") rows ≡ None
+    → Holds (rows ++ jobs_row name ∷ []) (record seen { jobs = Some name })
+jobs_holds name rows seen h none = record {
+  deck = look_other (codes "DECK") rows (jobs_row name) refl ∙ h.deck;
+  jobs = look_new (codes "JOBS") rows (jobs_row name) none refl;
+  for_printer = look_other (codes "printer") rows (jobs_row name) refl ∙ h.for_printer;
+  for_punch = look_other (codes "punch") rows (jobs_row name) refl ∙ h.for_punch;
+  for_transparent = look_other (codes "transparent") rows (jobs_row name) refl ∙ h.for_transparent;
+}
+
+deck_stands : (name : Text) (h : Held) (seen : Seen) → Stands h seen → look (codes "DECK") (settled rules h).rows ≡ None
+    → Stands (held_file (codes "DECK") name h) (record seen { deck = Some name })
+deck_stands name h seen st none = let rows = (settled rules h).rows in record {
+  rows = subst (λ x. Holds x (record seen { deck = Some name })) (sym (row_used (codes "DECK") (reading_by deck_rule) (name ∷ []) rows none))
+      (deck_holds name rows seen st.rows none);
+  quiet = deck_quiet name rows (has_none (codes "DECK") rows none);
+}
+
+jobs_stands : (name : Text) (h : Held) (seen : Seen) → Stands h seen → look (codes "JOBS") (settled rules h).rows ≡ None
+    → Stands (held_file (codes "JOBS") name h) (record seen { jobs = Some name })
+jobs_stands name h seen st none = let rows = (settled rules h).rows in record {
+  rows = subst (λ x. Holds x (record seen { jobs = Some name })) (sym (row_used (codes "JOBS") (reading_by jobs_rule) (name ∷ []) rows none))
+      (jobs_holds name rows seen st.rows none);
+  quiet = jobs_quiet name rows (has_none (codes "JOBS") rows none);
+}
+
+-- ONE WORD AFTER ANOTHER
+
+-- the word passes, and what is held after it is what was seen
+abbrev Steps : CardsWord → Held → Seen → Type 0
+Steps w h seen = (turn_fault cards [] (at h (position seen)) (text_of w) ≡ [])
+    × (after : Held) × (walked rules [] (at h (position seen)) (text_of w) ≡ at after (position (with_word w seen))) × Stands after (with_word w seen)
+
+option_steps : (o : DeviceOption) (h : Held) (seen : Seen) → Stands h seen → is_seen o seen ≡ false → Steps (option o) h seen
+option_steps o h seen st e = (
+  option_told o h (position seen) seen st ∙ ap conflict e,
+  reacted rules (option_rule o) [] h,
+  option_walked o h (position seen) ∙ ap (at (reacted rules (option_rule o) [] h)) (same o),
+  option_stands o h seen st e,
+)
+  where
+    same : (o : DeviceOption) → position seen ≡ position (with_option o seen)
+    same printer = refl
+    same punch = refl
+    same transparent = refl
+
+file_steps : (name : Text) (h : Held) (seen : Seen) → Stands h seen → (deck jobs : Option Text) → seen.deck ≡ deck → seen.jobs ≡ jobs → FileFits deck jobs name
+    → (turn_fault cards [] (at h (position_after deck jobs)) name ≡ []) × (after : Held)
+    × (walked rules [] (at h (position_after deck jobs)) name ≡ at after (position (with_file deck name seen))) × Stands after (with_file deck name seen)
+file_steps name h seen st None None deck_is jobs_is fits = let is = is_deck name h fits in (
+  is.0 ∙ quiet_kinds _ (settle_fault rules false h) st.quiet,
+  held_file (codes "DECK") name h,
+  is.1 ∙ ap (λ x. at x 2) (deck_held name h) ∙ ap (λ o. at (held_file (codes "DECK") name h) (position_after (Some name) o)) (sym jobs_is),
+  deck_stands name h seen st (st.rows.deck ∙ ap (option_map deck_row) deck_is),
+)
+file_steps name h seen st None (Some jobs) deck_is jobs_is fits = absurd fits
+file_steps name h seen st (Some deck) None deck_is jobs_is fits = let is = is_jobs name h fits in (
+  is.0 ∙ quiet_kinds _ (settle_fault rules false h) st.quiet,
+  held_file (codes "JOBS") name h,
+  is.1 ∙ ap (λ x. at x 3) (jobs_held name h) ∙ ap (λ o. at (held_file (codes "JOBS") name h) (position_after o (Some name))) (sym deck_is),
+  jobs_stands name h seen st (st.rows.jobs ∙ ap (option_map jobs_row) jobs_is),
+)
+file_steps name h seen st (Some deck) (Some jobs) deck_is jobs_is fits = absurd fits
+
+steps : (w : CardsWord) (h : Held) (seen : Seen) → Stands h seen → Fits w seen → Steps w h seen
+steps (file name) h seen st fits = file_steps name h seen st seen.deck seen.jobs refl refl fits
+steps (option o) h seen st fits = option_steps o h seen st fits
+
+-- all the words pass
+abbrev Walks : List CardsWord → Held → Seen → Type 0
+Walks ws h seen = (walk_fault cards [] (at h (position seen)) (map text_of ws) ≡ [])
+    × Stands (fold (walked rules []) (at h (position seen)) (map text_of ws)).held (with_words ws seen)
+
+walks_on : (w : CardsWord) (ws : List CardsWord) (h after : Held) (seen : Seen) → turn_fault cards [] (at h (position seen)) (text_of w) ≡ []
+    → walked rules [] (at h (position seen)) (text_of w) ≡ at after (position (with_word w seen)) → Walks ws after (with_word w seen) → Walks (w ∷ ws) h seen
+unfolding walk_fault
+walks_on w ws h after seen none is later = (
+  ap₂ or_else none (ap (λ x. walk_fault cards [] x (map text_of ws)) is ∙ later.0),
+  subst (λ x. Stands (fold (walked rules []) x (map text_of ws)).held (with_words ws (with_word w seen))) (sym is) later.1,
+)
+
+walks : (ws : List CardsWord) (h : Held) (seen : Seen) → Stands h seen → AllFit ws seen → Walks ws h seen
+unfolding walk_fault
+walks [] h seen st fit = (refl, st)
+walks (w ∷ ws) h seen st fit = let s = steps w h seen st fit.0 in walks_on w ws h s.1 seen s.0 s.2 (walks ws s.1 (with_word w seen) s.3 fit.1)
+
+-- THE END OF THE WORDS
+
+abbrev default_row : DeviceOption → Row
+default_row o = value_row (option_rule o).id (reading_by (option_rule o)) DefaultValue (codes "false" ∷ [])
+
+abbrev end_row : DeviceOption → Bool → Row
+end_row o true = given_row o
+end_row o false = default_row o
+
+-- no rule has this id
+abbrev AreOthers : Text → List Rule → Type 0
+AreOthers id [] = Unit {0}
+AreOthers id (a ∷ more) = (bytes_eq a.id id ≡ false) × AreOthers id more
+
+others_kept : (before : List Rule) (rows : List Row) (id : Text) → AreOthers id before → look id (fold with_default rows before) ≡ look id rows
+others_kept [] rows id ne = refl
+others_kept (a ∷ before) rows id ne = others_kept before (with_default rows a) id ne.1 ∙ default_other a rows id ne.0
+
+-- the default of the option that stands behind these rules and in front of those
+default_end : (before after : List Rule) (a : Rule) (rows : List Row) (d : Text) → look a.id rows ≡ None → AreOthers a.id before → a.defaults ≡ d ∷ []
+    → bytes_eq a.id a.id ≡ true → look a.id (fold with_default (with_default (fold with_default rows before) a) after) ≡ Some (value_row a.id (reading_by a) DefaultValue (d ∷ []))
+default_end before after a rows d none others is same =
+    defaults_kept after (with_default (fold with_default rows before) a) a.id _
+    (default_new a (fold with_default rows before) d (others_kept before rows a.id others ∙ none) is same)
+
+option_end : (o : DeviceOption) (rows : List Row) (b : Bool) → look (option_rule o).id rows ≡ if_given o b → look (option_rule o).id (fold with_default rows rules) ≡ Some (end_row o b)
+option_end o rows true e = defaults_kept rules rows (option_rule o).id (given_row o) e
+option_end printer rows false e = default_end (rule_at 0 ∷ rule_at 1 ∷ []) (rule_at 3 ∷ rule_at 4 ∷ rule_at 5 ∷ []) (rule_at 2) rows (codes "false") e (refl, (refl, tt)) refl refl
+option_end punch rows false e = default_end (rule_at 0 ∷ rule_at 1 ∷ rule_at 2 ∷ []) (rule_at 4 ∷ rule_at 5 ∷ []) (rule_at 3) rows (codes "false") e (refl, (refl, (refl, tt))) refl refl
+option_end transparent rows false e =
+    default_end (rule_at 0 ∷ rule_at 1 ∷ rule_at 2 ∷ rule_at 3 ∷ []) (rule_at 5 ∷ []) (rule_at 4) rows (codes "false") e (refl, (refl, (refl, (refl, tt)))) refl refl
+
+check_passes : (rows : List Row) (deck jobs : Text) → look (codes "DECK") rows ≡ Some (deck_row deck) → look (codes "JOBS") rows ≡ Some (jobs_row jobs)
+    → check_fault cards rows false ≡ []
+check_passes rows deck jobs e k = rw (e, k) refl
+
+-- what is read of the rows
+pub record Reads (rows : List Row) (deck jobs : Text) (seen : Seen) : Type 0 where
+  pub of_deck : word_in (codes "DECK") rows ≡ deck
+  pub of_jobs : word_in (codes "JOBS") rows ≡ jobs
+  pub for_printer : is_on (codes "printer") rows ≡ seen.printer
+  pub for_punch : is_on (codes "punch") rows ≡ seen.punch
+  pub for_transparent : is_on (codes "transparent") rows ≡ seen.transparent
+
+file_read : (id name : Text) (how : Reading) (rows : List Row) → look id rows ≡ Some (value_row id how CommandLine (name ∷ [])) → word_in id rows ≡ name
+file_read id name how rows e = rw e refl
+
+option_read : (o : DeviceOption) (rows : List Row) (b : Bool) → look (option_rule o).id rows ≡ Some (end_row o b) → is_on (option_rule o).id rows ≡ b
+option_read printer rows true e = rw e refl
+option_read printer rows false e = rw e refl
+option_read punch rows true e = rw e refl
+option_read punch rows false e = rw e refl
+option_read transparent rows true e = rw e refl
+option_read transparent rows false e = rw e refl
+
+module _ (ws : List CardsWord) (deck jobs : Text) (seen : Seen) (deck_is : seen.deck ≡ Some deck) (jobs_is : seen.jobs ≡ Some jobs) where
+  ends : (h : Held) → Stands h seen → Reads (finished rules h) deck jobs seen × (check_fault cards (finished rules h) false ≡ [])
+  ends h st =
+      let rows : List Row = (settled rules h).rows in
+      let found_deck = defaults_kept rules rows (codes "DECK") (deck_row deck) (st.rows.deck ∙ ap (option_map deck_row) deck_is) in
+      let found_jobs = defaults_kept rules rows (codes "JOBS") (jobs_row jobs) (st.rows.jobs ∙ ap (option_map jobs_row) jobs_is) in (
+        record {
+          of_deck = file_read (codes "DECK") deck (reading_by deck_rule) (finished rules h) found_deck;
+          of_jobs = file_read (codes "JOBS") jobs (reading_by jobs_rule) (finished rules h) found_jobs;
+          for_printer = option_read printer (finished rules h) seen.printer (option_end printer rows seen.printer st.rows.for_printer);
+          for_punch = option_read punch (finished rules h) seen.punch (option_end punch rows seen.punch st.rows.for_punch);
+          for_transparent = option_read transparent (finished rules h) seen.transparent (option_end transparent rows seen.transparent st.rows.for_transparent);
+        },
+        check_passes (finished rules h) deck jobs found_deck found_jobs,
+      )
+
+abbrev pub nothing_seen : Seen
+nothing_seen = record { deck = None; jobs = None; printer = false; punch = false; transparent = false }
+
+nothing_stands : Stands nothing_held nothing_seen
+nothing_stands = record {
+  rows = record { deck = refl; jobs = refl; for_printer = refl; for_punch = refl; for_transparent = refl };
+  quiet = refl;
+}
+
+-- the level of `cards` passes, and what was seen is read
+pub level_passes : (ws : List CardsWord) (deck jobs : Text) → AllFit ws nothing_seen → (with_words ws nothing_seen).deck ≡ Some deck
+    → (with_words ws nothing_seen).jobs ≡ Some jobs
+    → (level_fault cards [] nothing_held (map text_of ws) false [] ≡ []) × Reads (rows_after rules [] (map text_of ws)) deck jobs (with_words ws nothing_seen)
+level_passes ws deck jobs fit deck_is jobs_is =
+    let on = walks ws nothing_held nothing_seen nothing_stands fit in
+    let h : Held = (walk rules [] nothing_held (map text_of ws)).held in
+    let end = ends ws deck jobs (with_words ws nothing_seen) deck_is jobs_is h on.1 in (
+      ap₂ or_else on.0 (ap₂ or_else on.1.quiet (ap₂ or_else (good_defaults rules (settled rules h).rows (refl, (refl, (refl, (refl, (refl, (refl, tt))))))) end.1)),
+      end.0,
+    )
+
+-- THE PROGRAM'S LEVEL
+
+abbrev top : Shape
+top = (built rje_app).top
+
+abbrev names : Names
+names = names_of (built rje_app)
+
+-- the walk that a command stopped
+abbrev entered_walk : Text → List Text → Walk
+entered_walk name words = record { held = nothing_held; waiting = idle; position = 1; is_trailing = false; stopped = Some (name, words) }
+
+entered_on : (c : List Rule) (ns : Names) (name : Text) (before words : List Text)
+    → fold (walked c ns) (entered_walk name before) words ≡ entered_walk name (before ++ words)
+unfolding walked
+entered_on c ns name before [] = ap (entered_walk name) (sym (append-nil before))
+entered_on c ns name before (w ∷ ws) = entered_on c ns name (before ++ w ∷ []) ws ∙ ap (entered_walk name) (append_assoc before (w ∷ []) ws)
+
+entered_quiet : (s : Shape) (ns : Names) (name : Text) (before words : List Text) → walk_fault s ns (entered_walk name before) words ≡ []
+unfolding walk_fault walked
+entered_quiet s ns name before [] = refl
+entered_quiet s ns name before (w ∷ ws) = entered_quiet s ns name (before ++ w ∷ []) ws
+
+-- the program's walk over the command's name and the words behind it
+top_walk : (words : List Text) → walk top.rules names nothing_held (codes "cards" ∷ words) ≡ entered_walk (codes "cards") words
+unfolding clap_on_literals
+top_walk words = entered_on top.rules names (codes "cards") [] words
+
+top_quiet : (words : List Text) → walk_fault top names (walk_from nothing_held) (codes "cards" ∷ words) ≡ []
+unfolding clap_on_literals
+top_quiet words = entered_quiet top names (codes "cards") [] words
+
+pub cards_met : (words : List Text) → subcommand_of rje_app (codes "cards" ∷ words) ≡ Some (codes "cards", rows_after rules [] words)
+cards_met words = ap (λ (w : Walk). entered (built rje_app) w.stopped) (top_walk words)
+
+-- what comes after the walk
+abbrev after_walk : Walk → Kinds
+after_walk w = or_else (entered_fault (built rje_app) w.stopped) (or_else (settle_fault top.rules top.args_override_self w.held)
+    (or_else (defaults_fault (settled top.rules w.held).rows top.rules) (check_fault top (finished top.rules w.held) (is_some (entered (built rje_app) w.stopped)))))
+
+after_entered : (words : List Text) → after_walk (entered_walk (codes "cards") words) ≡ or_else (level_fault cards [] nothing_held words false []) []
+unfolding clap_on_literals
+after_entered words = refl
+
+pub cards_fault : (words : List Text) → fault_of rje_app (codes "cards" ∷ words) ≡ level_fault cards [] nothing_held words false []
+cards_fault words =
+    ap₂ or_else (top_quiet words) (ap after_walk (top_walk words) ∙ after_entered words)
+    ∙ or_else-right (level_fault cards [] nothing_held words false [])

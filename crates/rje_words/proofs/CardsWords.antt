@@ -1,0 +1,246 @@
+-- What the words `cards`, two files and options in any order ask for.
+use Rattle.std.proofs.Common.{List, [], ◌∷◌, ◌≡◌, Option, Some, None, Bool, true, false, refl, codes, not, ap, ◌∙◌, ◌⊎◌, ◌&&◌, ◌||◌, inl, inr, sym, subst}
+use Rattle.std.specs.Prelude.{map}
+use Rattle.std.specs.Option.{IsSomeAnd}
+use Rattle.clap.specs.Words.{HasKind, Row, Text, fault_of, subcommand_of}
+use Rattle.clap.specs.Faults.{level_fault}
+use Rattle.clap.specs.Walk.{nothing_held, rows_after}
+use Rattle.rje_words.specs.declared.device.Device.{Device}
+use Rattle.rje_words.specs.declared.order.Order.{Order}
+use Rattle.rje_words.specs.declared.order.Order.TheVariants.{Files, Sockets}
+use Rattle.rje_words.specs.declared.order.FileOrder.TheVariants.{Cards}
+use Rattle.rje_words.specs.declared.words_fault.WordsFault.{WordsFault}
+use Rattle.rje_words.specs.declared.words_fault.WordsFault.TheVariants.{Refused, TwoDevices, BadAddress}
+use Rattle.rje_words.specs.Asking.{IsFaultOf, IsOrderOf, IsTold, device_in}
+use Rattle.rje_words.specs.Canonical.{CardsAsked, TwoDevicesTold}
+use Rattle.rje_words.specs.CardsWords.{CardsWord, DeviceOption, HaveFiles, device_among, file, files_in, has_each_once, is_among, is_same, option, printer, punch, transparent, text_of}
+use Rattle.rje_words.specs.CommandLine.{is_file, is_name, rje_app}
+use Rattle.rje_words.specs.Device.{chosen}
+use Rattle.rje_words.specs.Orders.{IsCards}
+use Rattle.rje_words.specs.WordsFault.{IsWantOfMemory}
+use Rattle.rje_words.proofs.CardsLevel.{AllFit, FileFits, Reads, Seen, cards, cards_fault, cards_met, is_seen, level_passes, nothing_seen, rules, with_file, with_option, with_word, with_words}
+use Rattle.rje_words.proofs.FileWords.{apart, memory_only, no_address, no_socket}
+
+-- OPTIONS THAT WERE SEEN
+
+or_false : (b : Bool) → b ≡ (b || false)
+or_false true = refl
+or_false false = refl
+
+or_true : (b : Bool) → true ≡ (b || true)
+or_true true = refl
+or_true false = refl
+
+or_over : (a b c : Bool) → ((a || b) || c) ≡ (a || (b || c))
+or_over true b c = refl
+or_over false b c = refl
+
+-- whether the word is this option
+abbrev is_option : DeviceOption → CardsWord → Bool
+is_option o (file name) = false
+is_option o (option given) = is_same given o
+
+file_unseen : (o : DeviceOption) (deck : Option Text) (name : Text) (seen : Seen) → is_seen o (with_file deck name seen) ≡ is_seen o seen
+file_unseen printer None name seen = refl
+file_unseen printer (Some d) name seen = refl
+file_unseen punch None name seen = refl
+file_unseen punch (Some d) name seen = refl
+file_unseen transparent None name seen = refl
+file_unseen transparent (Some d) name seen = refl
+
+option_seen : (o given : DeviceOption) (seen : Seen) → is_seen o (with_option given seen) ≡ (is_seen o seen || is_same given o)
+option_seen printer printer seen = or_true seen.printer
+option_seen printer punch seen = or_false seen.printer
+option_seen printer transparent seen = or_false seen.printer
+option_seen punch printer seen = or_false seen.punch
+option_seen punch punch seen = or_true seen.punch
+option_seen punch transparent seen = or_false seen.punch
+option_seen transparent printer seen = or_false seen.transparent
+option_seen transparent punch seen = or_false seen.transparent
+option_seen transparent transparent seen = or_true seen.transparent
+
+word_seen : (o : DeviceOption) (w : CardsWord) (seen : Seen) → is_seen o (with_word w seen) ≡ (is_seen o seen || is_option o w)
+word_seen o (file name) seen = file_unseen o seen.deck name seen ∙ or_false (is_seen o seen)
+word_seen o (option given) seen = option_seen o given seen
+
+among_first : (o : DeviceOption) (w : CardsWord) (ws : List CardsWord) → is_among o (w ∷ ws) ≡ (is_option o w || is_among o ws)
+among_first o (file name) ws = refl
+among_first o (option given) ws = refl
+
+words_seen : (o : DeviceOption) (ws : List CardsWord) (seen : Seen) → is_seen o (with_words ws seen) ≡ (is_seen o seen || is_among o ws)
+words_seen o [] seen = or_false (is_seen o seen)
+words_seen o (w ∷ ws) seen =
+    words_seen o ws (with_word w seen) ∙ ap (λ b. b || is_among o ws) (word_seen o w seen) ∙ or_over (is_seen o seen) (is_option o w) (is_among o ws)
+    ∙ ap (λ b. is_seen o seen || b) (sym (among_first o w ws))
+
+-- FILES THAT WERE SEEN
+
+abbrev FilesFit : Option Text → Option Text → List Text → Type 0
+FilesFit None None (deck ∷ jobs ∷ []) = (is_file deck ≡ true) × (is_name jobs ≡ true)
+FilesFit (Some deck) None (jobs ∷ []) = is_name jobs ≡ true
+FilesFit (Some deck) (Some jobs) [] = Unit {0}
+FilesFit _ _ _ = ⊥
+
+abbrev files_after : Option Text → Option Text → List Text → Option Text × Option Text
+files_after deck jobs [] = (deck, jobs)
+files_after None jobs (name ∷ names) = files_after (Some name) jobs names
+files_after (Some deck) jobs (name ∷ names) = files_after (Some deck) (Some name) names
+
+files_seen : (ws : List CardsWord) (seen : Seen) → ((with_words ws seen).deck, (with_words ws seen).jobs) ≡ files_after seen.deck seen.jobs (files_in ws)
+files_seen [] seen = refl
+files_seen (file name ∷ ws) seen = files_seen ws (with_file seen.deck name seen) ∙ go seen.deck refl
+  where
+    go : (deck : Option Text) → seen.deck ≡ deck
+        → files_after (with_file deck name seen).deck (with_file deck name seen).jobs (files_in ws) ≡ files_after deck seen.jobs (name ∷ files_in ws)
+    go None e = refl
+    go (Some d) e = ap (λ o. files_after o (Some name) (files_in ws)) e
+files_seen (option printer ∷ ws) seen = files_seen ws (with_option printer seen)
+files_seen (option punch ∷ ws) seen = files_seen ws (with_option punch seen)
+files_seen (option transparent ∷ ws) seen = files_seen ws (with_option transparent seen)
+
+file_fits : (deck jobs : Option Text) (name : Text) (names : List Text) (seen : Seen) → seen.deck ≡ deck → seen.jobs ≡ jobs → FilesFit deck jobs (name ∷ names)
+    → FileFits deck jobs name × FilesFit (with_file deck name seen).deck (with_file deck name seen).jobs names
+file_fits None None name [] seen d j fit = absurd fit
+file_fits None None name (n ∷ []) seen d j fit = (fit.0, subst (λ o. FilesFit (Some name) o (n ∷ [])) (sym j) fit.1)
+file_fits None None name (n ∷ m ∷ ns) seen d j fit = absurd fit
+file_fits None (Some jobs) name names seen d j fit = absurd fit
+file_fits (Some deck) None name [] seen d j fit = (fit, subst (λ o. FilesFit o (Some name) []) (sym d) tt)
+file_fits (Some deck) None name (n ∷ ns) seen d j fit = absurd fit
+file_fits (Some deck) (Some jobs) name names seen d j fit = absurd fit
+
+-- ALL THE WORDS FIT
+
+-- no option that was seen is among the words
+abbrev NoneAgain : List CardsWord → Seen → Type 0
+NoneAgain ws seen = (o : DeviceOption) → (is_seen o seen && is_among o ws) ≡ false
+
+both_true : (a b : Bool) → (a && b) ≡ true → (a ≡ true) × (b ≡ true)
+both_true true b e = (refl, e)
+both_true false b e = cc
+
+not_true : (b : Bool) → not b ≡ true → b ≡ false
+not_true true e = cc
+not_true false e = refl
+
+fresh : (s q m : Bool) → (s && (q || m)) ≡ false → q ≡ true → s ≡ false
+fresh true true m e is = cc
+fresh true false m e is = cc
+fresh false q m e is = refl
+
+later_fresh : (s q m : Bool) → (s && (q || m)) ≡ false → (q ≡ true → m ≡ false) → ((s || q) && m) ≡ false
+later_fresh true true m e h = h refl
+later_fresh true false m e h = e
+later_fresh false true m e h = h refl
+later_fresh false false m e h = refl
+
+same_option : (o : DeviceOption) → is_same o o ≡ true
+same_option printer = refl
+same_option punch = refl
+same_option transparent = refl
+
+same_among : (given o : DeviceOption) (ws : List CardsWord) → is_among given ws ≡ false → is_same given o ≡ true → is_among o ws ≡ false
+same_among printer printer ws e is = e
+same_among printer punch ws e is = cc
+same_among printer transparent ws e is = cc
+same_among punch printer ws e is = cc
+same_among punch punch ws e is = e
+same_among punch transparent ws e is = cc
+same_among transparent printer ws e is = cc
+same_among transparent punch ws e is = cc
+same_among transparent transparent ws e is = e
+
+all_fit : (ws : List CardsWord) (seen : Seen) → FilesFit seen.deck seen.jobs (files_in ws) → has_each_once ws ≡ true → NoneAgain ws seen → AllFit ws seen
+all_fit [] seen files once none = tt
+all_fit (file name ∷ ws) seen files once none =
+    let fits = file_fits seen.deck seen.jobs name (files_in ws) seen refl refl files in
+    (fits.0, all_fit ws (with_file seen.deck name seen) fits.1 once (λ o. ap (λ b. b && is_among o ws) (file_unseen o seen.deck name seen) ∙ none o))
+all_fit (option given ∷ ws) seen files once none =
+    let parts = both_true (not (is_among given ws)) (has_each_once ws) once in (
+      fresh (is_seen given seen) (is_same given given) (is_among given ws) (none given) (same_option given),
+      all_fit ws (with_option given seen) (same_files given) parts.1 (λ o. ap (λ b. b && is_among o ws) (option_seen o given seen)
+          ∙ later_fresh (is_seen o seen) (is_same given o) (is_among o ws) (none o) (same_among given o ws (not_true (is_among given ws) parts.0))),
+    )
+  where
+    same_files : (o : DeviceOption) → FilesFit (with_option o seen).deck (with_option o seen).jobs (files_in ws)
+    same_files printer = files
+    same_files punch = files
+    same_files transparent = files
+
+-- WHAT THE WORDS ASK FOR
+
+same_choice : (a b c d e f : Bool) → a ≡ d → b ≡ e → c ≡ f → chosen a b c ≡ chosen d e f
+same_choice a b c d e f p q r = rw (p, q, r) refl
+
+module _ (ws : List CardsWord) (deck jobs : Text) (have : HaveFiles ws deck jobs) (once : has_each_once ws ≡ true) where
+  abbrev words : List Text
+  words = codes "cards" ∷ map text_of ws
+
+  abbrev rows : List Row
+  rows = rows_after rules [] (map text_of ws)
+
+  fit : AllFit ws nothing_seen
+  fit = all_fit ws nothing_seen (subst (FilesFit None None) (sym have.both) (have.is_deck, have.is_job_file)) once (λ o. unseen o)
+    where
+      unseen : (o : DeviceOption) → (is_seen o nothing_seen && is_among o ws) ≡ false
+      unseen printer = refl
+      unseen punch = refl
+      unseen transparent = refl
+
+  files_are : ◌≡◌ {A = Option Text × Option Text} ((with_words ws nothing_seen).deck, (with_words ws nothing_seen).jobs) (Some deck, Some jobs)
+  files_are = files_seen ws nothing_seen ∙ ap (files_after None None) have.both
+
+  level : (level_fault cards [] nothing_held (map text_of ws) false [] ≡ []) × Reads rows deck jobs (with_words ws nothing_seen)
+  level = level_passes ws deck jobs fit (ap (λ (p : Option Text × Option Text). p.0) files_are) (ap (λ (p : Option Text × Option Text). p.1) files_are)
+
+  faultless : fault_of rje_app words ≡ []
+  faultless = cards_fault (map text_of ws) ∙ level.0
+
+  device_is : device_in rows ≡ device_among ws
+  device_is = same_choice _ _ _ _ _ _ (level.1.for_printer ∙ words_seen printer ws nothing_seen) (level.1.for_punch ∙ words_seen punch ws nothing_seen)
+      (level.1.for_transparent ∙ words_seen transparent ws nothing_seen)
+
+  -- what holds of the command that is met holds of these rows
+  of_rows : (P : Text → List Row → Type 0) → IsSomeAnd (subcommand_of rje_app words) (λ met. P met.0 met.1) → P (codes "cards") rows
+  of_rows P h = subst (λ o. IsSomeAnd o (λ met. P met.0 met.1)) (cards_met (map text_of ws)) h
+
+  -- clap refuses nothing of the words, and finds no address
+  memory : (fault : WordsFault) → (IsFaultOf (codes "cards") rows TwoDevices → ⊥) → IsTold words fault → IsWantOfMemory fault
+  memory (Refused error) no_two h = memory_only error (subst (λ kinds. HasKind kinds error) faultless h)
+  memory TwoDevices no_two h = absurd (no_two (of_rows (λ name rs. IsFaultOf name rs TwoDevices) h.1))
+  memory BadAddress no_two h = absurd (no_address (codes "cards") rows refl refl (of_rows (λ name rs. IsFaultOf name rs BadAddress) h.1))
+
+  two_or_memory : (fault : WordsFault) → IsTold words fault → (fault ≡ TwoDevices) ⊎ IsWantOfMemory fault
+  two_or_memory (Refused error) h = inr (memory_only error (subst (λ kinds. HasKind kinds error) faultless h))
+  two_or_memory TwoDevices h = inl refl
+  two_or_memory BadAddress h = absurd (no_address (codes "cards") rows refl refl (of_rows (λ name rs. IsFaultOf name rs BadAddress) h.1))
+
+  order_read : (device : Device) (order : Order) → IsOrderOf (codes "cards") rows order → device_among ws ≡ Some device → IsCards deck jobs device order
+  order_read device (Files (Cards order)) h is = (h.1.deck ∙ level.1.of_deck, h.1.jobs ∙ level.1.of_jobs, some_is (sym h.1.device ∙ device_is ∙ is))
+    where
+      some_is : {X : Type 0} {a b : X} → Some a ≡ Some b → a ≡ b
+      some_is {X} {a} {b} e = cc
+  order_read device (Files _) h is = absurd (apart _ _ h.0 refl)
+  order_read device (Sockets order) h is = absurd (no_socket (codes "cards") rows order refl refl refl h)
+
+  no_order : (order : Order) → IsOrderOf (codes "cards") rows order → device_among ws ≡ None → ⊥
+  no_order (Files (Cards order)) h is = some_none (sym h.1.device ∙ device_is ∙ is)
+    where
+      some_none : {X : Type 0} {a : X} → Some a ≡ None → ⊥
+      some_none {X} {a} e = cc
+  no_order (Files _) h is = absurd (apart _ _ h.0 refl)
+  no_order (Sockets order) h is = absurd (no_socket (codes "cards") rows order refl refl refl h)
+
+pub cards_asked : CardsAsked
+cards_asked ws deck jobs device have once is = record {
+  order = λ order h. order_read ws deck jobs have once device order (of_rows ws deck jobs have once (λ name rs. IsOrderOf name rs order) h.1) is;
+  fault = λ fault h. memory ws deck jobs have once fault (λ two. absurd (none_some (sym is ∙ sym (device_is ws deck jobs have once) ∙ two.1))) h;
+}
+  where
+    none_some : Some device ≡ None → ⊥
+    none_some e = cc
+
+pub two_devices_told : TwoDevicesTold
+two_devices_told ws deck jobs have once is = record {
+  order = λ order h. no_order ws deck jobs have once order (of_rows ws deck jobs have once (λ name rs. IsOrderOf name rs order) h.1) is;
+  fault = λ fault h. two_or_memory ws deck jobs have once fault h;
+}

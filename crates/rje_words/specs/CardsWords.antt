@@ -1,0 +1,59 @@
+-- The words behind `cards`: two files and options for a device, in any order (own profile).
+use Rattle.std.specs.Prelude.{◌≡◌, Bool, false, true, not, ◌||◌, ◌&&◌, List, [], ◌∷◌, Option, codes}
+use Rattle.clap.specs.Words.{Text}
+use Rattle.rje_words.specs.declared.device.Device.{Device}
+use Rattle.rje_words.specs.CommandLine.{is_file, is_name}
+use Rattle.rje_words.specs.Device.{chosen}
+
+-- an option for a device
+pub data DeviceOption : Type 0 where
+  printer : DeviceOption
+  punch : DeviceOption
+  transparent : DeviceOption
+
+-- a word behind `cards`
+pub data CardsWord : Type 0 where
+  file : Text → CardsWord
+  option : DeviceOption → CardsWord
+
+-- the word as it is written
+abbrev pub text_of : CardsWord → Text
+text_of (file name) = name
+text_of (option printer) = codes "--printer"
+text_of (option punch) = codes "--punch"
+text_of (option transparent) = codes "--transparent"
+
+-- the files among the words, in their order
+abbrev pub files_in : List CardsWord → List Text
+files_in [] = []
+files_in (file name ∷ words) = name ∷ files_in words
+files_in (option o ∷ words) = files_in words
+
+-- whether two options are the same
+abbrev pub is_same : DeviceOption → DeviceOption → Bool
+is_same printer printer = true
+is_same punch punch = true
+is_same transparent transparent = true
+is_same _ _ = false
+
+-- whether the option is among the words
+abbrev pub is_among : DeviceOption → List CardsWord → Bool
+is_among o [] = false
+is_among o (file name ∷ words) = is_among o words
+is_among o (option given ∷ words) = is_same given o || is_among o words
+
+-- no option stands twice among the words
+abbrev pub has_each_once : List CardsWord → Bool
+has_each_once [] = true
+has_each_once (file name ∷ words) = has_each_once words
+has_each_once (option o ∷ words) = not (is_among o words) && has_each_once words
+
+-- the device that the options among the words choose: none where there is more than one
+abbrev pub device_among : List CardsWord → Option Device
+device_among words = chosen (is_among printer words) (is_among punch words) (is_among transparent words)
+
+-- the files among the words are these two, in this order
+pub record HaveFiles (words : List CardsWord) (deck jobs : Text) : Type 0 where
+  pub both : files_in words ≡ deck ∷ jobs ∷ []
+  pub is_deck : is_file deck ≡ true
+  pub is_job_file : is_name jobs ≡ true
