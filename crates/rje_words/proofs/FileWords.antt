@@ -230,8 +230,8 @@ no_devices : (name : Text) (rows : List Row) → bytes_eq name (codes "cards") �
 no_devices name rows ne h = apart _ _ h.0 ne
 
 pub no_address : (name : Text) (rows : List Row) → bytes_eq name (codes "send") ≡ false → bytes_eq name (codes "receive") ≡ false → IsFaultOf name rows BadAddress → ⊥
-no_address name rows ne ne' (inl e) = apart _ _ e ne
-no_address name rows ne ne' (inr e) = apart _ _ e ne'
+no_address name rows ne ne' (inl e) = apart _ _ e.0 ne
+no_address name rows ne ne' (inr e) = apart _ _ e.0 ne'
 
 module _ {V : Type 0} (view : List Row → V) (word : Text) (words : List Text) (name : Text) (value : V) (P : Order → Type 0) where
   ask_only : fault_of rje_app (word ∷ words) ≡ [] → seen view (subcommand_of rje_app (word ∷ words)) ≡ Some (name, value)

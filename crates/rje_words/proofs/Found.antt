@@ -1,10 +1,10 @@
 -- What clap finds of any command, and what is told of it.
-use Rattle.std.proofs.Common.{List, [], ◌∷◌, Option, Some, None, Bool, true, false, ◌≡◌, ◌≢◌, refl, sym, ap, ◌∙◌, codes, subst, length}
+use Rattle.std.proofs.Common.{ℕ, List, [], ◌∷◌, Option, Some, None, Bool, true, false, ◌≡◌, ◌≢◌, refl, sym, ap, ◌∙◌, codes, subst, length}
 use Rattle.std.specs.Prelude.{option_map, unwrap_or, map, Result, Ok, Err, IfOk, IfErr, IsErrAnd, ◌==◌}
 use Rattle.std.specs.Option.{IsSomeAnd, option_map_or}
 use Rattle.std.specs.Borrow.{Bor}
 use Rattle.std.specs.Str.{bytes_eq}
-use Rattle.std.specs.Str.Parse.{ParsesBool}
+use Rattle.std.specs.Str.Parse.{ParsesBool, ParsesUnsigned}
 use Rattle.std.proofs.lemmas.Slice.Eq.{bytes_eq-Decides}
 use Rattle.clap.specs.Words.{HasKind, Row, Text, App, HasMatchesOf, ReadsOne, fault_of, found_of, is_simple, is_simple_and_free, rows_of, subcommand_of, subcommand_rows_of, subcommand_name_of}
 use Rattle.clap.proofs.OnLiterals.{clap_on_literals}
@@ -14,7 +14,7 @@ use Rattle.clap.specs.declared.parser.ArgMatches.TheViews.{out-ArgMatches}
 use Rattle.rje_words.specs.declared.order.Order.{Order}
 use Rattle.rje_words.specs.declared.words_fault.WordsFault.{WordsFault}
 use Rattle.rje_words.specs.declared.words_fault.WordsFault.TheVariants.{Refused, TwoDevices, BadAddress}
-use Rattle.rje_words.specs.Asking.{AsksFor, IsFound, IsOrderOf, IsFaultOf, IsTold}
+use Rattle.rje_words.specs.Asking.{AsksFor, IsFound, IsOrderOf, IsTimeoutOf, IsFaultOf, IsTold}
 use Rattle.rje_words.specs.CommandLine.{rje_app}
 
 -- WHAT IS READ OF A VALUE
@@ -34,6 +34,13 @@ bool_read E None r none value = ap (λ x. unwrap_or x false) (none refl)
 bool_read E (Some t) (Some true) none value = rw (value t refl) refl
 bool_read E (Some t) (Some false) none value = rw (value t refl) refl
 bool_read E (Some t) None none value = sym (not_text _ t (codes "true") refl (value t refl).1.0)
+
+module _ (E : Type 0) (gives : Text → Result ℕ E → Type 0) (parses : (text : Text) (r : Result ℕ E) → gives text r → ParsesUnsigned 16 10 text r) where
+  pub timeout_read : (o : Option Text) (r : Option ℕ) → (o ≡ None → r ≡ None) → ((t : Text) → o ≡ Some t → ReadsOne gives t r)
+      → IsTimeoutOf o (unwrap_or r 3000)
+  timeout_read None r none value = ap (λ x. unwrap_or x 3000) (none refl)
+  timeout_read (Some t) (Some n) none value = λ numeral small. (parses t (Ok n) (value t refl)).1
+  timeout_read (Some t) None none value = let error = value t refl in λ numeral small. absurd (parses t (Err error.0) error.1 (numeral, small))
 
 -- WHICH COMMAND WAS MET
 

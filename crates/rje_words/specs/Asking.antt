@@ -1,7 +1,8 @@
 -- What words ask for (own profile): clap finds a command's name and its rows, and these are read.
-use Rattle.std.specs.Prelude.{◌≡◌, ◌⊎◌, Bool, false, List, [], ◌∷◌, Option, None, Some, codes, unwrap_or}
+use Rattle.std.specs.Prelude.{◌≡◌, ◌<◌, ◌^◌, ◌⊎◌, ℕ, Bool, false, List, [], ◌∷◌, Option, None, Some, codes, unwrap_or}
 use Rattle.std.specs.Option.{IsSomeAnd, option_map_or}
 use Rattle.std.specs.Str.{bytes_eq}
+use Rattle.std.specs.Str.Parse.{IsNumeral, digits_value, without_leading_plus}
 use Rattle.clap.specs.Words.{HasKind, Row, Text, fault_of, first_of, one_of, subcommand_of}
 use Rattle.rje_words.specs.declared.device.Device.{Device}
 use Rattle.rje_words.specs.declared.order.CardsOrder.{CardsOrder}
@@ -14,6 +15,7 @@ use Rattle.rje_words.specs.declared.order.PeerOrder.{PeerOrder}
 use Rattle.rje_words.specs.declared.order.TryOrder.{TryOrder}
 use Rattle.rje_words.specs.declared.words_fault.WordsFault.{WordsFault}
 use Rattle.rje_words.specs.declared.words_fault.WordsFault.TheVariants.{Refused, TwoDevices, BadAddress}
+use Rattle.rje_words.specs.Address.{IsAddressOf}
 use Rattle.rje_words.specs.CommandLine.{rje_app}
 use Rattle.rje_words.specs.Device.{chosen}
 use Rattle.rje_words.specs.Orders.{IsBlocks}
@@ -41,13 +43,21 @@ pub record IsTryOrderOf (rows : List Row) (order : TryOrder) : Type 0 where
   pub jobs : order.jobs.now ≡ word_in (codes "JOBS") rows
   pub script : order.script.now ≡ word_in (codes "SCRIPT") rows
 
--- the order has the job file that was found
+-- the time-out of this text: the decimal number that it writes, which a plus may precede, and 3000 where none was found
+abbrev pub IsTimeoutOf : Option Text → ℕ → Type 0
+IsTimeoutOf (Some text) timeout = let digits = without_leading_plus text in IsNumeral 10 digits → digits_value 10 digits < 2 ^ 16 → timeout ≡ digits_value 10 digits
+IsTimeoutOf None timeout = timeout ≡ 3000
+
+-- the order has the job file and the time-out that were found
 pub record IsLoopOrderOf (rows : List Row) (order : LoopOrder) : Type 0 where
   pub jobs : order.jobs.now ≡ word_in (codes "JOBS") rows
+  pub timeout : IsTimeoutOf (one_of (codes "timeout") rows) order.timeout
 
--- the order has the job file that was found
+-- the order has the job file, the time-out and the address that were found, the address by this option
 pub record IsPeerOrderOf (id : Text) (rows : List Row) (order : PeerOrder) : Type 0 where
   pub jobs : order.jobs.now ≡ word_in (codes "JOBS") rows
+  pub address : IsAddressOf (word_in id rows) (Some order.address)
+  pub timeout : IsTimeoutOf (one_of (codes "timeout") rows) order.timeout
 
 -- the order is that of the command of this name, with the values that were found
 abbrev pub IsOrderOf : Text → List Row → Order → Type 0
@@ -65,7 +75,8 @@ IsOrderOf name rows (Sockets (Receive order)) = (name ≡ codes "receive") × Is
 abbrev pub IsFaultOf : Text → List Row → WordsFault → Type 0
 IsFaultOf name rows (Refused error) = ⊥
 IsFaultOf name rows TwoDevices = (name ≡ codes "cards") × (device_in rows ≡ None)
-IsFaultOf name rows BadAddress = (name ≡ codes "send") ⊎ (name ≡ codes "receive")
+IsFaultOf name rows BadAddress =
+    ((name ≡ codes "send") × IsAddressOf (word_in (codes "to") rows) None) ⊎ ((name ≡ codes "receive") × IsAddressOf (word_in (codes "listen") rows) None)
 
 -- the words are taken, and what is found of the command that they name is this
 abbrev pub IsFound : List Text → (Text → List Row → Type 0) → Type 0

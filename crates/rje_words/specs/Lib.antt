@@ -1,4 +1,5 @@
 pub mod Device
+pub mod Address
 pub mod Orders
 pub mod WordsFault
 pub mod CommandLine

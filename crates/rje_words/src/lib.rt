@@ -5,6 +5,8 @@ mod address;
 mod device;
 mod laws;
 mod order;
+#[cfg(test)]
+mod tests;
 mod words;
 mod words_fault;
 

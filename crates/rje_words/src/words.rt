@@ -2,7 +2,8 @@
 ghost use Rattle.std.specs.Prelude.{◌≡◌, Some, map, codes, IfOk, IfErr, option_map};
 ghost use Rattle.clap.specs.Words.{first_of, found_of, one_of, rows_of};
 ghost use Rattle.rje_words.specs.CommandLine.{IsOneOf, command_names};
-ghost use Rattle.rje_words.specs.Asking.{AsksFor, IsTold, IsOrderOf, IsFaultOf, IsCardsOrderOf, IsLoopOrderOf, IsPeerOrderOf, word_in, is_on, device_in};
+ghost use Rattle.rje_words.specs.Address.{IsAddressOf};
+ghost use Rattle.rje_words.specs.Asking.{AsksFor, IsTold, IsOrderOf, IsFaultOf, IsCardsOrderOf, IsLoopOrderOf, IsPeerOrderOf, IsTimeoutOf, word_in, is_on, device_in};
 
 mod app;
 
@@ -81,7 +82,8 @@ fn loop_order<'a>(matches: &ArgMatches<'a>) -> LoopOrder<'a>
 /// The address is the value of this option.
 fn peer_order<'a>(matches: &ArgMatches<'a>, id: &str) -> Result<PeerOrder<'a>, WordsFault>
     ensures asked { IfOk result (IsPeerOrderOf id.now (rows_of (found_of matches.now))) }
-    ensures told { IfErr result (λ fault. fault ≡ WordsFault.BadAddress) }
+    ensures told { IfErr result (λ fault. (fault ≡ WordsFault.BadAddress)
+        × IsAddressOf (word_in id.now (rows_of (found_of matches.now))) None) }
 {
     let Some(address) = address_of(word(matches, id)) else {
         return Err(WordsFault::BadAddress);
@@ -94,7 +96,9 @@ fn peer_order<'a>(matches: &ArgMatches<'a>, id: &str) -> Result<PeerOrder<'a>, W
 }
 
 /// How long a hearing waits, in milliseconds: clap tests the range.
-fn timeout_of(matches: &ArgMatches) -> u16 {
+fn timeout_of(matches: &ArgMatches) -> u16
+    ensures { IsTimeoutOf (one_of (codes "timeout") (rows_of (found_of matches.now))) result }
+{
     matches.get_one::<u16>("timeout").unwrap_or(3000)
 }
 

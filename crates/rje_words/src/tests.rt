@@ -1,0 +1,170 @@
+//! Orders and faults, by their words.
+use crate::{
+    CardsOrder, Device, FileOrder, LoopOrder, Order, PeerOrder, SocketOrder, TryOrder, WordsFault,
+    parse,
+};
+use clap::error::ErrorKind;
+use std::net::{Ipv4Addr, SocketAddr, SocketAddrV4};
+use std::process::Abort;
+
+fn assert_order<'a>(rt: &(impl Abort + AllocGlobal), words: &'a [&'a str], order: Order<'a>) {
+    match parse(rt.alloc(), words) {
+        Ok(asked) => assert!(rt; asked == order),
+        Err(_) => assert!(rt; false),
+    }
+}
+
+fn assert_cards(rt: &(impl Abort + AllocGlobal), words: &[&str], device: Device) {
+    let order = CardsOrder {
+        deck: "deck.txt",
+        jobs: "jobs.rje",
+        device,
+    };
+    assert_order(rt, words, Order::Files(FileOrder::Cards(order)));
+}
+
+fn assert_refused(rt: &(impl Abort + AllocGlobal), words: &[&str], kind: ErrorKind) {
+    match parse(rt.alloc(), words) {
+        Err(WordsFault::Refused(error)) => assert!(rt; error.kind() == kind),
+        _ => assert!(rt; false),
+    }
+}
+
+fn assert_bad_address(rt: &(impl Abort + AllocGlobal), words: &[&str]) {
+    assert!(rt; matches!(parse(rt.alloc(), words), Err(WordsFault::BadAddress)));
+}
+
+fn local(port: u16) -> SocketAddr {
+    SocketAddr::V4(SocketAddrV4::new(Ipv4Addr::new(127, 0, 0, 1), port))
+}
+
+#[test]
+fn commands_over_files(rt: HostRuntime) {
+    assert_order(&rt, &[], Order::Files(FileOrder::Blocks("-")));
+    assert_order(
+        &rt,
+        &["blocks", "deck.txt"],
+        Order::Files(FileOrder::Blocks("deck.txt")),
+    );
+    assert_order(
+        &rt,
+        &["show", "jobs.rje"],
+        Order::Files(FileOrder::Show("jobs.rje")),
+    );
+    assert_order(
+        &rt,
+        &["check", "jobs.rje"],
+        Order::Files(FileOrder::Check("jobs.rje")),
+    );
+    assert_order(
+        &rt,
+        &["print", "jobs.rje"],
+        Order::Files(FileOrder::Print("jobs.rje")),
+    );
+    assert_order(
+        &rt,
+        &["try", "jobs.rje", "line.txt"],
+        Order::Files(FileOrder::Try(TryOrder {
+            jobs: "jobs.rje",
+            script: "line.txt",
+        })),
+    );
+}
+
+#[test]
+fn an_option_stands_anywhere(rt: HostRuntime) {
+    assert_cards(&rt, &["cards", "deck.txt", "jobs.rje"], Device::Default);
+    assert_cards(
+        &rt,
+        &["cards", "--printer", "deck.txt", "jobs.rje"],
+        Device::Printer,
+    );
+    assert_cards(
+        &rt,
+        &["cards", "deck.txt", "--punch", "jobs.rje"],
+        Device::Punch,
+    );
+    assert_cards(
+        &rt,
+        &["cards", "deck.txt", "jobs.rje", "--transparent"],
+        Device::Transparent,
+    );
+}
+
+#[test]
+fn commands_over_sockets(rt: HostRuntime) {
+    assert_order(
+        &rt,
+        &["loop", "jobs.rje", "--timeout", "250"],
+        Order::Sockets(SocketOrder::Loop(LoopOrder {
+            jobs: "jobs.rje",
+            timeout: 250,
+        })),
+    );
+    assert_order(
+        &rt,
+        &["send", "--to", "127.0.0.1:3780", "jobs.rje"],
+        Order::Sockets(SocketOrder::Send(PeerOrder {
+            jobs: "jobs.rje",
+            address: local(3780),
+            timeout: 3000,
+        })),
+    );
+    assert_order(
+        &rt,
+        &[
+            "receive",
+            "jobs.rje",
+            "--timeout=60000",
+            "--listen",
+            "127.0.0.1:0",
+        ],
+        Order::Sockets(SocketOrder::Receive(PeerOrder {
+            jobs: "jobs.rje",
+            address: local(0),
+            timeout: 60000,
+        })),
+    );
+}
+
+#[test]
+fn two_devices_are_told(rt: HostRuntime) {
+    let words = ["cards", "--punch", "deck.txt", "--transparent", "jobs.rje"];
+    assert!(rt;
+        matches!(
+            parse(rt.alloc(), words.as_slice()),
+            Err(WordsFault::TwoDevices)
+        )
+    );
+}
+
+#[test]
+fn an_address_is_told(rt: HostRuntime) {
+    assert_bad_address(&rt, &["send", "jobs.rje", "--to", "localhost:3780"]);
+    assert_bad_address(&rt, &["send", "jobs.rje", "--to", "127.0.0.1:03780"]);
+    assert_bad_address(&rt, &["receive", "jobs.rje", "--listen", "127.0.0.1"]);
+    assert_bad_address(&rt, &["receive", "jobs.rje", "--listen", "127.0.0.1:65536"]);
+}
+
+#[test]
+fn other_words_are_refused(rt: HostRuntime) {
+    assert_refused(&rt, &["job", "jobs.rje"], ErrorKind::InvalidSubcommand);
+    assert_refused(&rt, &["blocks"], ErrorKind::MissingRequiredArgument);
+    assert_refused(
+        &rt,
+        &["cards", "deck.txt", "jobs.rje", "--punch", "--punch"],
+        ErrorKind::ArgumentConflict,
+    );
+    assert_refused(
+        &rt,
+        &["cards", "deck.txt", "jobs.rje", "--plotter"],
+        ErrorKind::UnknownArgument,
+    );
+    assert_refused(
+        &rt,
+        &["loop", "jobs.rje", "--timeout", "0"],
+        ErrorKind::ValueValidation,
+    );
+    assert_refused(&rt, &["--help"], ErrorKind::DisplayHelp);
+    assert_refused(&rt, &["help", "cards"], ErrorKind::DisplayHelp);
+}
