@@ -1,5 +1,5 @@
 -- What clap makes of the words behind `cards`, in any order.
-use Rattle.std.proofs.Common.{ℕ, List, [], ◌∷◌, ◌++◌, ◌≡◌, ◌==◌, arith, Option, Some, None, Bool, true, false, refl, codes, not, cond, ap, ap₂, ◌∙◌, ◌&&◌, ◌||◌, sym, subst, append_assoc, append-nil}
+use Rattle.std.proofs.Common.{ℕ, List, [], ◌∷◌, ◌++◌, ◌≡◌, ◌==◌, arith, Option, Some, None, Bool, true, false, refl, codes, not, cond, ap, ap₂, ◌∙◌, ◌&&◌, ◌||◌, sym, subst, append_assoc, append-nil, ◌⊎◌, inl, inr}
 use Rattle.std.specs.Prelude.{option_map, unwrap_or, is_some, find, fold, map, if◌then◌else◌, slice_get}
 use Rattle.std.specs.Str.{bytes_eq}
 use Rattle.std.proofs.lemmas.Bool.Decides.{nat_tests}
@@ -643,3 +643,44 @@ pub cards_fault : (words : List Text) → fault_of rje_app (codes "cards" ∷ wo
 cards_fault words =
     ap₂ or_else (top_quiet words) (ap after_walk (top_walk words) ∙ after_entered words)
     ∙ or_else-right (level_fault cards [] nothing_held words false [])
+
+-- AN OPTION THAT STANDS TWICE
+
+-- the files among the words fit
+abbrev pub AllFilesFit : List CardsWord → Seen → Type 0
+AllFilesFit [] seen = Unit {0}
+AllFilesFit (file name ∷ ws) seen = FileFits seen.deck seen.jobs name × AllFilesFit ws (with_file seen.deck name seen)
+AllFilesFit (option o ∷ ws) seen = AllFilesFit ws (with_option o seen)
+
+-- some option among the words was seen before it
+abbrev pub Repeats : List CardsWord → Seen → Type 0
+Repeats [] seen = ⊥
+Repeats (file name ∷ ws) seen = Repeats ws (with_file seen.deck name seen)
+Repeats (option o ∷ ws) seen = (is_seen o seen ≡ true) ⊎ ((is_seen o seen ≡ false) × Repeats ws (with_option o seen))
+
+repeats : (ws : List CardsWord) (h : Held) (seen : Seen) → Stands h seen → AllFilesFit ws seen → Repeats ws seen
+    → walk_fault cards [] (at h (position seen)) (map text_of ws) ≡ ArgumentConflict ∷ []
+unfolding walk_fault
+repeats [] h seen st fit again = absurd again
+repeats (file name ∷ ws) h seen st fit again =
+    let s = steps (file name) h seen st fit.0 in
+    ap₂ or_else s.0 (ap (λ x. walk_fault cards [] x (map text_of ws)) s.2 ∙ repeats ws s.1 (with_word (file name) seen) s.3 fit.1 again)
+repeats (option o ∷ ws) h seen st fit (inl e) =
+    ap (λ ks. or_else ks (walk_fault cards [] (walked rules [] (at h (position seen)) (text_of (option o))) (map text_of ws)))
+    (option_told o h (position seen) seen st ∙ ap conflict e)
+repeats (option o ∷ ws) h seen st fit (inr later) =
+    let s = option_steps o h seen st later.0 in
+    ap₂ or_else s.0 (ap (λ x. walk_fault cards [] x (map text_of ws)) s.2 ∙ repeats ws s.1 (with_option o seen) s.3 fit later.1)
+
+module _ (ws : List CardsWord) where
+  abbrev ending : Held
+  ending = (walk rules [] nothing_held (map text_of ws)).held
+
+  -- what comes after the walk
+  abbrev after_words : Kinds
+  after_words = or_else [] (or_else (settle_fault rules cards.args_override_self ending)
+      (or_else (defaults_fault (settled rules ending).rows rules) (check_fault cards (finished rules ending) false)))
+
+  -- the level of `cards` fails where an option stands twice
+  pub level_conflicts : AllFilesFit ws nothing_seen → Repeats ws nothing_seen → level_fault cards [] nothing_held (map text_of ws) false [] ≡ ArgumentConflict ∷ []
+  level_conflicts fit again = ap (λ ks. or_else ks after_words) (repeats ws nothing_held nothing_seen nothing_stands fit again)

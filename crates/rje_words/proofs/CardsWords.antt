@@ -5,6 +5,7 @@ use Rattle.std.specs.Option.{IsSomeAnd}
 use Rattle.clap.specs.Words.{HasKind, Row, Text, fault_of, subcommand_of}
 use Rattle.clap.specs.Faults.{level_fault}
 use Rattle.clap.specs.Walk.{nothing_held, rows_after}
+use Rattle.clap.specs.declared.error.kind.ErrorKind.TheVariants.{ArgumentConflict}
 use Rattle.rje_words.specs.declared.device.Device.{Device}
 use Rattle.rje_words.specs.declared.order.Order.{Order}
 use Rattle.rje_words.specs.declared.order.Order.TheVariants.{Files, Sockets}
@@ -12,13 +13,13 @@ use Rattle.rje_words.specs.declared.order.FileOrder.TheVariants.{Cards}
 use Rattle.rje_words.specs.declared.words_fault.WordsFault.{WordsFault}
 use Rattle.rje_words.specs.declared.words_fault.WordsFault.TheVariants.{Refused, TwoDevices, BadAddress}
 use Rattle.rje_words.specs.Asking.{IsFaultOf, IsOrderOf, IsTold, device_in}
-use Rattle.rje_words.specs.Canonical.{CardsAsked, TwoDevicesTold}
+use Rattle.rje_words.specs.Canonical.{CardsAsked, RepeatedRefused, TwoDevicesTold}
 use Rattle.rje_words.specs.CardsWords.{CardsWord, DeviceOption, HaveFiles, device_among, file, files_in, has_each_once, is_among, is_same, option, printer, punch, transparent, text_of}
 use Rattle.rje_words.specs.CommandLine.{is_file, is_name, rje_app}
 use Rattle.rje_words.specs.Device.{chosen}
 use Rattle.rje_words.specs.Orders.{IsCards}
-use Rattle.rje_words.specs.WordsFault.{IsWantOfMemory}
-use Rattle.rje_words.proofs.CardsLevel.{AllFit, FileFits, Reads, Seen, cards, cards_fault, cards_met, is_seen, level_passes, nothing_seen, rules, with_file, with_option, with_word, with_words}
+use Rattle.rje_words.specs.WordsFault.{IsRefusedFor, IsWantOfMemory}
+use Rattle.rje_words.proofs.CardsLevel.{AllFilesFit, AllFit, FileFits, Repeats, Reads, Seen, cards, cards_fault, cards_met, is_seen, level_conflicts, level_passes, nothing_seen, rules, with_file, with_option, with_word, with_words}
 use Rattle.rje_words.proofs.FileWords.{apart, memory_only, no_address, no_socket}
 
 -- OPTIONS THAT WERE SEEN
@@ -243,4 +244,91 @@ pub two_devices_told : TwoDevicesTold
 two_devices_told ws deck jobs have once is = record {
   order = λ order h. no_order ws deck jobs have once order (of_rows ws deck jobs have once (λ name rs. IsOrderOf name rs order) h.1) is;
   fault = λ fault h. two_or_memory ws deck jobs have once fault h;
+}
+
+-- AN OPTION THAT STANDS TWICE
+
+all_files_fit : (ws : List CardsWord) (seen : Seen) → FilesFit seen.deck seen.jobs (files_in ws) → AllFilesFit ws seen
+all_files_fit [] seen files = tt
+all_files_fit (file name ∷ ws) seen files =
+    let fits = file_fits seen.deck seen.jobs name (files_in ws) seen refl refl files in
+    (fits.0, all_files_fit ws (with_file seen.deck name seen) fits.1)
+all_files_fit (option printer ∷ ws) seen files = all_files_fit ws (with_option printer seen) files
+all_files_fit (option punch ∷ ws) seen files = all_files_fit ws (with_option punch seen) files
+all_files_fit (option transparent ∷ ws) seen files = all_files_fit ws (with_option transparent seen) files
+
+by_cases : {X : Type 0} (b : Bool) → (b ≡ true → X) → (b ≡ false → X) → X
+by_cases true here there = here refl
+by_cases false here there = there refl
+
+seen_now : (o : DeviceOption) (seen : Seen) → is_seen o (with_option o seen) ≡ true
+seen_now printer seen = refl
+seen_now punch seen = refl
+seen_now transparent seen = refl
+
+same_seen : (given o : DeviceOption) (seen : Seen) → is_same given o ≡ true → is_seen o seen ≡ true → is_seen given seen ≡ true
+same_seen printer printer seen is e = e
+same_seen printer punch seen is e = cc
+same_seen printer transparent seen is e = cc
+same_seen punch printer seen is e = cc
+same_seen punch punch seen is e = e
+same_seen punch transparent seen is e = cc
+same_seen transparent printer seen is e = cc
+same_seen transparent punch seen is e = cc
+same_seen transparent transparent seen is e = e
+
+or_rest : (q m : Bool) → (q || m) ≡ true → q ≡ false → m ≡ true
+or_rest true m e f = cc
+or_rest false m e f = e
+
+and_rest : (a r : Bool) → (not a && r) ≡ false → a ≡ false → r ≡ false
+and_rest true r e f = cc
+and_rest false r e f = e
+
+not_both : (b : Bool) → b ≡ true → b ≡ false → ⊥
+not_both true t f = cc
+not_both false t f = cc
+
+among_repeats : (ws : List CardsWord) (seen : Seen) (o : DeviceOption) → is_seen o seen ≡ true → is_among o ws ≡ true → Repeats ws seen
+among_repeats [] seen o s e = cc
+among_repeats (file name ∷ ws) seen o s e = among_repeats ws (with_file seen.deck name seen) o (file_unseen o seen.deck name seen ∙ s) e
+among_repeats (option given ∷ ws) seen o s e = by_cases (is_seen given seen) (λ t. inl t) (λ f. inr (
+  f,
+  among_repeats ws (with_option given seen) o
+      (option_seen o given seen ∙ ap (λ b. b || is_same given o) s)
+      (or_rest (is_same given o) (is_among o ws) e (by_cases (is_same given o) (λ t. absurd (not_both (is_seen given seen) (same_seen given o seen t s) f)) (λ n. n))),
+))
+
+some_repeat : (ws : List CardsWord) (seen : Seen) → has_each_once ws ≡ false → Repeats ws seen
+some_repeat [] seen e = cc
+some_repeat (file name ∷ ws) seen e = some_repeat ws (with_file seen.deck name seen) e
+some_repeat (option o ∷ ws) seen e = by_cases (is_seen o seen) (λ t. inl t) (λ f. inr (
+  f,
+  by_cases (is_among o ws)
+      (λ t. among_repeats ws (with_option o seen) o (seen_now o seen) t)
+      (λ n. some_repeat ws (with_option o seen) (and_rest (is_among o ws) (has_each_once ws) e n)),
+))
+
+module _ (ws : List CardsWord) (deck jobs : Text) (have : HaveFiles ws deck jobs) (twice : has_each_once ws ≡ false) where
+  conflicts : fault_of rje_app (codes "cards" ∷ map text_of ws) ≡ ArgumentConflict ∷ []
+  conflicts =
+      cards_fault (map text_of ws)
+      ∙ level_conflicts ws (all_files_fit ws nothing_seen (subst (FilesFit None None) (sym have.both) (have.is_deck, have.is_job_file))) (some_repeat ws nothing_seen twice)
+
+  faulty : fault_of rje_app (codes "cards" ∷ map text_of ws) ≡ [] → ⊥
+  faulty none = let e : ArgumentConflict ∷ [] ≡ [] = sym conflicts ∙ none in cc
+
+  told_twice : (fault : WordsFault) → IsTold (codes "cards" ∷ map text_of ws) fault → IsRefusedFor ArgumentConflict fault ⊎ IsWantOfMemory fault
+  told_twice (Refused error) h = elim (subst (λ kinds. HasKind kinds error) conflicts h) [
+    | inl memory ↦ inr memory
+    | inr (inl is) ↦ inl is
+    | inr (inr none) ↦ absurd none
+  ]
+  told_twice TwoDevices h = absurd (faulty h.0)
+  told_twice BadAddress h = absurd (faulty h.0)
+
+pub repeated_refused : RepeatedRefused
+repeated_refused ws deck jobs have twice = record {
+  order = λ order h. faulty ws deck jobs have twice h.0;
+  fault = told_twice ws deck jobs have twice;
 }

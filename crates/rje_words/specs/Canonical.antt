@@ -1,6 +1,7 @@
 -- What canonical words ask for (own profile).
-use Rattle.std.specs.Prelude.{◌≡◌, ◌⊎◌, true, List, [], ◌∷◌, None, Some, codes, map}
+use Rattle.std.specs.Prelude.{◌≡◌, ◌⊎◌, true, false, List, [], ◌∷◌, None, Some, codes, map}
 use Rattle.clap.specs.Words.{Text}
+use Rattle.clap.specs.declared.error.kind.ErrorKind.TheVariants.{ArgumentConflict}
 use Rattle.rje_words.specs.declared.device.Device.{Device}
 use Rattle.rje_words.specs.declared.order.Order.{Order}
 use Rattle.rje_words.specs.declared.words_fault.WordsFault.{WordsFault}
@@ -9,7 +10,7 @@ use Rattle.rje_words.specs.Asking.{AsksFor, IsTold}
 use Rattle.rje_words.specs.CardsWords.{CardsWord, HaveFiles, device_among, has_each_once, text_of}
 use Rattle.rje_words.specs.CommandLine.{is_file, is_name}
 use Rattle.rje_words.specs.Orders.{IsBlocks, IsCards, IsShow, IsCheck, IsPrint, IsTry}
-use Rattle.rje_words.specs.WordsFault.{IsWantOfMemory}
+use Rattle.rje_words.specs.WordsFault.{IsRefusedFor, IsWantOfMemory}
 
 -- each order that the words ask for is such a one, and nothing is told of them but want of memory
 pub record AskOnlyFor (words : List Text) (IsOne : Order → Type 0) : Type 0 where
@@ -54,3 +55,9 @@ abbrev pub TwoDevicesTold : Type 0
 TwoDevicesTold =
     (words : List CardsWord) (deck jobs : Text) → HaveFiles words deck jobs → has_each_once words ≡ true → device_among words ≡ None
     → TellOnly (codes "cards" ∷ map text_of words) (λ fault. fault ≡ TwoDevices)
+
+-- where an option stands twice, clap refuses the words
+abbrev pub RepeatedRefused : Type 0
+RepeatedRefused =
+    (words : List CardsWord) (deck jobs : Text) → HaveFiles words deck jobs → has_each_once words ≡ false
+    → TellOnly (codes "cards" ∷ map text_of words) (IsRefusedFor ArgumentConflict)
