@@ -4,8 +4,8 @@ ghost use Rattle.rje_words.specs.Address.{IsAddressOf, has_leading_zero, port_te
 
 use std::net::{SocketAddr, SocketAddrV4};
 
-/// The address of a text: four decimal numbers from 0 to 255 with dots between, a colon and a port from 0 to 65535, none of them with
-/// leading zeros. None for any other text.
+/// The address of a text: four decimal numbers from 0 to 255 with dots between, a colon and a port
+/// from 0 to 65535, none of them with leading zeros. None for any other text.
 pub fn address_of(text: &str) -> Option<SocketAddr>
     ensures { IsAddressOf text.now result }
 {

@@ -3,7 +3,9 @@ ghost use Rattle.std.specs.Prelude.{◌≡◌, Some, map, codes, IfOk, IfErr, op
 ghost use Rattle.clap.specs.Words.{first_of, found_of, one_of, rows_of};
 ghost use Rattle.rje_words.specs.CommandLine.{IsOneOf, command_names};
 ghost use Rattle.rje_words.specs.Address.{IsAddressOf};
-ghost use Rattle.rje_words.specs.Asking.{AsksFor, IsTold, IsOrderOf, IsFaultOf, IsCardsOrderOf, IsLoopOrderOf, IsPeerOrderOf, IsTimeoutOf, word_in, is_on, device_in};
+ghost use Rattle.rje_words.specs.Asking.{AsksFor, IsTold, IsOrderOf, IsFaultOf, IsCardsOrderOf};
+ghost use Rattle.rje_words.specs.Asking.{IsLoopOrderOf, IsPeerOrderOf, IsTimeoutOf};
+ghost use Rattle.rje_words.specs.Asking.{word_in, is_on, device_in};
 
 mod app;
 
@@ -18,7 +20,8 @@ use std::alloc::Global;
 /// The deck that is standard input.
 pub const STANDARD_INPUT: &str = "-";
 
-/// What these words, which are those behind the program's name, ask for. No words ask for the blocks of the deck on standard input.
+/// What these words, which are those behind the program's name, ask for. No words ask for the
+/// blocks of the deck on standard input.
 pub fn parse<'a>(alloc: Global, words: &'a [&'a str]) -> Result<Order<'a>, WordsFault>
     ensures asked { IfOk result (AsksFor (map (λ word. word.now) words.entry.now)) }
     ensures told { IfErr result (IsTold (map (λ word. word.now) words.entry.now)) }

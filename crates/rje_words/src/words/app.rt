@@ -1,7 +1,9 @@
 //! The command line that clap is told of.
 ghost use Rattle.std.specs.Prelude.{◌≡◌, codes, IfOk};
 ghost use Rattle.clap.specs.Words.{App, Rule, with_rule, with_subcommand};
-ghost use Rattle.rje_words.specs.CommandLine.{IsArg, IsApp, file_rule, flag_rule, address_rule, timeout_rule, file_app, blocks_app, cards_app, try_app, loop_app, send_app, receive_app, rje_app};
+ghost use Rattle.rje_words.specs.CommandLine.{IsArg, IsApp, file_rule, flag_rule, address_rule};
+ghost use Rattle.rje_words.specs.CommandLine.{timeout_rule, file_app, blocks_app, cards_app};
+ghost use Rattle.rje_words.specs.CommandLine.{try_app, loop_app, send_app, receive_app, rje_app};
 
 use clap::{Arg, ArgAction, Command, value_parser};
 use std::alloc::{AllocError, Global};
@@ -170,13 +172,15 @@ fn timeout<'a>(alloc: Global) -> Arg<'a>
 }
 
 fn with_arg<'a>(command: Command<'a>, arg: Arg<'a>) -> Result<Command<'a>, AllocError>
-    ensures { (app : App) (rule : Rule) → IsApp app command.entry → IsArg rule arg.entry → IfOk result (IsApp (with_rule app rule)) }
+    ensures { (app : App) (rule : Rule) → IsApp app command.entry → IsArg rule arg.entry
+        → IfOk result (IsApp (with_rule app rule)) }
 {
     command.arg(arg)
 }
 
 fn with_command<'a>(top: Command<'a>, command: Command<'a>) -> Result<Command<'a>, AllocError>
-    ensures { (app under : App) → IsApp app top.entry → IsApp under command.entry → IfOk result (IsApp (with_subcommand app under.top)) }
+    ensures { (app under : App) → IsApp app top.entry → IsApp under command.entry
+        → IfOk result (IsApp (with_subcommand app under.top)) }
 {
     top.subcommand(command)
 }
