@@ -4,3 +4,4 @@ pub mod Commands
 pub mod CommandFault
 pub mod Inside
 pub mod Command
+pub mod Ending

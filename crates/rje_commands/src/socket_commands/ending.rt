@@ -1,4 +1,8 @@
 //! How a command over a line ends, and the lines that it prints of a transmission.
+ghost use Rattle.std.specs.Prelude.{◌≡◌, IfOk, IfErr};
+ghost use Rattle.std.specs.List.{flat_map};
+ghost use Rattle.rje_commands.specs.Ending.{ending_of, ending_status};
+
 use crate::command_fault::CommandFault;
 use bsc_link::Outcome;
 use rje_print::PrintedLine;
@@ -15,7 +19,9 @@ pub enum Ending {
 
 impl Ending {
     /// The exit status.
-    pub fn status(self) -> u8 {
+    pub fn status(self) -> u8
+        ensures status { result ≡ ending_status self }
+    {
         match self {
             Ending::Done => 0,
             Ending::Other => 4,
@@ -24,6 +30,8 @@ impl Ending {
 }
 
 impl From<Option<Outcome>> for Ending {
+    ghost from_gives = { λ outcome ending. ending ≡ ending_of outcome };
+
     fn from(outcome: Option<Outcome>) -> Ending {
         match outcome {
             Some(Outcome::Done) => Ending::Done,
@@ -33,7 +41,10 @@ impl From<Option<Outcome>> for Ending {
 }
 
 /// These lines in one piece.
-pub fn joined<'a>(alloc: Global, lines: &[PrintedLine]) -> Result<Vec<u8>, CommandFault<'a>> {
+pub fn joined<'a>(alloc: Global, lines: &[PrintedLine]) -> Result<Vec<u8>, CommandFault<'a>>
+    ensures text { IfOk result (λ text. text.items ≡ flat_map (λ line. line.items) lines.now) }
+    ensures memory { IfErr result (λ fault. fault ≡ CommandFault.OutOfMemory) }
+{
     let mut text = Vec::new(alloc);
     for line in lines {
         if let Err(AllocError) = text.extend_from_slice(line.as_slice()) {

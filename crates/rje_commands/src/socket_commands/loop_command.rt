@@ -1,4 +1,9 @@
 //! `loop`: both ends in one process, over a connection on this machine.
+ghost use Rattle.std.specs.Prelude.{◌≡◌, IfOk, OnOk};
+ghost use Rattle.std.specs.Io.KnownBytes.{Appends};
+ghost use Rattle.rje_station.specs.Sending.{outcome_of};
+ghost use Rattle.rje_commands.specs.Ending.{ending_of, loop_text};
+
 use crate::command_fault::CommandFault;
 use crate::commands::{put, read_job_file};
 use crate::exchange::take_turns;
@@ -7,7 +12,7 @@ use crate::socket_commands::ending::joined;
 use crate::socket_line::SocketLine;
 use crate::store::Store;
 use rje_print::{counted_text, handed_text, outcome_text};
-use rje_station::{ReceivingStation, SendingStation};
+use rje_station::{Line, ReceivingStation, SendingStation};
 use rje_words::LoopOrder;
 use std::alloc::Global;
 use std::io::{self, Write};
@@ -28,9 +33,34 @@ pub fn loopback<'a, R: Net, S: Store, O: Write>(
     let Ok((mut near, mut far)) = both_ends(rt, order.timeout) else {
         return Err(CommandFault::LineFailed);
     };
-    let taken = take_turns(&mut sender, &mut near, &mut receiver, &mut far);
+    loop_over(
+        alloc,
+        &mut sender,
+        &mut near,
+        &mut receiver,
+        &mut far,
+        jobs.len(),
+        out,
+    )
+}
+
+/// Sends what the sender has to the receiver, each at its end of a line, and prints the lines of it, also after a fault of the line.
+fn loop_over<'a, N: Line, F: Line, O: Write>(
+    alloc: Global,
+    sender: &mut SendingStation,
+    near: &mut N,
+    receiver: &mut ReceivingStation,
+    far: &mut F,
+    given: usize,
+    out: &mut O,
+) -> Result<Ending, CommandFault<'a>>
+    ensures ended { IfOk result (λ ending. ending ≡ ending_of (outcome_of sender.new)) }
+    ensures printed { OnOk result (Appends (O.contents out.old) (O.contents out.new)
+        (loop_text sender.new.counted given receiver.new.jobs (outcome_of sender.new))) }
+{
+    let taken = take_turns(sender, near, receiver, far);
     let lines = [
-        counted_text(sender.counted(), jobs.len()),
+        counted_text(sender.counted(), given),
         handed_text(receiver.jobs()),
         outcome_text(sender.outcome()),
     ];

@@ -1,4 +1,10 @@
 //! `receive`: one transmission from whoever connects, into a job file.
+ghost use Rattle.std.specs.Prelude.{◌≡◌, ◌⊎◌, ℕ, List, OnOk};
+ghost use Rattle.rje_jobs.specs.declared.job.Job.{Job as Handed};
+ghost use Rattle.rje_jobs.specs.JobFile.{IsFileOf};
+ghost use Rattle.rje_commands.specs.Ending.{WritesJobs};
+ghost use Rattle.rje_commands.specs.Store.{Tells, Sets};
+
 use crate::command_fault::CommandFault;
 use crate::commands::put;
 use crate::exchange::{Left, receive_all};
@@ -49,7 +55,10 @@ pub fn receive_over<L: Line, S: Store, O: Write, E: Write>(
     store: &mut S,
     out: &mut O,
     err: &mut E,
-) -> u8 {
+) -> u8
+    ensures written { (result ≡ 0) ⊎ (result ≡ 4) → (jobs : List Handed)
+        × WritesJobs jobs name.now (S.files store.old) (S.files store.new) (O.contents out.old) (O.contents out.new) }
+{
     match received(alloc, line, name, store, out) {
         Ok(ending) => ending.status(),
         Err(fault) => tell(&fault, err),
@@ -62,7 +71,10 @@ fn received<'a, L: Line, S: Store, O: Write>(
     name: &'a str,
     store: &mut S,
     out: &mut O,
-) -> Result<Ending, CommandFault<'a>> {
+) -> Result<Ending, CommandFault<'a>>
+    ensures written { OnOk result ((jobs : List Handed)
+        × WritesJobs jobs name.entry.now (S.files store.old) (S.files store.new) (O.contents out.old) (O.contents out.new)) }
+{
     let mut station = ReceivingStation::new(alloc)?;
     let left = receive_all(&mut station, line);
     let written = write_job_file(alloc, station.jobs(), name, store);
@@ -81,7 +93,10 @@ fn write_job_file<'a, S: Store>(
     jobs: &[Job],
     name: &'a str,
     store: &mut S,
-) -> Result<(), CommandFault<'a>> {
+) -> Result<(), CommandFault<'a>>
+    ensures file { OnOk result ((bytes : List ℕ) × IsFileOf jobs.now bytes
+        × Tells (S.files store.old) (S.files store.new) (Sets name.entry.now bytes)) }
+{
     let file = write_jobs(alloc, jobs)?;
     match store.write(name, file.as_slice()) {
         Ok(()) => Ok(()),

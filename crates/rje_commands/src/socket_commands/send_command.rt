@@ -1,4 +1,9 @@
 //! `send`: one transmission of a job file's jobs to a listening receiver.
+ghost use Rattle.std.specs.Prelude.{◌≡◌, length, IfOk, OnOk};
+ghost use Rattle.std.specs.Io.KnownBytes.{Appends};
+ghost use Rattle.rje_station.specs.Sending.{outcome_of};
+ghost use Rattle.rje_commands.specs.Ending.{ending_of, sent_text};
+
 use crate::command_fault::CommandFault;
 use crate::commands::{put, read_job_file};
 use crate::exchange::send_all;
@@ -45,7 +50,11 @@ fn send_over<'a, L: Line, O: Write>(
     jobs: &[Job],
     line: &mut L,
     out: &mut O,
-) -> Result<Ending, CommandFault<'a>> {
+) -> Result<Ending, CommandFault<'a>>
+    ensures ended { IfOk result (λ ending. ending ≡ ending_of (outcome_of station.new)) }
+    ensures printed { OnOk result (Appends (O.contents out.old) (O.contents out.new)
+        (sent_text station.new.counted (length jobs.now) (outcome_of station.new))) }
+{
     let sent: Result<(), StationFault> = send_all(station, line);
     let counted = counted_text(station.counted(), jobs.len());
     let text = joined(alloc, &[counted, outcome_text(station.outcome())])?;
