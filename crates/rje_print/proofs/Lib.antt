@@ -1,2 +1,5 @@
 pub mod BlockListings
+pub mod Fates
 pub mod Scripts
+pub mod Splits
+pub mod Turns

@@ -31,8 +31,8 @@ cuts_word places text rest last h e =
     ap (λ (xs : List ℕ). codes "ok:" ++ xs) (h ∙ ap (λ (xs : List ℕ). flat_map with_comma places ++ xs) e ∙ sym (places_and_one places last)) ∙ sym (some_cuts places last)
 
 -- the word of damage that was read
-pub damage_word : (bytes text : List ℕ) → IsHexOf bytes text → 0 < length bytes → IsDamageWord bytes (codes "bad:" ++ text)
-damage_word [] text h some = absurd (omega (arith, some))
+pub damage_word : (bytes text : List ℕ) → IsHexOf bytes text → 0 < length text → IsDamageWord bytes (codes "bad:" ++ text)
+damage_word [] text h some = absurd (omega (arith, some, ap length h))
 damage_word (b ∷ bs) text h some = (text, h, refl)
 
 -- one more turn is read

@@ -1,8 +1,10 @@
 -- Scripts of `try`: a schedule of losses and damage, a turn a line (own profile).
-use Rattle.std.specs.Prelude.{◌≡◌, ◌⊎◌, ℕ, ◌/◌, ◌%◌, Bool, true, false, List, [], ◌∷◌, ◌++◌, slice_index, codes, decimal}
+use Rattle.std.specs.Prelude.{◌≡◌, ◌≢◌, ◌⊎◌, ℕ, zero, suc, ◌+◌, ◌/◌, ◌%◌, ◌^◌, ◌<◌, Bool, true, false, List, [], ◌∷◌, ◌++◌, slice_index, codes, decimal, ⊤}
+use Rattle.std.specs.List.{All}
 use Rattle.bsc_link.specs.declared.wish.Wish.{Wish}
 use Rattle.line_world.specs.declared.fate.Fate.{Fate}
 use Rattle.line_world.specs.declared.turn.Turn.{Turn}
+use Rattle.rje_print.specs.declared.script_fault.ScriptFault.{ScriptFault}
 
 -- the character stands for a hexadecimal digit, in upper or lower case
 abbrev pub IsHexDigit : ℕ → ℕ → Type 0
@@ -17,6 +19,10 @@ IsHexOf (b ∷ bs) _ = ⊥
 -- the first two digits are those of this byte, and this is behind them
 abbrev pub IsFirstPair : List ℕ → ℕ → List ℕ → Type 0
 IsFirstPair text b rest = (high : ℕ) × (low : ℕ) × (text ≡ high ∷ low ∷ rest) × IsHexDigit (b / 16) high × IsHexDigit (b % 16) low
+
+-- the first two digits are those of some byte
+abbrev pub HasFirstPair : List ℕ → Type 0
+HasFirstPair text = (b : ℕ) × (rest : List ℕ) × (b < 2 ^ 8) × IsFirstPair text b rest
 
 -- numbers in decimal, with commas between
 abbrev pub places_text : List ℕ → List ℕ
@@ -40,6 +46,16 @@ IsFateWord (Fate.Arrives cuts) word = word ≡ cuts_text cuts.items
 IsFateWord Fate.Lost word = word ≡ codes "lost"
 IsFateWord (Fate.Damaged bytes) word = IsDamageWord bytes.items word
 
+-- the numbers of a fate fit the machine: places of cuts in 64 bits, bytes in eight
+abbrev pub FitsMachine : Fate → Type 0
+FitsMachine (Fate.Arrives cuts) = All (λ place. place < 2 ^ 64) cuts.items
+FitsMachine Fate.Lost = ⊤
+FitsMachine (Fate.Damaged bytes) = All (λ b. b < 2 ^ 8) bytes.items
+
+-- the word of some fate that fits the machine
+abbrev pub IsFate : List ℕ → Type 0
+IsFate word = (fate : Fate) × IsFateWord fate word × FitsMachine fate
+
 -- the word of a wish
 abbrev pub wish_word : Wish → List ℕ
 wish_word Wish.Go = codes "go"
@@ -59,6 +75,22 @@ pub record IsTurnLine (turn : Turn) (line : List ℕ) : Type 0 where
   pub down_word : IsFateWord turn.down down
   pub words : line ≡ up ++ codes " " ++ down ++ codes " " ++ wish_word turn.wish ++ codes " " ++ pause_word turn.pause
 
+-- the fates of a turn fit the machine
+abbrev pub TurnFits : Turn → Type 0
+TurnFits turn = FitsMachine turn.up × FitsMachine turn.down
+
+-- the line of some turn whose fates fit the machine
+abbrev pub IsTurn : List ℕ → Type 0
+IsTurn line = (turn : Turn) × IsTurnLine turn line × TurnFits turn
+
+-- these bytes have none of this kind
+abbrev pub Lacks : ℕ → List ℕ → Type 0
+Lacks byte bytes = All (λ b. b ≢ byte) bytes
+
+-- what stands in front of the first byte of this kind, and what stands behind it
+abbrev pub IsSplit : ℕ → (bytes front behind : List ℕ) → Type 0
+IsSplit byte bytes front behind = (bytes ≡ front ++ byte ∷ behind) × Lacks byte front
+
 -- what stands in front of and behind the first LF; where there is none all is in front
 abbrev pub IsFirstLine : List ℕ → List ℕ → List ℕ → Type 0
 IsFirstLine bytes line rest = (bytes ≡ line ++ 0x0A ∷ rest) ⊎ ((bytes ≡ line) × (rest ≡ []))
@@ -67,3 +99,23 @@ IsFirstLine bytes line rest = (bytes ≡ line ++ 0x0A ∷ rest) ⊎ ((bytes ≡ 
 abbrev pub IsScript : List Turn → List ℕ → Type 0
 IsScript [] bytes = bytes ≡ []
 IsScript (turn ∷ turns) bytes = (line : List ℕ) × (rest : List ℕ) × IsFirstLine bytes line rest × IsTurnLine turn line × IsScript turns rest
+
+-- the next line of these bytes, and what is behind its LF: it has no LF itself, and the last LF may be left out; of no bytes there is none
+pub record IsNextLine (bytes line rest : List ℕ) : Type 0 where
+  pub some : bytes ≢ []
+  pub one : Lacks 0x0A line
+  pub parts : IsFirstLine bytes line rest
+
+-- so many lines from the first on are each that of a turn, and the next line is not
+abbrev pub IsBadBehind : ℕ → List ℕ → Type 0
+IsBadBehind zero bytes = (line : List ℕ) × (rest : List ℕ) × IsNextLine bytes line rest × ¬ (IsTurn line)
+IsBadBehind (suc turns) bytes = (line : List ℕ) × (rest : List ℕ) × IsNextLine bytes line rest × IsTurn line × IsBadBehind turns rest
+
+-- the line of this number, from 1, is the first that is no turn's
+abbrev pub IsFirstBadLine : List ℕ → ℕ → Type 0
+IsFirstBadLine script number = (turns : ℕ) × (number ≡ turns + 1) × IsBadBehind turns script
+
+-- what is told of a script that isn't read: want of memory, or the first line that is no turn's
+abbrev pub IsScriptFault : List ℕ → ScriptFault → Type 0
+IsScriptFault script ScriptFault.OutOfMemory = ⊤
+IsScriptFault script (ScriptFault.NotATurn number) = IsFirstBadLine script number

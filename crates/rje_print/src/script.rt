@@ -8,8 +8,9 @@
 //! | up, down | `ok`; `ok:` and the places of cuts in decimal with commas between; `lost`; `bad:` and pairs of hexadecimal digits |
 //! | wish | `go`, `hold`, `turn` |
 //! | pause | `-`, `pause` |
-ghost use Rattle.std.specs.Prelude.{◌≡◌, ◌<◌, [], length, IfOk, IfSome, MatchOption};
-ghost use Rattle.rje_print.specs.Script.{IsFirstLine, IsScript, IsTurnLine, wish_word, pause_word};
+ghost use Rattle.std.specs.Prelude.{◌≡◌, ◌≢◌, ◌<◌, Bool, [], length, IfErr, IfOk, IfSome, MatchOption};
+ghost use Rattle.bsc_link.specs.declared.wish.Wish.{Wish};
+ghost use Rattle.rje_print.specs.Script.{IsNextLine, IsScript, IsScriptFault, IsTurn, IsTurnLine, TurnFits, wish_word, pause_word};
 
 mod fate_word;
 mod splitting;
@@ -24,6 +25,7 @@ use std::alloc::{AllocError, Global};
 /// The turns of a script. The first line that isn't a turn is told by its number, from 1.
 pub fn read_script(alloc: Global, script: &[u8]) -> Result<Vec<Turn>, ScriptFault>
     ensures script { IfOk result (λ turns. IsScript turns.items script.now) }
+    ensures told { IfErr result (IsScriptFault script.now) }
 {
     let mut turns = Vec::new(alloc);
     let mut rest = script;
@@ -44,7 +46,8 @@ pub fn read_script(alloc: Global, script: &[u8]) -> Result<Vec<Turn>, ScriptFaul
 
 /// The first line, and what is behind its LF.
 fn first_line<'a>(bytes: &'a [u8]) -> Option<(&'a [u8], &'a [u8])>
-    ensures line { MatchOption result (bytes.entry.now ≡ []) (λ p. IsFirstLine bytes.entry.now p.0.now p.1.now) }
+    ensures line { MatchOption result (bytes.entry.now ≡ [])
+        (λ p. IsNextLine bytes.entry.now p.0.now p.1.now) }
     ensures shorter { IfSome result (λ p. length p.1.now < length bytes.entry.now) }
 {
     if bytes.is_empty() {
@@ -58,7 +61,8 @@ fn first_line<'a>(bytes: &'a [u8]) -> Option<(&'a [u8], &'a [u8])>
 
 /// The turn of a line; None where it isn't one.
 fn turn_of(alloc: Global, line: &[u8]) -> Result<Option<Turn>, AllocError>
-    ensures { IfOk result (λ turn. IfSome turn (λ t. IsTurnLine t line.now)) }
+    ensures { IfOk result (λ turn. MatchOption turn (¬ (IsTurn line.now))
+        (λ t. IsTurnLine t line.now × TurnFits t)) }
 {
     let Some((up, rest)) = split_once(line, b' ') else {
         return Ok(None);
@@ -69,10 +73,16 @@ fn turn_of(alloc: Global, line: &[u8]) -> Result<Option<Turn>, AllocError>
     let Some((wish, pause)) = split_once(rest, b' ') else {
         return Ok(None);
     };
-    let (Some(wish), Some(pause)) = (wish_of(wish), pause_of(pause)) else {
+    let Some(wish) = wish_of(wish) else {
         return Ok(None);
     };
-    let (Some(up), Some(down)) = (fate_of(alloc, up)?, fate_of(alloc, down)?) else {
+    let Some(pause) = pause_of(pause) else {
+        return Ok(None);
+    };
+    let Some(up) = fate_of(alloc, up)? else {
+        return Ok(None);
+    };
+    let Some(down) = fate_of(alloc, down)? else {
         return Ok(None);
     };
     Ok(Some(Turn {
@@ -84,7 +94,8 @@ fn turn_of(alloc: Global, line: &[u8]) -> Result<Option<Turn>, AllocError>
 }
 
 fn wish_of(word: &[u8]) -> Option<Wish>
-    ensures { IfSome result (λ wish. word.now ≡ wish_word wish) }
+    ensures { MatchOption result ((wish : Wish) → word.now ≢ wish_word wish)
+        (λ wish. word.now ≡ wish_word wish) }
 {
     if word == b"go".as_slice() {
         Some(Wish::Go)
@@ -98,7 +109,8 @@ fn wish_of(word: &[u8]) -> Option<Wish>
 }
 
 fn pause_of(word: &[u8]) -> Option<bool>
-    ensures { IfSome result (λ pause. word.now ≡ pause_word pause) }
+    ensures { MatchOption result ((pause : Bool) → word.now ≢ pause_word pause)
+        (λ pause. word.now ≡ pause_word pause) }
 {
     if word == b"-".as_slice() {
         Some(false)

@@ -1,6 +1,6 @@
 //! The words of a script for what the line does.
-ghost use Rattle.std.specs.Prelude.{◌≡◌, ◌<◌, ◌++◌, codes, decimal, length, IfOk, IfSome};
-ghost use Rattle.rje_print.specs.Script.{IsFateWord, IsHexDigit, IsFirstPair};
+ghost use Rattle.std.specs.Prelude.{◌≡◌, ◌≢◌, ◌<◌, ◌^◌, ◌++◌, ℕ, codes, decimal, length, IfOk, IfSome, MatchOption};
+ghost use Rattle.rje_print.specs.Script.{FitsMachine, HasFirstPair, IsFate, IsFateWord, IsFirstPair, IsHexDigit};
 
 use super::splitting::split_once;
 use itoa::Buffer;
@@ -9,7 +9,8 @@ use std::alloc::{AllocError, Global};
 
 /// The fate of a word; None where it is none.
 pub fn fate_of(alloc: Global, word: &[u8]) -> Result<Option<Fate>, AllocError>
-    ensures { IfOk result (λ fate. IfSome fate (λ f. IsFateWord f word.now)) }
+    ensures { IfOk result (λ fate. MatchOption fate (¬ (IsFate word.now))
+        (λ f. IsFateWord f word.now × FitsMachine f)) }
 {
     if word == b"ok".as_slice() {
         return Ok(Some(Fate::Arrives {
@@ -30,7 +31,8 @@ pub fn fate_of(alloc: Global, word: &[u8]) -> Result<Option<Fate>, AllocError>
 
 /// Bytes that come in pieces, cut at these places.
 fn cuts_of(alloc: Global, places: &[u8]) -> Result<Option<Fate>, AllocError>
-    ensures { IfOk result (λ fate. IfSome fate (λ f. IsFateWord f (codes "ok:" ++ places.now))) }
+    ensures { IfOk result (λ fate. MatchOption fate (¬ (IsFate (codes "ok:" ++ places.now)))
+        (λ f. IsFateWord f (codes "ok:" ++ places.now) × FitsMachine f)) }
 {
     let mut cuts = Vec::new(alloc);
     let mut rest = places;
@@ -50,7 +52,8 @@ fn cuts_of(alloc: Global, places: &[u8]) -> Result<Option<Fate>, AllocError>
 
 /// The number of a decimal text without leading zeros.
 fn number_of(text: &[u8]) -> Option<usize>
-    ensures { IfSome result (λ number. text.now ≡ decimal number) }
+    ensures { MatchOption result ((number : ℕ) → number < 2 ^ 64 → text.now ≢ decimal number)
+        (λ number. (text.now ≡ decimal number) × (number < 2 ^ 64)) }
 {
     let number = str::from_utf8(text).ok()?.parse::<usize>().ok()?;
     let mut buffer = Buffer::new();
@@ -63,8 +66,12 @@ fn number_of(text: &[u8]) -> Option<usize>
 
 /// Damage that gives these bytes in hexadecimal, one at least.
 fn damage_of(alloc: Global, digits: &[u8]) -> Result<Option<Fate>, AllocError>
-    ensures { IfOk result (λ fate. IfSome fate (λ f. IsFateWord f (codes "bad:" ++ digits.now))) }
+    ensures { IfOk result (λ fate. MatchOption fate (¬ (IsFate (codes "bad:" ++ digits.now)))
+        (λ f. IsFateWord f (codes "bad:" ++ digits.now) × FitsMachine f)) }
 {
+    if digits.is_empty() {
+        return Ok(None);
+    }
     let mut bytes = Vec::new(alloc);
     let mut rest = digits;
     while let Some((byte, more)) = first_byte(rest) {
@@ -74,15 +81,13 @@ fn damage_of(alloc: Global, digits: &[u8]) -> Result<Option<Fate>, AllocError>
     if !rest.is_empty() {
         return Ok(None);
     }
-    if bytes.is_empty() {
-        return Ok(None);
-    }
     Ok(Some(Fate::Damaged { bytes }))
 }
 
 /// The byte of the first two digits, and what is behind them; None where they are no digits.
 fn first_byte(digits: &[u8]) -> Option<(u8, &[u8])>
-    ensures byte { IfSome result (λ p. IsFirstPair digits.now p.0 p.1.now) }
+    ensures byte { MatchOption result (¬ (HasFirstPair digits.now))
+        (λ p. IsFirstPair digits.now p.0 p.1.now × (p.0 < 2 ^ 8)) }
     ensures shorter { IfSome result (λ p. length p.1.now < length digits.now) }
 {
     let (high, rest) = digits.split_first()?;
@@ -94,7 +99,8 @@ fn first_byte(digits: &[u8]) -> Option<(u8, &[u8])>
 
 /// The value of a hexadecimal digit of either case.
 fn digit_of(character: u8) -> Option<u8>
-    ensures value { IfSome result (λ value. IsHexDigit value character) }
+    ensures value { MatchOption result ((value : ℕ) → value < 16 → ¬ (IsHexDigit value character))
+        (λ value. IsHexDigit value character) }
     ensures small { IfSome result (λ value. value < 16) }
 {
     match character {
