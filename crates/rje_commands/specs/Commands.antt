@@ -19,7 +19,7 @@ use Rattle.rje_words.specs.declared.order.FileOrder.{FileOrder}
 use Rattle.rje_print.specs.BlockListing.{IsBlockListing}
 use Rattle.rje_print.specs.JobTexts.{cards_line, IsShown, IsGood, IsPaper}
 use Rattle.rje_print.specs.ReportTexts.{run_text}
-use Rattle.rje_print.specs.Script.{IsScript}
+use Rattle.rje_print.specs.Script.{IsScript, IsFirstBadLine}
 use Rattle.rje_commands.specs.declared.command_fault.CommandFault.{CommandFault}
 use Rattle.rje_commands.specs.Store.{FileMap, Tells, IsSame, Sets}
 
@@ -158,7 +158,8 @@ IsFault order files input (CommandFault.CannotWrite name) = Writes order name.no
 IsFault order files input (CommandFault.Deck fault) = OfItsDeck order files input (λ deck. IsToldOfDeck deck fault)
 IsFault order files input (CommandFault.File fault) = OfItsFile order files (λ file. IsToldOfFile IsJobFile file fault)
 IsFault order files input (CommandFault.BadJob number) = IsBadJob order files number
-IsFault order files input (CommandFault.Script line) = OfItsScript order files (λ file script. IsJobFile file)
+IsFault order files input (CommandFault.Script line) =
+    OfItsScript order files (λ file script. IsJobFile file × IsFirstBadLine script line)
 IsFault order files input (CommandFault.NotDamage turn) =
     OfItsScript order files (λ file script. (attempt : ℕ) × IsFaultOfRun (world.NotDamage attempt turn) file script)
 IsFault order files input (CommandFault.BadCut turn) =

@@ -4,6 +4,7 @@ use Rattle.rje_jobs.specs.Deck.{IsTold as IsToldOfDeck}
 use Rattle.rje_jobs.specs.FileFault.{IsTold as IsToldOfFile}
 use Rattle.rje_jobs.specs.JobFile.{IsJobFile}
 use Rattle.line_world.specs.declared.world_fault.WorldFault.TheVariants as world
+use Rattle.rje_print.specs.Script.{IsFirstBadLine}
 use Rattle.rje_commands.specs.declared.command_fault.CommandFault.{CommandFault}
 use Rattle.rje_commands.specs.Commands.{OfFile, IsFaultOfRun}
 use Rattle.rje_commands.specs.Store.{FileMap}
@@ -29,7 +30,7 @@ IsDeckFault deck _ = ⊥
 abbrev pub IsTryFault : (file script : List ℕ) → CommandFault → Type 0
 IsTryFault file script CommandFault.OutOfMemory = ⊤
 IsTryFault file script (CommandFault.File fault) = IsToldOfFile IsJobFile file fault
-IsTryFault file script (CommandFault.Script line) = IsJobFile file
+IsTryFault file script (CommandFault.Script line) = IsJobFile file × IsFirstBadLine script line
 IsTryFault file script (CommandFault.BadJob number) = IsFaultOfRun (world.BadJob number) file script
 IsTryFault file script (CommandFault.NotDamage turn) = (attempt : ℕ) × IsFaultOfRun (world.NotDamage attempt turn) file script
 IsTryFault file script (CommandFault.BadCut turn) = (attempt : ℕ) × IsFaultOfRun (world.BadCut attempt turn) file script
