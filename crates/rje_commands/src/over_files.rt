@@ -26,12 +26,16 @@ pub fn command<S: Store, I: Read, O: Write, E: Write>(
     err: &mut E,
 ) -> u8
     ensures done { result ≡ 0 → DoesAsAsked (map (λ word. word.now) words.now)
-        (S.files store.old) (S.files store.new) (I.remaining input.old) (O.contents out.old) (O.contents out.new) }
-    ensures refused { result ≡ 1 → IsRefused (map (λ word. word.now) words.now) (S.files store.old) (I.remaining input.old) }
+        (S.files store.old) (S.files store.new) (I.remaining input.old)
+        (O.contents out.old) (O.contents out.new) }
+    ensures refused { result ≡ 1 → IsRefused (map (λ word. word.now) words.now)
+        (S.files store.old) (I.remaining input.old) }
     ensures words { result ≡ 2 → AsksForNoFiles (map (λ word. word.now) words.now) }
     ensures status { IsStatus result }
-    ensures files { LeavesAsAsked (map (λ word. word.now) words.now) (S.files store.old) (S.files store.new) (I.remaining input.old) }
-    ensures files_kept { result ≢ 0 → result ≢ 3 → Tells (S.files store.old) (S.files store.new) IsSame }
+    ensures files { LeavesAsAsked (map (λ word. word.now) words.now)
+        (S.files store.old) (S.files store.new) (I.remaining input.old) }
+    ensures files_kept { result ≢ 0 → result ≢ 3
+        → Tells (S.files store.old) (S.files store.new) IsSame }
     ensures silent { result ≢ 0 → result ≢ 3 → out.new ≡ out.old }
 {
     let order = match parse(alloc, words) {
@@ -56,7 +60,8 @@ pub fn carry_out<'a, S: Store, I: Read, O: Write>(
     ensures done { OnOk result (Does order.entry (S.files store.old) (S.files store.new)
         (I.remaining input.old) (O.contents out.old) (O.contents out.new)) }
     ensures fault { IfErr result (IsFault order.entry (S.files store.old) (I.remaining input.old)) }
-    ensures files { Leaves order.entry (S.files store.old) (S.files store.new) (I.remaining input.old) }
+    ensures files { Leaves order.entry
+        (S.files store.old) (S.files store.new) (I.remaining input.old) }
     ensures kept { IfErr result (λ fault. fault ≢ CommandFault.Output
         → Tells (S.files store.old) (S.files store.new) IsSame) }
     ensures silent { IfErr result (λ fault. fault ≢ CommandFault.Output → out.new ≡ out.old) }

@@ -20,9 +20,11 @@ pub fn blocks<'a, S: Store, I: Read, O: Write>(
     input: &mut I,
     out: &mut O,
 ) -> Result<(), CommandFault<'a>>
-    ensures done { OnOk result (Does (FileOrder.Blocks name.entry) (S.files store.old) (S.files store.new)
+    ensures done { OnOk result (Does (FileOrder.Blocks name.entry)
+        (S.files store.old) (S.files store.new)
         (I.remaining input.old) (O.contents out.old) (O.contents out.new)) }
-    ensures fault { IfErr result (IsFault (FileOrder.Blocks name.entry) (S.files store.old) (I.remaining input.old)) }
+    ensures fault { IfErr result (IsFault (FileOrder.Blocks name.entry)
+        (S.files store.old) (I.remaining input.old)) }
     ensures same { Tells (S.files store.old) (S.files store.new) IsSame }
     ensures silent { IfErr result (λ fault. fault ≢ CommandFault.Output → out.new ≡ out.old) }
 {

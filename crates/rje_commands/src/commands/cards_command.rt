@@ -24,10 +24,13 @@ pub fn cards<'a, S: Store, I: Read, O: Write>(
     input: &mut I,
     out: &mut O,
 ) -> Result<(), CommandFault<'a>>
-    ensures done { OnOk result (Does (FileOrder.Cards order.entry) (S.files store.old) (S.files store.new)
+    ensures done { OnOk result (Does (FileOrder.Cards order.entry)
+        (S.files store.old) (S.files store.new)
         (I.remaining input.old) (O.contents out.old) (O.contents out.new)) }
-    ensures fault { IfErr result (IsFault (FileOrder.Cards order.entry) (S.files store.old) (I.remaining input.old)) }
-    ensures files { Leaves (FileOrder.Cards order.entry) (S.files store.old) (S.files store.new) (I.remaining input.old) }
+    ensures fault { IfErr result (IsFault (FileOrder.Cards order.entry)
+        (S.files store.old) (I.remaining input.old)) }
+    ensures files { Leaves (FileOrder.Cards order.entry)
+        (S.files store.old) (S.files store.new) (I.remaining input.old) }
     ensures kept { IfErr result (λ fault. fault ≢ CommandFault.Output
         → Tells (S.files store.old) (S.files store.new) IsSame) }
     ensures made { IfErr result (λ fault. fault ≡ CommandFault.Output

@@ -20,7 +20,8 @@ pub fn check<'a, S: Store, O: Write>(
     store: &mut S,
     out: &mut O,
 ) -> Result<(), CommandFault<'a>>
-    ensures done { OnOk result (Does (FileOrder.Check name.entry) (S.files store.old) (S.files store.new)
+    ensures done { OnOk result (Does (FileOrder.Check name.entry)
+        (S.files store.old) (S.files store.new)
         None (O.contents out.old) (O.contents out.new)) }
     ensures fault { IfErr result (IsFault (FileOrder.Check name.entry) (S.files store.old) None) }
     ensures same { Tells (S.files store.old) (S.files store.new) IsSame }

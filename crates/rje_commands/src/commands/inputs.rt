@@ -21,7 +21,8 @@ pub fn read_deck<'a, S: Store, I: Read>(
     input: &mut I,
 ) -> Result<Vec<u8>, CommandFault<'a>>
     ensures deck { IfOk result (λ bytes.
-        OfDeck name.entry.now (S.files store.old) (I.remaining input.old) (λ deck. bytes.items ≡ deck)) }
+        OfDeck name.entry.now (S.files store.old) (I.remaining input.old)
+        (λ deck. bytes.items ≡ deck)) }
     ensures fault { IfErr result (IsReadFault name.entry.now) }
     ensures same { Tells (S.files store.old) (S.files store.new) IsSame }
 {

@@ -19,7 +19,8 @@ pub fn print<'a, S: Store, O: Write>(
     store: &mut S,
     out: &mut O,
 ) -> Result<(), CommandFault<'a>>
-    ensures done { OnOk result (Does (FileOrder.Print name.entry) (S.files store.old) (S.files store.new)
+    ensures done { OnOk result (Does (FileOrder.Print name.entry)
+        (S.files store.old) (S.files store.new)
         None (O.contents out.old) (O.contents out.new)) }
     ensures fault { IfErr result (IsFault (FileOrder.Print name.entry) (S.files store.old) None) }
     ensures same { Tells (S.files store.old) (S.files store.new) IsSame }

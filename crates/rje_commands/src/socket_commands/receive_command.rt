@@ -57,7 +57,8 @@ pub fn receive_over<L: Line, S: Store, O: Write, E: Write>(
     err: &mut E,
 ) -> u8
     ensures written { (result ≡ 0) ⊎ (result ≡ 4) → (jobs : List Handed)
-        × WritesJobs jobs name.now (S.files store.old) (S.files store.new) (O.contents out.old) (O.contents out.new) }
+        × WritesJobs jobs name.now (S.files store.old) (S.files store.new)
+        (O.contents out.old) (O.contents out.new) }
 {
     match received(alloc, line, name, store, out) {
         Ok(ending) => ending.status(),
@@ -73,7 +74,8 @@ fn received<'a, L: Line, S: Store, O: Write>(
     out: &mut O,
 ) -> Result<Ending, CommandFault<'a>>
     ensures written { OnOk result ((jobs : List Handed)
-        × WritesJobs jobs name.entry.now (S.files store.old) (S.files store.new) (O.contents out.old) (O.contents out.new)) }
+        × WritesJobs jobs name.entry.now (S.files store.old) (S.files store.new)
+        (O.contents out.old) (O.contents out.new)) }
 {
     let mut station = ReceivingStation::new(alloc)?;
     let left = receive_all(&mut station, line);
