@@ -213,11 +213,7 @@ check_from_bits bytes c h e =
     cc
 
 -- one more byte, at the register
-pub IsCheckOf-push : (bytes : List ℕ) (c x : ℕ) → c < 2 ^ 16 → x < 2 ^ 8 → IsCheckOf c bytes → IsCheckOf (shifts 8 (bit_xor c x)) (bytes ++ x ∷ [])
-IsCheckOf-push bytes c x hc hx s =
+pub one_byte_more : (bytes : List ℕ) (c x : ℕ) → c < 2 ^ 16 → x < 2 ^ 8 → IsCheckOf c bytes → IsCheckOf (shifts 8 (bit_xor c x)) (bytes ++ x ∷ [])
+one_byte_more bytes c x hc hx s =
     check_from_bits (bytes ++ x ∷ []) (shifts 8 (bit_xor c x)) (shifts_below 8 (bit_xor c x) (xor_lt 16 c x hc (omega arith)))
     (remainder_push bytes c x hc hx (bits_from_check bytes c s))
-
--- zero is the check of no bytes
-pub IsCheckOf-none : IsCheckOf 0 []
-IsCheckOf-none = check_from_bits [] 0 (omega arith) refl

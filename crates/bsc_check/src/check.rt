@@ -24,6 +24,7 @@ impl Model for Check {
 
 impl Check {
     /// The check of no bytes.
+    #[tactic(auto, unfolding(crate::specs::Check::check_of))]
     pub fn new() -> Self
         ensures { IsCheckOf result [] }
     {
@@ -31,6 +32,7 @@ impl Check {
     }
 
     /// Adds one byte.
+    #[tactic(auto, using(crate::proofs::Shifts::one_byte_more))]
     pub fn add(&mut self, byte: u8)
         ensures { (bytes : List ℕ) → IsCheckOf self.old bytes → IsCheckOf self.new (bytes ++ byte ∷ []) }
     {

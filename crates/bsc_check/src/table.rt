@@ -29,6 +29,7 @@ const TABLE: [u16; 256] = [
 ];
 
 /// What eight shifts make of a byte.
+#[tactic(auto, using(crate::proofs::ByTable::entry_is))]
 fn entry(byte: u8) -> u16
     ensures { result ≡ shifts 8 byte }
 {
@@ -36,6 +37,7 @@ fn entry(byte: u8) -> u16
 }
 
 /// The register after one more byte.
+#[tactic(auto, using(crate::proofs::ByTable::register_by_table))]
 pub(crate) fn next_register(register: u16, byte: u8) -> u16
     ensures { result ≡ shifts 8 (bit_xor register byte) }
 {
