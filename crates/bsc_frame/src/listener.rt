@@ -43,6 +43,7 @@ impl Model for Listener {
 
 impl Listener {
     /// A listener that has taken no bytes.
+    #[tactic(auto, using(crate::proofs::Feeding::taken_none))]
     pub fn new() -> Self
         ensures { HasTaken result [] }
     {
@@ -54,6 +55,7 @@ impl Listener {
     }
 
     /// Makes the listener as new.
+    #[tactic(auto, using(crate::proofs::Feeding::taken_none))]
     pub fn reset(&mut self)
         ensures { HasTaken self.new [] }
     {
@@ -61,6 +63,7 @@ impl Listener {
     }
 
     /// Takes bytes up to the last byte of a frame, or all of them where no frame becomes whole. After a frame the listener is as new.
+    #[tactic(auto, using(crate::proofs::Feeding::taken_none))]
     pub fn feed(&mut self, piece: &[u8]) -> Fed
         ensures used { result.used ≤ length piece.now }
         // A frame is that of the transmission that ends with the last byte that was used.

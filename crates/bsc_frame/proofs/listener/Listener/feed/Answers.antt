@@ -3,7 +3,7 @@ use Rattle.std.proofs.lemmas.List.{drop_all}
 use Rattle.bsc_frame.specs.Listening.HeardSoFar.{next}
 use Rattle.bsc_frame.specs.Listening.Run.{run}
 use Rattle.bsc_frame.specs.Listening.Stage.{so_far_of}
-use Rattle.bsc_frame.proofs.Feeding.{feed_found, feed_last, feed_on, feed_none, taken_none}
+use Rattle.bsc_frame.proofs.Feeding.{feed_found, feed_last, feed_on, feed_none}
 use Rattle.bsc_frame.proofs.listener.Listener.feed.Goals as goal
 
 pub returns-in-Some-clause-frame : goal.returns-in-Some-clause-frame
@@ -15,9 +15,6 @@ returns-in-Some-clause-frame c = λ bytes h.
     let left = ap (λ (bytes : List ℕ). next (so_far_of stage bytes) (get_or piece i 0)) (ap (λ text. text.items) (c.keeps.ensures.left c.if-keeps.false)) in
     feed_found c.args.self.now c.in-Some.frame bytes piece (i + 1) h
     (sym c.loop-i.invariant.goes_on ∙ feed_last so_far c.in-Some.frame piece i (get_or piece i 0) (omega arith) refl (c.in-Some.ensures.next ∙ left))
-
-pub returns-in-Some-clause-as_new : goal.returns-in-Some-clause-as_new
-returns-in-Some-clause-as_new c = taken_none
 
 pub returns-clause-none : goal.returns-clause-none
 returns-clause-none c = λ bytes h.

@@ -1,5 +1,0 @@
-use Rattle.bsc_frame.proofs.Feeding.{taken_none}
-use Rattle.bsc_frame.proofs.listener.Listener.new.Goals as goal
-
-pub returns : goal.returns
-returns c = taken_none
