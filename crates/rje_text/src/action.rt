@@ -53,6 +53,7 @@ impl Action {
     ghost use Rattle.rje_text.specs.Action.{code_of, action_of};
 
     /// The action that this byte asks for behind an ESC; None for a byte that is no action's code.
+    #[tactic(auto, unfolding(crate::specs::Action::action_of))]
     pub fn of(code: u8) -> Option<Action>
         ensures { result ≡ action_of code }
     {
