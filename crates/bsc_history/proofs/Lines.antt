@@ -3,11 +3,10 @@ use Rattle.bsc_link.specs.declared.sound.Sound.{Sound}
 use Rattle.bsc_link.specs.declared.say.Say.{Say}
 use Rattle.bsc_link.specs.declared.wish.Wish.{Wish}
 use Rattle.bsc_link.specs.declared.reply.Reply.{Reply}
-use Rattle.bsc_history.specs.declared.due.Due.{Due}
 use Rattle.bsc_history.specs.declared.spoken_turn.SpokenTurn.{SpokenTurn}
 use Rattle.bsc_history.specs.History.{History, is_last, is_even}
 use Rattle.bsc_history.specs.Known.{has_heard_rvi, known, is_counting, has_grant, is_progress, is_hold}
-use Rattle.bsc_history.specs.SayingRule.{due_without_progress, said_of}
+use Rattle.bsc_history.specs.SayingRule.{Says, due_without_progress, said_of}
 use Rattle.bsc_link.specs.declared.sender_place.SenderPlace.{SenderPlace}
 use Rattle.bsc_link.specs.declared.table_line.TableLine.{TableLine}
 use Rattle.bsc_link.specs.Sender.{say_in, outcome_in, line_at_bid, line_at_block, line_at_ask, line_at_delay}
@@ -24,7 +23,7 @@ pub record Waits (past : History) (t : SpokenTurn) (place : SenderPlace) : Type 
   pub uncounted : is_counting past t ≡ false
   pub unheard : has_heard_rvi (t ∷ past) ≡ has_heard_rvi past
   pub going : is_last t ≡ false
-  pub says : say_in place ≡ said_of (if has_grant (t ∷ past) then due_without_progress t else Due.Says Say.Bid)
+  pub says : say_in place ≡ said_of (if has_grant (t ∷ past) then due_without_progress t else Says Say.Bid)
   pub open_ended : outcome_in place ≡ None
 
 abbrev pub LineIs : History → SpokenTurn → TableLine → Type 0

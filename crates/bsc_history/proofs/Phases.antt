@@ -4,13 +4,12 @@ use Rattle.bsc_link.specs.declared.say.Say.{Say}
 use Rattle.bsc_link.specs.declared.next.Next.{Next}
 use Rattle.bsc_link.specs.declared.wish.Wish.{Wish}
 use Rattle.bsc_link.specs.declared.reply.Reply.{Reply}
-use Rattle.bsc_history.specs.declared.due.Due.{Due}
 use Rattle.bsc_history.specs.declared.spoken_turn.SpokenTurn.{SpokenTurn}
 use Rattle.bsc_history.specs.History.{History, Plan, what_follows, is_block_turn, is_over}
 use Rattle.bsc_history.specs.Known.{is_rvi_sound, has_heard_rvi, acknowledges, known, is_grant, has_grant, is_progress}
 use Rattle.bsc_history.specs.Got.{brings_block, got}
 use Rattle.bsc_history.specs.ReplyRule.{was_bid, last_reply, has_made_rvi, answer_to_block, answer_to_enq, answer_when_idle, answer_when_bid, replying}
-use Rattle.bsc_history.specs.SayingRule.{due_after_progress, due_after_delay, due_after_block, due_after_inquiry, due_without_progress, due_when_granted, said_of, saying}
+use Rattle.bsc_history.specs.SayingRule.{Says, due_after_progress, due_after_delay, due_after_block, due_after_inquiry, due_without_progress, due_when_granted, said_of, saying}
 use Rattle.bsc_history.specs.Fate.{sound_of, sound_of_reply}
 use Rattle.bsc_history.specs.Conversation.{Follows, MayBeSpoken}
 use Rattle.bsc_history.proofs.Line.{ComesAs, comes}
@@ -291,7 +290,7 @@ granted-speaks plan (t ∷ past) =
 pub saying-speaks : (plan : Plan) (gives_up : Bool) (past : History) → is_over past ≡ false → saying plan gives_up past ≢ Say.Nothing
 saying-speaks plan true past e = rw e (λ e. cc)
 saying-speaks plan false past e =
-    rw e (elim (has_grant past) as (λ b. said_of (if b then due_when_granted plan past else Due.Says Say.Bid) ≢ Say.Nothing) [ true ↦ granted-speaks plan past | false ↦ λ e. cc ])
+    rw e (elim (has_grant past) as (λ b. said_of (if b then due_when_granted plan past else Says Say.Bid) ≢ Say.Nothing) [ true ↦ granted-speaks plan past | false ↦ λ e. cc ])
 
 -- EARLY
 

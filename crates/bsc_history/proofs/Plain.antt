@@ -7,13 +7,12 @@ use Rattle.bsc_link.specs.declared.reply.Reply.{Reply}
 use Rattle.bsc_link.specs.declared.say.Say.{Say}
 use Rattle.bsc_link.specs.declared.sound.Sound.{Sound}
 use Rattle.bsc_link.specs.declared.wish.Wish.{Wish}
-use Rattle.bsc_history.specs.declared.due.Due.{Due}
 use Rattle.bsc_history.specs.declared.spoken_turn.SpokenTurn.{SpokenTurn}
 use Rattle.bsc_history.specs.History.{Plan, History, what_follows, is_even, is_over, is_block_turn}
 use Rattle.bsc_history.specs.Known.{known, is_rvi_sound, has_heard_rvi, has_grant, is_progress, is_hold, holds}
 use Rattle.bsc_history.specs.Got.{got}
 use Rattle.bsc_history.specs.ReplyRule.{was_bid, last_reply, has_made_rvi, answer_to_enq, answer_when_idle, answer_when_bid, replying}
-use Rattle.bsc_history.specs.SayingRule.{due_after_progress, due_after_block, due_after_inquiry, due_without_progress, due_when_granted, said_of, saying}
+use Rattle.bsc_history.specs.SayingRule.{Nothing, Says, Ends, due_after_progress, due_after_block, due_after_inquiry, due_without_progress, due_when_granted, said_of, saying}
 use Rattle.bsc_history.specs.Fate.{sound_of_reply}
 use Rattle.bsc_history.specs.Conversation.{Follows, MayBeSpoken}
 use Rattle.bsc_history.proofs.Line.{ComesAs, comes}
@@ -132,13 +131,13 @@ undelayed_granted plan past t g unpaused =
     elim (is_progress past t) as (λ b. said_of (if b then due_after_progress (what_follows plan (known (t ∷ past))) (has_heard_rvi (t ∷ past)) t.pause else due_without_progress t) ≢ Say.Delay)
     [ true ↦ undelayed_next (what_follows plan (known (t ∷ past))) (has_heard_rvi (t ∷ past)) t.pause unpaused | false ↦ undelayed_on t t.said refl g ]
 
-undelayed_hopeful : (plan : Plan) (h : History) → said_of (due_when_granted plan h) ≢ Say.Delay → said_of (if has_grant h then due_when_granted plan h else Due.Says Say.Bid) ≢ Say.Delay
-undelayed_hopeful plan h g = elim (has_grant h) as (λ b. said_of (if b then due_when_granted plan h else Due.Says Say.Bid) ≢ Say.Delay) [ true ↦ g | false ↦ λ e. cc ]
+undelayed_hopeful : (plan : Plan) (h : History) → said_of (due_when_granted plan h) ≢ Say.Delay → said_of (if has_grant h then due_when_granted plan h else Says Say.Bid) ≢ Say.Delay
+undelayed_hopeful plan h g = elim (has_grant h) as (λ b. said_of (if b then due_when_granted plan h else Says Say.Bid) ≢ Say.Delay) [ true ↦ g | false ↦ λ e. cc ]
 
 undelayed_saying : (plan : Plan) (gives_up : Bool) (h : History) → said_of (due_when_granted plan h) ≢ Say.Delay → saying plan gives_up h ≢ Say.Delay
-undelayed_saying plan true h g = elim (is_over h) as (λ b. said_of (if b then Due.Nothing else Due.Ends Outcome.GaveUp) ≢ Say.Delay) [ true ↦ λ e. cc | false ↦ λ e. cc ]
+undelayed_saying plan true h g = elim (is_over h) as (λ b. said_of (if b then Nothing else Ends Outcome.GaveUp) ≢ Say.Delay) [ true ↦ λ e. cc | false ↦ λ e. cc ]
 undelayed_saying plan false h g =
-    elim (is_over h) as (λ b. said_of (if b then Due.Nothing else (if has_grant h then due_when_granted plan h else Due.Says Say.Bid)) ≢ Say.Delay)
+    elim (is_over h) as (λ b. said_of (if b then Nothing else (if has_grant h then due_when_granted plan h else Says Say.Bid)) ≢ Say.Delay)
     [ true ↦ λ e. cc | false ↦ undelayed_hopeful plan h g ]
 
 -- ---- The steady state.

@@ -1,7 +1,6 @@
 -- One more turn spoken over a schedule.
-use Rattle.std.proofs.Common.{◌≡◌, ℕ, ◌+◌, ◌<◌, Bool, true, false, ◌&&◌, ◌==◌, List, [], ◌∷◌, length, slice_get, get_or, Some, refl, sym, ◌∙◌}
+use Rattle.std.proofs.Common.{◌≡◌, Bool, true, false, ◌&&◌, List, ◌∷◌, length, slice_get, Some, refl, sym, ◌∙◌}
 use Rattle.std.proofs.lemmas.Bool.{false≢true}
-use Rattle.std.proofs.lemmas.Option.{slice_get-get_or}
 use Rattle.bsc_link.specs.declared.sound.Sound.{Sound}
 use Rattle.bsc_history.specs.declared.spoken_turn.SpokenTurn.{SpokenTurn}
 use Rattle.bsc_history.specs.declared.sound_turn.SoundTurn.{SoundTurn}
@@ -13,7 +12,7 @@ use Rattle.bsc_history.specs.declared.sound_fate.SoundFate.{SoundFate}
 use Rattle.bsc_history.specs.Fate.{sound_of, MayBeHeardAs}
 use Rattle.bsc_history.specs.Pair.{sound_counted, as_counted}
 use Rattle.bsc_history.proofs.Line.{lost-after}
-use Rattle.bsc_history.specs.Conversation.{Follows, IsAt, IsSpokenOver, BreaksRule, BreaksAt, is_block}
+use Rattle.bsc_history.specs.Conversation.{Follows, IsAt, IsSpokenOver, is_block}
 
 is_block-sound : (b : Bool) (arrived : Sound) → (b && is_block arrived) ≡ true → arrived ≡ Sound.Block
 is_block-sound b Sound.Block e = refl
@@ -47,18 +46,3 @@ pub spoken-more : (plan : Plan) (places : List SoundTurn) (h : History) (place :
     → t.said ≡ saying plan (gives_up_now h) h → t.reply ≡ replying h t.arrived t.refused t.wish → IsSpokenOver plan places (t ∷ h)
 spoken-more plan places h place t spoken goes here at said replied =
     record { conversation = (follows-at false plan (gives_up_now h) h place t goes at said replied, spoken.conversation); placed = ((place, here, at), spoken.placed) }
-
--- the same in a loop over the schedule, where the rules looked at the history
-pub history-more : (plan : Plan) (places : List SoundTurn) (h over seen : History) (i : ℕ) (t : SpokenTurn) (p d : SoundTurn) → IsSpokenOver plan places h → length h ≡ i → i < length places → p ≡ get_or places i d → over ≡ h → seen ≡ h → is_over over ≡ false → IsAt p t
-    → t.said ≡ saying plan (gives_up_now seen) seen → t.reply ≡ replying seen t.arrived t.refused t.wish → IsSpokenOver plan places (t ∷ h)
-history-more plan places h over seen i t p d spoken long lt at over-is seen-is goes placed said replied =
-    spoken-more plan places h p t spoken (rw over-is at goes) (rw (long, at) (slice_get-get_or places i d lt)) placed (rw seen-is at said) (rw seen-is at replied)
-
-pub history-broken : (plan : Plan) (places : List SoundTurn) (h over seen : History) (i : ℕ) (p d : SoundTurn) → (plan ≡ [] → ⊥) → IsSpokenOver plan places h → length h ≡ i → i < length places → p ≡ get_or places i d → over ≡ h → seen ≡ h → is_over over ≡ false → BreaksRule plan seen p
-    → BreaksAt plan places (length h + 1)
-history-broken plan places h over seen i p d blocks spoken long lt at over-is seen-is goes broken =
-    record { past = h; before = refl; blocks = blocks; spoken = spoken; goes_on = rw over-is at goes; place = p; here = rw (long, at) (slice_get-get_or places i d lt); breaks = rw seen-is at broken }
-
--- a test tells that there are blocks
-pub blocks-from_test : (plan : Plan) → false ≡ (length plan == 0) → plan ≡ [] → ⊥
-blocks-from_test plan some none = absurd (false≢true (some ∙ rw none refl))

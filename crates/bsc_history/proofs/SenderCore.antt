@@ -5,11 +5,10 @@ use Rattle.bsc_link.specs.declared.next.Next.{Next}
 use Rattle.bsc_link.specs.declared.outcome.Outcome.{Outcome}
 use Rattle.bsc_link.specs.declared.wish.Wish.{Wish}
 use Rattle.bsc_link.specs.declared.reply.Reply.{Reply}
-use Rattle.bsc_history.specs.declared.due.Due.{Due}
 use Rattle.bsc_history.specs.declared.spoken_turn.SpokenTurn.{SpokenTurn}
 use Rattle.bsc_history.specs.History.{History, Plan, what_follows, BeginsWithJob, is_last, is_over, is_even}
 use Rattle.bsc_history.specs.Known.{has_heard_rvi, known, is_counting, has_grant, is_progress, tries_on, holds_on, tries, holds}
-use Rattle.bsc_history.specs.SayingRule.{due_after_progress, due_after_delay, due_after_block, due_after_inquiry, due_without_progress, due_after, said_of, ending_of, saying}
+use Rattle.bsc_history.specs.SayingRule.{Says, Ends, due_after_progress, due_after_delay, due_after_block, due_after_inquiry, due_without_progress, due_after, said_of, ending_of, saying}
 use Rattle.bsc_link.specs.declared.sender_place.SenderPlace.{SenderPlace}
 use Rattle.bsc_link.specs.declared.table_line.TableLine.{TableLine}
 use Rattle.bsc_link.specs.Sender.{SenderState, say_in, outcome_in, line_for, counts_block, follow, after_progress, after_wait, is_enough, place_after_progress}
@@ -70,7 +69,7 @@ ending-turn t Say.Block e = rw e (ending-block t.heard)
 ending-turn t Say.Again e = rw e (ending-block t.heard)
 ending-turn t _ e = rw e refl
 
-ending-without_progress : (granted : Bool) (t : SpokenTurn) → ending_of (if granted then due_without_progress t else Due.Says Say.Bid) ≡ None
+ending-without_progress : (granted : Bool) (t : SpokenTurn) → ending_of (if granted then due_without_progress t else Says Say.Bid) ≡ None
 ending-without_progress true t = ending-turn t t.said refl
 ending-without_progress false t = refl
 
@@ -117,7 +116,7 @@ after-wait-goes_on plan past b m n t s place m' n' parity rvi w m-is n-is early 
     let g = is_enough (tries_on m past t) (holds_on n past t) in
     let same_known : known (t ∷ past) ≡ known past = rw w.uncounted refl in
     let g-is : g ≡ false = rw (← m-is, ← n-is) hopeful in
-    let due : due_after plan g (t ∷ past) ≡ (if has_grant (t ∷ past) then due_without_progress t else Due.Says Say.Bid) = rw (g-is, w.going, w.progress) refl in
+    let due : due_after plan g (t ∷ past) ≡ (if has_grant (t ∷ past) then due_without_progress t else Says Say.Bid) = rw (g-is, w.going, w.progress) refl in
     rw hopeful (record {
       parity = parity ∙ rw same_known refl;
       rvi = rvi ∙ sym w.unheard;
@@ -135,7 +134,7 @@ after-wait-gives_up plan past b m n t s place m' n' parity rvi w m-is n-is early
     let g = is_enough (tries_on m past t) (holds_on n past t) in
     let same_known : known (t ∷ past) ≡ known past = rw w.uncounted refl in
     let g-is : g ≡ true = rw (← m-is, ← n-is) enough in
-    let due : due_after plan g (t ∷ past) ≡ Due.Ends Outcome.GaveUp = rw (g-is, w.going) refl in
+    let due : due_after plan g (t ∷ past) ≡ Ends Outcome.GaveUp = rw (g-is, w.going) refl in
     rw enough (record {
       parity = parity ∙ rw same_known refl;
       rvi = rvi ∙ sym w.unheard;

@@ -4,25 +4,19 @@
 
 mod bids;
 mod cores;
-mod due;
 mod laws;
-mod rules;
 mod sound_fate;
 mod sound_fault;
 mod sound_report;
 mod sound_turn;
 mod sounds;
 mod spoken_turn;
-#[cfg(test)]
-mod tests;
 
 pub use bids::Bids;
 pub use cores::{converse, hear_answer, next_of, taken};
-pub use due::Due;
 pub use laws::{
     cores_keep_rules, ends_agree, one_conversation, one_pair_conversation, pair_ends_agree,
 };
-pub use rules::converse_by_rules;
 pub use sound_fate::{SoundFate, is_damage_of};
 pub use sound_fault::SoundFault;
 pub use sound_report::SoundReport;
