@@ -1,9 +1,9 @@
 //! Schedules, jobs and printed turns, for the tests of runs.
-use super::record;
+use arrayvec::ArrayVec;
 use bsc_link::{Outcome, Reply, Say, Sound, Wish};
 use line_world::{Bids, Fate, PairTurn, Report, Spoken, Turn, run};
 use rje_jobs::Job;
-use rje_text::{Action, Mode, Records, Select};
+use rje_text::{Action, Mode, Record, Records, Select};
 use std::alloc::{AllocError, AllocGlobal, Global};
 use std::process::Abort;
 use std::test::Fail;
@@ -124,14 +124,24 @@ pub(super) fn pair_schedule(
     Ok(turns)
 }
 
+/// A record of so many bytes C1.
+pub(super) fn record_of(rt: &impl Abort, length: usize) -> Record {
+    let given = [0xC1; 144];
+    assert!(rt; length <= given.len());
+    let mut bytes = ArrayVec::new();
+    assert!(rt; bytes.try_extend_from_slice(&given[..length]).is_ok());
+    Record {
+        action: Action::Plain,
+        bytes,
+    }
+}
+
 /// A whole, normal job of this many records of so many bytes C1 for the default device.
 pub(super) fn job_of(
     rt: &(impl Abort + AllocGlobal),
     records: usize,
     length: usize,
 ) -> Result<Job, Fail> {
-    let bytes = [0xC1; 144];
-    assert!(rt; length <= bytes.len());
     let mut job = Job {
         select: Select::Unset,
         mode: Mode::Normal,
@@ -139,8 +149,7 @@ pub(super) fn job_of(
         whole: true,
     };
     for _i in 0..records {
-        job.records
-            .push(record(rt, Action::Plain, &bytes[..length]))?;
+        job.records.push(record_of(rt, length))?;
     }
     Ok(job)
 }

@@ -4,7 +4,7 @@ use super::schedules::{
     GOOD, Line, Place, TURN, UP_LOST, assert_same_jobs, assert_turns, cut, damaged, job_of,
     schedule, unfit_job,
 };
-use bsc_link::Outcome;
+use bsc_link::{Outcome, Reply, Say, Sound};
 use line_world::{Report, Series, Turn, WorldFault, run_all};
 use rje_jobs::Job;
 use std::alloc::{AllocError, AllocGlobal, Global};
@@ -43,11 +43,31 @@ fn assert_series(
     Ok(series)
 }
 
-/// A run of these turns, which counted so many jobs and ended so.
-fn assert_run(rt: &impl Abort, report: &Report, lines: &[Line], counted: usize, outcome: Outcome) {
-    assert_turns(rt, &report.turns, lines);
-    assert_eq!(rt; report.counted, counted);
-    assert_eq!(rt; report.outcome, Some(outcome));
+/// A run: its turns, how many jobs it counted, and how it ended.
+#[derive(Clone, Copy)]
+struct Run<'a>(&'a [Line], usize, Outcome);
+
+/// The report is of this run.
+fn assert_run(rt: &impl Abort, report: &Report, run: &Run<'_>) {
+    assert_turns(rt, &report.turns, run.0);
+    assert_eq!(rt; report.counted, run.1);
+    assert_eq!(rt; report.outcome, Some(run.2));
+}
+
+/// The reports are of these runs, one after another.
+fn assert_runs(rt: &impl Abort, reports: &[Report], runs: &[Run<'_>]) {
+    assert_eq!(rt; reports.len(), runs.len());
+    for (report, run) in reports.iter().zip(runs) {
+        assert_run(rt, report, run);
+    }
+}
+
+/// Each of the reports has handed out these jobs, one list for each.
+fn assert_each_handed(rt: &impl Abort, series: &Series, jobs: &[&[Job]]) {
+    assert_eq!(rt; series.reports.len(), jobs.len());
+    for (report, handed) in series.reports.iter().zip(jobs) {
+        assert_same_jobs(rt, report.handed.as_slice(), handed);
+    }
 }
 
 #[test]
@@ -56,20 +76,24 @@ fn a_job_that_was_handed_out_and_not_counted_is_handed_out_again(
 ) -> Result<(), Fail> {
     let jobs = [job_of(&rt, 1, 1)?];
     let series = assert_series(&rt, &jobs, &[&UNANSWERED, &[GOOD, GOOD, GOOD]], 1)?;
-    assert_eq!(rt; series.reports.len(), 2);
     let ask = ASK_UNHEARD;
     let unanswered = [BID, BLOCK_UNHEARD, ask, ask, ask, ask, ask, ask, END];
-    let first = &series.reports[0];
-    assert_run(&rt, first, &unanswered, 0, Outcome::GaveUp);
-    assert_same_jobs(&rt, first.handed.as_slice(), &jobs);
-    let second = &series.reports[1];
-    assert_run(&rt, second, &[BID, BLOCK_ACK1, END], 1, Outcome::Done);
-    assert_same_jobs(&rt, second.handed.as_slice(), &jobs);
-    let handed = series.handed.as_slice();
-    assert_eq!(rt; handed.len(), 2);
-    assert_same_jobs(&rt, &handed[..1], &jobs);
-    assert_same_jobs(&rt, &handed[1..], &jobs);
+    let answered = [BID, BLOCK_ACK1, END];
+    let runs = [
+        Run(&unanswered, 0, Outcome::GaveUp),
+        Run(&answered, 1, Outcome::Done),
+    ];
+    assert_runs(&rt, &series.reports, &runs);
+    assert_each_handed(&rt, &series, &[&jobs, &jobs]);
+    assert_twice(&rt, series.handed.as_slice(), &jobs);
     Ok(())
+}
+
+/// The jobs, and then the same again.
+fn assert_twice(rt: &impl Abort, handed: &[Job], jobs: &[Job]) {
+    let (first, second) = handed.split_at(jobs.len().min(handed.len()));
+    assert_same_jobs(rt, first, jobs);
+    assert_same_jobs(rt, second, jobs);
 }
 
 #[test]
@@ -78,22 +102,32 @@ fn a_job_that_was_cut_off_is_given_again(rt: HostRuntime) -> Result<(), Fail> {
     let jobs = [job_of(&rt, 7, 80)?, job_of(&rt, 1, 1)?];
     let clean = [GOOD, GOOD, GOOD, GOOD, GOOD];
     let series = assert_series(&rt, &jobs, &[&CUT_OFF, &clean], 2)?;
-    assert_eq!(rt; series.reports.len(), 2);
     let ask = ASK_LOST;
     let cut_off = [BID, BLOCK_ACK1, BLOCK_LOST, ask, ask, ask, ask, ask, ask];
-    let first = &series.reports[0];
-    assert_run(&rt, first, &cut_off, 0, Outcome::GaveUp);
-    assert_eq!(rt; first.handed.len(), 1);
     let all = [BID, BLOCK_ACK1, BLOCK_ACK0, BLOCK_ACK1, END];
-    assert_run(&rt, &series.reports[1], &all, 2, Outcome::Done);
-    let handed = series.handed.as_slice();
-    assert_eq!(rt; handed.len(), 3);
-    assert!(rt; !handed[0].whole);
+    let runs = [
+        Run(&cut_off, 0, Outcome::GaveUp),
+        Run(&all, 2, Outcome::Done),
+    ];
+    assert_runs(&rt, &series.reports, &runs);
+    assert_eq!(rt; series.reports.len(), 2);
+    assert_eq!(rt; series.reports[0].handed.len(), 1);
+    assert_begun_then_whole(&rt, series.handed.as_slice(), &jobs);
+    Ok(())
+}
+
+/// The first six records of the first job, which isn't whole, and then all jobs.
+fn assert_begun_then_whole(rt: &impl Abort, handed: &[Job], jobs: &[Job]) {
+    let [begun, rest @ ..] = handed else {
+        assert!(rt; false, "no job was handed out");
+        return;
+    };
+    assert!(rt; !begun.whole);
+    assert!(rt; !jobs.is_empty());
     let records = jobs[0].records.as_slice();
     assert_eq!(rt; records.len(), 7);
-    assert!(rt; handed[0].records.as_slice() == &records[..6]);
-    assert_same_jobs(&rt, &handed[1..], &jobs);
-    Ok(())
+    assert!(rt; begun.records.as_slice() == &records[..6]);
+    assert_same_jobs(rt, rest, jobs);
 }
 
 #[test]
@@ -101,15 +135,15 @@ fn a_run_begins_at_the_first_job_that_is_not_counted(rt: HostRuntime) -> Result<
     let jobs = [job_of(&rt, 1, 1)?, job_of(&rt, 1, 2)?];
     let turned = [GOOD, TURN, GOOD];
     let series = assert_series(&rt, &jobs, &[&turned, &[GOOD, GOOD, GOOD]], 2)?;
-    assert_eq!(rt; series.reports.len(), 2);
-    let first = &series.reports[0];
-    assert_eq!(rt; first.counted, 1);
-    assert_eq!(rt; first.outcome, Some(Outcome::Turned));
+    let block = Line(Say::Block, Sound::Block, Some(Reply::Rvi), Sound::Rvi);
+    let (first, second) = ([BID, block, END], [BID, BLOCK_ACK1, END]);
+    let runs = [
+        Run(&first, 1, Outcome::Turned),
+        Run(&second, 1, Outcome::Done),
+    ];
+    assert_runs(&rt, &series.reports, &runs);
     let (counted, left) = jobs.split_at(1);
-    assert_same_jobs(&rt, first.handed.as_slice(), counted);
-    let second = &series.reports[1];
-    assert_run(&rt, second, &[BID, BLOCK_ACK1, END], 1, Outcome::Done);
-    assert_same_jobs(&rt, second.handed.as_slice(), left);
+    assert_each_handed(&rt, &series, &[counted, left]);
     assert_same_jobs(&rt, series.handed.as_slice(), &jobs);
     Ok(())
 }
@@ -118,10 +152,12 @@ fn a_run_begins_at_the_first_job_that_is_not_counted(rt: HostRuntime) -> Result<
 fn where_all_is_counted_nothing_is_said(rt: HostRuntime) -> Result<(), Fail> {
     let jobs = [job_of(&rt, 1, 1)?];
     let series = assert_series(&rt, &jobs, &[&[GOOD, GOOD, GOOD], &[cut(&[0])]], 1)?;
-    assert_eq!(rt; series.reports.len(), 2);
-    let second = &series.reports[1];
-    assert_run(&rt, second, &[], 0, Outcome::Done);
-    assert!(rt; second.handed.is_empty());
+    let runs = [
+        Run(&[BID, BLOCK_ACK1, END], 1, Outcome::Done),
+        Run(&[], 0, Outcome::Done),
+    ];
+    assert_runs(&rt, &series.reports, &runs);
+    assert_each_handed(&rt, &series, &[&jobs, &[]]);
     assert_same_jobs(&rt, series.handed.as_slice(), &jobs);
     Ok(())
 }

@@ -1,10 +1,11 @@
 //! Fair lines, and how many turns are enough on them.
 use super::schedules::{
     AGAIN_ACK0, ASK_ACK1, ASK_LOST, BID, BLOCK_ACK1, BLOCK_LOST, END, GOOD, HOLD, Line, PAUSE,
-    Place, TURN, Way, assert_report, assert_same_jobs, cut, damaged, job_of, schedule, unfit_job,
+    Place, TURN, Way, assert_report, assert_same_jobs, job_of, schedule, unfit_job,
 };
 use bsc_link::{Outcome, Say, Sound};
 use line_world::{is_fair, turns_needed};
+use rje_jobs::Job;
 use std::alloc::AllocGlobal;
 use std::process::Abort;
 use std::test::Fail;
@@ -28,6 +29,19 @@ fn assert_fair(rt: &(impl Abort + AllocGlobal), places: &[Place], fair: bool) ->
 
 // THE BOUND
 
+/// For these jobs so many turns are enough on a fair line, as many as are given or fewer, and whether it is fair.
+fn assert_bound(
+    rt: &(impl Abort + AllocGlobal),
+    jobs: &[Job],
+    places: &[Place],
+    needed: u64,
+    fair: bool,
+) -> Result<(), Fail> {
+    assert_eq!(rt; turns_needed(jobs), Some(needed));
+    assert!(rt; needed <= places.len() as u64);
+    assert_fair(rt, places, fair)
+}
+
 #[test]
 fn five_lost_turns_and_two_good_ones_thrice_are_enough_for_two_blocks(
     rt: HostRuntime,
@@ -37,9 +51,7 @@ fn five_lost_turns_and_two_good_ones_thrice_are_enough_for_two_blocks(
         LOST, LOST, LOST, LOST, LOST, GOOD, GOOD, LOST, LOST, LOST, LOST, LOST, GOOD, GOOD, LOST,
         LOST, LOST, LOST, LOST, GOOD, GOOD,
     ];
-    assert_eq!(rt; turns_needed(&jobs), Some(21));
-    assert_eq!(rt; places.len(), 21);
-    assert_fair(&rt, &places, true)?;
+    assert_bound(&rt, &jobs, &places, 21, true)?;
     let lines = [
         BID_LOST, BID_LOST, BID_LOST, BID_LOST, BID_LOST, BID, BLOCK_ACK1, BLOCK_LOST, ASK_LOST,
         ASK_LOST, ASK_LOST, ASK_LOST, ASK_ACK1, AGAIN_ACK0, END_LOST,
@@ -55,9 +67,7 @@ fn after_seven_lost_turns_the_sender_gives_up(rt: HostRuntime) -> Result<(), Fai
     let places = [
         LOST, LOST, LOST, LOST, LOST, LOST, LOST, GOOD, GOOD, GOOD, GOOD, GOOD, GOOD, GOOD,
     ];
-    assert_eq!(rt; turns_needed(&jobs), Some(14));
-    assert_eq!(rt; places.len(), 14);
-    assert_fair(&rt, &places, false)?;
+    assert_bound(&rt, &jobs, &places, 14, false)?;
     let lines = [
         BID_LOST, BID_LOST, BID_LOST, BID_LOST, BID_LOST, BID_LOST, BID_LOST, END,
     ];
@@ -83,12 +93,10 @@ fn a_good_pair_in_each_nine_turns_is_not_enough(rt: HostRuntime) -> Result<(), F
         GOOD, GOOD, LOST, LOST, LOST, LOST, LOST, LOST, GOOD, GOOD, LOST, LOST, LOST, LOST, LOST,
         LOST, GOOD, GOOD, LOST, LOST, LOST, LOST, LOST, LOST,
     ];
-    assert_eq!(rt; turns_needed(&jobs), Some(21));
-    assert_eq!(rt; places.len(), 24);
     for nine in places.windows(9) {
         assert!(rt; has_good_pair(nine));
     }
-    assert_fair(&rt, &places, false)?;
+    assert_bound(&rt, &jobs, &places, 21, false)?;
 
     // The seventh turn after the first block is an inquiry, whose answer is that block's acknowledgement again.
     let lines = [
@@ -102,19 +110,23 @@ fn a_good_pair_in_each_nine_turns_is_not_enough(rt: HostRuntime) -> Result<(), F
 
 // HOW MANY TURNS
 
+/// For jobs of so many records of 80 bytes each so many turns are enough.
+fn assert_needed(rt: &(impl Abort + AllocGlobal), sizes: &[usize], turns: u64) -> Result<(), Fail> {
+    let mut jobs = Vec::new(rt.alloc());
+    for records in sizes {
+        jobs.push(job_of(rt, *records, 80)?)?;
+    }
+    assert_eq!(rt; turns_needed(&jobs), Some(turns));
+    Ok(())
+}
+
 #[test]
 fn the_bid_and_each_block_need_seven_turns(rt: HostRuntime) -> Result<(), Fail> {
-    assert_eq!(rt; turns_needed(&[]), Some(7));
-
     // Eighteen records of 80 bytes are three blocks; a job without records is one.
-    let three = job_of(&rt, 18, 80)?;
-    let none = job_of(&rt, 0, 0)?;
-    assert_eq!(rt; turns_needed(&[three]), Some(28));
-    assert_eq!(rt; turns_needed(&[none]), Some(14));
-    assert_eq!(rt;
-        turns_needed(&[job_of(&rt, 18, 80)?, job_of(&rt, 0, 0)?]),
-        Some(35)
-    );
+    let cases: [(&[usize], u64); 4] = [(&[], 7), (&[18], 28), (&[0], 14), (&[18, 0], 35)];
+    for (sizes, turns) in cases {
+        assert_needed(&rt, sizes, turns)?;
+    }
     Ok(())
 }
 
@@ -126,50 +138,62 @@ fn a_job_that_cannot_be_sent_has_no_number_of_turns(rt: HostRuntime) -> Result<(
 
 // FAIR SCHEDULES
 
+/// Schedules, and whether each is fair.
+type Cases = &'static [(&'static [Place], bool)];
+
+/// Whether each of these schedules is fair is told so.
+fn assert_each(rt: &(impl Abort + AllocGlobal), cases: Cases) -> Result<(), Fail> {
+    for (places, fair) in cases {
+        assert_fair(rt, places, *fair)?;
+    }
+    Ok(())
+}
+
+static ALL_LOST: Cases = &[
+    (&[], true),
+    (&[LOST, LOST, LOST, LOST, LOST, LOST, LOST], true),
+    (&[LOST, LOST, LOST, LOST, LOST, LOST, LOST, LOST], false),
+];
+
 #[test]
 fn fewer_than_eight_turns_may_all_be_lost(rt: HostRuntime) -> Result<(), Fail> {
-    assert_fair(&rt, &[], true)?;
-    assert_fair(&rt, &[LOST, LOST, LOST, LOST, LOST, LOST, LOST], true)?;
-    assert_fair(
-        &rt,
-        &[LOST, LOST, LOST, LOST, LOST, LOST, LOST, LOST],
-        false,
-    )
+    assert_each(&rt, ALL_LOST)
 }
+
+static WAITING: Cases = &[
+    (&[GOOD], true),
+    (&[HOLD], false),
+    (&[TURN], false),
+    (&[PAUSE], false),
+    (&[GOOD, GOOD, PAUSE], false),
+];
 
 #[test]
 fn on_a_fair_line_nobody_asks_to_wait(rt: HostRuntime) -> Result<(), Fail> {
-    assert_fair(&rt, &[GOOD], true)?;
-    assert_fair(&rt, &[HOLD], false)?;
-    assert_fair(&rt, &[TURN], false)?;
-    assert_fair(&rt, &[PAUSE], false)?;
-    assert_fair(&rt, &[GOOD, GOOD, PAUSE], false)
+    assert_each(&rt, WAITING)
 }
+
+const NOISE: Place = Place {
+    up: Way::Damaged(&[0x32, 0x32, 0xC1]),
+    ..GOOD
+};
+
+const IN_PIECES: Place = Place {
+    up: Way::Cut(&[1]),
+    ..GOOD
+};
+
+static PAIRS: Cases = &[
+    (&[LOST, LOST, LOST, LOST, LOST, LOST, GOOD, GOOD], true),
+    (&[LOST, LOST, LOST, LOST, LOST, LOST, IN_PIECES, GOOD], true),
+    (&[LOST, LOST, LOST, LOST, LOST, LOST, NOISE, GOOD], false),
+    (&[LOST, LOST, LOST, LOST, LOST, LOST, GOOD, NOISE], false),
+    (&[GOOD, LOST, GOOD, LOST, GOOD, LOST, GOOD, LOST], false),
+];
 
 #[test]
 fn two_neighbouring_turns_in_which_all_arrives_are_a_good_pair(
     rt: HostRuntime,
 ) -> Result<(), Fail> {
-    let noise = damaged(&[0x32, 0x32, 0xC1]);
-    assert_fair(&rt, &[LOST, LOST, LOST, LOST, LOST, LOST, GOOD, GOOD], true)?;
-    assert_fair(
-        &rt,
-        &[LOST, LOST, LOST, LOST, LOST, LOST, cut(&[1]), GOOD],
-        true,
-    )?;
-    assert_fair(
-        &rt,
-        &[LOST, LOST, LOST, LOST, LOST, LOST, noise, GOOD],
-        false,
-    )?;
-    assert_fair(
-        &rt,
-        &[LOST, LOST, LOST, LOST, LOST, LOST, GOOD, noise],
-        false,
-    )?;
-    assert_fair(
-        &rt,
-        &[GOOD, LOST, GOOD, LOST, GOOD, LOST, GOOD, LOST],
-        false,
-    )
+    assert_each(&rt, PAIRS)
 }

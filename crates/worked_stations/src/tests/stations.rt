@@ -1,5 +1,5 @@
 //! Both stations over lines in memory: conversations by hand, what one hearing takes, traces, and lines of which a call fails.
-use super::{block, buffer, record};
+use super::{block, buffer, job_of, unfit_job};
 use arrayvec::ArrayVec;
 use bsc_codes::{Closing, SYN};
 use bsc_frame::{Frame, write_frame};
@@ -9,30 +9,13 @@ use rje_jobs::{Job, job_fits};
 use rje_station::{
     Came, Event, Line, LineFault, MAX_HEARD, ReceivingStation, SendingStation, StationFault, Trace,
 };
-use rje_text::{Action, Mode, Records, Select, next_block};
+use rje_text::{Action, Mode, Select, next_block};
 use std::alloc::{AllocError, Global};
 use std::process::Abort;
 use std::test::Fail;
 
 /// An ENQ on the line.
 pub(super) const ENQ: [u8; 4] = [0x32, 0x32, 0x2D, 0xFF];
-
-/// A whole, normal job of this many records of so many bytes C1 for the default device.
-fn job_of(rt: &(impl Abort + AllocGlobal), records: usize, length: usize) -> Result<Job, Fail> {
-    let bytes = [0xC1; 144];
-    assert!(rt; length <= bytes.len());
-    let mut job = Job {
-        select: Select::Unset,
-        mode: Mode::Normal,
-        records: Records::new(rt.alloc()),
-        whole: true,
-    };
-    for _i in 0..records {
-        job.records
-            .push(record(rt, Action::Plain, &bytes[..length]))?;
-    }
-    Ok(job)
-}
 
 /// These bytes in one piece.
 pub(super) fn one_piece(alloc: Global, bytes: &[u8]) -> Result<Vec<Vec<u8>>, AllocError> {
@@ -218,11 +201,9 @@ fn without_jobs_the_sender_is_over_at_once(rt: HostRuntime) -> Result<(), Fail> 
 
 #[test]
 fn a_job_that_cannot_be_sent_is_told_by_its_number(rt: HostRuntime) -> Result<(), Fail> {
-    let mut cards = job_of(&rt, 1, 81)?;
-    cards.select = Select::Punch;
     let mut cut = job_of(&rt, 1, 1)?;
     cut.whole = false;
-    let jobs = [job_of(&rt, 1, 1)?, cards, cut];
+    let jobs = [job_of(&rt, 1, 1)?, unfit_job(&rt)?, cut];
     let refused = SendingStation::new(rt.alloc(), &jobs).err();
     assert!(rt; refused == Some(StationFault::BadJob(2)));
     Ok(())
@@ -393,44 +374,68 @@ fn converse(ends: &mut Ends<'_>, alloc: Global) -> Result<(), StationFault> {
 
 pub(super) const FAILED: Option<StationFault> = Some(StationFault::Line(LineFault::Failed));
 
+/// What is counted and how many jobs were handed out, by the call of a line that fails.
+const COUNTS: [(usize, usize); 5] = [(0, 0), (0, 0), (0, 0), (0, 1), (1, 1)];
+
+/// So many jobs are counted, and so many were handed out, each of them the one job.
+fn assert_counts(rt: &impl Abort, ends: &Ends<'_>, counted: usize, handed: usize) {
+    assert!(rt; ends.sender.counted() == counted);
+    assert!(rt; ends.receiver.jobs().len() == handed);
+    if handed == 1 {
+        assert_one_job(rt, ends.receiver.jobs(), 1, &[0xC1]);
+    }
+}
+
+/// This call of the sender's line fails: a transmit, a listen, and so on.
+fn assert_senders_call_fails(
+    rt: &(impl Abort + AllocGlobal),
+    call: u64,
+    counted: usize,
+    handed: usize,
+) -> Result<(), Fail> {
+    let jobs = [job_of(rt, 1, 1)?];
+    let mut ends = Ends::new(rt.alloc(), &jobs)?;
+    ends.sending_line.fail_at(call);
+    assert!(rt; converse(&mut ends, rt.alloc()).err() == FAILED);
+    assert!(rt; sender_is_over(&mut ends));
+    assert_counts(rt, &ends, counted, handed);
+    let done = if counted == 1 {
+        Some(Outcome::Done)
+    } else {
+        None
+    };
+    assert!(rt; ends.sender.outcome() == done);
+    Ok(())
+}
+
 #[test]
 fn each_call_of_the_senders_line_fails_once(rt: HostRuntime) -> Result<(), Fail> {
-    let jobs = [job_of(&rt, 1, 1)?];
-    // What is counted and how many jobs were handed out, by the call that fails: a transmit, a listen, and so on.
-    for (i, (counted, handed)) in [(0, 0), (0, 0), (0, 0), (0, 1), (1, 1)].iter().enumerate() {
-        let mut ends = Ends::new(rt.alloc(), &jobs)?;
-        ends.sending_line.fail_at(i as u64 + 1);
-        assert!(rt; converse(&mut ends, rt.alloc()).err() == FAILED);
-        assert!(rt; sender_is_over(&mut ends));
-        assert!(rt; ends.sender.counted() == *counted);
-        assert!(rt; ends.receiver.jobs().len() == *handed);
-        let done = if *counted == 1 {
-            Some(Outcome::Done)
-        } else {
-            None
-        };
-        assert!(rt; ends.sender.outcome() == done);
-        if *handed == 1 {
-            assert_one_job(&rt, ends.receiver.jobs(), 1, &[0xC1]);
-        }
+    for (i, (counted, handed)) in COUNTS.iter().enumerate() {
+        assert_senders_call_fails(&rt, i as u64 + 1, *counted, *handed)?;
     }
+    Ok(())
+}
+
+/// This call of the receiver's line fails: a listen, a transmit, and so on.
+fn assert_receivers_call_fails(
+    rt: &(impl Abort + AllocGlobal),
+    call: u64,
+    counted: usize,
+    handed: usize,
+) -> Result<(), Fail> {
+    let jobs = [job_of(rt, 1, 1)?];
+    let mut ends = Ends::new(rt.alloc(), &jobs)?;
+    ends.receiving_line.fail_at(call);
+    assert!(rt; converse(&mut ends, rt.alloc()).err() == FAILED);
+    assert!(rt; receiver_is_over(&mut ends));
+    assert_counts(rt, &ends, counted, handed);
     Ok(())
 }
 
 #[test]
 fn each_call_of_the_receivers_line_fails_once(rt: HostRuntime) -> Result<(), Fail> {
-    let jobs = [job_of(&rt, 1, 1)?];
-    // What is counted and how many jobs were handed out, by the call that fails: a listen, a transmit, and so on.
-    for (i, (counted, handed)) in [(0, 0), (0, 0), (0, 0), (0, 1), (1, 1)].iter().enumerate() {
-        let mut ends = Ends::new(rt.alloc(), &jobs)?;
-        ends.receiving_line.fail_at(i as u64 + 1);
-        assert!(rt; converse(&mut ends, rt.alloc()).err() == FAILED);
-        assert!(rt; receiver_is_over(&mut ends));
-        assert!(rt; ends.sender.counted() == *counted);
-        assert!(rt; ends.receiver.jobs().len() == *handed);
-        if *handed == 1 {
-            assert_one_job(&rt, ends.receiver.jobs(), 1, &[0xC1]);
-        }
+    for (i, (counted, handed)) in COUNTS.iter().enumerate() {
+        assert_receivers_call_fails(&rt, i as u64 + 1, *counted, *handed)?;
     }
     Ok(())
 }

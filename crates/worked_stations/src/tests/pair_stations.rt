@@ -1,7 +1,7 @@
 //! Two stations that both have jobs, by hand over lines in memory: a conversation, what isn't taken or can't be read, and lines of which
 //! a call fails.
-use super::schedules::{assert_same_jobs, job_of, unfit_job};
 use super::stations::{ENQ, FAILED, assert_events, one_piece, syns, transparent_block};
+use super::{assert_same_jobs, job_of, unfit_job};
 use bsc_link::{Outcome, Rank, Reply, Say, Sound, Wish};
 use line_world::MemoryLine;
 use rje_jobs::Job;
@@ -13,6 +13,8 @@ use std::test::Fail;
 const RANKS: [Rank; 2] = [Rank::Primary, Rank::Secondary];
 
 const ACK0: [u8; 5] = [0x32, 0x32, 0x10, 0x70, 0xFF];
+
+const ACK1: [u8; 4] = [0x32, 0x32, 0x10, 0x61];
 
 const EOT: [u8; 4] = [0x32, 0x32, 0x37, 0xFF];
 
@@ -246,43 +248,68 @@ fn of_rank<'e, 'a>(rank: Rank, up: &'e mut End<'a>, down: &'e mut End<'a>) -> &'
     }
 }
 
+/// This call of the line of this rank's station fails.
+fn assert_call_fails(
+    rt: &(impl Abort + AllocGlobal),
+    rank: Rank,
+    call: u64,
+    counts: Counts,
+) -> Result<(), Fail> {
+    let jobs = [job_of(rt, 1, 1)?];
+    let mut up = End::new(rt.alloc(), Rank::Primary, &jobs)?;
+    let mut down = End::new(rt.alloc(), Rank::Secondary, &jobs)?;
+    of_rank(rank, &mut up, &mut down).fail_at(call);
+    assert!(rt; converse(rt.alloc(), &mut up, &mut down).err() == FAILED);
+    assert_over(rt, of_rank(rank, &mut up, &mut down));
+    assert_sent(rt, &up, &down, &jobs, counts.0, counts.1);
+    assert_sent(rt, &down, &up, &jobs, counts.2, counts.3);
+    Ok(())
+}
+
 #[test]
 fn each_call_of_either_line_fails_once(rt: HostRuntime) -> Result<(), Fail> {
-    let jobs = [job_of(&rt, 1, 1)?];
     // The counts are those of the secondary's line too: where one transmits the other listens.
     for (i, counts) in PRIMARY_FAILS.iter().enumerate() {
         for rank in RANKS {
-            let mut up = End::new(rt.alloc(), Rank::Primary, &jobs)?;
-            let mut down = End::new(rt.alloc(), Rank::Secondary, &jobs)?;
-            of_rank(rank, &mut up, &mut down).fail_at(i as u64 + 1);
-            assert!(rt; converse(rt.alloc(), &mut up, &mut down).err() == FAILED);
-            assert_over(&rt, of_rank(rank, &mut up, &mut down));
-            assert_sent(&rt, &up, &down, &jobs, counts.0, counts.1);
-            assert_sent(&rt, &down, &up, &jobs, counts.2, counts.3);
+            assert_call_fails(&rt, rank, i as u64 + 1, *counts)?;
         }
     }
     Ok(())
 }
 
+const BABBLE: Option<StationFault> = Some(StationFault::Babble);
+
+/// A station of this rank hears babble of the other station.
+fn assert_babble_ends_it(rt: &(impl Abort + AllocGlobal), rank: Rank) -> Result<(), Fail> {
+    let jobs = [job_of(rt, 1, 1)?];
+    let mut end = End::new(rt.alloc(), rank, &jobs)?;
+    let pieces = syns(rt.alloc(), MAX_HEARD, true)?;
+    assert!(rt; end.hear(pieces).err() == BABBLE);
+    assert_over(rt, &mut end);
+    assert_events(rt, end.receiving(), &[Event::Over]);
+    Ok(())
+}
+
+/// A station of this rank hears babble for an answer.
+fn assert_babbled_answer_ends_it(rt: &(impl Abort + AllocGlobal), rank: Rank) -> Result<(), Fail> {
+    let jobs = [job_of(rt, 1, 1)?];
+    let mut end = End::new(rt.alloc(), rank, &jobs)?;
+    end.speak()?;
+    let pieces = syns(rt.alloc(), MAX_HEARD, true)?;
+    assert!(rt; end.hear_answer(pieces).err() == BABBLE);
+    assert_over(rt, &mut end);
+    let events = [Event::Said(Say::Bid), Event::Over];
+    assert_events(rt, end.sending(), &events);
+    assert!(rt; end.counted() == 0);
+    assert!(rt; end.take().is_empty());
+    Ok(())
+}
+
 #[test]
 fn babble_ends_a_station(rt: HostRuntime) -> Result<(), Fail> {
-    let jobs = [job_of(&rt, 1, 1)?];
-    let babble = Some(StationFault::Babble);
     for rank in RANKS {
-        let mut end = End::new(rt.alloc(), rank, &jobs)?;
-        let pieces = syns(rt.alloc(), MAX_HEARD, true)?;
-        assert!(rt; end.hear(pieces).err() == babble);
-        assert_over(&rt, &mut end);
-        assert_events(&rt, end.receiving(), &[Event::Over]);
-        let mut end = End::new(rt.alloc(), rank, &jobs)?;
-        end.speak()?;
-        let pieces = syns(rt.alloc(), MAX_HEARD, true)?;
-        assert!(rt; end.hear_answer(pieces).err() == babble);
-        assert_over(&rt, &mut end);
-        let events = [Event::Said(Say::Bid), Event::Over];
-        assert_events(&rt, end.sending(), &events);
-        assert!(rt; end.counted() == 0);
-        assert!(rt; end.take().is_empty());
+        assert_babble_ends_it(&rt, rank)?;
+        assert_babbled_answer_ends_it(&rt, rank)?;
     }
     Ok(())
 }
@@ -298,13 +325,18 @@ fn assert_nothing_is_due(rt: &(impl Abort + AllocGlobal), end: &mut End<'_>) -> 
     assert!(rt; end.due() == Say::Nothing);
     assert!(rt; end.speak()? == Say::Nothing);
     assert!(rt; end.await_answer()? == Sound::Quiet);
-    assert!(rt; end.sent() == [1, 2].as_slice());
-    assert!(rt; end.line.transmit(&[4]).err() == Some(LineFault::Failed));
-    let mut piece = [0, 0];
-    assert!(rt; end.line.listen(&mut piece)? == Came::Bytes(1));
-    assert!(rt; piece == [3, 0]);
     assert!(rt; end.due() == Say::Nothing);
     assert!(rt; end.sending().len() == events);
+    assert_untouched(rt, &mut end.line)
+}
+
+/// Nothing was done with a line that sent 1, 2, on which 3 comes next, and of which the next call fails.
+fn assert_untouched(rt: &impl Abort, line: &mut MemoryLine) -> Result<(), Fail> {
+    assert!(rt; line.sent() == [1, 2].as_slice());
+    assert!(rt; line.transmit(&[4]).err() == Some(LineFault::Failed));
+    let mut piece = [0, 0];
+    assert!(rt; line.listen(&mut piece)? == Came::Bytes(1));
+    assert!(rt; piece == [3, 0]);
     Ok(())
 }
 
@@ -318,32 +350,44 @@ fn without_jobs_no_line_is_touched(rt: HostRuntime) -> Result<(), Fail> {
     Ok(())
 }
 
+/// A station of this rank that took a bid says nothing but its replies.
+fn assert_silent(rt: &(impl Abort + AllocGlobal), rank: Rank) -> Result<(), Fail> {
+    let jobs = [job_of(rt, 1, 1)?];
+    let mut receiving = End::new(rt.alloc(), rank, &jobs)?;
+    assert!(rt; receiving.due() == Say::Bid);
+    assert!(rt; receiving.hear(one_piece(rt.alloc(), &ENQ)?)? == Some(Reply::Ack0));
+    assert_nothing_is_due(rt, &mut receiving)?;
+    assert!(rt; receiving.reply()? == Some(Reply::Ack0));
+    assert!(rt; receiving.sent() == ACK0.as_slice());
+    assert!(rt; receiving.reply()?.is_none());
+    Ok(())
+}
+
 #[test]
 fn a_station_that_receives_is_silent(rt: HostRuntime) -> Result<(), Fail> {
-    let jobs = [job_of(&rt, 1, 1)?];
     for rank in RANKS {
-        let mut receiving = End::new(rt.alloc(), rank, &jobs)?;
-        assert!(rt; receiving.due() == Say::Bid);
-        assert!(rt; receiving.hear(one_piece(rt.alloc(), &ENQ)?)? == Some(Reply::Ack0));
-        assert_nothing_is_due(&rt, &mut receiving)?;
-        assert!(rt; receiving.reply()? == Some(Reply::Ack0));
-        assert!(rt; receiving.sent() == ACK0.as_slice());
-        assert!(rt; receiving.reply()?.is_none());
+        assert_silent(&rt, rank)?;
     }
+    Ok(())
+}
+
+/// A bid of this rank's station is answered by EOT.
+fn assert_ended(rt: &(impl Abort + AllocGlobal), rank: Rank) -> Result<(), Fail> {
+    let jobs = [job_of(rt, 1, 1)?];
+    let mut ended = End::new(rt.alloc(), rank, &jobs)?;
+    ended.speak()?;
+    assert!(rt; ended.hear_answer(one_piece(rt.alloc(), &EOT)?)? == Sound::Eot);
+    assert!(rt; ended.outcome() == Some(Outcome::Ended));
+    assert_nothing_is_due(rt, &mut ended)?;
+    assert!(rt; ended.hear(one_piece(rt.alloc(), &ENQ)?)? == Some(Reply::Ack0));
     Ok(())
 }
 
 // An EOT for an answer ends the own transmission, and then the bid is no longer out.
 #[test]
 fn after_an_eot_for_an_answer_nothing_is_due(rt: HostRuntime) -> Result<(), Fail> {
-    let jobs = [job_of(&rt, 1, 1)?];
     for rank in RANKS {
-        let mut ended = End::new(rt.alloc(), rank, &jobs)?;
-        ended.speak()?;
-        assert!(rt; ended.hear_answer(one_piece(rt.alloc(), &EOT)?)? == Sound::Eot);
-        assert!(rt; ended.outcome() == Some(Outcome::Ended));
-        assert_nothing_is_due(&rt, &mut ended)?;
-        assert!(rt; ended.hear(one_piece(rt.alloc(), &ENQ)?)? == Some(Reply::Ack0));
+        assert_ended(&rt, rank)?;
     }
     Ok(())
 }
@@ -364,48 +408,93 @@ fn assert_passed_over(rt: &(impl Abort + AllocGlobal), end: &mut End<'_>) -> Res
     Ok(())
 }
 
+/// It hears this answer, and then an ENQ that isn't taken.
+fn assert_passed_over_after(
+    rt: &(impl Abort + AllocGlobal),
+    end: &mut End<'_>,
+    answer: &[u8],
+) -> Result<(), Fail> {
+    end.hear_answer(one_piece(rt.alloc(), answer)?)?;
+    assert_passed_over(rt, end)
+}
+
+/// From its bid to its end a station of this rank takes no ENQ, but that of a secondary takes one while it bids.
+fn assert_bid_stands(rt: &(impl Abort + AllocGlobal), rank: Rank) -> Result<(), Fail> {
+    let jobs = [job_of(rt, 1, 1)?];
+    let mut end = End::new(rt.alloc(), rank, &jobs)?;
+    end.speak()?;
+    if rank == Rank::Primary {
+        assert_passed_over(rt, &mut end)?;
+    }
+    assert_passed_over_after(rt, &mut end, &ACK0)?;
+    assert!(rt; end.speak()? == Say::Block);
+    assert_passed_over(rt, &mut end)?;
+    assert_passed_over_after(rt, &mut end, &ACK1)?;
+    assert!(rt; end.speak()? == Say::End);
+    assert!(rt; end.hear(one_piece(rt.alloc(), &ENQ)?)? == Some(Reply::Ack0));
+    Ok(())
+}
+
 #[test]
 fn a_bid_is_not_taken_while_the_own_stands(rt: HostRuntime) -> Result<(), Fail> {
-    let jobs = [job_of(&rt, 1, 1)?];
     for rank in RANKS {
-        let mut end = End::new(rt.alloc(), rank, &jobs)?;
-        end.speak()?;
-        if rank == Rank::Primary {
-            assert_passed_over(&rt, &mut end)?;
-        }
-        end.hear_answer(one_piece(rt.alloc(), &ACK0)?)?;
-        assert_passed_over(&rt, &mut end)?;
-        assert!(rt; end.speak()? == Say::Block);
-        assert_passed_over(&rt, &mut end)?;
-        end.hear_answer(one_piece(rt.alloc(), &[0x32, 0x32, 0x10, 0x61])?)?;
-        assert_passed_over(&rt, &mut end)?;
-        assert!(rt; end.speak()? == Say::End);
-        assert!(rt; end.hear(one_piece(rt.alloc(), &ENQ)?)? == Some(Reply::Ack0));
+        assert_bid_stands(&rt, rank)?;
     }
+    Ok(())
+}
+
+/// After six bids in vain one more is due, and after that the sender gives up.
+fn assert_seventh_bid_gives_up(
+    rt: &(impl Abort + AllocGlobal),
+    end: &mut End<'_>,
+) -> Result<(), Fail> {
+    assert!(rt; end.due() == Say::Bid);
+    end.bid_in_vain(rt.alloc(), 1)?;
+    assert!(rt; end.due() == Say::End);
+    assert!(rt; end.outcome() == Some(Outcome::GaveUp));
     Ok(())
 }
 
 #[test]
 fn a_secondary_gives_way_and_counts_its_bids_anew(rt: HostRuntime) -> Result<(), Fail> {
     let jobs = [job_of(&rt, 1, 1)?];
-    let gave_up = Some(Outcome::GaveUp);
     let mut secondary = End::new(rt.alloc(), Rank::Secondary, &jobs)?;
     secondary.bid_in_vain(rt.alloc(), 6)?;
     assert!(rt; secondary.hear(one_piece(rt.alloc(), &ENQ)?)? == Some(Reply::Ack0));
     assert!(rt; secondary.due() == Say::Nothing);
     secondary.other_ended();
     secondary.bid_in_vain(rt.alloc(), 6)?;
-    assert!(rt; secondary.due() == Say::Bid);
-    secondary.bid_in_vain(rt.alloc(), 1)?;
-    assert!(rt; secondary.due() == Say::End);
-    assert!(rt; secondary.outcome() == gave_up);
+    assert_seventh_bid_gives_up(&rt, &mut secondary)
+}
+
+#[test]
+fn a_primary_passes_a_bid_over_and_counts_on(rt: HostRuntime) -> Result<(), Fail> {
+    let jobs = [job_of(&rt, 1, 1)?];
     let mut primary = End::new(rt.alloc(), Rank::Primary, &jobs)?;
     primary.bid_in_vain(rt.alloc(), 6)?;
     assert_passed_over(&rt, &mut primary)?;
-    assert!(rt; primary.due() == Say::Bid);
-    primary.bid_in_vain(rt.alloc(), 1)?;
-    assert!(rt; primary.due() == Say::End);
-    assert!(rt; primary.outcome() == gave_up);
+    assert_seventh_bid_gives_up(&rt, &mut primary)
+}
+
+/// A station of this rank refuses a block that can't be read, and takes the next one.
+fn assert_unreadable_block_leaves_the_jobs(
+    rt: &(impl Abort + AllocGlobal),
+    rank: Rank,
+) -> Result<(), Fail> {
+    let mut end = End::new(rt.alloc(), rank, &[])?;
+    assert!(rt; end.hear(one_piece(rt.alloc(), &ENQ)?)? == Some(Reply::Ack0));
+    assert!(rt; end.hear(transparent_block(rt, 79)?)? == Some(Reply::Nak));
+    assert!(rt; end.jobs().is_empty());
+    let events = [
+        Event::Heard(Sound::Enq),
+        Event::Heard(Sound::Block),
+        Event::Refused,
+    ];
+    assert_events(rt, end.receiving(), &events);
+    assert!(rt; end.hear(transparent_block(rt, 480)?)? == Some(Reply::Ack1));
+    let jobs = end.take();
+    assert!(rt; jobs.len() == 1);
+    assert!(rt; jobs[0].records.len() == 6);
     Ok(())
 }
 
@@ -414,20 +503,7 @@ fn a_block_that_cannot_be_read_leaves_the_jobs_of_either_station(
     rt: HostRuntime,
 ) -> Result<(), Fail> {
     for rank in RANKS {
-        let mut end = End::new(rt.alloc(), rank, &[])?;
-        assert!(rt; end.hear(one_piece(rt.alloc(), &ENQ)?)? == Some(Reply::Ack0));
-        assert!(rt; end.hear(transparent_block(&rt, 79)?)? == Some(Reply::Nak));
-        assert!(rt; end.jobs().is_empty());
-        let events = [
-            Event::Heard(Sound::Enq),
-            Event::Heard(Sound::Block),
-            Event::Refused,
-        ];
-        assert_events(&rt, end.receiving(), &events);
-        assert!(rt; end.hear(transparent_block(&rt, 480)?)? == Some(Reply::Ack1));
-        let jobs = end.take();
-        assert!(rt; jobs.len() == 1);
-        assert!(rt; jobs[0].records.len() == 6);
+        assert_unreadable_block_leaves_the_jobs(&rt, rank)?;
     }
     Ok(())
 }
@@ -453,29 +529,38 @@ fn assert_left(
     Ok(())
 }
 
-// Its EOT was lost before its bid came.
+/// The other's EOT was lost before its bid came.
+fn assert_not_heard(rt: &(impl Abort + AllocGlobal), rank: Rank) -> Result<(), Fail> {
+    let jobs = [job_of(rt, 1, 1)?];
+    let mut end = End::new(rt.alloc(), rank, &jobs)?;
+    assert_left(rt, &mut end, 0)
+}
+
 #[test]
 fn once_the_other_ended_a_station_no_longer_hears_it(rt: HostRuntime) -> Result<(), Fail> {
-    let jobs = [job_of(&rt, 1, 1)?];
     for rank in RANKS {
-        let mut end = End::new(rt.alloc(), rank, &jobs)?;
-        assert_left(&rt, &mut end, 0)?;
+        assert_not_heard(&rt, rank)?;
     }
     Ok(())
 }
 
-// Its EOT was lost after a block.
+/// The other's EOT was lost after a block.
+fn assert_job_is_kept(rt: &(impl Abort + AllocGlobal), rank: Rank) -> Result<(), Fail> {
+    let jobs = [job_of(rt, 1, 1)?];
+    let mut end = End::new(rt.alloc(), rank, &jobs)?;
+    end.hear(one_piece(rt.alloc(), &ENQ)?)?;
+    end.hear(transparent_block(rt, 80)?)?;
+    assert_left(rt, &mut end, 1)?;
+    let received = end.take();
+    assert!(rt; received.len() == 1);
+    assert!(rt; received[0].whole);
+    Ok(())
+}
+
 #[test]
 fn once_the_other_ended_its_job_is_kept(rt: HostRuntime) -> Result<(), Fail> {
-    let jobs = [job_of(&rt, 1, 1)?];
     for rank in RANKS {
-        let mut end = End::new(rt.alloc(), rank, &jobs)?;
-        end.hear(one_piece(rt.alloc(), &ENQ)?)?;
-        end.hear(transparent_block(&rt, 80)?)?;
-        assert_left(&rt, &mut end, 1)?;
-        let received = end.take();
-        assert!(rt; received.len() == 1);
-        assert!(rt; received[0].whole);
+        assert_job_is_kept(&rt, rank)?;
     }
     Ok(())
 }

@@ -5,12 +5,12 @@ use super::schedules::{
 };
 use bsc_link::{Outcome, Rank, Reply, Say, Sound, Wish};
 use line_world::{
-    Bids, PairReport, PairTurn, Paired, Side, Spoken, WorldFault, drive_pair, run, run_pair,
+    Bids, PairReport, PairTurn, Paired, Report, Side, Spoken, WorldFault, drive_pair, run, run_pair,
 };
 use rje_jobs::{Job, Jobs};
 use rje_station::Station;
 use rje_text::{Mode, Select};
-use std::alloc::{AllocGlobal, Global};
+use std::alloc::{AllocError, AllocGlobal, Global};
 use std::process::Abort;
 use std::test::Fail;
 
@@ -296,34 +296,50 @@ static SCHEDULES: [&'static [Place]; 7] = [
     &[GOOD, GOOD, L, L, L, L, L, L, L, GOOD],
 ];
 
+/// The schedule of a pair in which the secondary may always bid.
+fn as_pair_schedule(alloc: Global, places: &[Place]) -> Result<Vec<PairTurn>, AllocError> {
+    let mut pairings = Vec::new(alloc);
+    for place in places {
+        pairings.push((Bids::Secondary, *place))?;
+    }
+    pair_schedule(alloc, &pairings)
+}
+
+/// The primary's way is this run, and nothing goes the other way.
+fn assert_one_way(rt: &impl Abort, pair: &PairReport, report: &Report) {
+    let handed = report.handed.as_slice();
+    assert_side(rt, &pair.up, (handed, report.counted, report.outcome));
+    assert_side(rt, &pair.down, all_sent(&[]));
+    assert_eq!(rt; pair.turns.len(), report.turns.len());
+    for (turn, spoken) in pair.turns.iter().zip(&report.turns) {
+        assert_eq!(rt; turn.primary, Some(*spoken));
+        assert_eq!(rt; turn.secondary, None);
+    }
+}
+
+/// By each call, over this schedule the pair tells what a run of the primary's jobs does, or the same fault.
+fn assert_is_a_run(
+    rt: &(impl Abort + AllocGlobal),
+    jobs: &[Job],
+    places: &[Place],
+) -> Result<(), Fail> {
+    let turns = schedule(rt.alloc(), places)?;
+    let pair_turns = as_pair_schedule(rt.alloc(), places)?;
+    for call in CALLS {
+        let pair = report_by(call, rt.alloc(), (jobs, &[]), &pair_turns);
+        match (run(rt.alloc(), jobs, &turns), pair) {
+            (Ok(report), Ok(pair)) => assert_one_way(rt, &pair, &report),
+            (report, pair) => assert_eq!(rt; report.err(), pair.err()),
+        }
+    }
+    Ok(())
+}
+
 #[test]
 fn without_jobs_of_the_secondary_the_primarys_way_is_a_run(rt: HostRuntime) -> Result<(), Fail> {
     let jobs = [job_of(&rt, 7, 80)?, job_of(&rt, 1, 1)?];
     for places in SCHEDULES {
-        let turns = schedule(rt.alloc(), places)?;
-        let mut pairings = Vec::new(rt.alloc());
-        for place in places {
-            pairings.push((Bids::Secondary, *place))?;
-        }
-        let pair_turns = pair_schedule(rt.alloc(), &pairings)?;
-        for call in CALLS {
-            let pair = report_by(call, rt.alloc(), (&jobs, &[]), &pair_turns);
-            let (report, pair) = match (run(rt.alloc(), &jobs, &turns), pair) {
-                (Ok(report), Ok(pair)) => (report, pair),
-                (report, pair) => {
-                    assert_eq!(rt; report.err(), pair.err());
-                    continue;
-                }
-            };
-            let handed = report.handed.as_slice();
-            assert_side(&rt, &pair.up, (handed, report.counted, report.outcome));
-            assert_side(&rt, &pair.down, all_sent(&[]));
-            assert_eq!(rt; pair.turns.len(), report.turns.len());
-            for (turn, spoken) in pair.turns.iter().zip(&report.turns) {
-                assert_eq!(rt; turn.primary, Some(*spoken));
-                assert_eq!(rt; turn.secondary, None);
-            }
-        }
+        assert_is_a_run(&rt, &jobs, places)?;
     }
     Ok(())
 }
@@ -448,6 +464,27 @@ const TEXT: Place = Place {
     ..GOOD
 };
 
+/// This place is refused so where one speaks, and not looked at in a collision.
+fn assert_not_looked_at(
+    rt: &(impl Abort + AllocGlobal),
+    place: Place,
+    fault: WorldFault,
+) -> Result<(), Fail> {
+    assert_refused(rt, &[(Bids::Primary, place)], fault)?;
+    assert_refused(rt, &[(Bids::Secondary, place)], fault)?;
+    let vain = Place {
+        wish: Wish::Hold,
+        pause: true,
+        ..place
+    };
+    let both = Bids::Both;
+    let places = [(both, place), (both, vain), P, P, P, P, P, P];
+    let lines = [
+        COLLISION, COLLISION, UP_BID, UP_BLOCK, UP_END, DOWN_BID, DOWN_BLOCK, DOWN_END,
+    ];
+    assert_one_each(rt, &places, &lines)
+}
+
 #[test]
 fn in_a_collision_fates_and_wish_are_not_looked_at(rt: HostRuntime) -> Result<(), Fail> {
     let eot: &[u8] = &[0x32, 0x32, 0x37];
@@ -460,23 +497,7 @@ fn in_a_collision_fates_and_wish_are_not_looked_at(rt: HostRuntime) -> Result<()
         (cut(&[4]), bad_cut),
         (answered(Way::Cut(&[5])), bad_cut),
     ] {
-        assert_refused(&rt, &[(Bids::Primary, place)], fault)?;
-        assert_refused(&rt, &[(Bids::Secondary, place)], fault)?;
-        let (wish, pause) = (Wish::Hold, true);
-        let vain = Place {
-            wish,
-            pause,
-            ..place
-        };
-        let lines = [
-            COLLISION, COLLISION, UP_BID, UP_BLOCK, UP_END, DOWN_BID, DOWN_BLOCK, DOWN_END,
-        ];
-        let (both, p) = (Bids::Both, P);
-        assert_one_each(
-            &rt,
-            &[(both, place), (both, vain), p, p, p, p, p, p],
-            &lines,
-        )?;
+        assert_not_looked_at(&rt, place, fault)?;
     }
     Ok(())
 }

@@ -312,20 +312,21 @@ fn empty_records_fill_blocks_of_510(rt: HostRuntime) -> Result<(), Fail> {
     assert_long_run(&rt, job_of(&rt, 1021, 0)?, 5)
 }
 
+/// The stations of one job, after a run in which its acknowledgement was lost.
+fn assert_driven(rt: &impl Abort, driven: &Driven<'_>, jobs: &[Job]) {
+    assert_turns(rt, &driven.turns, &[BID, BLOCK_UNHEARD, ASK_ACK1, END]);
+    assert_eq!(rt; driven.sender.counted(), 1);
+    assert_eq!(rt; driven.sender.outcome(), Some(Outcome::Done));
+    assert_same_jobs(rt, driven.receiver.jobs(), jobs);
+}
+
 #[test]
 fn driven_stations_are_given_back(rt: HostRuntime) -> Result<(), Fail> {
     let jobs = [job_of(&rt, 1, 1)?];
     let turns = schedule(rt.alloc(), &[GOOD, DOWN_LOST, GOOD, GOOD])?;
     let sender = SendingStation::new(rt.alloc(), &jobs)?;
     let receiver = ReceivingStation::new(rt.alloc())?;
-    let Driven {
-        turns,
-        sender,
-        receiver,
-    } = drive(rt.alloc(), sender, receiver, &turns)?;
-    assert_turns(&rt, &turns, &[BID, BLOCK_UNHEARD, ASK_ACK1, END]);
-    assert_eq!(rt; sender.counted(), 1);
-    assert_eq!(rt; sender.outcome(), Some(Outcome::Done));
-    assert_same_jobs(&rt, receiver.jobs(), &jobs);
+    let driven = drive(rt.alloc(), sender, receiver, &turns)?;
+    assert_driven(&rt, &driven, &jobs);
     Ok(())
 }

@@ -1,0 +1,70 @@
+//! What no clause says of stations: worked examples from the field, and that calls succeed where memory is ample.
+mod pair_stations;
+mod refusals;
+mod stations;
+
+use arrayvec::ArrayVec;
+use bsc_codes::{Block, Closing};
+use rje_jobs::Job;
+use rje_text::{Action, Mode, Record, Records, Select};
+use std::alloc::AllocGlobal;
+use std::process::Abort;
+use std::test::Fail;
+
+/// A buffer of these bytes, for which it has room.
+fn buffer<const N: usize>(rt: &impl Abort, bytes: &[u8]) -> ArrayVec<u8, N> {
+    let mut buffer = ArrayVec::new();
+    assert!(rt; buffer.try_extend_from_slice(bytes).is_ok());
+    buffer
+}
+
+/// A record of so many bytes C1.
+fn record_of(rt: &impl Abort, length: usize) -> Record {
+    let bytes = [0xC1; 144];
+    assert!(rt; length <= bytes.len());
+    Record {
+        action: Action::Plain,
+        bytes: buffer(rt, &bytes[..length]),
+    }
+}
+
+/// A block of this text that ends its job.
+fn block(rt: &impl Abort, text: &[u8], transparent: bool) -> Block {
+    Block {
+        text: buffer(rt, text),
+        closing: Closing::Etx,
+        transparent,
+    }
+}
+
+/// A whole, normal job of this many records of so many bytes C1 for the default device.
+fn job_of(rt: &(impl Abort + AllocGlobal), records: usize, length: usize) -> Result<Job, Fail> {
+    let mut job = Job {
+        select: Select::Unset,
+        mode: Mode::Normal,
+        records: Records::new(rt.alloc()),
+        whole: true,
+    };
+    for _i in 0..records {
+        job.records.push(record_of(rt, length))?;
+    }
+    Ok(job)
+}
+
+/// A job that can't be sent: its record is too long for the punch.
+fn unfit_job(rt: &(impl Abort + AllocGlobal)) -> Result<Job, Fail> {
+    let mut job = job_of(rt, 1, 81)?;
+    job.select = Select::Punch;
+    Ok(job)
+}
+
+/// The jobs are the same, and all are whole.
+fn assert_same_jobs(rt: &impl Abort, handed: &[Job], jobs: &[Job]) {
+    assert_eq!(rt; handed.len(), jobs.len());
+    for (given, job) in handed.iter().zip(jobs) {
+        assert!(rt; given.whole);
+        assert!(rt; given.select == job.select);
+        assert!(rt; given.mode == job.mode);
+        assert!(rt; given.records.as_slice() == job.records.as_slice());
+    }
+}
