@@ -3,7 +3,13 @@ use Rattle.std.proofs.Common.{◌≡◌, ℕ, List, Option, Some, None, Result, 
 use Rattle.std.specs.Prelude.{IfSome, bytes_eq, if◌then◌else◌}
 use Rattle.std.specs.Option.{IsSomeAnd}
 use Rattle.std.specs.Result.{IsErrAnd}
-use Rattle.rje_words.specs.declared.device.Device.{Device}
+use Rattle.rje_jobs.specs.declared.job.Job.{Job}
+use Rattle.rje_jobs.specs.JobFile.{HasJobs}
+use Rattle.line_world.specs.declared.turn.Turn.{Turn}
+use Rattle.line_world.specs.declared.world_fault.WorldFault.{WorldFault}
+use Rattle.line_world.specs.Run.{IsRunFault}
+use Rattle.rje_print.specs.Script.{IsScript}
+use Rattle.rje_commands.specs.CommandFault.{of_world}
 use Rattle.rje_words.specs.declared.order.CardsOrder.{CardsOrder}
 use Rattle.rje_words.specs.declared.order.TryOrder.{TryOrder}
 use Rattle.rje_words.specs.declared.order.FileOrder.{FileOrder}
@@ -93,16 +99,29 @@ leaves words (FileOrder.Print jobs) f g input asked same = inl same
 leaves words (FileOrder.Try order) f g input asked same = inl same
 
 -- a file that was made after a read that left the files as they were
-pub made_file : (device : Device) (deck name bytes : List ℕ) (f g h : Option FileMap) → IsCardFile device deck bytes
-    → Tells f g IsSame → Tells g h (Sets name bytes) → MakesFile device deck name f h
-made_file device deck name bytes f g h card same sets = (bytes, card, go f g h same sets)
-  where
-    go : (f g h : Option FileMap) → Tells f g IsSame → Tells g h (Sets name bytes) → Tells f h (Sets name bytes)
-    go None g h p q = tt
-    go (Some f) None h p q = absurd p
-    go (Some f) (Some g) None p q = absurd q
-    go (Some f) (Some g) (Some h) p q = λ other.
-        subst (λ (had : Option (List ℕ)). h other ≡ (if bytes_eq other name then Some bytes else had)) (p other) (q other)
+pub set_after : (name bytes : List ℕ) (f g h : Option FileMap) → Tells f g IsSame → Tells g h (Sets name bytes) → Tells f h (Sets name bytes)
+set_after name bytes None g h p q = tt
+set_after name bytes (Some f) None h p q = absurd p
+set_after name bytes (Some f) (Some g) None p q = absurd q
+set_after name bytes (Some f) (Some g) (Some h) p q = λ other.
+    subst (λ (had : Option (List ℕ)). h other ≡ (if bytes_eq other name then Some bytes else had)) (p other) (q other)
+
+pub made_file : (order : CardsOrder) (deck bytes : List ℕ) (f g h : Option FileMap) → IsCardFile order.device order.name deck bytes
+    → Tells f g IsSame → Tells g h (Sets order.jobs.now bytes) → MakesFile order deck f h
+made_file order deck bytes f g h card same sets = (bytes, card, set_after order.jobs.now bytes f g h same sets)
+
+-- two things that were done at once
+pub done_both : {T E : Type 0} (result : Result T E) (P Q : Type 0) → OnOk result P → OnOk result Q → OnOk result (P × Q)
+done_both (Ok x) P Q p q = (p, q)
+done_both (Err e) P Q p q = tt
+
+-- the fault of a run is told as one of `try`
+pub run_fault : (file script : List ℕ) (jobs : List Job) (turns : List Turn) (fault : WorldFault) → HasJobs jobs file → IsScript turns script
+    → IsRunFault jobs turns fault → IsTryFault file script (of_world fault)
+run_fault file script jobs turns WorldFault.OutOfMemory has is h = tt
+run_fault file script jobs turns (WorldFault.BadJob number) has is h = (jobs, turns, has, is, h)
+run_fault file script jobs turns (WorldFault.NotDamage attempt turn) has is h = (attempt, (jobs, turns, has, is, h))
+run_fault file script jobs turns (WorldFault.BadCut attempt turn) has is h = (attempt, (jobs, turns, has, is, h))
 
 -- what is so whatever is told
 pub whatever : {T E : Type 0} (result : Result T E) (P : E → Type 0) (Q : Type 0) → Q → IfErr result (λ e. P e → Q)

@@ -38,4 +38,4 @@ abbrev pub LeavesAsAsked : List (List ℕ) → (files made : Option FileMap) (in
 LeavesAsAsked words files made input =
     Tells files made IsSame
     ⊎ ((order : CardsOrder) × AsksFor words (Files (FileOrder.Cards order))
-    × OfDeck order.deck.now files input (λ deck. MakesFile order.device deck order.jobs.now files made))
+    × OfDeck order.deck.now files input (λ deck. MakesFile order deck files made))

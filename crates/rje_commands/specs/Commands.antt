@@ -1,12 +1,15 @@
 -- What the commands over files do, and why they do nothing, by what files, input and output tell (own profile).
-use Rattle.std.specs.Prelude.{◌≡◌, ◌≢◌, ◌⊎◌, ℕ, List, [], ◌∷◌, codes, length, Option, None, IfSome, ⊤}
+use Rattle.std.specs.Prelude.{◌≡◌, ◌≢◌, ◌≤◌, ◌⊎◌, ℕ, List, [], ◌∷◌, codes, length, Option, None, IfSome, ⊤}
 use Rattle.std.specs.Io.KnownBytes.{Appends}
 use Rattle.std.specs.Option.{IsSomeAnd}
 use Rattle.bsc_link.specs.declared.outcome.Outcome.{Outcome}
+use Rattle.rje_jobs.specs.declared.entry.Entry.{Entry}
+use Rattle.rje_jobs.specs.declared.entry.State.TheVariants.{Waiting}
 use Rattle.rje_jobs.specs.declared.job.Job.{Job}
+use Rattle.rje_jobs.specs.declared.job_file.version.FileVersion.TheVariants.{Second}
 use Rattle.rje_jobs.specs.Deck.{deck_fault, job_of, IsTold as IsToldOfDeck}
 use Rattle.rje_jobs.specs.FileFault.{IsTold as IsToldOfFile}
-use Rattle.rje_jobs.specs.JobFile.{IsFileOf, IsJobFile}
+use Rattle.rje_jobs.specs.JobFile.{HasEntries, HasJobs, IsEntryFile, IsEntryFileOf}
 use Rattle.rje_station.specs.StationFault.{IsFirstUnfit}
 use Rattle.line_world.specs.declared.spoken.Spoken.{Spoken}
 use Rattle.line_world.specs.declared.turn.Turn.{Turn}
@@ -15,6 +18,7 @@ use Rattle.line_world.specs.declared.world_fault.WorldFault.{WorldFault}
 use Rattle.line_world.specs.Run.{IsRun, IsRunFault}
 use Rattle.rje_words.specs.declared.device.Device.{Device}
 use Rattle.rje_words.specs.Device.{selection, writing}
+use Rattle.rje_words.specs.declared.order.CardsOrder.{CardsOrder}
 use Rattle.rje_words.specs.declared.order.FileOrder.{FileOrder}
 use Rattle.rje_print.specs.BlockListing.{IsBlockListing}
 use Rattle.rje_print.specs.JobTexts.{cards_line, IsShown, IsGood, IsPaper}
@@ -43,27 +47,36 @@ OfDeck name files input P = (name ≡ codes "-" → IfSome input P) × (name ≢
 abbrev pub PrintsBlocks : List ℕ → Option (List ℕ) → Option (List ℕ) → Type 0
 PrintsBlocks deck before after = (text : List ℕ) × IsBlockListing deck text × Appends before after text
 
--- the bytes are the file of some jobs, and just a text that is one of these jobs was printed
+-- the bytes are the file of some entries, of either version, and just their lines were printed
+abbrev pub PrintsEntries : List ℕ → Option (List ℕ) → Option (List ℕ) → Type 0
+PrintsEntries file before after = (entries : List Entry) × (text : List ℕ) × HasEntries entries file × IsShown entries text × Appends before after text
+
+-- the bytes are the file of some jobs, of either version, and just a text that is one of these jobs was printed
 abbrev pub PrintsJobs : (List Job → List ℕ → Type 0) → List ℕ → Option (List ℕ) → Option (List ℕ) → Type 0
-PrintsJobs IsText file before after = (jobs : List Job) × (text : List ℕ) × IsFileOf jobs file × IsText jobs text × Appends before after text
+PrintsJobs IsText file before after = (jobs : List Job) × (text : List ℕ) × HasJobs jobs file × IsText jobs text × Appends before after text
 
 -- the job of this deck for this device
 abbrev pub deck_job : Device → List ℕ → Job
 deck_job device deck = job_of (selection device) (writing device) deck
 
--- the deck has no fault, and these are the bytes of the file of its job
-pub record IsCardFile (device : Device) (deck bytes : List ℕ) : Type 0 where
-  pub good : deck_fault deck ≡ None
-  pub file : IsFileOf (deck_job device deck ∷ []) bytes
+-- the entry of that job, of this name, which waits to be sent
+abbrev pub deck_entry : Device → (name deck : List ℕ) → Entry
+deck_entry device name deck = record { name = name; state = Waiting; job = deck_job device deck }
 
--- the file of this name became that of the deck's job, and no other file changed
-abbrev pub MakesFile : Device → (deck name : List ℕ) → (files made : Option FileMap) → Type 0
-MakesFile device deck name files made = (bytes : List ℕ) × IsCardFile device deck bytes × Tells files made (Sets name bytes)
+-- the deck has no fault, and these are the bytes of the version 2 file of its job, which are no more than are read of a file
+pub record IsCardFile (device : Device) (name deck bytes : List ℕ) : Type 0 where
+  pub good : deck_fault deck ≡ None
+  pub file : IsEntryFileOf Second (deck_entry device name deck ∷ []) bytes
+  pub few : length bytes ≤ 16777216
+
+-- the file that the order names became that of the deck's job, and no other file changed
+abbrev pub MakesFile : CardsOrder → (deck : List ℕ) → (files made : Option FileMap) → Type 0
+MakesFile order deck files made = (bytes : List ℕ) × IsCardFile order.device order.name deck bytes × Tells files made (Sets order.jobs.now bytes)
 
 -- so it did, and just the line of how many cards there are was printed
-abbrev pub MakesCards : Device → (deck name : List ℕ) → (files made : Option FileMap) → (before after : Option (List ℕ)) → Type 0
-MakesCards device deck name files made before after =
-    MakesFile device deck name files made × Appends before after (cards_line (length (deck_job device deck).records))
+abbrev pub MakesCards : CardsOrder → (deck : List ℕ) → (files made : Option FileMap) → (before after : Option (List ℕ)) → Type 0
+MakesCards order deck files made before after =
+    MakesFile order deck files made × Appends before after (cards_line (length (deck_job order.device deck).records))
 
 -- these are the file of some jobs and a script of some turns, and this is the text of what a run of these jobs over these turns tells
 pub record IsRunText (file script text : List ℕ) : Type 0 where
@@ -73,7 +86,7 @@ pub record IsRunText (file script text : List ℕ) : Type 0 where
   pub handed : List Job
   pub counted : ℕ
   pub ending : Option Outcome
-  pub file_is : IsFileOf jobs file
+  pub file_is : HasJobs jobs file
   pub script_is : IsScript turns script
   pub run : IsRun jobs turns spoken handed counted ending
   pub text_is : text ≡ run_text (length jobs) spoken handed counted ending
@@ -86,8 +99,8 @@ PrintsRun file script before after = (text : List ℕ) × IsRunText file script 
 abbrev pub Does : FileOrder → (files made : Option FileMap) (input before after : Option (List ℕ)) → Type 0
 Does (FileOrder.Blocks deck) files made input before after = OfDeck deck.now files input (λ bytes. PrintsBlocks bytes before after)
 Does (FileOrder.Cards order) files made input before after =
-    OfDeck order.deck.now files input (λ bytes. MakesCards order.device bytes order.jobs.now files made before after)
-Does (FileOrder.Show jobs) files made input before after = OfFile jobs.now files (λ bytes. PrintsJobs IsShown bytes before after)
+    OfDeck order.deck.now files input (λ bytes. MakesCards order bytes files made before after)
+Does (FileOrder.Show jobs) files made input before after = OfFile jobs.now files (λ bytes. PrintsEntries bytes before after)
 Does (FileOrder.Check jobs) files made input before after = OfFile jobs.now files (λ bytes. PrintsJobs IsGood bytes before after)
 Does (FileOrder.Print jobs) files made input before after = OfFile jobs.now files (λ bytes. PrintsJobs IsPaper bytes before after)
 Does (FileOrder.Try order) files made input before after =
@@ -98,7 +111,7 @@ Does (FileOrder.Try order) files made input before after =
 -- all files are as they were; those of `cards` as they were, or with just the file that it makes
 abbrev pub Leaves : FileOrder → (files made : Option FileMap) (input : Option (List ℕ)) → Type 0
 Leaves (FileOrder.Cards order) files made input =
-    Tells files made IsSame ⊎ OfDeck order.deck.now files input (λ bytes. MakesFile order.device bytes order.jobs.now files made)
+    Tells files made IsSame ⊎ OfDeck order.deck.now files input (λ bytes. MakesFile order bytes files made)
 Leaves _ files made input = Tells files made IsSame
 
 -- WHY A COMMAND ISN'T CARRIED OUT
@@ -124,11 +137,11 @@ OfItsScript _ files P = ⊥
 
 -- this is the fault of a run of the jobs of this file over the turns of this script
 abbrev pub IsFaultOfRun : WorldFault → (file script : List ℕ) → Type 0
-IsFaultOfRun fault file script = (jobs : List Job) × (turns : List Turn) × IsFileOf jobs file × IsScript turns script × IsRunFault jobs turns fault
+IsFaultOfRun fault file script = (jobs : List Job) × (turns : List Turn) × HasJobs jobs file × IsScript turns script × IsRunFault jobs turns fault
 
 -- the file is one of jobs of which the one of this number is the first that can't be sent
 abbrev pub HasBadJob : ℕ → List ℕ → Type 0
-HasBadJob number file = (jobs : List Job) × IsFileOf jobs file × IsFirstUnfit jobs number
+HasBadJob number file = (jobs : List Job) × HasJobs jobs file × IsFirstUnfit jobs number
 
 -- the job of this number is the first that can't be sent: of the jobs to check, or of those to try
 abbrev pub IsBadJob : FileOrder → Option FileMap → ℕ → Type 0
@@ -156,10 +169,10 @@ IsFault order files input CommandFault.Output = ⊤
 IsFault order files input (CommandFault.CannotRead name) = Reads order name.now
 IsFault order files input (CommandFault.CannotWrite name) = Writes order name.now
 IsFault order files input (CommandFault.Deck fault) = OfItsDeck order files input (λ deck. IsToldOfDeck deck fault)
-IsFault order files input (CommandFault.File fault) = OfItsFile order files (λ file. IsToldOfFile IsJobFile file fault)
+IsFault order files input (CommandFault.File fault) = OfItsFile order files (λ file. IsToldOfFile IsEntryFile file fault)
 IsFault order files input (CommandFault.BadJob number) = IsBadJob order files number
 IsFault order files input (CommandFault.Script line) =
-    OfItsScript order files (λ file script. IsJobFile file × IsFirstBadLine script line)
+    OfItsScript order files (λ file script. IsEntryFile file × IsFirstBadLine script line)
 IsFault order files input (CommandFault.NotDamage turn) =
     OfItsScript order files (λ file script. (attempt : ℕ) × IsFaultOfRun (world.NotDamage attempt turn) file script)
 IsFault order files input (CommandFault.BadCut turn) =

@@ -1,11 +1,16 @@
 -- How a transmission ends that no fault ended, and what is printed of it (own profile).
-use Rattle.std.specs.Prelude.{◌++◌, ℕ, List, length, Option, Some}
+use Rattle.std.specs.Prelude.{◌≡◌, ◌≤◌, ◌++◌, ℕ, List, length, map, Option, Some}
 use Rattle.std.specs.Io.KnownBytes.{Appends}
 use Rattle.bsc_link.specs.declared.outcome.Outcome.{Outcome}
+use Rattle.rje_jobs.specs.declared.entry.Entry.{Entry}
 use Rattle.rje_jobs.specs.declared.job.Job.{Job}
-use Rattle.rje_jobs.specs.JobFile.{IsFileOf}
+use Rattle.rje_jobs.specs.declared.job_file.version.FileVersion.TheVariants.{Second}
+use Rattle.rje_jobs.specs.Entry.{entry_of}
+use Rattle.rje_jobs.specs.JobFile.{HasEntries, IsEntryFileOf}
+use Rattle.rje_jobs.specs.Unsent.{IsSentFile, unsent}
 use Rattle.rje_print.specs.ReportTexts.{counted_line, handed_line, outcome_line, whole_jobs}
 use Rattle.rje_commands.specs.declared.socket_commands.ending.Ending.{Ending}
+use Rattle.rje_commands.specs.Commands.{OfFile}
 use Rattle.rje_commands.specs.Store.{FileMap, Tells, Sets}
 
 -- the exit status
@@ -30,7 +35,33 @@ received_text jobs = handed_line (length jobs) (whole_jobs jobs)
 abbrev pub loop_text : (counted given : ℕ) → List Job → Option Outcome → List ℕ
 loop_text counted given jobs outcome = counted_line counted given ++ received_text jobs ++ outcome_line outcome
 
--- the file of this name became that of these jobs, no other file changed, and just their line was printed
+-- the file of this name became the version 2 file of these jobs, without names and Whole or Cut, and no other file changed
+abbrev pub MakesJobFile : List Job → (name : List ℕ) → (files made : Option FileMap) → Type 0
+MakesJobFile jobs name files made =
+    (bytes : List ℕ) × IsEntryFileOf Second (map entry_of jobs) bytes × (length bytes ≤ 16777216) × Tells files made (Sets name bytes)
+
+-- so it did, and just the jobs' line was printed
 abbrev pub WritesJobs : List Job → (name : List ℕ) → (files made : Option FileMap) → (before after : Option (List ℕ)) → Type 0
-WritesJobs jobs name files made before after =
-    ((bytes : List ℕ) × IsFileOf jobs bytes × Tells files made (Sets name bytes)) × Appends before after (received_text jobs)
+WritesJobs jobs name files made before after = MakesJobFile jobs name files made × Appends before after (received_text jobs)
+
+-- the file of this name became that of the same entries as this file's, in which just the first counted of those that were not Sent are Sent,
+-- and no other file changed
+abbrev pub MarksSent : (file : List ℕ) → (counted : ℕ) → (name : List ℕ) → (files made : Option FileMap) → Type 0
+MarksSent file counted name files made =
+    (bytes : List ℕ) × IsSentFile file counted bytes × (length bytes ≤ 16777216) × Tells files made (Sets name bytes)
+
+-- what was left of the job file of this name was sent: so many of its jobs were counted and are Sent in the file now, the transmission ended so,
+-- and just the lines of it were printed
+pub record SendsLeft (ending : Ending) (name file : List ℕ) (files made : Option FileMap) (before after : Option (List ℕ)) : Type 0 where
+  pub entries : List Entry
+  pub counted : ℕ
+  pub outcome : Option Outcome
+  pub file_is : HasEntries entries file
+  pub marks : MarksSent file counted name files made
+  pub ending_is : ending ≡ ending_of outcome
+  pub text_is : Appends before after (sent_text counted (length (unsent entries)) outcome)
+
+-- a command over a line ended with this status, and what was left of the job file of this name was sent
+abbrev pub EndsSending : (status : ℕ) → (name : List ℕ) → (files made : Option FileMap) → (before after : Option (List ℕ)) → Type 0
+EndsSending status name files made before after =
+    (ending : Ending) × (status ≡ ending_status ending) × OfFile name files (λ file. SendsLeft ending name file files made before after)

@@ -2,7 +2,7 @@
 use Rattle.std.specs.Prelude.{◌≡◌, ℕ, List, Option, ⊤}
 use Rattle.rje_jobs.specs.Deck.{IsTold as IsToldOfDeck}
 use Rattle.rje_jobs.specs.FileFault.{IsTold as IsToldOfFile}
-use Rattle.rje_jobs.specs.JobFile.{IsJobFile}
+use Rattle.rje_jobs.specs.JobFile.{IsEntryFile}
 use Rattle.line_world.specs.declared.world_fault.WorldFault.TheVariants as world
 use Rattle.rje_print.specs.Script.{IsFirstBadLine}
 use Rattle.rje_commands.specs.declared.command_fault.CommandFault.{CommandFault}
@@ -17,8 +17,14 @@ IsReadFault name _ = ⊥
 
 -- or it is no job file
 abbrev pub IsInputFault : List ℕ → Option FileMap → CommandFault → Type 0
-IsInputFault name files (CommandFault.File fault) = OfFile name files (λ file. IsToldOfFile IsJobFile file fault)
+IsInputFault name files (CommandFault.File fault) = OfFile name files (λ file. IsToldOfFile IsEntryFile file fault)
 IsInputFault name files fault = IsReadFault name fault
+
+-- there is no memory to write what has this name, or it can't be written
+abbrev pub IsWriteFault : List ℕ → CommandFault → Type 0
+IsWriteFault name CommandFault.OutOfMemory = ⊤
+IsWriteFault name (CommandFault.CannotWrite named) = named.now ≡ name
+IsWriteFault name _ = ⊥
 
 -- there is no memory for the file of this deck, or the deck has this fault
 abbrev pub IsDeckFault : List ℕ → CommandFault → Type 0
@@ -29,8 +35,8 @@ IsDeckFault deck _ = ⊥
 -- there is no memory for the run of this file over this script, one of them isn't read, or the run has this fault
 abbrev pub IsTryFault : (file script : List ℕ) → CommandFault → Type 0
 IsTryFault file script CommandFault.OutOfMemory = ⊤
-IsTryFault file script (CommandFault.File fault) = IsToldOfFile IsJobFile file fault
-IsTryFault file script (CommandFault.Script line) = IsJobFile file × IsFirstBadLine script line
+IsTryFault file script (CommandFault.File fault) = IsToldOfFile IsEntryFile file fault
+IsTryFault file script (CommandFault.Script line) = IsEntryFile file × IsFirstBadLine script line
 IsTryFault file script (CommandFault.BadJob number) = IsFaultOfRun (world.BadJob number) file script
 IsTryFault file script (CommandFault.NotDamage turn) = (attempt : ℕ) × IsFaultOfRun (world.NotDamage attempt turn) file script
 IsTryFault file script (CommandFault.BadCut turn) = (attempt : ℕ) × IsFaultOfRun (world.BadCut attempt turn) file script

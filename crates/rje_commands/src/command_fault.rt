@@ -1,12 +1,13 @@
 //! Why a command fails.
 ghost use Rattle.std.specs.Prelude.{◌≡◌};
-ghost use Rattle.rje_commands.specs.declared.command_fault.CommandFault.TheVariants.{Deck, File};
+ghost use Rattle.rje_commands.specs.declared.command_fault.CommandFault.TheVariants.{Deck, File, OutOfMemory};
 ghost use Rattle.rje_commands.specs.CommandFault.{of_script, of_station, of_world};
 
 use line_world::WorldFault;
 use rje_jobs::{DeckFault, FileFault};
 use rje_print::ScriptFault;
 use rje_station::StationFault;
+use std::alloc::AllocError;
 use thiserror::Error;
 
 /// Why a command ends with another status than 0.
@@ -78,6 +79,14 @@ impl CommandFault<'_> {
             | CommandFault::CannotWrite(_)
             | CommandFault::Output => 3,
         }
+    }
+}
+
+impl From<AllocError> for CommandFault<'_> {
+    ghost from_gives = { λ _ told. told ≡ OutOfMemory };
+
+    fn from(_fault: AllocError) -> Self {
+        CommandFault::OutOfMemory
     }
 }
 

@@ -20,6 +20,6 @@ pub use memory_store::MemoryStore;
 pub use over_files::{carry_out, command};
 pub use over_sockets::{is_for_sockets, socket_command};
 pub use reading::{MAX_INPUT, read_all};
-pub use socket_commands::receive_over;
+pub use socket_commands::{receive_over, send_over};
 pub use socket_line::SocketLine;
 pub use store::{Store, StoreFault};

@@ -7,4 +7,4 @@ mod send_command;
 pub use ending::Ending;
 pub use loop_command::loopback;
 pub use receive_command::{receive, receive_over};
-pub use send_command::send;
+pub use send_command::{send, send_over};

@@ -27,10 +27,12 @@ pub fn tell_words<O: Write, E: Write>(fault: &WordsFault, out: &mut O, err: &mut
 {
     match fault {
         WordsFault::Refused(error) => tell_error(error, out, err),
-        WordsFault::TwoDevices | WordsFault::BadAddress => match writeln!(err, "rje: {fault}") {
-            Ok(()) => 2,
-            Err(_) => CommandFault::Output.status(),
-        },
+        WordsFault::TwoDevices | WordsFault::BadName | WordsFault::BadAddress => {
+            match writeln!(err, "rje: {fault}") {
+                Ok(()) => 2,
+                Err(_) => CommandFault::Output.status(),
+            }
+        }
     }
 }
 

@@ -1,5 +1,5 @@
 -- What a job file holds, collected from the front.
-use Rattle.std.proofs.Common.{◌≡◌, ℕ, zero, suc, ◌+◌, ◌*◌, ◌/◌, ◌^◌, ◌<◌, ◌≤◌, List, [], ◌∷◌, ◌++◌, length, drop, get_or, refl, ap, sym, ◌∙◌, subst, arith}
+use Rattle.std.proofs.Common.{◌≡◌, ℕ, zero, suc, ◌+◌, ◌*◌, ◌/◌, ◌^◌, ◌<◌, ◌≤◌, List, [], ◌∷◌, ◌++◌, length, map, drop, get_or, refl, ap, sym, ◌∙◌, subst, arith}
 use Rattle.std.proofs.lemmas.List.{append-nil, append_assoc, length-append}
 use Rattle.std.specs.Int.{bytes_high_first, byte_at}
 use Rattle.std.proofs.Math.Nat.{div-one, mod-add-div}
@@ -8,8 +8,12 @@ use Rattle.byteorder.specs.Numbers.{big_number-reads_back}
 use Rattle.rje_jobs.specs.declared.job.Job.{Job}
 use Rattle.std.specs.List.{flat_map, AllByRecursion}
 use Rattle.std.proofs.lemmas.Grind.{flat_map-append}
-use Rattle.rje_jobs.specs.JobFile.{job_bytes, file_of}
-use Rattle.rje_jobs.specs.Reading.Grammar.{Number, AnyBytes, Records, Jobs, File}
+use Rattle.rje_jobs.specs.declared.entry.Entry.{Entry}
+use Rattle.rje_jobs.specs.declared.job_file.version.FileVersion.{FileVersion}
+use Rattle.rje_jobs.specs.declared.job_file.version.FileVersion.TheVariants.{First, Second}
+use Rattle.rje_jobs.specs.Entry.{entry_of}
+use Rattle.rje_jobs.specs.JobFile.{head, version_byte, entry_bytes, file_of, FitsFields}
+use Rattle.rje_jobs.specs.Reading.Grammar.{Number, AnyBytes, Records}
 use Rattle.rje_jobs.specs.Reading.Collecting.{AnyRest, IsRecordHere}
 use Rattle.rje_jobs.proofs.Numbers.{number_back, below_all, none_above, byte_is, next_div}
 
@@ -51,20 +55,6 @@ record_rest n Rest [] h = absurd h
 record_rest n Rest (a ∷ []) h = absurd h.1
 record_rest n Rest (a ∷ k ∷ xs) h = (any_rest k (Records n Rest) xs h.1.1).1
 
-pub record IsJobHere (n : ℕ) (xs : List ℕ) : Type 0 where
-  pub head : 3 ≤ length xs
-  pub select : get_or xs 0 0 < 3
-  pub mode : get_or xs 1 0 < 2
-  pub whole : get_or xs 2 0 < 2
-  pub count : Number 8 0 (λ (r : ℕ). Records r (Jobs n)) (drop 3 xs)
-  pub split : xs ≡ get_or xs 0 0 ∷ get_or xs 1 0 ∷ get_or xs 2 0 ∷ drop 3 xs
-
-pub job_here : (n : ℕ) (xs : List ℕ) → Jobs (suc n) xs → IsJobHere n xs
-job_here n [] h = absurd h
-job_here n (s ∷ []) h = absurd h.1
-job_here n (s ∷ m ∷ []) h = absurd h.1.1
-job_here n (s ∷ m ∷ w ∷ xs) h = record { head = omega arith; select = h.0; mode = h.1.0; whole = h.1.1.0; count = h.1.1.1; split = refl }
-
 -- one item more was read
 pub more_items : {X : Type 0} (f : X → List ℕ) (bytes rest behind : List ℕ) (xs ys : List X) (x : X) → ys ≡ xs ++ x ∷ [] → bytes ≡ flat_map f xs ++ rest
     → rest ≡ f x ++ behind → bytes ≡ flat_map f ys ++ behind
@@ -74,29 +64,45 @@ more_items f bytes rest behind xs ys x e whole part =
     ∙ ap (λ (zs : List ℕ). zs ++ behind) (sym (flat_map-append f xs (x ∷ [])))
     ∙ ap (λ (zs : _). flat_map f zs ++ behind) (sym e)
 
-pub record IsFileHere (xs : List ℕ) : Type 0 where
-  pub head : 6 ≤ length xs
-  pub count : Number 8 0 Jobs (drop 6 xs)
-  pub split : xs ≡ 0x52 ∷ 0x4A ∷ 0x33 ∷ 0x37 ∷ 0x00 ∷ 0x01 ∷ drop 6 xs
+pub file_whole : (v : FileVersion) (xs items rest : List ℕ) (count : ℕ) (es : List Entry) → xs ≡ head ++ (version_byte v ∷ (bytes_high_first 8 count ++ items))
+    → items ≡ flat_map (entry_bytes v) es ++ rest → length es ≡ count → rest ≡ [] → file_of v es ≡ xs
+file_whole v xs items rest count es e ej many er =
+    let all : items ≡ flat_map (entry_bytes v) es = ej ∙ ap (λ (ys : List ℕ). flat_map (entry_bytes v) es ++ ys) er ∙ append-nil (flat_map (entry_bytes v) es) in
+    sym (e ∙ ap (λ (ys : List ℕ). head ++ (version_byte v ∷ (bytes_high_first 8 count ++ ys))) all
+    ∙ ap (λ (n : ℕ). head ++ (version_byte v ∷ (bytes_high_first 8 n ++ flat_map (entry_bytes v) es))) (sym many))
 
-pub file_here : (xs : List ℕ) → File xs → IsFileHere xs
-file_here [] h = absurd h
-file_here (a ∷ []) h = absurd h.1
-file_here (a ∷ b ∷ []) h = absurd h.1.1
-file_here (a ∷ b ∷ c ∷ []) h = absurd h.1.1.1
-file_here (a ∷ b ∷ c ∷ d ∷ []) h = absurd h.1.1.1.1
-file_here (a ∷ b ∷ c ∷ d ∷ e ∷ []) h = absurd h.1.1.1.1.1
-file_here (a ∷ b ∷ c ∷ d ∷ e ∷ f ∷ xs) h =
-    record { head = omega arith; count = h.1.1.1.1.1.1; split = rw (h.0, h.1.0, h.1.1.0, h.1.1.1.0, h.1.1.1.1.0, h.1.1.1.1.1.0) refl }
+-- jobs as entries of version 1
+pub mapped_length : (js : List Job) → length (map entry_of js) ≡ length js
+mapped_length [] = refl
+mapped_length (j ∷ js) = ap suc (mapped_length js)
 
-pub file_whole : (xs behind items rest : List ℕ) (count : ℕ) (js : List Job) → File xs → behind ≡ drop 6 xs → behind ≡ bytes_high_first 8 count ++ items
-    → items ≡ flat_map job_bytes js ++ rest → length js ≡ count → rest ≡ [] → file_of js ≡ xs
-file_whole xs behind items rest count js file eb ec ej many er =
-    let here = file_here xs file in
-    let all : items ≡ flat_map job_bytes js = ej ∙ ap (λ (ys : List ℕ). flat_map job_bytes js ++ ys) er ∙ append-nil (flat_map job_bytes js) in
-    let body : drop 6 xs ≡ bytes_high_first 8 (length js) ++ flat_map job_bytes js =
-    sym eb ∙ ec ∙ ap (λ (ys : List ℕ). bytes_high_first 8 count ++ ys) all ∙ ap (λ (n : ℕ). bytes_high_first 8 n ++ flat_map job_bytes js) (sym many) in
-    sym (here.split ∙ ap (λ (ys : List ℕ). 0x52 ∷ 0x4A ∷ 0x33 ∷ 0x37 ∷ 0x00 ∷ 0x01 ∷ ys) body)
+abbrev pub job_bytes : Job → List ℕ
+job_bytes j = entry_bytes First (entry_of j)
+
+abbrev pub FitsJob : Job → Type 0
+FitsJob j = FitsFields First (entry_of j)
+
+pub mapped_bytes : (js : List Job) → flat_map job_bytes js ≡ flat_map (entry_bytes First) (map entry_of js)
+mapped_bytes [] = refl
+mapped_bytes (j ∷ js) = ap (λ (ys : List ℕ). job_bytes j ++ ys) (mapped_bytes js)
+
+pub mapped_fit : (js : List Job) → AllByRecursion FitsJob js → AllByRecursion (FitsFields First) (map entry_of js)
+mapped_fit [] h = tt
+mapped_fit (j ∷ js) h = (h.0, mapped_fit js h.1)
+
+pub jobs_whole : (xs items rest : List ℕ) (count : ℕ) (js : List Job) → xs ≡ head ++ (version_byte First ∷ (bytes_high_first 8 count ++ items))
+    → items ≡ flat_map job_bytes js ++ rest → length js ≡ count → rest ≡ [] → file_of First (map entry_of js) ≡ xs
+jobs_whole xs items rest count js e ej many er =
+    file_whole First xs items rest count (map entry_of js) e (ej ∙ ap (λ (ys : List ℕ). ys ++ rest) (mapped_bytes js)) (mapped_length js ∙ many) er
+
+-- the entry of a version 1 file is spelled as its job
+pub job_spelled : (v : FileVersion) (bytes rest : List ℕ) (e : Entry) → v ≡ First → bytes ≡ entry_bytes v e ++ rest → bytes ≡ job_bytes e.job ++ rest
+job_spelled First bytes rest e first h = h
+job_spelled Second bytes rest e first h = cc
+
+pub job_fits : (v : FileVersion) (e : Entry) → v ≡ First → FitsFields v e → FitsJob e.job
+job_fits First e first h = (h.0, h.1, refl)
+job_fits Second e first h = cc
 
 pub all_longer : {X : Type 0} (P : X → Type 0) (xs ys : List X) (x : X) → ys ≡ xs ++ x ∷ [] → AllByRecursion P xs → P x → AllByRecursion P ys
 all_longer P xs ys x e all one = subst (λ (zs : _). AllByRecursion P zs) (sym e) (grown xs all)

@@ -10,3 +10,6 @@ pub mod Longest
 pub mod Collected
 pub mod OneFile
 pub mod OneFault
+pub mod Sent
+pub mod Unsendable
+pub mod Names

@@ -26,6 +26,9 @@ pub enum FileFault {
     /// Bytes behind the last job: the place of the first of them.
     #[error("job file goes on at byte {0}")]
     Trailing(usize),
+    /// An entry that has no name, or a state that its job can't have: its number, counted from 1.
+    #[error("job file has a bad entry {0}")]
+    BadEntry(usize),
 }
 
 impl From<AllocError> for FileFault {

@@ -1,6 +1,8 @@
 //! What no clause says: worked decks, files, listings and cards.
 mod decks;
+mod entries;
 mod files;
+mod refusals;
 
 use arrayvec::ArrayVec;
 use rje_text::{Action, Record};

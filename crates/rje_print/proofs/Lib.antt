@@ -1,3 +1,4 @@
+pub mod Names
 pub mod BlockListings
 pub mod Fates
 pub mod Scripts

@@ -1,27 +1,60 @@
 //! The lines of jobs.
-ghost use Rattle.std.specs.Prelude.{◌≡◌, ◌≤◌, [], length};
-ghost use Rattle.rje_print.specs.JobTexts.{select_name, mode_name, state_name, job_line, cards_line, good_line};
+ghost use Rattle.std.specs.Prelude.{◌≡◌, ◌==◌, ◌+◌, ◌≤◌, ◌++◌, [], length, position};
+ghost use Rattle.rje_print.specs.JobTexts.{select_name, mode_name, state_name};
+ghost use Rattle.rje_print.specs.JobTexts.{name_letters, name_text, entry_line, cards_line, good_line};
 
-use crate::printed_line::{PrintedLine, push, push_number};
-use rje_jobs::Job;
+use crate::printed_line::{MAX_LINE, PrintedLine, push, push_number};
+use rje_jobs::{Entry, JobName, State};
 use rje_text::{Mode, Select};
 
-/// Puts the line of a job into an empty line.
-#[tactic(auto, unfolding(crate::specs::JobTexts::job_line))]
-pub(crate) fn push_job(line: &mut PrintedLine, number: usize, job: &Job)
+/// Puts the line of an entry into an empty line.
+#[tactic(auto, unfolding(crate::specs::JobTexts::entry_line))]
+pub(crate) fn push_entry(line: &mut PrintedLine, number: usize, entry: &Entry)
     requires { line.old.items ≡ [] }
-    ensures { line.new.items ≡ job_line number job.now }
+    ensures { line.new.items ≡ entry_line number entry.now }
 {
     push_number(line, number);
     push(line, b" ");
-    push(line, select_text(job.select));
+    push(line, select_text(entry.job.select));
     push(line, b" ");
-    push(line, mode_text(job.mode));
+    push(line, mode_text(entry.job.mode));
     push(line, b" ");
-    push(line, state_text(job.whole));
+    push(line, state_text(entry.state));
     push(line, b" ");
-    push_number(line, job.records.len());
-    push(line, b" records\n");
+    push_number(line, entry.job.records.len());
+    push(line, b" records");
+    push_name(line, &entry.name);
+    push(line, b"\n");
+}
+
+/// Puts a blank and a name behind the bytes of a line, and nothing where the name has no character.
+fn push_name(line: &mut PrintedLine, name: &JobName)
+    requires { length line.old.items + 9 ≤ MAX_LINE }
+    ensures name { line.new.items ≡ line.old.items ++ name_text (name_letters name.now) }
+    ensures few { length line.new.items ≤ length line.old.items + 9 }
+{
+    let letters = letters_of(name);
+    if !letters.is_empty() {
+        push(line, b" ");
+        push(line, letters);
+    }
+}
+
+/// A name without its blanks.
+fn letters_of(name: &JobName) -> &[u8]
+    ensures letters { result.now ≡ name_letters name.now }
+    ensures few { length result.now ≤ 8 }
+{
+    match first_blank(name) {
+        Some(end) => &name[..end],
+        None => name,
+    }
+}
+
+fn first_blank(name: &JobName) -> Option<usize>
+    ensures { result ≡ position (λ c. c == 0x20) name.now }
+{
+    name.iter().position(|byte| *byte == b' ')
 }
 
 /// The line that says how many cards a deck has.
@@ -66,9 +99,14 @@ fn mode_text(mode: Mode) -> &'static [u8]
     }
 }
 
-fn state_text(whole: bool) -> &'static [u8]
-    ensures name { result.now ≡ state_name whole }
-    ensures short { length result.now ≤ 5 }
+fn state_text(state: State) -> &'static [u8]
+    ensures name { result.now ≡ state_name state }
+    ensures short { length result.now ≤ 7 }
 {
-    if whole { b"whole" } else { b"cut" }
+    match state {
+        State::Waiting => b"waiting",
+        State::Sent => b"sent",
+        State::Whole => b"whole",
+        State::Cut => b"cut",
+    }
 }

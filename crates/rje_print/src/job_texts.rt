@@ -2,21 +2,22 @@
 ghost use Rattle.std.specs.Prelude.{◌≡◌, IfOk};
 ghost use Rattle.rje_print.specs.JobTexts.{IsShown, IsPaper, paper};
 
-use crate::job_lines::push_job;
+use crate::job_lines::push_entry;
 use crate::printed_line::PrintedLine;
-use rje_jobs::{FileFault, Form, Job, list_job, punch_job};
+use rje_jobs::{Entry, FileFault, Form, Job, list_job, punch_job};
 use rje_text::Select;
 use std::alloc::{AllocError, Global};
 
-/// A line for each of these jobs: its number from 1, its selection, its mode, whether it is whole, and how many records it has.
-pub fn jobs_text(alloc: Global, jobs: &[Job]) -> Result<Vec<u8>, AllocError>
-    ensures shown { IfOk result (λ text. IsShown jobs.now text.items) }
+/// A line for each of these entries: its number from 1, its selection, its mode, its state, how many records it has, and its name
+/// where it has one.
+pub fn entries_text(alloc: Global, entries: &[Entry]) -> Result<Vec<u8>, AllocError>
+    ensures shown { IfOk result (λ text. IsShown entries.now text.items) }
 {
     let mut text = Vec::new(alloc);
     let mut number = 1;
-    for job in jobs {
+    for entry in entries {
         let mut line = PrintedLine::new();
-        push_job(&mut line, number, job);
+        push_entry(&mut line, number, entry);
         text.extend_from_slice(line.as_slice())?;
         number += 1;
     }

@@ -12,7 +12,7 @@ mod script;
 mod script_fault;
 
 pub use job_lines::{cards_text, good_text};
-pub use job_texts::{jobs_text, papers_text};
+pub use job_texts::{entries_text, papers_text};
 pub use listing::block_listing;
 pub use printed_line::{MAX_LINE, PrintedLine};
 pub use report_lines::{counted_text, handed_text, outcome_text};

@@ -1,9 +1,9 @@
 -- What clap makes of the words behind `cards`, in any order.
 use Rattle.std.proofs.Common.{ℕ, List, [], ◌∷◌, ◌++◌, ◌≡◌, ◌==◌, arith, Option, Some, None, Bool, true, false, refl, codes, not, cond, ap, ap₂, ◌∙◌, ◌&&◌, ◌||◌, sym, subst, append_assoc, append-nil, ◌⊎◌, inl, inr}
-use Rattle.std.specs.Prelude.{option_map, unwrap_or, is_some, find, fold, map, if◌then◌else◌, slice_get}
+use Rattle.std.specs.Prelude.{option_map, unwrap_or, is_some, find, fold, if◌then◌else◌, slice_get}
 use Rattle.std.specs.Str.{bytes_eq}
 use Rattle.std.proofs.lemmas.Bool.Decides.{nat_tests}
-use Rattle.clap.specs.Words.{Kinds, Row, Rule, Shape, Text, built, fault_of, new_rule, subcommand_of}
+use Rattle.clap.specs.Words.{Kinds, Row, Rule, Shape, Text, built, fault_of, first_of, new_rule, subcommand_of}
 use Rattle.clap.specs.Kinds.{or_else}
 use Rattle.clap.specs.Simple.{entered, names_of, new_shape}
 use Rattle.clap.specs.Faults.{check_fault, defaults_fault, entered_fault, given_default_fault, level_fault, react_fault, settle_fault, turn_fault, use_fault, walk_fault}
@@ -14,7 +14,9 @@ use Rattle.clap.specs.declared.parser.matches.ValueSource.{ValueSource}
 use Rattle.clap.specs.declared.parser.matches.ValueSource.TheVariants.{DefaultValue, CommandLine}
 use Rattle.clap.proofs.OnLiterals.{clap_on_literals}
 use Rattle.rje_words.specs.Asking.{is_on, word_in}
-use Rattle.rje_words.specs.CardsWords.{CardsWord, DeviceOption, file, option, printer, punch, transparent, text_of}
+use Rattle.clap.specs.Walk.{option as waits_for}
+use Rattle.std.specs.List.{flat_map}
+use Rattle.rje_words.specs.CardsWords.{CardsWord, DeviceOption, file, named, option, option_text, printer, punch, transparent, texts_of}
 use Rattle.rje_words.specs.CommandLine.{is_file, is_name, rje_app}
 
 -- THE ROW OF AN ID
@@ -156,11 +158,14 @@ option_rule printer = rule_at 2
 option_rule punch = rule_at 3
 option_rule transparent = rule_at 4
 
+abbrev named_rule : Rule
+named_rule = rule_at 5
+
 -- the walk between two words, before any of them stops it
 abbrev at : Held → ℕ → Walk
 at h position = record { held = h; waiting = idle; position = position; is_trailing = false; stopped = None }
 
-option_walked : (o : DeviceOption) (h : Held) (position : ℕ) → walked rules [] (at h position) (text_of (option o)) ≡ at (reacted rules (option_rule o) [] h) position
+option_walked : (o : DeviceOption) (h : Held) (position : ℕ) → walked rules [] (at h position) (option_text o) ≡ at (reacted rules (option_rule o) [] h) position
 unfolding clap_on_literals
 option_walked printer h position = refl
 option_walked punch h position = refl
@@ -178,6 +183,29 @@ jobs_walked : (c : ℕ) (cs : List ℕ) (h : Held) → (c == 45) ≡ false → w
 unfolding clap_on_literals
 jobs_walked c cs h e = rw (e, e) refl
 
+-- the walk behind the option for a name, whose value comes next
+abbrev asked : Held → ℕ → Walk
+asked h position = record {
+  held = record (settled rules h) { pending = Some (codes "name", []) };
+  waiting = waits_for (codes "name");
+  position = position;
+  is_trailing = false;
+  stopped = None;
+}
+
+name_asked : (h : Held) (position : ℕ) → walked rules [] (at h position) (codes "--name") ≡ asked h position
+unfolding clap_on_literals
+name_asked h position = refl
+
+-- a value of an argument is pending
+abbrev held_file : Text → Text → Held → Held
+held_file id name h = record h { rows = (settled rules h).rows; pending = Some (id, name ∷ []) }
+
+name_walked : (c : ℕ) (cs : List ℕ) (h : Held) (position : ℕ) → (c == 45) ≡ false
+    → walked rules [] (asked h position) (c ∷ cs) ≡ at (held_file (codes "name") (c ∷ cs) h) position
+unfolding clap_on_literals
+name_walked c cs h position e = rw (e, e) refl
+
 -- WHAT WAS FOUND SO FAR
 
 pub record Seen : Type 0 where
@@ -186,6 +214,7 @@ pub record Seen : Type 0 where
   pub printer : Bool
   pub punch : Bool
   pub transparent : Bool
+  pub name : Option Text
 
 abbrev pub is_seen : DeviceOption → Seen → Bool
 is_seen printer seen = seen.printer
@@ -204,6 +233,7 @@ with_file (Some deck) name seen = record seen { jobs = Some name }
 abbrev pub with_word : CardsWord → Seen → Seen
 with_word (file name) seen = with_file seen.deck name seen
 with_word (option o) seen = with_option o seen
+with_word (named name) seen = record seen { name = Some name }
 
 abbrev pub with_words : List CardsWord → Seen → Seen
 with_words [] seen = seen
@@ -227,6 +257,7 @@ FileFits (Some deck) (Some jobs) name = ⊥
 abbrev pub Fits : CardsWord → Seen → Type 0
 Fits (file name) seen = FileFits seen.deck seen.jobs name
 Fits (option o) seen = is_seen o seen ≡ false
+Fits (named name) seen = (seen.name ≡ None) × (is_name name ≡ true)
 
 abbrev pub AllFit : List CardsWord → Seen → Type 0
 AllFit [] seen = Unit {0}
@@ -241,6 +272,9 @@ jobs_row name = value_row (codes "JOBS") (reading_by jobs_rule) CommandLine (nam
 abbrev given_row : DeviceOption → Row
 given_row o = value_row (option_rule o).id (reading_by (option_rule o)) CommandLine (codes "true" ∷ [])
 
+abbrev name_row : Text → Row
+name_row name = value_row (codes "name") (reading_by named_rule) CommandLine (name ∷ [])
+
 abbrev if_given : DeviceOption → Bool → Option Row
 if_given o true = Some (given_row o)
 if_given o false = None
@@ -252,6 +286,7 @@ record Holds (rows : List Row) (seen : Seen) : Type 0 where
   for_printer : look (codes "printer") rows ≡ if_given printer seen.printer
   for_punch : look (codes "punch") rows ≡ if_given punch seen.punch
   for_transparent : look (codes "transparent") rows ≡ if_given transparent seen.transparent
+  for_name : look (codes "name") rows ≡ option_map name_row seen.name
 
 -- what is held is what was seen
 record Stands (h : Held) (seen : Seen) : Type 0 where
@@ -289,6 +324,7 @@ option_holds printer rows seen h none = record {
   for_printer = look_new (codes "printer") rows (given_row printer) none refl;
   for_punch = look_other (codes "punch") rows (given_row printer) refl ∙ h.for_punch;
   for_transparent = look_other (codes "transparent") rows (given_row printer) refl ∙ h.for_transparent;
+  for_name = look_other (codes "name") rows (given_row printer) refl ∙ h.for_name;
 }
 option_holds punch rows seen h none = record {
   deck = look_other (codes "DECK") rows (given_row punch) refl ∙ h.deck;
@@ -296,6 +332,7 @@ option_holds punch rows seen h none = record {
   for_printer = look_other (codes "printer") rows (given_row punch) refl ∙ h.for_printer;
   for_punch = look_new (codes "punch") rows (given_row punch) none refl;
   for_transparent = look_other (codes "transparent") rows (given_row punch) refl ∙ h.for_transparent;
+  for_name = look_other (codes "name") rows (given_row punch) refl ∙ h.for_name;
 }
 option_holds transparent rows seen h none = record {
   deck = look_other (codes "DECK") rows (given_row transparent) refl ∙ h.deck;
@@ -303,9 +340,10 @@ option_holds transparent rows seen h none = record {
   for_printer = look_other (codes "printer") rows (given_row transparent) refl ∙ h.for_printer;
   for_punch = look_other (codes "punch") rows (given_row transparent) refl ∙ h.for_punch;
   for_transparent = look_new (codes "transparent") rows (given_row transparent) none refl;
+  for_name = look_other (codes "name") rows (given_row transparent) refl ∙ h.for_name;
 }
 
-option_turn : (o : DeviceOption) (h : Held) (position : ℕ) → turn_fault cards [] (at h position) (text_of (option o)) ≡ or_else (react_fault rules false (option_rule o) [] h) []
+option_turn : (o : DeviceOption) (h : Held) (position : ℕ) → turn_fault cards [] (at h position) (option_text o) ≡ or_else (react_fault rules false (option_rule o) [] h) []
 unfolding clap_on_literals
 option_turn printer h position = refl
 option_turn punch h position = refl
@@ -331,7 +369,7 @@ option_has o rows seen h = has_look (option_rule o).id rows ∙ ap is_some (opti
     go false = refl
 
 option_told : (o : DeviceOption) (h : Held) (position : ℕ) (seen : Seen) → Stands h seen
-    → turn_fault cards [] (at h position) (text_of (option o)) ≡ conflict (is_seen o seen)
+    → turn_fault cards [] (at h position) (option_text o) ≡ conflict (is_seen o seen)
 option_told o h position seen st =
     option_turn o h position ∙ or_else-right (react_fault rules false (option_rule o) [] h)
     ∙ ap (λ ks. or_else ks (use_fault false (option_rule o) [] (settled rules h).rows)) st.quiet
@@ -350,10 +388,6 @@ option_stands o h seen st e =
 not_false : (b : Bool) → not b ≡ true → b ≡ false
 not_false true h = cc
 not_false false h = refl
-
--- a value of a file's rule is pending
-abbrev held_file : Text → Text → Held → Held
-held_file id name h = record h { rows = (settled rules h).rows; pending = Some (id, name ∷ []) }
 
 abbrev deck_kinds : Held → Kinds
 deck_kinds h = if is_pending deck_rule h.pending && takes_several deck_rule then [] else settle_fault rules false h
@@ -415,6 +449,7 @@ deck_holds name rows seen h none = record {
   for_printer = look_other (codes "printer") rows (deck_row name) refl ∙ h.for_printer;
   for_punch = look_other (codes "punch") rows (deck_row name) refl ∙ h.for_punch;
   for_transparent = look_other (codes "transparent") rows (deck_row name) refl ∙ h.for_transparent;
+  for_name = look_other (codes "name") rows (deck_row name) refl ∙ h.for_name;
 }
 
 jobs_holds : (name : Text) (rows : List Row) (seen : Seen) → Holds rows seen → look (codes "JOBS") rows ≡ None
@@ -425,6 +460,7 @@ jobs_holds name rows seen h none = record {
   for_printer = look_other (codes "printer") rows (jobs_row name) refl ∙ h.for_printer;
   for_punch = look_other (codes "punch") rows (jobs_row name) refl ∙ h.for_punch;
   for_transparent = look_other (codes "transparent") rows (jobs_row name) refl ∙ h.for_transparent;
+  for_name = look_other (codes "name") rows (jobs_row name) refl ∙ h.for_name;
 }
 
 deck_stands : (name : Text) (h : Held) (seen : Seen) → Stands h seen → look (codes "DECK") (settled rules h).rows ≡ None
@@ -443,19 +479,66 @@ jobs_stands name h seen st none = let rows = (settled rules h).rows in record {
   quiet = jobs_quiet name rows (has_none (codes "JOBS") rows none);
 }
 
+-- A NAME
+
+name_turn : (h : Held) (position : ℕ) → turn_fault cards [] (at h position) (codes "--name") ≡ or_else (settle_fault rules false h) []
+unfolding clap_on_literals
+name_turn h position = refl
+
+value_turn : (c : ℕ) (cs : List ℕ) (h : Held) (position : ℕ) → (c == 45) ≡ false → turn_fault cards [] (asked h position) (c ∷ cs) ≡ []
+unfolding clap_on_literals
+value_turn c cs h position e = rw (e, e) refl
+
+-- the word is taken for the name's value
+is_value : (name : Text) (h : Held) (position : ℕ) → is_name name ≡ true
+    → (turn_fault cards [] (asked h position) name ≡ []) × (walked rules [] (asked h position) name ≡ at (held_file (codes "name") name h) position)
+is_value [] h position e = cc
+is_value (c ∷ cs) h position e = (value_turn c cs h position (not_false (c == 45) e), name_walked c cs h position (not_false (c == 45) e))
+
+name_quiet : (name : Text) (rows : List Row) → has_row (codes "name") rows ≡ false → use_fault false named_rule (name ∷ []) rows ≡ []
+name_quiet name rows e = rw e refl
+
+name_holds : (name : Text) (rows : List Row) (seen : Seen) → Holds rows seen → look (codes "name") rows ≡ None
+    → Holds (rows ++ name_row name ∷ []) (record seen { name = Some name })
+name_holds name rows seen h none = record {
+  deck = look_other (codes "DECK") rows (name_row name) refl ∙ h.deck;
+  jobs = look_other (codes "JOBS") rows (name_row name) refl ∙ h.jobs;
+  for_printer = look_other (codes "printer") rows (name_row name) refl ∙ h.for_printer;
+  for_punch = look_other (codes "punch") rows (name_row name) refl ∙ h.for_punch;
+  for_transparent = look_other (codes "transparent") rows (name_row name) refl ∙ h.for_transparent;
+  for_name = look_new (codes "name") rows (name_row name) none refl;
+}
+
+name_stands : (name : Text) (h : Held) (seen : Seen) → Stands h seen → look (codes "name") (settled rules h).rows ≡ None
+    → Stands (held_file (codes "name") name h) (record seen { name = Some name })
+name_stands name h seen st none = let rows = (settled rules h).rows in record {
+  rows = subst (λ x. Holds x (record seen { name = Some name })) (sym (row_used (codes "name") (reading_by named_rule) (name ∷ []) rows none))
+      (name_holds name rows seen st.rows none);
+  quiet = name_quiet name rows (has_none (codes "name") rows none);
+}
+
 -- ONE WORD AFTER ANOTHER
+
+-- what comes after these words is as it is from this walk
+abbrev Leads : Walk → List Text → Walk → Type 0
+Leads w texts v = (ts : List Text) → (walk_fault cards [] w (texts ++ ts) ≡ walk_fault cards [] v ts)
+    × (fold (walked rules []) w (texts ++ ts) ≡ fold (walked rules []) v ts)
+
+leads : (w v : Walk) (text : Text) → turn_fault cards [] w text ≡ [] → walked rules [] w text ≡ v → Leads w (text ∷ []) v
+unfolding walk_fault
+leads w v text none is ts = (ap₂ or_else none (ap (λ x. walk_fault cards [] x ts) is), ap (λ x. fold (walked rules []) x ts) is)
 
 -- the word passes, and what is held after it is what was seen
 abbrev Steps : CardsWord → Held → Seen → Type 0
-Steps w h seen = (turn_fault cards [] (at h (position seen)) (text_of w) ≡ [])
-    × (after : Held) × (walked rules [] (at h (position seen)) (text_of w) ≡ at after (position (with_word w seen))) × Stands after (with_word w seen)
+Steps w h seen = (after : Held) × Stands after (with_word w seen) × Leads (at h (position seen)) (texts_of w) (at after (position (with_word w seen)))
 
 option_steps : (o : DeviceOption) (h : Held) (seen : Seen) → Stands h seen → is_seen o seen ≡ false → Steps (option o) h seen
 option_steps o h seen st e = (
-  option_told o h (position seen) seen st ∙ ap conflict e,
   reacted rules (option_rule o) [] h,
-  option_walked o h (position seen) ∙ ap (at (reacted rules (option_rule o) [] h)) (same o),
   option_stands o h seen st e,
+  leads (at h (position seen)) (at (reacted rules (option_rule o) [] h) (position (with_option o seen))) (option_text o)
+      (option_told o h (position seen) seen st ∙ ap conflict e)
+      (option_walked o h (position seen) ∙ ap (at (reacted rules (option_rule o) [] h)) (same o)),
 )
   where
     same : (o : DeviceOption) → position seen ≡ position (with_option o seen)
@@ -481,27 +564,37 @@ file_steps name h seen st (Some deck) None deck_is jobs_is fits = let is = is_jo
 )
 file_steps name h seen st (Some deck) (Some jobs) deck_is jobs_is fits = absurd fits
 
+name_steps : (name : Text) (h : Held) (seen : Seen) → Stands h seen → seen.name ≡ None → is_name name ≡ true → Steps (named name) h seen
+name_steps name h seen st none fits =
+    let value = is_value name h (position seen) fits in
+    let option_leads = leads (at h (position seen)) (asked h (position seen)) (codes "--name")
+    (name_turn h (position seen) ∙ or_else-right (settle_fault rules false h) ∙ st.quiet) (name_asked h (position seen)) in
+    let value_leads = leads (asked h (position seen)) (at (held_file (codes "name") name h) (position seen)) name value.0 value.1 in (
+      held_file (codes "name") name h,
+      name_stands name h seen st (st.rows.for_name ∙ ap (option_map name_row) none),
+      λ ts. ((option_leads (name ∷ ts)).0 ∙ (value_leads ts).0, (option_leads (name ∷ ts)).1 ∙ (value_leads ts).1),
+    )
+
 steps : (w : CardsWord) (h : Held) (seen : Seen) → Stands h seen → Fits w seen → Steps w h seen
-steps (file name) h seen st fits = file_steps name h seen st seen.deck seen.jobs refl refl fits
+steps (file name) h seen st fits =
+    let s = file_steps name h seen st seen.deck seen.jobs refl refl fits in
+    (s.1, s.3, leads (at h (position seen)) (at s.1 (position (with_file seen.deck name seen))) name s.0 s.2)
 steps (option o) h seen st fits = option_steps o h seen st fits
+steps (named name) h seen st fits = name_steps name h seen st fits.0 fits.1
 
 -- all the words pass
 abbrev Walks : List CardsWord → Held → Seen → Type 0
-Walks ws h seen = (walk_fault cards [] (at h (position seen)) (map text_of ws) ≡ [])
-    × Stands (fold (walked rules []) (at h (position seen)) (map text_of ws)).held (with_words ws seen)
-
-walks_on : (w : CardsWord) (ws : List CardsWord) (h after : Held) (seen : Seen) → turn_fault cards [] (at h (position seen)) (text_of w) ≡ []
-    → walked rules [] (at h (position seen)) (text_of w) ≡ at after (position (with_word w seen)) → Walks ws after (with_word w seen) → Walks (w ∷ ws) h seen
-unfolding walk_fault
-walks_on w ws h after seen none is later = (
-  ap₂ or_else none (ap (λ x. walk_fault cards [] x (map text_of ws)) is ∙ later.0),
-  subst (λ x. Stands (fold (walked rules []) x (map text_of ws)).held (with_words ws (with_word w seen))) (sym is) later.1,
-)
+Walks ws h seen = (walk_fault cards [] (at h (position seen)) (flat_map texts_of ws) ≡ [])
+    × Stands (fold (walked rules []) (at h (position seen)) (flat_map texts_of ws)).held (with_words ws seen)
 
 walks : (ws : List CardsWord) (h : Held) (seen : Seen) → Stands h seen → AllFit ws seen → Walks ws h seen
 unfolding walk_fault
 walks [] h seen st fit = (refl, st)
-walks (w ∷ ws) h seen st fit = let s = steps w h seen st fit.0 in walks_on w ws h s.1 seen s.0 s.2 (walks ws s.1 (with_word w seen) s.3 fit.1)
+walks (w ∷ ws) h seen st fit =
+    let s = steps w h seen st fit.0 in
+    let on = s.2 (flat_map texts_of ws) in
+    let later = walks ws s.0 (with_word w seen) s.1 fit.1 in
+    (on.0 ∙ later.0, subst (λ (x : Walk). Stands x.held (with_words ws (with_word w seen))) (sym on.1) later.1)
 
 -- THE END OF THE WORDS
 
@@ -530,10 +623,21 @@ default_end before after a rows d none others is same =
 
 option_end : (o : DeviceOption) (rows : List Row) (b : Bool) → look (option_rule o).id rows ≡ if_given o b → look (option_rule o).id (fold with_default rows rules) ≡ Some (end_row o b)
 option_end o rows true e = defaults_kept rules rows (option_rule o).id (given_row o) e
-option_end printer rows false e = default_end (rule_at 0 ∷ rule_at 1 ∷ []) (rule_at 3 ∷ rule_at 4 ∷ rule_at 5 ∷ []) (rule_at 2) rows (codes "false") e (refl, (refl, tt)) refl refl
-option_end punch rows false e = default_end (rule_at 0 ∷ rule_at 1 ∷ rule_at 2 ∷ []) (rule_at 4 ∷ rule_at 5 ∷ []) (rule_at 3) rows (codes "false") e (refl, (refl, (refl, tt))) refl refl
+option_end printer rows false e = default_end (rule_at 0 ∷ rule_at 1 ∷ []) (rule_at 3 ∷ rule_at 4 ∷ rule_at 5 ∷ rule_at 6 ∷ []) (rule_at 2) rows (codes "false") e (refl, (refl, tt)) refl refl
+option_end punch rows false e = default_end (rule_at 0 ∷ rule_at 1 ∷ rule_at 2 ∷ []) (rule_at 4 ∷ rule_at 5 ∷ rule_at 6 ∷ []) (rule_at 3) rows (codes "false") e (refl, (refl, (refl, tt))) refl refl
 option_end transparent rows false e =
-    default_end (rule_at 0 ∷ rule_at 1 ∷ rule_at 2 ∷ rule_at 3 ∷ []) (rule_at 5 ∷ []) (rule_at 4) rows (codes "false") e (refl, (refl, (refl, (refl, tt)))) refl refl
+    default_end (rule_at 0 ∷ rule_at 1 ∷ rule_at 2 ∷ rule_at 3 ∷ []) (rule_at 5 ∷ rule_at 6 ∷ []) (rule_at 4) rows (codes "false") e (refl, (refl, (refl, (refl, tt)))) refl refl
+
+-- a name has no default
+name_end : (rows : List Row) (given : Option Text) → look (codes "name") rows ≡ option_map name_row given
+    → look (codes "name") (fold with_default rows rules) ≡ option_map name_row given
+name_end rows (Some name) e = defaults_kept rules rows (codes "name") (name_row name) e
+name_end rows None e =
+    let before : List Rule = rule_at 0 ∷ rule_at 1 ∷ rule_at 2 ∷ rule_at 3 ∷ rule_at 4 ∷ [] in
+    let there : List Row = fold with_default rows before in
+    others_kept (rule_at 6 ∷ []) (with_default there named_rule) (codes "name") (refl, tt)
+    ∙ ap (look (codes "name")) (no_default named_rule there refl)
+    ∙ others_kept before rows (codes "name") (refl, (refl, (refl, (refl, (refl, tt))))) ∙ e
 
 check_passes : (rows : List Row) (deck jobs : Text) → look (codes "DECK") rows ≡ Some (deck_row deck) → look (codes "JOBS") rows ≡ Some (jobs_row jobs)
     → check_fault cards rows false ≡ []
@@ -546,9 +650,14 @@ pub record Reads (rows : List Row) (deck jobs : Text) (seen : Seen) : Type 0 whe
   pub for_printer : is_on (codes "printer") rows ≡ seen.printer
   pub for_punch : is_on (codes "punch") rows ≡ seen.punch
   pub for_transparent : is_on (codes "transparent") rows ≡ seen.transparent
+  pub for_name : first_of (codes "name") rows ≡ seen.name
 
 file_read : (id name : Text) (how : Reading) (rows : List Row) → look id rows ≡ Some (value_row id how CommandLine (name ∷ [])) → word_in id rows ≡ name
 file_read id name how rows e = rw e refl
+
+name_read : (rows : List Row) (given : Option Text) → look (codes "name") rows ≡ option_map name_row given → first_of (codes "name") rows ≡ given
+name_read rows None e = rw e refl
+name_read rows (Some name) e = rw e refl
 
 option_read : (o : DeviceOption) (rows : List Row) (b : Bool) → look (option_rule o).id rows ≡ Some (end_row o b) → is_on (option_rule o).id rows ≡ b
 option_read printer rows true e = rw e refl
@@ -570,28 +679,29 @@ module _ (ws : List CardsWord) (deck jobs : Text) (seen : Seen) (deck_is : seen.
           for_printer = option_read printer (finished rules h) seen.printer (option_end printer rows seen.printer st.rows.for_printer);
           for_punch = option_read punch (finished rules h) seen.punch (option_end punch rows seen.punch st.rows.for_punch);
           for_transparent = option_read transparent (finished rules h) seen.transparent (option_end transparent rows seen.transparent st.rows.for_transparent);
+          for_name = name_read (finished rules h) seen.name (name_end rows seen.name st.rows.for_name);
         },
         check_passes (finished rules h) deck jobs found_deck found_jobs,
       )
 
 abbrev pub nothing_seen : Seen
-nothing_seen = record { deck = None; jobs = None; printer = false; punch = false; transparent = false }
+nothing_seen = record { deck = None; jobs = None; printer = false; punch = false; transparent = false; name = None }
 
 nothing_stands : Stands nothing_held nothing_seen
 nothing_stands = record {
-  rows = record { deck = refl; jobs = refl; for_printer = refl; for_punch = refl; for_transparent = refl };
+  rows = record { deck = refl; jobs = refl; for_printer = refl; for_punch = refl; for_transparent = refl; for_name = refl };
   quiet = refl;
 }
 
 -- the level of `cards` passes, and what was seen is read
 pub level_passes : (ws : List CardsWord) (deck jobs : Text) → AllFit ws nothing_seen → (with_words ws nothing_seen).deck ≡ Some deck
     → (with_words ws nothing_seen).jobs ≡ Some jobs
-    → (level_fault cards [] nothing_held (map text_of ws) false [] ≡ []) × Reads (rows_after rules [] (map text_of ws)) deck jobs (with_words ws nothing_seen)
+    → (level_fault cards [] nothing_held (flat_map texts_of ws) false [] ≡ []) × Reads (rows_after rules [] (flat_map texts_of ws)) deck jobs (with_words ws nothing_seen)
 level_passes ws deck jobs fit deck_is jobs_is =
     let on = walks ws nothing_held nothing_seen nothing_stands fit in
-    let h : Held = (walk rules [] nothing_held (map text_of ws)).held in
+    let h : Held = (walk rules [] nothing_held (flat_map texts_of ws)).held in
     let end = ends ws deck jobs (with_words ws nothing_seen) deck_is jobs_is h on.1 in (
-      ap₂ or_else on.0 (ap₂ or_else on.1.quiet (ap₂ or_else (good_defaults rules (settled rules h).rows (refl, (refl, (refl, (refl, (refl, (refl, tt))))))) end.1)),
+      ap₂ or_else on.0 (ap₂ or_else on.1.quiet (ap₂ or_else (good_defaults rules (settled rules h).rows (refl, (refl, (refl, (refl, (refl, (refl, (refl, tt)))))))) end.1)),
       end.0,
     )
 
@@ -646,35 +756,40 @@ cards_fault words =
 
 -- AN OPTION THAT STANDS TWICE
 
--- the files among the words fit
+-- the files and the names among the words fit
 abbrev pub AllFilesFit : List CardsWord → Seen → Type 0
 AllFilesFit [] seen = Unit {0}
 AllFilesFit (file name ∷ ws) seen = FileFits seen.deck seen.jobs name × AllFilesFit ws (with_file seen.deck name seen)
 AllFilesFit (option o ∷ ws) seen = AllFilesFit ws (with_option o seen)
+AllFilesFit (named name ∷ ws) seen = Fits (named name) seen × AllFilesFit ws (with_word (named name) seen)
 
 -- some option among the words was seen before it
 abbrev pub Repeats : List CardsWord → Seen → Type 0
 Repeats [] seen = ⊥
 Repeats (file name ∷ ws) seen = Repeats ws (with_file seen.deck name seen)
 Repeats (option o ∷ ws) seen = (is_seen o seen ≡ true) ⊎ ((is_seen o seen ≡ false) × Repeats ws (with_option o seen))
+Repeats (named name ∷ ws) seen = Repeats ws (with_word (named name) seen)
 
 repeats : (ws : List CardsWord) (h : Held) (seen : Seen) → Stands h seen → AllFilesFit ws seen → Repeats ws seen
-    → walk_fault cards [] (at h (position seen)) (map text_of ws) ≡ ArgumentConflict ∷ []
+    → walk_fault cards [] (at h (position seen)) (flat_map texts_of ws) ≡ ArgumentConflict ∷ []
 unfolding walk_fault
 repeats [] h seen st fit again = absurd again
 repeats (file name ∷ ws) h seen st fit again =
     let s = steps (file name) h seen st fit.0 in
-    ap₂ or_else s.0 (ap (λ x. walk_fault cards [] x (map text_of ws)) s.2 ∙ repeats ws s.1 (with_word (file name) seen) s.3 fit.1 again)
+    (s.2 (flat_map texts_of ws)).0 ∙ repeats ws s.0 (with_word (file name) seen) s.1 fit.1 again
+repeats (named name ∷ ws) h seen st fit again =
+    let s = steps (named name) h seen st fit.0 in
+    (s.2 (flat_map texts_of ws)).0 ∙ repeats ws s.0 (with_word (named name) seen) s.1 fit.1 again
 repeats (option o ∷ ws) h seen st fit (inl e) =
-    ap (λ ks. or_else ks (walk_fault cards [] (walked rules [] (at h (position seen)) (text_of (option o))) (map text_of ws)))
+    ap (λ ks. or_else ks (walk_fault cards [] (walked rules [] (at h (position seen)) (option_text o)) (flat_map texts_of ws)))
     (option_told o h (position seen) seen st ∙ ap conflict e)
 repeats (option o ∷ ws) h seen st fit (inr later) =
     let s = option_steps o h seen st later.0 in
-    ap₂ or_else s.0 (ap (λ x. walk_fault cards [] x (map text_of ws)) s.2 ∙ repeats ws s.1 (with_option o seen) s.3 fit later.1)
+    (s.2 (flat_map texts_of ws)).0 ∙ repeats ws s.0 (with_option o seen) s.1 fit later.1
 
 module _ (ws : List CardsWord) where
   abbrev ending : Held
-  ending = (walk rules [] nothing_held (map text_of ws)).held
+  ending = (walk rules [] nothing_held (flat_map texts_of ws)).held
 
   -- what comes after the walk
   abbrev after_words : Kinds
@@ -682,5 +797,5 @@ module _ (ws : List CardsWord) where
       (or_else (defaults_fault (settled rules ending).rows rules) (check_fault cards (finished rules ending) false)))
 
   -- the level of `cards` fails where an option stands twice
-  pub level_conflicts : AllFilesFit ws nothing_seen → Repeats ws nothing_seen → level_fault cards [] nothing_held (map text_of ws) false [] ≡ ArgumentConflict ∷ []
+  pub level_conflicts : AllFilesFit ws nothing_seen → Repeats ws nothing_seen → level_fault cards [] nothing_held (flat_map texts_of ws) false [] ≡ ArgumentConflict ∷ []
   level_conflicts fit again = ap (λ ks. or_else ks after_words) (repeats ws nothing_held nothing_seen nothing_stands fit again)

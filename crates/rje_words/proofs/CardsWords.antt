@@ -1,8 +1,8 @@
 -- What the words `cards`, two files and options in any order ask for.
 use Rattle.std.proofs.Common.{List, [], ◌∷◌, ◌≡◌, Option, Some, None, Bool, true, false, refl, codes, not, ap, ◌∙◌, ◌⊎◌, ◌&&◌, ◌||◌, inl, inr, sym, subst}
-use Rattle.std.specs.Prelude.{map}
+use Rattle.std.specs.List.{flat_map}
 use Rattle.std.specs.Option.{IsSomeAnd}
-use Rattle.clap.specs.Words.{HasKind, Row, Text, fault_of, subcommand_of}
+use Rattle.clap.specs.Words.{HasKind, Row, Text, fault_of, first_of, subcommand_of}
 use Rattle.clap.specs.Faults.{level_fault}
 use Rattle.clap.specs.Walk.{nothing_held, rows_after}
 use Rattle.clap.specs.declared.error.kind.ErrorKind.TheVariants.{ArgumentConflict}
@@ -11,10 +11,10 @@ use Rattle.rje_words.specs.declared.order.Order.{Order}
 use Rattle.rje_words.specs.declared.order.Order.TheVariants.{Files, Sockets}
 use Rattle.rje_words.specs.declared.order.FileOrder.TheVariants.{Cards}
 use Rattle.rje_words.specs.declared.words_fault.WordsFault.{WordsFault}
-use Rattle.rje_words.specs.declared.words_fault.WordsFault.TheVariants.{Refused, TwoDevices, BadAddress}
-use Rattle.rje_words.specs.Asking.{IsFaultOf, IsOrderOf, IsTold, device_in}
-use Rattle.rje_words.specs.Canonical.{CardsAsked, RepeatedRefused, TwoDevicesTold}
-use Rattle.rje_words.specs.CardsWords.{CardsWord, DeviceOption, HaveFiles, device_among, file, files_in, has_each_once, is_among, is_same, option, printer, punch, transparent, text_of}
+use Rattle.rje_words.specs.declared.words_fault.WordsFault.TheVariants.{Refused, TwoDevices, BadName, BadAddress}
+use Rattle.rje_words.specs.Asking.{IsFaultOf, IsGivenName, IsOrderOf, IsTold, device_in}
+use Rattle.rje_words.specs.Canonical.{BadNameTold, CardsAsked, RepeatedRefused, TwoDevicesTold}
+use Rattle.rje_words.specs.CardsWords.{CardsWord, DeviceOption, HaveFiles, HaveName, device_among, file, files_in, has_each_once, is_among, is_same, named, names_in, option, printer, punch, transparent, texts_of}
 use Rattle.rje_words.specs.CommandLine.{is_file, is_name, rje_app}
 use Rattle.rje_words.specs.Device.{chosen}
 use Rattle.rje_words.specs.Orders.{IsCards}
@@ -40,6 +40,7 @@ or_over false b c = refl
 abbrev is_option : DeviceOption → CardsWord → Bool
 is_option o (file name) = false
 is_option o (option given) = is_same given o
+is_option o (named name) = false
 
 file_unseen : (o : DeviceOption) (deck : Option Text) (name : Text) (seen : Seen) → is_seen o (with_file deck name seen) ≡ is_seen o seen
 file_unseen printer None name seen = refl
@@ -63,10 +64,14 @@ option_seen transparent transparent seen = or_true seen.transparent
 word_seen : (o : DeviceOption) (w : CardsWord) (seen : Seen) → is_seen o (with_word w seen) ≡ (is_seen o seen || is_option o w)
 word_seen o (file name) seen = file_unseen o seen.deck name seen ∙ or_false (is_seen o seen)
 word_seen o (option given) seen = option_seen o given seen
+word_seen printer (named name) seen = or_false seen.printer
+word_seen punch (named name) seen = or_false seen.punch
+word_seen transparent (named name) seen = or_false seen.transparent
 
 among_first : (o : DeviceOption) (w : CardsWord) (ws : List CardsWord) → is_among o (w ∷ ws) ≡ (is_option o w || is_among o ws)
 among_first o (file name) ws = refl
 among_first o (option given) ws = refl
+among_first o (named name) ws = refl
 
 words_seen : (o : DeviceOption) (ws : List CardsWord) (seen : Seen) → is_seen o (with_words ws seen) ≡ (is_seen o seen || is_among o ws)
 words_seen o [] seen = or_false (is_seen o seen)
@@ -98,6 +103,7 @@ files_seen (file name ∷ ws) seen = files_seen ws (with_file seen.deck name see
 files_seen (option printer ∷ ws) seen = files_seen ws (with_option printer seen)
 files_seen (option punch ∷ ws) seen = files_seen ws (with_option punch seen)
 files_seen (option transparent ∷ ws) seen = files_seen ws (with_option transparent seen)
+files_seen (named name ∷ ws) seen = files_seen ws (with_word (named name) seen)
 
 file_fits : (deck jobs : Option Text) (name : Text) (names : List Text) (seen : Seen) → seen.deck ≡ deck → seen.jobs ≡ jobs → FilesFit deck jobs (name ∷ names)
     → FileFits deck jobs name × FilesFit (with_file deck name seen).deck (with_file deck name seen).jobs names
@@ -108,6 +114,45 @@ file_fits None (Some jobs) name names seen d j fit = absurd fit
 file_fits (Some deck) None name [] seen d j fit = (fit, subst (λ o. FilesFit o (Some name) []) (sym d) tt)
 file_fits (Some deck) None name (n ∷ ns) seen d j fit = absurd fit
 file_fits (Some deck) (Some jobs) name names seen d j fit = absurd fit
+
+-- A NAME THAT WAS SEEN
+
+abbrev NamesFit : Option Text → List Text → Type 0
+NamesFit None [] = Unit {0}
+NamesFit None (name ∷ []) = is_name name ≡ true
+NamesFit (Some seen) [] = Unit {0}
+NamesFit _ _ = ⊥
+
+abbrev name_after : Option Text → List Text → Option Text
+name_after name [] = name
+name_after name (given ∷ names) = name_after (Some given) names
+
+file_unnamed : (deck : Option Text) (name : Text) (seen : Seen) → (with_file deck name seen).name ≡ seen.name
+file_unnamed None name seen = refl
+file_unnamed (Some d) name seen = refl
+
+option_unnamed : (o : DeviceOption) (seen : Seen) → (with_option o seen).name ≡ seen.name
+option_unnamed printer seen = refl
+option_unnamed punch seen = refl
+option_unnamed transparent seen = refl
+
+name_seen : (ws : List CardsWord) (seen : Seen) → (with_words ws seen).name ≡ name_after seen.name (names_in ws)
+name_seen [] seen = refl
+name_seen (file name ∷ ws) seen =
+    name_seen ws (with_file seen.deck name seen) ∙ ap (λ o. name_after o (names_in ws)) (file_unnamed seen.deck name seen)
+name_seen (option o ∷ ws) seen = name_seen ws (with_option o seen) ∙ ap (λ o. name_after o (names_in ws)) (option_unnamed o seen)
+name_seen (named name ∷ ws) seen = name_seen ws (with_word (named name) seen)
+
+name_fits : (seen : Option Text) (name : Text) (names : List Text) → NamesFit seen (name ∷ names)
+    → (seen ≡ None) × (is_name name ≡ true) × NamesFit (Some name) names
+name_fits None name [] fit = (refl, fit, tt)
+name_fits None name (n ∷ ns) fit = absurd fit
+name_fits (Some seen) name names fit = absurd fit
+
+-- a name that is given fits, and is the one that is seen
+names_fit : (ws : List CardsWord) (given : Option Text) → HaveName ws given → NamesFit None (names_in ws) × (name_after None (names_in ws) ≡ given)
+names_fit ws None h = (subst (NamesFit None) (sym h) tt, ap (name_after None) h)
+names_fit ws (Some name) h = (subst (NamesFit None) (sym h.0) h.1, ap (name_after None) h.0)
 
 -- ALL THE WORDS FIT
 
@@ -150,15 +195,24 @@ same_among transparent printer ws e is = cc
 same_among transparent punch ws e is = cc
 same_among transparent transparent ws e is = e
 
-all_fit : (ws : List CardsWord) (seen : Seen) → FilesFit seen.deck seen.jobs (files_in ws) → has_each_once ws ≡ true → NoneAgain ws seen → AllFit ws seen
-all_fit [] seen files once none = tt
-all_fit (file name ∷ ws) seen files once none =
+all_fit : (ws : List CardsWord) (seen : Seen) → FilesFit seen.deck seen.jobs (files_in ws) → NamesFit seen.name (names_in ws) → has_each_once ws ≡ true
+    → NoneAgain ws seen → AllFit ws seen
+all_fit [] seen files names once none = tt
+all_fit (file name ∷ ws) seen files names once none =
     let fits = file_fits seen.deck seen.jobs name (files_in ws) seen refl refl files in
-    (fits.0, all_fit ws (with_file seen.deck name seen) fits.1 once (λ o. ap (λ b. b && is_among o ws) (file_unseen o seen.deck name seen) ∙ none o))
-all_fit (option given ∷ ws) seen files once none =
+    (fits.0, all_fit ws (with_file seen.deck name seen) fits.1 (subst (λ o. NamesFit o (names_in ws)) (sym (file_unnamed seen.deck name seen)) names) once (λ o. ap (λ b. b && is_among o ws) (file_unseen o seen.deck name seen) ∙ none o))
+all_fit (named name ∷ ws) seen files names once none =
+    let fits = name_fits seen.name name (names_in ws) names in
+    ((fits.0, fits.1), all_fit ws (with_word (named name) seen) files fits.2 once (λ o. ap (λ b. b && is_among o ws) (still o) ∙ none o))
+  where
+    still : (o : DeviceOption) → is_seen o (with_word (named name) seen) ≡ is_seen o seen
+    still printer = refl
+    still punch = refl
+    still transparent = refl
+all_fit (option given ∷ ws) seen files names once none =
     let parts = both_true (not (is_among given ws)) (has_each_once ws) once in (
       fresh (is_seen given seen) (is_same given given) (is_among given ws) (none given) (same_option given),
-      all_fit ws (with_option given seen) (same_files given) parts.1 (λ o. ap (λ b. b && is_among o ws) (option_seen o given seen)
+      all_fit ws (with_option given seen) (same_files given) (subst (λ o. NamesFit o (names_in ws)) (sym (option_unnamed given seen)) names) parts.1 (λ o. ap (λ b. b && is_among o ws) (option_seen o given seen)
           ∙ later_fresh (is_seen o seen) (is_same given o) (is_among o ws) (none o) (same_among given o ws (not_true (is_among given ws) parts.0))),
     )
   where
@@ -172,15 +226,26 @@ all_fit (option given ∷ ws) seen files once none =
 same_choice : (a b c d e f : Bool) → a ≡ d → b ≡ e → c ≡ f → chosen a b c ≡ chosen d e f
 same_choice a b c d e f p q r = rw (p, q, r) refl
 
-module _ (ws : List CardsWord) (deck jobs : Text) (have : HaveFiles ws deck jobs) (once : has_each_once ws ≡ true) where
+names_apart : (given : Option Text) (name : Text) → IsGivenName given (Some name) → IsGivenName given None → ⊥
+names_apart None name is none = cc
+names_apart (Some text) name is none = none is.0 is.1 is.2
+
+same_name : (given : Option Text) (name other : Text) → IsGivenName given (Some name) → IsGivenName given (Some other) → name ≡ other
+same_name None name other a b = some_is (a ∙ sym b)
+  where
+    some_is : {X : Type 0} {x y : X} → Some x ≡ Some y → x ≡ y
+    some_is {X} {x} {y} e = cc
+same_name (Some text) name other a b = a.3 ∙ sym b.3
+
+module _ (ws : List CardsWord) (deck jobs : Text) (given : Option Text) (have : HaveFiles ws deck jobs) (has_name : HaveName ws given) (once : has_each_once ws ≡ true) where
   abbrev words : List Text
-  words = codes "cards" ∷ map text_of ws
+  words = codes "cards" ∷ flat_map texts_of ws
 
   abbrev rows : List Row
-  rows = rows_after rules [] (map text_of ws)
+  rows = rows_after rules [] (flat_map texts_of ws)
 
   fit : AllFit ws nothing_seen
-  fit = all_fit ws nothing_seen (subst (FilesFit None None) (sym have.both) (have.is_deck, have.is_job_file)) once (λ o. unseen o)
+  fit = all_fit ws nothing_seen (subst (FilesFit None None) (sym have.both) (have.is_deck, have.is_job_file)) (names_fit ws given has_name).0 once (λ o. unseen o)
     where
       unseen : (o : DeviceOption) → (is_seen o nothing_seen && is_among o ws) ≡ false
       unseen printer = refl
@@ -190,38 +255,59 @@ module _ (ws : List CardsWord) (deck jobs : Text) (have : HaveFiles ws deck jobs
   files_are : ◌≡◌ {A = Option Text × Option Text} ((with_words ws nothing_seen).deck, (with_words ws nothing_seen).jobs) (Some deck, Some jobs)
   files_are = files_seen ws nothing_seen ∙ ap (files_after None None) have.both
 
-  level : (level_fault cards [] nothing_held (map text_of ws) false [] ≡ []) × Reads rows deck jobs (with_words ws nothing_seen)
+  level : (level_fault cards [] nothing_held (flat_map texts_of ws) false [] ≡ []) × Reads rows deck jobs (with_words ws nothing_seen)
   level = level_passes ws deck jobs fit (ap (λ (p : Option Text × Option Text). p.0) files_are) (ap (λ (p : Option Text × Option Text). p.1) files_are)
 
   faultless : fault_of rje_app words ≡ []
-  faultless = cards_fault (map text_of ws) ∙ level.0
+  faultless = cards_fault (flat_map texts_of ws) ∙ level.0
 
   device_is : device_in rows ≡ device_among ws
   device_is = same_choice _ _ _ _ _ _ (level.1.for_printer ∙ words_seen printer ws nothing_seen) (level.1.for_punch ∙ words_seen punch ws nothing_seen)
       (level.1.for_transparent ∙ words_seen transparent ws nothing_seen)
 
+  name_is : first_of (codes "name") rows ≡ given
+  name_is = level.1.for_name ∙ name_seen ws nothing_seen ∙ (names_fit ws given has_name).1
+
   -- what holds of the command that is met holds of these rows
   of_rows : (P : Text → List Row → Type 0) → IsSomeAnd (subcommand_of rje_app words) (λ met. P met.0 met.1) → P (codes "cards") rows
-  of_rows P h = subst (λ o. IsSomeAnd o (λ met. P met.0 met.1)) (cards_met (map text_of ws)) h
+  of_rows P h = subst (λ o. IsSomeAnd o (λ met. P met.0 met.1)) (cards_met (flat_map texts_of ws)) h
 
   -- clap refuses nothing of the words, and finds no address
-  memory : (fault : WordsFault) → (IsFaultOf (codes "cards") rows TwoDevices → ⊥) → IsTold words fault → IsWantOfMemory fault
-  memory (Refused error) no_two h = memory_only error (subst (λ kinds. HasKind kinds error) faultless h)
-  memory TwoDevices no_two h = absurd (no_two (of_rows (λ name rs. IsFaultOf name rs TwoDevices) h.1))
-  memory BadAddress no_two h = absurd (no_address (codes "cards") rows refl refl (of_rows (λ name rs. IsFaultOf name rs BadAddress) h.1))
+  memory : (fault : WordsFault) → (IsFaultOf (codes "cards") rows TwoDevices → ⊥) → (IsFaultOf (codes "cards") rows BadName → ⊥)
+      → IsTold words fault → IsWantOfMemory fault
+  memory (Refused error) no_two no_bad h = memory_only error (subst (λ kinds. HasKind kinds error) faultless h)
+  memory TwoDevices no_two no_bad h = absurd (no_two (of_rows (λ name rs. IsFaultOf name rs TwoDevices) h.1))
+  memory BadName no_two no_bad h = absurd (no_bad (of_rows (λ name rs. IsFaultOf name rs BadName) h.1))
+  memory BadAddress no_two no_bad h = absurd (no_address (codes "cards") rows refl refl (of_rows (λ name rs. IsFaultOf name rs BadAddress) h.1))
 
-  two_or_memory : (fault : WordsFault) → IsTold words fault → (fault ≡ TwoDevices) ⊎ IsWantOfMemory fault
-  two_or_memory (Refused error) h = inr (memory_only error (subst (λ kinds. HasKind kinds error) faultless h))
-  two_or_memory TwoDevices h = inl refl
-  two_or_memory BadAddress h = absurd (no_address (codes "cards") rows refl refl (of_rows (λ name rs. IsFaultOf name rs BadAddress) h.1))
+  two_or_memory : device_among ws ≡ None → (fault : WordsFault) → IsTold words fault → (fault ≡ TwoDevices) ⊎ IsWantOfMemory fault
+  two_or_memory two (Refused error) h = inr (memory_only error (subst (λ kinds. HasKind kinds error) faultless h))
+  two_or_memory two TwoDevices h = inl refl
+  two_or_memory two BadName h = absurd ((of_rows (λ name rs. IsFaultOf name rs BadName) h.1).1.0 (device_is ∙ two))
+  two_or_memory two BadAddress h = absurd (no_address (codes "cards") rows refl refl (of_rows (λ name rs. IsFaultOf name rs BadAddress) h.1))
 
-  order_read : (device : Device) (order : Order) → IsOrderOf (codes "cards") rows order → device_among ws ≡ Some device → IsCards deck jobs device order
-  order_read device (Files (Cards order)) h is = (h.1.deck ∙ level.1.of_deck, h.1.jobs ∙ level.1.of_jobs, some_is (sym h.1.device ∙ device_is ∙ is))
+  bad_or_memory : (device : Device) → device_among ws ≡ Some device → (fault : WordsFault) → IsTold words fault → (fault ≡ BadName) ⊎ IsWantOfMemory fault
+  bad_or_memory device one (Refused error) h = inr (memory_only error (subst (λ kinds. HasKind kinds error) faultless h))
+  bad_or_memory device one TwoDevices h = absurd (none_some (sym one ∙ sym device_is ∙ (of_rows (λ name rs. IsFaultOf name rs TwoDevices) h.1).1))
+    where
+      none_some : Some device ≡ None → ⊥
+      none_some e = cc
+  bad_or_memory device one BadName h = inl refl
+  bad_or_memory device one BadAddress h = absurd (no_address (codes "cards") rows refl refl (of_rows (λ name rs. IsFaultOf name rs BadAddress) h.1))
+
+  order_read : (device : Device) (name : Text) (order : Order) → IsOrderOf (codes "cards") rows order → device_among ws ≡ Some device
+      → IsGivenName given (Some name) → IsCards deck jobs device name order
+  order_read device name (Files (Cards order)) h is named_is = (
+    h.1.deck ∙ level.1.of_deck,
+    h.1.jobs ∙ level.1.of_jobs,
+    some_is (sym h.1.device ∙ device_is ∙ is),
+    same_name given order.name name (subst (λ o. IsGivenName o (Some order.name)) name_is h.1.name) named_is,
+  )
     where
       some_is : {X : Type 0} {a b : X} → Some a ≡ Some b → a ≡ b
       some_is {X} {a} {b} e = cc
-  order_read device (Files _) h is = absurd (apart _ _ h.0 refl)
-  order_read device (Sockets order) h is = absurd (no_socket (codes "cards") rows order refl refl refl h)
+  order_read device name (Files _) h is named_is = absurd (apart _ _ h.0 refl)
+  order_read device name (Sockets order) h is named_is = absurd (no_socket (codes "cards") rows order refl refl refl h)
 
   no_order : (order : Order) → IsOrderOf (codes "cards") rows order → device_among ws ≡ None → ⊥
   no_order (Files (Cards order)) h is = some_none (sym h.1.device ∙ device_is ∙ is)
@@ -231,31 +317,49 @@ module _ (ws : List CardsWord) (deck jobs : Text) (have : HaveFiles ws deck jobs
   no_order (Files _) h is = absurd (apart _ _ h.0 refl)
   no_order (Sockets order) h is = absurd (no_socket (codes "cards") rows order refl refl refl h)
 
+  no_bad_order : (order : Order) → IsOrderOf (codes "cards") rows order → IsGivenName given None → ⊥
+  no_bad_order (Files (Cards order)) h bad = names_apart given order.name (subst (λ o. IsGivenName o (Some order.name)) name_is h.1.name) bad
+  no_bad_order (Files _) h bad = absurd (apart _ _ h.0 refl)
+  no_bad_order (Sockets order) h bad = absurd (no_socket (codes "cards") rows order refl refl refl h)
+
 pub cards_asked : CardsAsked
-cards_asked ws deck jobs device have once is = record {
-  order = λ order h. order_read ws deck jobs have once device order (of_rows ws deck jobs have once (λ name rs. IsOrderOf name rs order) h.1) is;
-  fault = λ fault h. memory ws deck jobs have once fault (λ two. absurd (none_some (sym is ∙ sym (device_is ws deck jobs have once) ∙ two.1))) h;
+cards_asked ws deck jobs given device name have has_name once is named_is = record {
+  order = λ order h. order_read ws deck jobs given have has_name once device name order
+      (of_rows ws deck jobs given have has_name once (λ n rs. IsOrderOf n rs order) h.1) is named_is;
+  fault = λ fault h. memory ws deck jobs given have has_name once fault
+      (λ two. absurd (none_some (sym is ∙ sym (device_is ws deck jobs given have has_name once) ∙ two.1)))
+      (λ bad. names_apart given name named_is (subst (λ o. IsGivenName o None) (name_is ws deck jobs given have has_name once) bad.1.1)) h;
 }
   where
     none_some : Some device ≡ None → ⊥
     none_some e = cc
 
 pub two_devices_told : TwoDevicesTold
-two_devices_told ws deck jobs have once is = record {
-  order = λ order h. no_order ws deck jobs have once order (of_rows ws deck jobs have once (λ name rs. IsOrderOf name rs order) h.1) is;
-  fault = λ fault h. two_or_memory ws deck jobs have once fault h;
+two_devices_told ws deck jobs given have has_name once is = record {
+  order = λ order h. no_order ws deck jobs given have has_name once order (of_rows ws deck jobs given have has_name once (λ name rs. IsOrderOf name rs order) h.1) is;
+  fault = λ fault h. two_or_memory ws deck jobs given have has_name once is fault h;
+}
+
+pub bad_name_told : BadNameTold
+bad_name_told ws deck jobs given device have has_name once is bad = record {
+  order = λ order h. no_bad_order ws deck jobs (Some given) have has_name once order
+      (of_rows ws deck jobs (Some given) have has_name once (λ name rs. IsOrderOf name rs order) h.1) bad;
+  fault = λ fault h. bad_or_memory ws deck jobs (Some given) have has_name once device is fault h;
 }
 
 -- AN OPTION THAT STANDS TWICE
 
-all_files_fit : (ws : List CardsWord) (seen : Seen) → FilesFit seen.deck seen.jobs (files_in ws) → AllFilesFit ws seen
-all_files_fit [] seen files = tt
-all_files_fit (file name ∷ ws) seen files =
+all_files_fit : (ws : List CardsWord) (seen : Seen) → FilesFit seen.deck seen.jobs (files_in ws) → NamesFit seen.name (names_in ws) → AllFilesFit ws seen
+all_files_fit [] seen files names = tt
+all_files_fit (file name ∷ ws) seen files names =
     let fits = file_fits seen.deck seen.jobs name (files_in ws) seen refl refl files in
-    (fits.0, all_files_fit ws (with_file seen.deck name seen) fits.1)
-all_files_fit (option printer ∷ ws) seen files = all_files_fit ws (with_option printer seen) files
-all_files_fit (option punch ∷ ws) seen files = all_files_fit ws (with_option punch seen) files
-all_files_fit (option transparent ∷ ws) seen files = all_files_fit ws (with_option transparent seen) files
+    (fits.0, all_files_fit ws (with_file seen.deck name seen) fits.1 (subst (λ o. NamesFit o (names_in ws)) (sym (file_unnamed seen.deck name seen)) names))
+all_files_fit (option printer ∷ ws) seen files names = all_files_fit ws (with_option printer seen) files names
+all_files_fit (option punch ∷ ws) seen files names = all_files_fit ws (with_option punch seen) files names
+all_files_fit (option transparent ∷ ws) seen files names = all_files_fit ws (with_option transparent seen) files names
+all_files_fit (named name ∷ ws) seen files names =
+    let fits = name_fits seen.name name (names_in ws) names in
+    ((fits.0, fits.1), all_files_fit ws (with_word (named name) seen) files fits.2)
 
 by_cases : {X : Type 0} (b : Bool) → (b ≡ true → X) → (b ≡ false → X) → X
 by_cases true here there = here refl
@@ -289,9 +393,15 @@ not_both : (b : Bool) → b ≡ true → b ≡ false → ⊥
 not_both true t f = cc
 not_both false t f = cc
 
+unnamed : (name : Text) (o : DeviceOption) (seen : Seen) → is_seen o (with_word (named name) seen) ≡ is_seen o seen
+unnamed name printer seen = refl
+unnamed name punch seen = refl
+unnamed name transparent seen = refl
+
 among_repeats : (ws : List CardsWord) (seen : Seen) (o : DeviceOption) → is_seen o seen ≡ true → is_among o ws ≡ true → Repeats ws seen
 among_repeats [] seen o s e = cc
 among_repeats (file name ∷ ws) seen o s e = among_repeats ws (with_file seen.deck name seen) o (file_unseen o seen.deck name seen ∙ s) e
+among_repeats (named name ∷ ws) seen o s e = among_repeats ws (with_word (named name) seen) o (unnamed name o seen ∙ s) e
 among_repeats (option given ∷ ws) seen o s e = by_cases (is_seen given seen) (λ t. inl t) (λ f. inr (
   f,
   among_repeats ws (with_option given seen) o
@@ -302,6 +412,7 @@ among_repeats (option given ∷ ws) seen o s e = by_cases (is_seen given seen) (
 some_repeat : (ws : List CardsWord) (seen : Seen) → has_each_once ws ≡ false → Repeats ws seen
 some_repeat [] seen e = cc
 some_repeat (file name ∷ ws) seen e = some_repeat ws (with_file seen.deck name seen) e
+some_repeat (named name ∷ ws) seen e = some_repeat ws (with_word (named name) seen) e
 some_repeat (option o ∷ ws) seen e = by_cases (is_seen o seen) (λ t. inl t) (λ f. inr (
   f,
   by_cases (is_among o ws)
@@ -309,26 +420,27 @@ some_repeat (option o ∷ ws) seen e = by_cases (is_seen o seen) (λ t. inl t) (
       (λ n. some_repeat ws (with_option o seen) (and_rest (is_among o ws) (has_each_once ws) e n)),
 ))
 
-module _ (ws : List CardsWord) (deck jobs : Text) (have : HaveFiles ws deck jobs) (twice : has_each_once ws ≡ false) where
-  conflicts : fault_of rje_app (codes "cards" ∷ map text_of ws) ≡ ArgumentConflict ∷ []
+module _ (ws : List CardsWord) (deck jobs : Text) (given : Option Text) (have : HaveFiles ws deck jobs) (has_name : HaveName ws given) (twice : has_each_once ws ≡ false) where
+  conflicts : fault_of rje_app (codes "cards" ∷ flat_map texts_of ws) ≡ ArgumentConflict ∷ []
   conflicts =
-      cards_fault (map text_of ws)
-      ∙ level_conflicts ws (all_files_fit ws nothing_seen (subst (FilesFit None None) (sym have.both) (have.is_deck, have.is_job_file))) (some_repeat ws nothing_seen twice)
+      cards_fault (flat_map texts_of ws)
+      ∙ level_conflicts ws (all_files_fit ws nothing_seen (subst (FilesFit None None) (sym have.both) (have.is_deck, have.is_job_file)) (names_fit ws given has_name).0) (some_repeat ws nothing_seen twice)
 
-  faulty : fault_of rje_app (codes "cards" ∷ map text_of ws) ≡ [] → ⊥
+  faulty : fault_of rje_app (codes "cards" ∷ flat_map texts_of ws) ≡ [] → ⊥
   faulty none = let e : ArgumentConflict ∷ [] ≡ [] = sym conflicts ∙ none in cc
 
-  told_twice : (fault : WordsFault) → IsTold (codes "cards" ∷ map text_of ws) fault → IsRefusedFor ArgumentConflict fault ⊎ IsWantOfMemory fault
+  told_twice : (fault : WordsFault) → IsTold (codes "cards" ∷ flat_map texts_of ws) fault → IsRefusedFor ArgumentConflict fault ⊎ IsWantOfMemory fault
   told_twice (Refused error) h = elim (subst (λ kinds. HasKind kinds error) conflicts h) [
     | inl memory ↦ inr memory
     | inr (inl is) ↦ inl is
     | inr (inr none) ↦ absurd none
   ]
   told_twice TwoDevices h = absurd (faulty h.0)
+  told_twice BadName h = absurd (faulty h.0)
   told_twice BadAddress h = absurd (faulty h.0)
 
 pub repeated_refused : RepeatedRefused
-repeated_refused ws deck jobs have twice = record {
-  order = λ order h. faulty ws deck jobs have twice h.0;
-  fault = told_twice ws deck jobs have twice;
+repeated_refused ws deck jobs given have has_name twice = record {
+  order = λ order h. faulty ws deck jobs given have has_name twice h.0;
+  fault = told_twice ws deck jobs given have has_name twice;
 }

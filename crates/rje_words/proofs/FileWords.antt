@@ -15,7 +15,7 @@ use Rattle.rje_words.specs.declared.order.FileOrder.TheVariants.{Blocks, Show, C
 use Rattle.rje_words.specs.declared.order.SocketOrder.{SocketOrder}
 use Rattle.rje_words.specs.declared.order.SocketOrder.TheVariants.{Loop, Send, Receive}
 use Rattle.rje_words.specs.declared.words_fault.WordsFault.{WordsFault}
-use Rattle.rje_words.specs.declared.words_fault.WordsFault.TheVariants.{Refused, TwoDevices, BadAddress}
+use Rattle.rje_words.specs.declared.words_fault.WordsFault.TheVariants.{Refused, TwoDevices, BadName, BadAddress}
 use Rattle.rje_words.specs.Asking.{AsksFor, IsFaultOf, IsOrderOf, IsTold, word_in}
 use Rattle.rje_words.specs.Canonical.{AskOnlyFor, BlocksAsked, ShowAsked, CheckAsked, PrintAsked, TryAsked}
 use Rattle.rje_words.specs.CommandLine.{rje_app, is_file, is_name}
@@ -40,16 +40,20 @@ pub memory_only : (error : Error) → HasKind [] error → IsWantOfMemory (Refus
 memory_only error (inl h) = h
 memory_only error (inr h) = absurd h
 
+pub apart : (a b : Text) → a ≡ b → bytes_eq a b ≡ false → ⊥
+apart a b e h = true≢false (sym ((bytes_eq-Decides a b).1 e) ∙ h)
+
 -- words of which clap finds no fault, and what is seen of the command that they name
 pub record AreTaken {V : Type 0} (view : List Row → V) (words : List Text) (name : Text) (value : V) : Type 0 where
   pub faultless : fault_of rje_app words ≡ []
   pub found : seen view (subcommand_of rje_app words) ≡ Some (name, value)
 
 module _ {V : Type 0} (view : List Row → V) (word : Text) (words : List Text) (name : Text) (value : V) (taken : AreTaken view (word ∷ words) name value) where
-  pub only_memory : ((rows : List Row) → view rows ≡ value → IsFaultOf name rows TwoDevices → ⊥) → ((rows : List Row) → IsFaultOf name rows BadAddress → ⊥)
+  pub only_memory : (bytes_eq name (codes "cards") ≡ false) → ((rows : List Row) → IsFaultOf name rows BadAddress → ⊥)
       → (fault : WordsFault) → IsTold (word ∷ words) fault → IsWantOfMemory fault
   only_memory two bad (Refused error) h = memory_only error (subst (λ kinds. HasKind kinds error) taken.faultless h)
-  only_memory two bad TwoDevices h = let r = as_seen view _ name value (λ n rows. IsFaultOf n rows TwoDevices) taken.found h.1 in absurd (two r.0 r.1 r.2)
+  only_memory two bad TwoDevices h = let r = as_seen view _ name value (λ n rows. IsFaultOf n rows TwoDevices) taken.found h.1 in absurd (apart _ _ r.2.0 two)
+  only_memory two bad BadName h = let r = as_seen view _ name value (λ n rows. IsFaultOf n rows BadName) taken.found h.1 in absurd (apart _ _ r.2.0 two)
   only_memory two bad BadAddress h = let r = as_seen view _ name value (λ n rows. IsFaultOf n rows BadAddress) taken.found h.1 in absurd (bad r.0 r.2)
 
   pub only_order : (P : Order → Type 0) → ((rows : List Row) → view rows ≡ value → (order : Order) → IsOrderOf name rows order → P order)
@@ -191,9 +195,6 @@ try_taken (c ∷ cs) (d ∷ ds) h k = try_names_taken c d cs ds (not_false (c ==
 
 -- WHAT THE WORDS ASK FOR
 
-pub apart : (a b : Text) → a ≡ b → bytes_eq a b ≡ false → ⊥
-apart a b e h = true≢false (sym ((bytes_eq-Decides a b).1 e) ∙ h)
-
 pub no_socket : (name : Text) (rows : List Row) (order : SocketOrder) → bytes_eq name (codes "loop") ≡ false → bytes_eq name (codes "send") ≡ false
     → bytes_eq name (codes "receive") ≡ false → IsOrderOf name rows (Sockets order) → ⊥
 no_socket name rows (Loop order) loop send receive h = apart _ _ h.0 loop
@@ -226,9 +227,6 @@ try_read jobs script rows e (Files (Try order)) h = (h.1.jobs ∙ ap (λ f. f.jo
 try_read jobs script rows e (Files _) h = absurd (apart _ _ h.0 refl)
 try_read jobs script rows e (Sockets order) h = absurd (no_socket (codes "try") rows order refl refl refl h)
 
-no_devices : (name : Text) (rows : List Row) → bytes_eq name (codes "cards") ≡ false → IsFaultOf name rows TwoDevices → ⊥
-no_devices name rows ne h = apart _ _ h.0 ne
-
 pub no_address : (name : Text) (rows : List Row) → bytes_eq name (codes "send") ≡ false → bytes_eq name (codes "receive") ≡ false → IsFaultOf name rows BadAddress → ⊥
 no_address name rows ne ne' (inl e) = apart _ _ e.0 ne
 no_address name rows ne ne' (inr e) = apart _ _ e.0 ne'
@@ -239,7 +237,7 @@ module _ {V : Type 0} (view : List Row → V) (word : Text) (words : List Text) 
       → ((rows : List Row) → view rows ≡ value → (order : Order) → IsOrderOf name rows order → P order) → AskOnlyFor (word ∷ words) P
   ask_only none found cards send receive reads = let taken : AreTaken view (word ∷ words) name value = record { faultless = none; found = found } in record {
     order = only_order view word words name value taken P reads;
-    fault = only_memory view word words name value taken (λ rows e. no_devices name rows cards) (λ rows. no_address name rows send receive);
+    fault = only_memory view word words name value taken cards (λ rows. no_address name rows send receive);
   }
 
 pub blocks_asked : BlocksAsked

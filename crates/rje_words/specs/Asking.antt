@@ -1,9 +1,10 @@
 -- What words ask for (own profile): clap finds a command's name and its rows, and these are read.
-use Rattle.std.specs.Prelude.{◌≡◌, ◌<◌, ◌^◌, ◌⊎◌, ℕ, Bool, false, List, [], ◌∷◌, Option, None, Some, codes, unwrap_or}
+use Rattle.std.specs.Prelude.{◌≡◌, ◌≢◌, ◌<◌, ◌^◌, ◌⊎◌, ℕ, Bool, false, List, [], ◌∷◌, Option, None, Some, codes, unwrap_or}
 use Rattle.std.specs.Option.{IsSomeAnd, option_map_or}
 use Rattle.std.specs.Str.{bytes_eq}
 use Rattle.std.specs.Str.Parse.{IsNumeral, digits_value, without_leading_plus}
 use Rattle.clap.specs.Words.{HasKind, Row, Text, fault_of, first_of, one_of, subcommand_of}
+use Rattle.rje_jobs.specs.Entry.{IsNameOf, blank_name}
 use Rattle.rje_words.specs.declared.device.Device.{Device}
 use Rattle.rje_words.specs.declared.order.CardsOrder.{CardsOrder}
 use Rattle.rje_words.specs.declared.order.LoopOrder.{LoopOrder}
@@ -14,7 +15,7 @@ use Rattle.rje_words.specs.declared.order.SocketOrder.TheVariants.{Loop, Send, R
 use Rattle.rje_words.specs.declared.order.PeerOrder.{PeerOrder}
 use Rattle.rje_words.specs.declared.order.TryOrder.{TryOrder}
 use Rattle.rje_words.specs.declared.words_fault.WordsFault.{WordsFault}
-use Rattle.rje_words.specs.declared.words_fault.WordsFault.TheVariants.{Refused, TwoDevices, BadAddress}
+use Rattle.rje_words.specs.declared.words_fault.WordsFault.TheVariants.{Refused, TwoDevices, BadName, BadAddress}
 use Rattle.rje_words.specs.Address.{IsAddressOf}
 use Rattle.rje_words.specs.CommandLine.{rje_app}
 use Rattle.rje_words.specs.Device.{chosen}
@@ -32,11 +33,23 @@ is_on id rows = option_map_or (λ text. bytes_eq text (codes "true")) (one_of id
 abbrev pub device_in : List Row → Option Device
 device_in rows = chosen (is_on (codes "printer") rows) (is_on (codes "punch") rows) (is_on (codes "transparent") rows)
 
--- the order has the deck, the job file and the device that were found
+-- the name of a job, by the text that was found for it: blanks where none was, and none where the text isn't one
+abbrev pub IsGivenName : Option Text → Option Text → Type 0
+IsGivenName None name = name ≡ Some blank_name
+IsGivenName (Some text) name = IsNameOf text name
+
+-- the order has the deck, the job file, the device and the name that were found
 pub record IsCardsOrderOf (rows : List Row) (order : CardsOrder) : Type 0 where
   pub deck : order.deck.now ≡ word_in (codes "DECK") rows
   pub jobs : order.jobs.now ≡ word_in (codes "JOBS") rows
   pub device : device_in rows ≡ Some order.device
+  pub name : IsGivenName (first_of (codes "name") rows) (Some order.name)
+
+-- the options that were found choose two devices, or they choose one and the name is none
+abbrev pub IsCardsFaultOf : List Row → WordsFault → Type 0
+IsCardsFaultOf rows TwoDevices = device_in rows ≡ None
+IsCardsFaultOf rows BadName = (device_in rows ≢ None) × IsGivenName (first_of (codes "name") rows) None
+IsCardsFaultOf rows _ = ⊥
 
 -- the order has the job file and the script that were found
 pub record IsTryOrderOf (rows : List Row) (order : TryOrder) : Type 0 where
@@ -74,7 +87,8 @@ IsOrderOf name rows (Sockets (Receive order)) = (name ≡ codes "receive") × Is
 -- the values that were found for the command of this name are none that can be carried out
 abbrev pub IsFaultOf : Text → List Row → WordsFault → Type 0
 IsFaultOf name rows (Refused error) = ⊥
-IsFaultOf name rows TwoDevices = (name ≡ codes "cards") × (device_in rows ≡ None)
+IsFaultOf name rows TwoDevices = (name ≡ codes "cards") × IsCardsFaultOf rows TwoDevices
+IsFaultOf name rows BadName = (name ≡ codes "cards") × IsCardsFaultOf rows BadName
 IsFaultOf name rows BadAddress =
     ((name ≡ codes "send") × IsAddressOf (word_in (codes "to") rows) None) ⊎ ((name ≡ codes "receive") × IsAddressOf (word_in (codes "listen") rows) None)
 
@@ -87,8 +101,8 @@ abbrev pub AsksFor : List Text → Order → Type 0
 AsksFor [] order = IsBlocks (codes "-") order
 AsksFor (word ∷ words) order = IsFound (word ∷ words) (λ name rows. IsOrderOf name rows order)
 
--- this is why the words ask for nothing that can be done: clap refuses them, memory ran out, or they choose two devices or an address
--- that is none
+-- this is why the words ask for nothing that can be done: clap refuses them, memory ran out, or they choose two devices, or a name
+-- or an address that is none
 abbrev pub IsTold : List Text → WordsFault → Type 0
 IsTold [] fault = ⊥
 IsTold words (Refused error) = HasKind (fault_of rje_app words) error

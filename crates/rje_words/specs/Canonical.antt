@@ -1,13 +1,15 @@
 -- What canonical words ask for (own profile).
-use Rattle.std.specs.Prelude.{◌≡◌, ◌⊎◌, true, false, List, [], ◌∷◌, None, Some, codes, map}
+use Rattle.std.specs.Prelude.{◌≡◌, ◌⊎◌, true, false, List, [], ◌∷◌, None, Some, Option, codes}
+use Rattle.std.specs.List.{flat_map}
 use Rattle.clap.specs.Words.{Text}
 use Rattle.clap.specs.declared.error.kind.ErrorKind.TheVariants.{ArgumentConflict}
+use Rattle.rje_jobs.specs.Entry.{IsNameOf}
 use Rattle.rje_words.specs.declared.device.Device.{Device}
 use Rattle.rje_words.specs.declared.order.Order.{Order}
 use Rattle.rje_words.specs.declared.words_fault.WordsFault.{WordsFault}
-use Rattle.rje_words.specs.declared.words_fault.WordsFault.TheVariants.{TwoDevices}
-use Rattle.rje_words.specs.Asking.{AsksFor, IsTold}
-use Rattle.rje_words.specs.CardsWords.{CardsWord, HaveFiles, device_among, has_each_once, text_of}
+use Rattle.rje_words.specs.declared.words_fault.WordsFault.TheVariants.{TwoDevices, BadName}
+use Rattle.rje_words.specs.Asking.{AsksFor, IsGivenName, IsTold}
+use Rattle.rje_words.specs.CardsWords.{CardsWord, HaveFiles, HaveName, device_among, has_each_once, texts_of}
 use Rattle.rje_words.specs.CommandLine.{is_file, is_name}
 use Rattle.rje_words.specs.Orders.{IsBlocks, IsCards, IsShow, IsCheck, IsPrint, IsTry}
 use Rattle.rje_words.specs.WordsFault.{IsRefusedFor, IsWantOfMemory}
@@ -38,12 +40,13 @@ abbrev pub TryAsked : Type 0
 TryAsked =
     (jobs script : Text) → is_name jobs ≡ true → is_name script ≡ true → AskOnlyFor (codes "try" ∷ jobs ∷ script ∷ []) (IsTry jobs script)
 
--- `cards` with a deck, a job file and options for a device among them, each at most once, asks for a job file of this deck for the device
--- that the options choose
+-- `cards` with a deck, a job file, options for a device and a name among them, each at most once, asks for a job file of this deck for the
+-- device that the options choose, with this name
 abbrev pub CardsAsked : Type 0
 CardsAsked =
-    (words : List CardsWord) (deck jobs : Text) (device : Device) → HaveFiles words deck jobs → has_each_once words ≡ true → device_among words ≡ Some device
-    → AskOnlyFor (codes "cards" ∷ map text_of words) (IsCards deck jobs device)
+    (words : List CardsWord) (deck jobs : Text) (given : Option Text) (device : Device) (name : Text) → HaveFiles words deck jobs → HaveName words given
+    → has_each_once words ≡ true → device_among words ≡ Some device → IsGivenName given (Some name)
+    → AskOnlyFor (codes "cards" ∷ flat_map texts_of words) (IsCards deck jobs device name)
 
 -- the words ask for no order, and nothing is told of them but such a fault, or want of memory
 pub record TellOnly (words : List Text) (IsOne : WordsFault → Type 0) : Type 0 where
@@ -53,11 +56,18 @@ pub record TellOnly (words : List Text) (IsOne : WordsFault → Type 0) : Type 0
 -- where they choose more than one device, this is told
 abbrev pub TwoDevicesTold : Type 0
 TwoDevicesTold =
-    (words : List CardsWord) (deck jobs : Text) → HaveFiles words deck jobs → has_each_once words ≡ true → device_among words ≡ None
-    → TellOnly (codes "cards" ∷ map text_of words) (λ fault. fault ≡ TwoDevices)
+    (words : List CardsWord) (deck jobs : Text) (given : Option Text) → HaveFiles words deck jobs → HaveName words given → has_each_once words ≡ true
+    → device_among words ≡ None → TellOnly (codes "cards" ∷ flat_map texts_of words) (λ fault. fault ≡ TwoDevices)
 
--- where an option stands twice, clap refuses the words
+-- where they choose one device, and the name is none, this is told
+abbrev pub BadNameTold : Type 0
+BadNameTold =
+    (words : List CardsWord) (deck jobs given : Text) (device : Device) → HaveFiles words deck jobs → HaveName words (Some given)
+    → has_each_once words ≡ true → device_among words ≡ Some device → IsNameOf given None
+    → TellOnly (codes "cards" ∷ flat_map texts_of words) (λ fault. fault ≡ BadName)
+
+-- where an option for a device stands twice, clap refuses the words
 abbrev pub RepeatedRefused : Type 0
 RepeatedRefused =
-    (words : List CardsWord) (deck jobs : Text) → HaveFiles words deck jobs → has_each_once words ≡ false
-    → TellOnly (codes "cards" ∷ map text_of words) (IsRefusedFor ArgumentConflict)
+    (words : List CardsWord) (deck jobs : Text) (given : Option Text) → HaveFiles words deck jobs → HaveName words given → has_each_once words ≡ false
+    → TellOnly (codes "cards" ∷ flat_map texts_of words) (IsRefusedFor ArgumentConflict)

@@ -1,5 +1,5 @@
--- The words behind `cards`: two files and options for a device, in any order (own profile).
-use Rattle.std.specs.Prelude.{◌≡◌, Bool, false, true, not, ◌||◌, ◌&&◌, List, [], ◌∷◌, Option, codes}
+-- The words behind `cards`: two files, options for a device and a name, in any order (own profile).
+use Rattle.std.specs.Prelude.{◌≡◌, Bool, false, true, not, ◌||◌, ◌&&◌, List, [], ◌∷◌, Option, None, Some, codes}
 use Rattle.clap.specs.Words.{Text}
 use Rattle.rje_words.specs.declared.device.Device.{Device}
 use Rattle.rje_words.specs.CommandLine.{is_file, is_name}
@@ -11,23 +11,37 @@ pub data DeviceOption : Type 0 where
   punch : DeviceOption
   transparent : DeviceOption
 
--- a word behind `cards`
+-- a word behind `cards`, or the two that give a name
 pub data CardsWord : Type 0 where
   file : Text → CardsWord
   option : DeviceOption → CardsWord
+  named : Text → CardsWord
 
--- the word as it is written
-abbrev pub text_of : CardsWord → Text
-text_of (file name) = name
-text_of (option printer) = codes "--printer"
-text_of (option punch) = codes "--punch"
-text_of (option transparent) = codes "--transparent"
+-- the option as it is written
+abbrev pub option_text : DeviceOption → Text
+option_text printer = codes "--printer"
+option_text punch = codes "--punch"
+option_text transparent = codes "--transparent"
+
+-- the word, or the two, as they are written
+abbrev pub texts_of : CardsWord → List Text
+texts_of (file name) = name ∷ []
+texts_of (option o) = option_text o ∷ []
+texts_of (named name) = codes "--name" ∷ name ∷ []
 
 -- the files among the words, in their order
 abbrev pub files_in : List CardsWord → List Text
 files_in [] = []
 files_in (file name ∷ words) = name ∷ files_in words
 files_in (option o ∷ words) = files_in words
+files_in (named name ∷ words) = files_in words
+
+-- the names among the words, in their order
+abbrev pub names_in : List CardsWord → List Text
+names_in [] = []
+names_in (file name ∷ words) = names_in words
+names_in (option o ∷ words) = names_in words
+names_in (named name ∷ words) = name ∷ names_in words
 
 -- whether two options are the same
 abbrev pub is_same : DeviceOption → DeviceOption → Bool
@@ -41,12 +55,14 @@ abbrev pub is_among : DeviceOption → List CardsWord → Bool
 is_among o [] = false
 is_among o (file name ∷ words) = is_among o words
 is_among o (option given ∷ words) = is_same given o || is_among o words
+is_among o (named name ∷ words) = is_among o words
 
 -- no option stands twice among the words
 abbrev pub has_each_once : List CardsWord → Bool
 has_each_once [] = true
 has_each_once (file name ∷ words) = has_each_once words
 has_each_once (option o ∷ words) = not (is_among o words) && has_each_once words
+has_each_once (named name ∷ words) = has_each_once words
 
 -- the device that the options among the words choose: none where there is more than one
 abbrev pub device_among : List CardsWord → Option Device
@@ -57,3 +73,8 @@ pub record HaveFiles (words : List CardsWord) (deck jobs : Text) : Type 0 where
   pub both : files_in words ≡ deck ∷ jobs ∷ []
   pub is_deck : is_file deck ≡ true
   pub is_job_file : is_name jobs ≡ true
+
+-- the names among the words are just this one, which has no hyphen in front, or there is none
+abbrev pub HaveName : List CardsWord → Option Text → Type 0
+HaveName words None = names_in words ≡ []
+HaveName words (Some name) = (names_in words ≡ name ∷ []) × (is_name name ≡ true)

@@ -29,6 +29,10 @@ flag_rule id = record (new_rule id) { long = Some id; action = Some SetTrue }
 abbrev pub address_rule : Text → Rule
 address_rule id = record (file_rule id) { long = Some id; value_names = 1 }
 
+-- the option for the name of a job
+abbrev pub name_rule : Rule
+name_rule = record (new_rule (codes "name")) { long = Some (codes "name"); value_names = 1; action = Some Set }
+
 -- the option for how long a hearing waits, in milliseconds
 abbrev pub timeout_rule : Rule
 timeout_rule = record (new_rule (codes "timeout")) {
@@ -47,11 +51,11 @@ file_app name id = with_rule (new_app name) (file_rule id)
 abbrev pub blocks_app : App
 blocks_app = file_app (codes "blocks") (codes "DECK")
 
--- `cards DECK JOBS`, with the options for the device
+-- `cards DECK JOBS`, with the options for the device and the job's name
 abbrev pub cards_app : App
 cards_app =
-    with_rule (with_rule (with_rule (with_rule (file_app (codes "cards") (codes "DECK"))
-    (file_rule (codes "JOBS"))) (flag_rule (codes "printer"))) (flag_rule (codes "punch"))) (flag_rule (codes "transparent"))
+    with_rule (with_rule (with_rule (with_rule (with_rule (file_app (codes "cards") (codes "DECK"))
+    (file_rule (codes "JOBS"))) (flag_rule (codes "printer"))) (flag_rule (codes "punch"))) (flag_rule (codes "transparent"))) name_rule
 
 -- the program: its words hold no name of the program, and a command is required
 abbrev pub rje_top : App

@@ -11,10 +11,11 @@ abbrev pub IsBlocks : Text → Order → Type 0
 IsBlocks deck (Files (Blocks named)) = named.now ≡ deck
 IsBlocks deck _ = ⊥
 
--- the order is for a file of this name, of the job of this deck for this device
-abbrev pub IsCards : Text → Text → Device → Order → Type 0
-IsCards deck jobs device (Files (Cards order)) = (order.deck.now ≡ deck) × (order.jobs.now ≡ jobs) × (order.device ≡ device)
-IsCards deck jobs device _ = ⊥
+-- the order is for a file of this name, of the job of this deck for this device, with this name
+abbrev pub IsCards : Text → Text → Device → Text → Order → Type 0
+IsCards deck jobs device name (Files (Cards order)) =
+    (order.deck.now ≡ deck) × (order.jobs.now ≡ jobs) × (order.device ≡ device) × (order.name ≡ name)
+IsCards deck jobs device name _ = ⊥
 
 -- the order is to show the jobs of this file
 abbrev pub IsShow : Text → Order → Type 0

@@ -1,6 +1,6 @@
 //! What words promise beyond the calls: laws of the definitions that `parse` cites.
 ghost use Rattle.rje_words.specs.Canonical.{BlocksAsked, ShowAsked, CheckAsked, PrintAsked};
-ghost use Rattle.rje_words.specs.Canonical.{TryAsked, CardsAsked, TwoDevicesTold, RepeatedRefused};
+ghost use Rattle.rje_words.specs.Canonical.{TryAsked, CardsAsked, TwoDevicesTold, BadNameTold, RepeatedRefused};
 
 /// A command's name and the files that it takes, in their order, ask for this command over these
 /// files: nothing is told of them but want of memory. A file's word has no hyphen in front; a deck
@@ -14,10 +14,12 @@ pub fn words_ask_for_orders()
 {}
 
 /// `cards` with a deck, a job file and options among them, in any order and each option at most
-/// once, asks for a job file of the deck for the device that the options choose. Where they choose
-/// more than one, that is told; an option that stands twice is refused.
+/// once, asks for a job file of the deck for the device that the options choose, with the name that
+/// is given. Where they choose more than one device, that is told, and else where the name is none;
+/// an option for a device that stands twice is refused.
 pub fn options_choose_the_device()
     ensures cards { CardsAsked }
     ensures two_devices { TwoDevicesTold }
+    ensures bad_name { BadNameTold }
     ensures repeated { RepeatedRefused }
 {}

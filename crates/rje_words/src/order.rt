@@ -1,5 +1,6 @@
 //! What the words of the command line ask for.
 use crate::device::Device;
+use rje_jobs::JobName;
 use std::net::SocketAddr;
 
 /// What the words ask for.
@@ -48,6 +49,8 @@ pub struct CardsOrder<'a> {
     pub jobs: &'a str,
     /// The device of the deck's job.
     pub device: Device,
+    /// The name of the deck's job: blanks where it has none.
+    pub name: JobName,
 }
 
 /// What `try` is asked for.

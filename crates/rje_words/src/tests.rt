@@ -19,6 +19,7 @@ fn assert_cards(rt: &(impl Abort + AllocGlobal), words: &[&str], device: Device)
         deck: "deck.txt",
         jobs: "jobs.rje",
         device,
+        name: *b"        ",
     };
     assert_order(rt, words, Order::Files(FileOrder::Cards(order)));
 }
@@ -167,4 +168,34 @@ fn other_words_are_refused(rt: HostRuntime) {
     );
     assert_refused(&rt, &["--help"], ErrorKind::DisplayHelp);
     assert_refused(&rt, &["help", "cards"], ErrorKind::DisplayHelp);
+}
+
+/// The name of the job that `cards` is asked for, where it is asked for one.
+fn name_of<'a>(rt: &impl AllocGlobal, words: &'a [&'a str]) -> Option<[u8; 8]> {
+    match parse(rt.alloc(), words) {
+        Ok(Order::Files(FileOrder::Cards(order))) => Some(order.name),
+        _ => None,
+    }
+}
+
+#[test]
+fn a_name_stands_among_the_other_words(rt: HostRuntime) {
+    let words = ["cards", "deck", "jobs"];
+    assert!(rt; name_of(&rt, &words) == Some(*b"        "));
+    let words = ["cards", "--name", "PAY1", "deck", "jobs"];
+    assert!(rt; name_of(&rt, &words) == Some(*b"PAY1    "));
+    let words = ["cards", "deck", "--punch", "--name=12345678", "jobs"];
+    assert!(rt; name_of(&rt, &words) == Some(*b"12345678"));
+    let words = ["cards", "deck", "jobs", "--name", "pay1"];
+    assert!(rt; matches!(parse(rt.alloc(), &words), Err(WordsFault::BadName)));
+    assert_refused(
+        &rt,
+        &["cards", "deck", "jobs", "--name", "A", "--name", "B"],
+        ErrorKind::ArgumentConflict,
+    );
+    assert_refused(
+        &rt,
+        &["cards", "deck", "jobs", "--name"],
+        ErrorKind::InvalidValue,
+    );
 }

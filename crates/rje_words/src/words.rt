@@ -3,9 +3,9 @@ ghost use Rattle.std.specs.Prelude.{◌≡◌, Some, map, codes, IfOk, IfErr, op
 ghost use Rattle.clap.specs.Words.{first_of, found_of, one_of, rows_of};
 ghost use Rattle.rje_words.specs.CommandLine.{IsOneOf, command_names};
 ghost use Rattle.rje_words.specs.Address.{IsAddressOf};
-ghost use Rattle.rje_words.specs.Asking.{AsksFor, IsTold, IsOrderOf, IsFaultOf, IsCardsOrderOf};
-ghost use Rattle.rje_words.specs.Asking.{IsLoopOrderOf, IsPeerOrderOf, IsTimeoutOf};
-ghost use Rattle.rje_words.specs.Asking.{word_in, is_on, device_in};
+ghost use Rattle.rje_words.specs.Asking.{AsksFor, IsTold, IsOrderOf, IsFaultOf, IsCardsOrderOf, IsCardsFaultOf};
+ghost use Rattle.rje_words.specs.Asking.{IsLoopOrderOf, IsPeerOrderOf, IsTimeoutOf, IsGivenName};
+ghost use Rattle.rje_words.specs.Asking.{word_in, is_on};
 
 mod app;
 
@@ -15,6 +15,7 @@ use crate::order::{CardsOrder, FileOrder, LoopOrder, Order, PeerOrder, SocketOrd
 use crate::words_fault::WordsFault;
 use app::program;
 use clap::ArgMatches;
+use rje_jobs::{JobName, NO_NAME, name_of};
 use std::alloc::Global;
 
 /// The deck that is standard input.
@@ -59,17 +60,34 @@ fn order_of<'a>(command: &str, matches: &ArgMatches<'a>) -> Result<Order<'a>, Wo
 
 fn cards_order<'a>(matches: &ArgMatches<'a>) -> Result<CardsOrder<'a>, WordsFault>
     ensures asked { IfOk result (IsCardsOrderOf (rows_of (found_of matches.now))) }
-    ensures told { IfErr result (λ fault. (fault ≡ WordsFault.TwoDevices)
-        × (device_in (rows_of (found_of matches.now)) ≡ None)) }
+    ensures told { IfErr result (IsCardsFaultOf (rows_of (found_of matches.now))) }
 {
     let deck = word(matches, "DECK");
     let jobs = word(matches, "JOBS");
     let printer = is_given(matches, "printer");
     let punch = is_given(matches, "punch");
     let transparent = is_given(matches, "transparent");
-    match Device::chosen(printer, punch, transparent) {
-        Some(device) => Ok(CardsOrder { deck, jobs, device }),
-        None => Err(WordsFault::TwoDevices),
+    let Some(device) = Device::chosen(printer, punch, transparent) else {
+        return Err(WordsFault::TwoDevices);
+    };
+    match name_in(matches) {
+        Some(name) => Ok(CardsOrder {
+            deck,
+            jobs,
+            device,
+            name,
+        }),
+        None => Err(WordsFault::BadName),
+    }
+}
+
+/// The name that was found for a job, which is blank where none was; None where it is none.
+fn name_in(matches: &ArgMatches) -> Option<JobName>
+    ensures { IsGivenName (first_of (codes "name") (rows_of (found_of matches.now))) result }
+{
+    match matches.get_str("name") {
+        Some(text) => name_of(text),
+        None => Some(NO_NAME),
     }
 }
 

@@ -15,6 +15,9 @@ pub enum WordsFault {
     /// More than one device for a deck's job.
     #[error("choose one device")]
     TwoDevices,
+    /// A name for a deck's job that isn't one to eight of A to Z and 0 to 9.
+    #[error("bad name")]
+    BadName,
     /// An address that is none.
     #[error("bad address")]
     BadAddress,

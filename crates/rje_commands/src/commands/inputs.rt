@@ -1,6 +1,6 @@
 //! What a command reads: a deck, or a job file.
 ghost use Rattle.std.specs.Prelude.{◌≡◌, IfOk, IfErr};
-ghost use Rattle.rje_jobs.specs.JobFile.{IsFileOf};
+ghost use Rattle.rje_jobs.specs.JobFile.{HasEntries, HasJobs};
 ghost use Rattle.rje_commands.specs.Commands.{OfDeck, OfFile};
 ghost use Rattle.rje_commands.specs.Inside.{IsReadFault, IsInputFault};
 ghost use Rattle.rje_commands.specs.Store.{Tells, IsSame};
@@ -8,7 +8,7 @@ ghost use Rattle.rje_commands.specs.Store.{Tells, IsSame};
 use crate::command_fault::CommandFault;
 use crate::reading::read_all;
 use crate::store::{Store, StoreFault};
-use rje_jobs::{Jobs, read_jobs};
+use rje_jobs::{Entry, Jobs, jobs_of, read_entries};
 use rje_words::STANDARD_INPUT;
 use std::alloc::Global;
 use std::io::Read;
@@ -54,19 +54,34 @@ pub fn read_file<'a, S: Store>(
     }
 }
 
-/// The jobs of a job file.
+/// The entries of a job file, of either version.
+pub fn read_entry_file<'a, S: Store>(
+    alloc: Global,
+    name: &'a str,
+    store: &mut S,
+) -> Result<Vec<Entry>, CommandFault<'a>>
+    ensures file { IfOk result (λ entries.
+        OfFile name.entry.now (S.files store.old) (λ file. HasEntries entries.items file)) }
+    ensures fault { IfErr result (IsInputFault name.entry.now (S.files store.old)) }
+    ensures same { Tells (S.files store.old) (S.files store.new) IsSame }
+{
+    let bytes = read_file(alloc, name, store)?;
+    Ok(read_entries(alloc, bytes.as_slice())?)
+}
+
+/// The jobs of a job file, of either version.
 pub fn read_job_file<'a, S: Store>(
     alloc: Global,
     name: &'a str,
     store: &mut S,
 ) -> Result<Jobs, CommandFault<'a>>
     ensures file { IfOk result (λ jobs.
-        OfFile name.entry.now (S.files store.old) (λ file. IsFileOf jobs file)) }
+        OfFile name.entry.now (S.files store.old) (λ file. HasJobs jobs file)) }
     ensures fault { IfErr result (IsInputFault name.entry.now (S.files store.old)) }
     ensures same { Tells (S.files store.old) (S.files store.new) IsSame }
 {
-    let bytes = read_file(alloc, name, store)?;
-    Ok(read_jobs(alloc, bytes.as_slice())?)
+    let entries = read_entry_file(alloc, name, store)?;
+    Ok(jobs_of(alloc, entries)?)
 }
 
 /// Why the input of this name isn't read.

@@ -1,8 +1,14 @@
-//! What a command prints.
-ghost use Rattle.std.specs.Prelude.{◌≡◌, OnOk, IfErr};
+//! What a command gives: to its output, and to a file.
+ghost use Rattle.std.specs.Prelude.{◌≡◌, ◌≤◌, length, OnOk, OnErr, IfErr};
+ghost use Rattle.std.specs.List.{flat_map};
+ghost use Rattle.rje_commands.specs.Inside.{IsWriteFault};
+ghost use Rattle.rje_commands.specs.Store.{Tells, IsSame, Sets};
 ghost use Rattle.std.specs.Io.KnownBytes.{Appends};
 
 use crate::command_fault::CommandFault;
+use crate::reading::MAX_INPUT;
+use crate::store::{Store, StoreFault};
+use rje_print::PrintedLine;
 use std::io::Write;
 
 /// Prints a text in one piece.
@@ -13,5 +19,39 @@ pub fn put<'a, O: Write>(text: &[u8], out: &mut O) -> Result<(), CommandFault<'a
     match out.write_all(text) {
         Ok(()) => Ok(()),
         Err(_) => Err(CommandFault::Output),
+    }
+}
+
+/// Prints lines, one after another.
+pub fn put_lines<'a, O: Write>(lines: &[PrintedLine], out: &mut O) -> Result<(), CommandFault<'a>>
+    ensures text { OnOk result (Appends (O.contents out.old) (O.contents out.new)
+        (flat_map (λ line. line.items) lines.now)) }
+    ensures fault { IfErr result (λ fault. fault ≡ CommandFault.Output) }
+{
+    for line in lines {
+        put(line.as_slice(), out)?;
+    }
+    Ok(())
+}
+
+/// Makes these bytes the file of this name, where they are no more than are read of a file.
+pub fn write_file<'a, S: Store>(
+    name: &'a str,
+    bytes: &[u8],
+    store: &mut S,
+) -> Result<(), CommandFault<'a>>
+    ensures sets { OnOk result (Tells (S.files store.old) (S.files store.new)
+        (Sets name.entry.now bytes.now)) }
+    ensures limit { OnOk result (length bytes.now ≤ MAX_INPUT) }
+    ensures fault { IfErr result (IsWriteFault name.entry.now) }
+    ensures same { OnErr result (Tells (S.files store.old) (S.files store.new) IsSame) }
+{
+    if MAX_INPUT < bytes.len() {
+        return Err(CommandFault::CannotWrite(name));
+    }
+    match store.write(name, bytes) {
+        Ok(()) => Ok(()),
+        Err(StoreFault::OutOfMemory) => Err(CommandFault::OutOfMemory),
+        Err(StoreFault::Failed) => Err(CommandFault::CannotWrite(name)),
     }
 }

@@ -5,10 +5,10 @@ ghost use Rattle.rje_commands.specs.Commands.{Does, IsFault};
 ghost use Rattle.rje_commands.specs.Store.{Tells, IsSame};
 
 use crate::command_fault::CommandFault;
-use crate::commands::inputs::read_job_file;
+use crate::commands::inputs::read_entry_file;
 use crate::commands::output::put;
 use crate::store::Store;
-use rje_print::jobs_text;
+use rje_print::entries_text;
 use std::alloc::{AllocError, Global};
 use std::io::Write;
 
@@ -26,8 +26,8 @@ pub fn show<'a, S: Store, O: Write>(
     ensures same { Tells (S.files store.old) (S.files store.new) IsSame }
     ensures silent { IfErr result (λ fault. fault ≢ CommandFault.Output → out.new ≡ out.old) }
 {
-    let jobs = read_job_file(alloc, name, store)?;
-    match jobs_text(alloc, jobs.as_slice()) {
+    let entries = read_entry_file(alloc, name, store)?;
+    match entries_text(alloc, entries.as_slice()) {
         Ok(text) => put(text.as_slice(), out),
         Err(AllocError) => Err(CommandFault::OutOfMemory),
     }

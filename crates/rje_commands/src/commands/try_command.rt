@@ -10,7 +10,7 @@ use crate::commands::inputs::read_file;
 use crate::commands::output::put;
 use crate::store::Store;
 use line_world::run;
-use rje_jobs::read_jobs;
+use rje_jobs::{jobs_of, read_entries};
 use rje_print::{read_script, run_text};
 use rje_words::TryOrder;
 use std::alloc::{AllocError, Global};
@@ -41,7 +41,8 @@ fn run_files<'a>(alloc: Global, file: &[u8], script: &[u8]) -> Result<Vec<u8>, C
     ensures text { IfOk result (λ text. IsRunText file.now script.now text.items) }
     ensures fault { IfErr result (IsTryFault file.now script.now) }
 {
-    let jobs = read_jobs(alloc, file)?;
+    let entries = read_entries(alloc, file)?;
+    let jobs = jobs_of(alloc, entries)?;
     let turns = read_script(alloc, script)?;
     let report = run(alloc, jobs.as_slice(), turns.as_slice())?;
     match run_text(alloc, jobs.len(), &report) {

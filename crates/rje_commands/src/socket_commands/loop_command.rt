@@ -5,10 +5,9 @@ ghost use Rattle.rje_station.specs.Sending.{outcome_of};
 ghost use Rattle.rje_commands.specs.Ending.{ending_of, loop_text};
 
 use crate::command_fault::CommandFault;
-use crate::commands::{put, read_job_file};
+use crate::commands::{put_lines, read_job_file};
 use crate::exchange::take_turns;
 use crate::socket_commands::Ending;
-use crate::socket_commands::ending::joined;
 use crate::socket_line::SocketLine;
 use crate::store::Store;
 use rje_print::{counted_text, handed_text, outcome_text};
@@ -34,7 +33,6 @@ pub fn loopback<'a, R: Net, S: Store, O: Write>(
         return Err(CommandFault::LineFailed);
     };
     loop_over(
-        alloc,
         &mut sender,
         &mut near,
         &mut receiver,
@@ -46,7 +44,6 @@ pub fn loopback<'a, R: Net, S: Store, O: Write>(
 
 /// Sends what the sender has to the receiver, each at its end of a line, and prints the lines of it, also after a fault of the line.
 fn loop_over<'a, N: Line, F: Line, O: Write>(
-    alloc: Global,
     sender: &mut SendingStation,
     near: &mut N,
     receiver: &mut ReceivingStation,
@@ -64,8 +61,7 @@ fn loop_over<'a, N: Line, F: Line, O: Write>(
         handed_text(receiver.jobs()),
         outcome_text(sender.outcome()),
     ];
-    let text = joined(alloc, &lines)?;
-    let printed = put(text.as_slice(), out);
+    let printed = put_lines(&lines, out);
     taken?;
     printed?;
     Ok(Ending::from(sender.outcome()))

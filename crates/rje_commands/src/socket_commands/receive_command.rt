@@ -1,18 +1,16 @@
 //! `receive`: one transmission from whoever connects, into a job file.
-ghost use Rattle.std.specs.Prelude.{◌≡◌, ◌⊎◌, ℕ, List, OnOk};
+ghost use Rattle.std.specs.Prelude.{◌≡◌, ◌⊎◌, List, OnOk};
 ghost use Rattle.rje_jobs.specs.declared.job.Job.{Job as Handed};
-ghost use Rattle.rje_jobs.specs.JobFile.{IsFileOf};
-ghost use Rattle.rje_commands.specs.Ending.{WritesJobs};
-ghost use Rattle.rje_commands.specs.Store.{Tells, Sets};
+ghost use Rattle.rje_commands.specs.Ending.{MakesJobFile, WritesJobs};
 
 use crate::command_fault::CommandFault;
-use crate::commands::put;
+use crate::commands::{put, write_file};
 use crate::exchange::{Left, receive_all};
 use crate::socket_commands::Ending;
 use crate::socket_line::SocketLine;
-use crate::store::{Store, StoreFault};
+use crate::store::Store;
 use crate::telling::tell;
-use rje_jobs::{Job, write_jobs};
+use rje_jobs::{Jobs, entries_of, write_entries};
 use rje_print::handed_text;
 use rje_station::{Line, ReceivingStation};
 use rje_words::PeerOrder;
@@ -79,8 +77,9 @@ fn received<'a, L: Line, S: Store, O: Write>(
 {
     let mut station = ReceivingStation::new(alloc)?;
     let left = receive_all(&mut station, line);
-    let written = write_job_file(alloc, station.jobs(), name, store);
-    let printed = put(handed_text(station.jobs()).as_slice(), out);
+    let handed = handed_text(station.jobs());
+    let written = write_job_file(alloc, Jobs::from(station.take()), name, store);
+    let printed = put(handed.as_slice(), out);
     let left = left?;
     written?;
     printed?;
@@ -90,19 +89,17 @@ fn received<'a, L: Line, S: Store, O: Write>(
     }
 }
 
+/// Makes the version 2 file of these jobs the file of this name.
 fn write_job_file<'a, S: Store>(
     alloc: Global,
-    jobs: &[Job],
+    jobs: Jobs,
     name: &'a str,
     store: &mut S,
 ) -> Result<(), CommandFault<'a>>
-    ensures file { OnOk result ((bytes : List ℕ) × IsFileOf jobs.now bytes
-        × Tells (S.files store.old) (S.files store.new) (Sets name.entry.now bytes)) }
+    ensures file { OnOk result
+        (MakesJobFile jobs name.entry.now (S.files store.old) (S.files store.new)) }
 {
-    let file = write_jobs(alloc, jobs)?;
-    match store.write(name, file.as_slice()) {
-        Ok(()) => Ok(()),
-        Err(StoreFault::OutOfMemory) => Err(CommandFault::OutOfMemory),
-        Err(StoreFault::Failed) => Err(CommandFault::CannotWrite(name)),
-    }
+    let entries = entries_of(alloc, jobs)?;
+    let file = write_entries(alloc, entries.as_slice())?;
+    write_file(name, file.as_slice(), store)
 }

@@ -1,25 +1,29 @@
-//! `send`: one transmission of a job file's jobs to a listening receiver.
-ghost use Rattle.std.specs.Prelude.{◌≡◌, length, IfOk, OnOk};
+//! `send`: one transmission of what is left of a job file to a listening receiver.
+ghost use Rattle.std.specs.Prelude.{◌≡◌, ◌⊎◌, length, IfOk, OnOk};
 ghost use Rattle.std.specs.Io.KnownBytes.{Appends};
+ghost use Rattle.rje_jobs.specs.Unsent.{IsLeft};
 ghost use Rattle.rje_station.specs.Sending.{outcome_of};
-ghost use Rattle.rje_commands.specs.Ending.{ending_of, sent_text};
+ghost use Rattle.rje_commands.specs.Commands.{OfFile};
+ghost use Rattle.rje_commands.specs.Ending.{ending_of, sent_text, MarksSent, SendsLeft, EndsSending};
+ghost use Rattle.rje_commands.specs.Store.{Tells, IsSame};
 
 use crate::command_fault::CommandFault;
-use crate::commands::{put, read_job_file};
+use crate::commands::{put_lines, read_file, write_file};
 use crate::exchange::send_all;
 use crate::socket_commands::Ending;
-use crate::socket_commands::ending::joined;
 use crate::socket_line::SocketLine;
 use crate::store::Store;
-use rje_jobs::Job;
+use crate::telling::tell;
+use rje_jobs::{Jobs, first_unsendable, read_entries, sent_file, unsent_jobs};
 use rje_print::{counted_text, outcome_text};
-use rje_station::{Line, SendingStation, StationFault};
+use rje_station::{Line, SendingStation};
 use rje_words::PeerOrder;
 use std::alloc::Global;
 use std::io::{self, Write};
 use std::net::{Net, SocketAddr, TcpStream};
 
-/// Sends the jobs of a job file to this address, and prints how many were counted and how it ended.
+/// Sends the jobs of a job file that were not sent to this address, marks those that were counted, and prints how many there are and how
+/// it ended.
 pub fn send<'a, R: Net, S: Store, O: Write>(
     rt: &R,
     alloc: Global,
@@ -27,11 +31,81 @@ pub fn send<'a, R: Net, S: Store, O: Write>(
     store: &mut S,
     out: &mut O,
 ) -> Result<Ending, CommandFault<'a>> {
-    let jobs = read_job_file(alloc, order.jobs, store)?;
+    let file = job_file(alloc, order.jobs, store)?;
+    let jobs = jobs_left(alloc, file.bytes.as_slice())?;
     let mut station = SendingStation::new(alloc, jobs.as_slice())?;
     match connected(rt, order.address, order.timeout) {
-        Ok(mut line) => send_over(alloc, &mut station, jobs.as_slice(), &mut line, out),
+        Ok(mut line) => transmit(alloc, &mut station, &file, &mut line, store, out),
         Err(_) => Err(CommandFault::LineFailed),
+    }
+}
+
+/// Sends over a line what is left of the job file of this name. Then, also after a fault of the line, marks in
+/// it what was counted, and prints how many of the jobs were counted and how it ended. Answers the exit status,
+/// and tells why it isn't 0.
+pub fn send_over<L: Line, S: Store, O: Write, E: Write>(
+    alloc: Global,
+    line: &mut L,
+    name: &str,
+    store: &mut S,
+    out: &mut O,
+    err: &mut E,
+) -> u8
+    ensures sent { (result ≡ 0) ⊎ (result ≡ 4) → EndsSending result name.now
+        (S.files store.old) (S.files store.new) (O.contents out.old) (O.contents out.new) }
+{
+    match sent(alloc, line, name, store, out) {
+        Ok(ending) => ending.status(),
+        Err(fault) => tell(&fault, err),
+    }
+}
+
+fn sent<'a, L: Line, S: Store, O: Write>(
+    alloc: Global,
+    line: &mut L,
+    name: &'a str,
+    store: &mut S,
+    out: &mut O,
+) -> Result<Ending, CommandFault<'a>>
+    ensures sent { IfOk result (λ ending. OfFile name.entry.now (S.files store.old) (λ file.
+        SendsLeft ending name.entry.now file (S.files store.old) (S.files store.new)
+        (O.contents out.old) (O.contents out.new))) }
+{
+    let file = job_file(alloc, name, store)?;
+    let jobs = jobs_left(alloc, file.bytes.as_slice())?;
+    let mut station = SendingStation::new(alloc, jobs.as_slice())?;
+    transmit(alloc, &mut station, &file, line, store, out)
+}
+
+/// A job file as it was read.
+#[derive(Drop)]
+struct JobFile<'a> {
+    name: &'a str,
+    bytes: Vec<u8>,
+}
+
+fn job_file<'a, S: Store>(
+    alloc: Global,
+    name: &'a str,
+    store: &mut S,
+) -> Result<JobFile<'a>, CommandFault<'a>>
+    ensures name { IfOk result (λ file. file.name.now ≡ name.entry.now) }
+    ensures bytes { IfOk result (λ file. OfFile name.entry.now (S.files store.old)
+        (λ read. file.bytes.items ≡ read)) }
+    ensures same { Tells (S.files store.old) (S.files store.new) IsSame }
+{
+    let bytes = read_file(alloc, name, store)?;
+    Ok(JobFile { name, bytes })
+}
+
+/// The jobs of a job file that were not sent, where all of them can be.
+fn jobs_left<'a>(alloc: Global, file: &[u8]) -> Result<Jobs, CommandFault<'a>>
+    ensures left { IfOk result (λ jobs. IsLeft file.now jobs) }
+{
+    let entries = read_entries(alloc, file)?;
+    match first_unsendable(entries.as_slice()) {
+        Some(number) => Err(CommandFault::BadJob(number)),
+        None => Ok(unsent_jobs(alloc, entries)?),
     }
 }
 
@@ -43,23 +117,47 @@ fn connected<R: Net>(
     SocketLine::new(TcpStream::connect(rt, address)?, timeout)
 }
 
-/// Sends what the station has over a line, and prints the lines of it, also after a fault of the line.
-fn send_over<'a, L: Line, O: Write>(
+/// Sends what the station has over a line, marks what was counted, and prints the lines of it.
+fn transmit<'a, L: Line, S: Store, O: Write>(
     alloc: Global,
     station: &mut SendingStation,
-    jobs: &[Job],
+    file: &JobFile<'a>,
     line: &mut L,
+    store: &mut S,
     out: &mut O,
 ) -> Result<Ending, CommandFault<'a>>
     ensures ended { IfOk result (λ ending. ending ≡ ending_of (outcome_of station.new)) }
     ensures printed { OnOk result (Appends (O.contents out.old) (O.contents out.new)
-        (sent_text station.new.counted (length jobs.now) (outcome_of station.new))) }
+        (sent_text station.new.counted (length station.old.jobs) (outcome_of station.new))) }
+    ensures marked { OnOk result (MarksSent file.now.bytes.items station.new.counted
+        file.now.name.now (S.files store.old) (S.files store.new)) }
 {
-    let sent: Result<(), StationFault> = send_all(station, line);
-    let counted = counted_text(station.counted(), jobs.len());
-    let text = joined(alloc, &[counted, outcome_text(station.outcome())])?;
-    let printed = put(text.as_slice(), out);
+    let given = station.jobs().len();
+    let sent = send_all(station, line);
+    let counted = station.counted();
+    let marked = mark_counted(alloc, file.bytes.as_slice(), counted, file.name, store);
+    let lines = [
+        counted_text(counted, given),
+        outcome_text(station.outcome()),
+    ];
+    let printed = put_lines(&lines, out);
     sent?;
+    marked?;
     printed?;
     Ok(Ending::from(station.outcome()))
+}
+
+/// Makes the file of this name that of the same entries as this file's, the first `counted` of those that were not Sent now Sent.
+fn mark_counted<'a, S: Store>(
+    alloc: Global,
+    file: &[u8],
+    counted: usize,
+    name: &'a str,
+    store: &mut S,
+) -> Result<(), CommandFault<'a>>
+    ensures marked { OnOk result (MarksSent file.now counted name.entry.now
+        (S.files store.old) (S.files store.new)) }
+{
+    let bytes = sent_file(alloc, file, counted)?;
+    write_file(name, bytes.as_slice(), store)
 }

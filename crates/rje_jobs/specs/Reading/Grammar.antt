@@ -1,7 +1,10 @@
 -- Job files from the front, byte by byte: a device of the proofs; no promise rests on this file.
 -- The file's grammar.
-use Rattle.std.specs.Prelude.{◌≡◌, ℕ, zero, suc, ◌+◌, ◌*◌, ◌<◌, ◌≤◌, Bool, true, ◌||◌, List, [], ◌∷◌, is_some, ◌==◌}
+use Rattle.std.specs.Prelude.{◌≡◌, ℕ, zero, suc, ◌+◌, ◌*◌, ◌<◌, ◌≤◌, Bool, true, false, ◌||◌, List, [], ◌∷◌, Option, Some, None, is_some, ◌==◌, if◌then◌else◌}
 use Rattle.rje_text.specs.Action.{action_of}
+use Rattle.rje_jobs.specs.declared.job_file.version.FileVersion.{FileVersion}
+use Rattle.rje_jobs.specs.declared.job_file.version.FileVersion.TheVariants.{First, Second}
+use Rattle.rje_jobs.specs.Entry.{may_stand}
 use Rattle.rje_jobs.specs.JobFile.{head}
 
 -- one byte that meets Good, and then what Rest says
@@ -40,21 +43,54 @@ abbrev pub Records : ℕ → (List ℕ → Type 0) → List ℕ → Type 0
 Records zero Rest xs = Rest xs
 Records (suc r) Rest xs = OneByte (λ a. is_action_byte a ≡ true) (λ a. AfterAction (Records r Rest)) xs
 
--- behind each of a job's first three bytes
-abbrev pub AfterWhole : (ℕ → List ℕ → Type 0) → List ℕ → Type 0
-AfterWhole Rest = Number 8 0 Rest
+-- n bytes more of a name, which has ended or not
+abbrev pub Name : ℕ → Bool → (List ℕ → Type 0) → List ℕ → Type 0
+Name zero ended Rest xs = Rest xs
+Name (suc n) ended Rest [] = ⊥
+Name (suc n) ended Rest (x ∷ xs) = (may_stand ended x ≡ true) × Name n (x == 0x20) Rest xs
 
-abbrev pub AfterMode : (ℕ → List ℕ → Type 0) → List ℕ → Type 0
-AfterMode Rest = OneByte (λ w. w < 2) (λ w. AfterWhole Rest)
+-- behind an entry's mode: whether it is whole, in version 1
+abbrev pub AfterMode : FileVersion → (List ℕ → Type 0) → List ℕ → Type 0
+AfterMode First Rest = OneByte (λ w. w < 2) (λ w. Rest)
+AfterMode Second Rest = Rest
 
-abbrev pub AfterSelect : (ℕ → List ℕ → Type 0) → List ℕ → Type 0
-AfterSelect Rest = OneByte (λ m. m < 2) (λ m. AfterMode Rest)
+abbrev pub AfterSelect : FileVersion → (List ℕ → Type 0) → List ℕ → Type 0
+AfterSelect version Rest = OneByte (λ m. m < 2) (λ m. AfterMode version Rest)
 
--- so many jobs, and nothing behind them
-abbrev pub Jobs : ℕ → List ℕ → Type 0
-Jobs zero xs = xs ≡ []
-Jobs (suc j) xs = OneByte (λ s. s < 3) (λ s. AfterSelect (λ r. Records r (Jobs j))) xs
+abbrev pub FromSelect : FileVersion → (List ℕ → Type 0) → List ℕ → Type 0
+FromSelect version Rest = OneByte (λ s. s < 3) (λ s. AfterSelect version Rest)
 
--- a whole file
-abbrev pub File : List ℕ → Type 0
-File xs = TheseBytes head (Number 8 0 Jobs) xs
+abbrev pub FromState : FileVersion → (List ℕ → Type 0) → List ℕ → Type 0
+FromState version Rest = OneByte (λ t. t < 4) (λ t. FromSelect version Rest)
+
+-- an entry's fields: its name and its state, in version 2, its selection, its mode
+abbrev pub Fields : FileVersion → (List ℕ → Type 0) → List ℕ → Type 0
+Fields First Rest = FromSelect First Rest
+Fields Second Rest = Name 8 false (FromState Second Rest)
+
+-- behind an entry's fields
+abbrev pub Counted : (ℕ → List ℕ → Type 0) → List ℕ → Type 0
+Counted Rest = Number 8 0 Rest
+
+-- so many entries, and nothing behind them
+abbrev pub Entries : FileVersion → ℕ → List ℕ → Type 0
+Entries version zero xs = xs ≡ []
+Entries version (suc j) xs = Fields version (Counted (λ r. Records r (Entries version j))) xs
+
+-- the version of this byte, if it is read
+abbrev pub version_read : FileVersion → ℕ → Option FileVersion
+version_read First byte = if byte == 1 then Some First else None
+version_read Second byte = if byte == 1 then Some First else (if byte == 2 then Some Second else None)
+
+-- behind a version's byte
+abbrev pub AfterVersion : Option FileVersion → List ℕ → Type 0
+AfterVersion None xs = ⊥
+AfterVersion (Some version) xs = Counted (Entries version) xs
+
+abbrev pub FromVersion : FileVersion → List ℕ → Type 0
+FromVersion newest [] = ⊥
+FromVersion newest (x ∷ xs) = AfterVersion (version_read newest x) xs
+
+-- a whole file of a version that is read
+abbrev pub File : FileVersion → List ℕ → Type 0
+File newest xs = TheseBytes head (FromVersion newest) xs

@@ -189,6 +189,7 @@ fn file_faults_have_their_texts(rt: HostRuntime) -> Result<(), Fail> {
             "job file has a bad field at byte 14",
         ),
         (FileFault::Trailing(28), "job file goes on at byte 28"),
+        (FileFault::BadEntry(3), "job file has a bad entry 3"),
         (FileFault::OutOfMemory, "out of memory"),
     ] {
         assert!(rt; format!(in rt.alloc(); "{fault}")?.as_str() == text);

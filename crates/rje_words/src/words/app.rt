@@ -1,7 +1,7 @@
 //! The command line that clap is told of.
 ghost use Rattle.std.specs.Prelude.{◌≡◌, codes, IfOk};
 ghost use Rattle.clap.specs.Words.{App, Rule, with_rule, with_subcommand};
-ghost use Rattle.rje_words.specs.CommandLine.{IsArg, IsApp, file_rule, flag_rule, address_rule};
+ghost use Rattle.rje_words.specs.CommandLine.{IsArg, IsApp, file_rule, flag_rule, name_rule, address_rule};
 ghost use Rattle.rje_words.specs.CommandLine.{timeout_rule, file_app, blocks_app, cards_app};
 ghost use Rattle.rje_words.specs.CommandLine.{try_app, loop_app, send_app, receive_app, rje_app};
 
@@ -124,7 +124,8 @@ fn cards<'a>(alloc: Global) -> Result<Command<'a>, AllocError>
         "transparent",
         "The job is for the punch, its cards filled to 80 bytes and sent as they are",
     );
-    with_arg(command, transparent)
+    let command = with_arg(command, transparent)?;
+    with_arg(command, name(alloc))
 }
 
 /// A command over a job file.
@@ -157,6 +158,16 @@ fn address<'a>(alloc: Global, id: &'a str, help: &'a str) -> Arg<'a>
     ensures { IsArg (address_rule id.entry.now) result }
 {
     file(alloc, id, help).long(id).value_name("ADDR")
+}
+
+fn name<'a>(alloc: Global) -> Arg<'a>
+    ensures { IsArg name_rule result }
+{
+    Arg::new(alloc, "name")
+        .long("name")
+        .value_name("NAME")
+        .action(ArgAction::Set)
+        .help("The job's name: one to eight of A to Z and 0 to 9")
 }
 
 fn timeout<'a>(alloc: Global) -> Arg<'a>

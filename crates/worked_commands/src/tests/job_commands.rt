@@ -14,6 +14,18 @@ type Written = ArrayVec<u8, 4096>;
 const FILE: &[u8] =
     b"RJ37\x00\x01\x00\x00\x00\x00\x00\x00\x00\x01\x00\x00\x01\x00\x00\x00\x00\x00\x00\x00\x01\x00\x01\xC1";
 
+/// The version 2 file of that job, which waits to be sent, with this name.
+fn waiting(rt: &impl Abort, name: &[u8; 8]) -> Written {
+    text_of(
+        rt,
+        &[
+            b"RJ37\x00\x02\x00\x00\x00\x00\x00\x00\x00\x01",
+            name,
+            b"\x00\x00\x00\x00\x00\x00\x00\x00\x00\x00\x01\x00\x01\xC1",
+        ],
+    )
+}
+
 /// The status of the command of these words over these files and this input, and what it wrote.
 fn run(
     rt: &impl AllocGlobal,
@@ -76,12 +88,12 @@ fn one_job_is_made_shown_checked_and_printed(rt: HostRuntime) -> Result<(), Fail
     let mut store = MemoryStore::new(rt.alloc());
     store.write("deck", b"A\n")?;
     assert_prints(&rt, &["cards", "deck", "jobs"], &mut store, b"1 cards\n");
-    assert!(rt; store.read(rt.alloc(), "jobs")?.as_slice() == FILE);
+    assert!(rt; store.read(rt.alloc(), "jobs")?.as_slice() == waiting(&rt, b"        ").as_slice());
     assert_prints(
         &rt,
         &["show", "jobs"],
         &mut store,
-        b"1 unset normal whole 1 records\n",
+        b"1 unset normal waiting 1 records\n",
     );
     assert_prints(&rt, &["check", "jobs"], &mut store, b"good 1 jobs\n");
     assert_prints(&rt, &["print", "jobs"], &mut store, b"A\n");
@@ -95,12 +107,12 @@ fn each_device_has_its_option(rt: HostRuntime) -> Result<(), Fail> {
     for (option, line) in [
         (
             "--printer",
-            b"1 printer normal whole 2 records\n".as_slice(),
+            b"1 printer normal waiting 2 records\n".as_slice(),
         ),
-        ("--punch", b"1 punch normal whole 2 records\n".as_slice()),
+        ("--punch", b"1 punch normal waiting 2 records\n".as_slice()),
         (
             "--transparent",
-            b"1 punch transparent whole 2 records\n".as_slice(),
+            b"1 punch transparent waiting 2 records\n".as_slice(),
         ),
     ] {
         let words = ["cards", "deck", "jobs", option];
@@ -118,7 +130,7 @@ fn a_deck_may_be_the_input(rt: HostRuntime) -> Result<(), Fail> {
     let (status, out, _) = run(&rt, &["cards", "-", "jobs"], &mut store, b"A\n");
     assert!(rt; status == 0);
     assert!(rt; out.as_slice() == b"1 cards\n".as_slice());
-    assert!(rt; store.read(rt.alloc(), "jobs")?.as_slice() == FILE);
+    assert!(rt; store.read(rt.alloc(), "jobs")?.as_slice() == waiting(&rt, b"        ").as_slice());
     Ok(())
 }
 
@@ -129,6 +141,83 @@ fn two_devices_are_refused_before_the_deck_is_looked_for(rt: HostRuntime) {
     assert_fails(&rt, &words, &mut store, 2, b"rje: choose one device\n");
     let words = ["cards", "--punch", "--printer", "nope", "jobs"];
     assert_fails(&rt, &words, &mut store, 2, b"rje: choose one device\n");
+}
+
+#[test]
+fn a_job_has_a_name(rt: HostRuntime) -> Result<(), Fail> {
+    let mut store = MemoryStore::new(rt.alloc());
+    store.write("deck", b"A\n")?;
+    for (given, name, line) in [
+        (
+            "PAY1",
+            b"PAY1    ",
+            b"1 unset normal waiting 1 records PAY1\n".as_slice(),
+        ),
+        (
+            "7",
+            b"7       ",
+            b"1 unset normal waiting 1 records 7\n".as_slice(),
+        ),
+        (
+            "ABCDXYZ9",
+            b"ABCDXYZ9",
+            b"1 unset normal waiting 1 records ABCDXYZ9\n".as_slice(),
+        ),
+    ] {
+        let words = ["cards", "--name", given, "deck", "jobs"];
+        assert_prints(&rt, &words, &mut store, b"1 cards\n");
+        assert!(rt; store.read(rt.alloc(), "jobs")?.as_slice() == waiting(&rt, name).as_slice());
+        assert_prints(&rt, &["show", "jobs"], &mut store, line);
+        assert_prints(&rt, &["check", "jobs"], &mut store, b"good 1 jobs\n");
+        assert_prints(&rt, &["print", "jobs"], &mut store, b"A\n");
+    }
+    Ok(())
+}
+
+#[test]
+fn another_name_is_refused_behind_two_devices(rt: HostRuntime) {
+    let mut store = MemoryStore::new(rt.alloc());
+    for name in [
+        "pay1",
+        "",
+        "A B",
+        " A",
+        "A ",
+        "ABCDEFGH9",
+        "PAY_1",
+        "\u{c4}",
+    ] {
+        let words = ["cards", "nope", "jobs", "--name", name];
+        assert_fails(&rt, &words, &mut store, 2, b"rje: bad name\n");
+    }
+    let words = [
+        "cards",
+        "nope",
+        "jobs",
+        "--name",
+        "pay1",
+        "--punch",
+        "--printer",
+    ];
+    assert_fails(&rt, &words, &mut store, 2, b"rje: choose one device\n");
+}
+
+#[test]
+fn each_state_is_shown(rt: HostRuntime) -> Result<(), Fail> {
+    let mut file = waiting(&rt, b"PAY1    ");
+    for (state, line) in [
+        (0, b"1 unset normal waiting 1 records PAY1\n".as_slice()),
+        (1, b"1 unset normal sent 1 records PAY1\n".as_slice()),
+        (2, b"1 unset normal whole 1 records PAY1\n".as_slice()),
+        (3, b"1 unset normal cut 1 records PAY1\n".as_slice()),
+    ] {
+        if 22 < file.len() {
+            file[22] = state;
+        }
+        let mut store = store_of(&rt, file.as_slice())?;
+        assert_prints(&rt, &["show", "jobs"], &mut store, line);
+    }
+    Ok(())
 }
 
 #[test]
@@ -276,9 +365,14 @@ fn cut_jobs_and_long_cards_are_shown_and_printed(rt: HostRuntime) -> Result<(), 
 
 #[test]
 fn a_file_of_no_jobs_is_good(rt: HostRuntime) -> Result<(), Fail> {
-    let mut store = store_of(&rt, b"RJ37\x00\x01\x00\x00\x00\x00\x00\x00\x00\x00")?;
-    assert_prints(&rt, &["show", "jobs"], &mut store, b"");
-    assert_prints(&rt, &["check", "jobs"], &mut store, b"good 0 jobs\n");
-    assert_prints(&rt, &["print", "jobs"], &mut store, b"");
+    for file in [
+        b"RJ37\x00\x01\x00\x00\x00\x00\x00\x00\x00\x00".as_slice(),
+        b"RJ37\x00\x02\x00\x00\x00\x00\x00\x00\x00\x00".as_slice(),
+    ] {
+        let mut store = store_of(&rt, file)?;
+        assert_prints(&rt, &["show", "jobs"], &mut store, b"");
+        assert_prints(&rt, &["check", "jobs"], &mut store, b"good 0 jobs\n");
+        assert_prints(&rt, &["print", "jobs"], &mut store, b"");
+    }
     Ok(())
 }

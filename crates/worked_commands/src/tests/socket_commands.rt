@@ -22,8 +22,12 @@ type Written = ArrayVec<u8, 4096>;
 const FILE: &[u8] =
     b"RJ37\x00\x01\x00\x00\x00\x00\x00\x00\x00\x01\x00\x00\x01\x00\x00\x00\x00\x00\x00\x00\x01\x00\x01\xC1";
 
+/// The version 2 file of that job as it was received.
+const RECEIVED: &[u8] =
+    b"RJ37\x00\x02\x00\x00\x00\x00\x00\x00\x00\x01        \x02\x00\x00\x00\x00\x00\x00\x00\x00\x00\x01\x00\x01\xC1";
+
 /// The file of no jobs.
-const NO_JOBS: &[u8] = b"RJ37\x00\x01\x00\x00\x00\x00\x00\x00\x00\x00";
+const NO_JOBS: &[u8] = b"RJ37\x00\x02\x00\x00\x00\x00\x00\x00\x00\x00";
 
 /// The command over sockets of these words, where the file `jobs` has these bytes, ends with this status and writes these texts.
 fn assert_socket_command<R: Net + Abort + AllocGlobal>(
@@ -130,7 +134,7 @@ fn a_transmission_is_received_into_a_job_file(rt: HostRuntime) -> Result<(), Fai
     assert!(rt; ended == 0);
     assert!(rt; out.as_slice() == b"handed 1 jobs, 1 whole\n".as_slice());
     assert!(rt; err.is_empty());
-    assert!(rt; store.read(rt.alloc(), "got")?.as_slice() == FILE);
+    assert!(rt; store.read(rt.alloc(), "got")?.as_slice() == RECEIVED);
     Ok(())
 }
 
@@ -147,7 +151,7 @@ fn a_receiver_leaves_after_40_quiet_hearings(rt: HostRuntime) -> Result<(), Fail
     assert!(rt; ended == 4);
     assert!(rt; out.as_slice() == b"handed 1 jobs, 1 whole\n".as_slice());
     assert!(rt; err.is_empty());
-    assert!(rt; store.read(rt.alloc(), "got")?.as_slice() == FILE);
+    assert!(rt; store.read(rt.alloc(), "got")?.as_slice() == RECEIVED);
     let mut line = line_of(rt.alloc(), &TRANSMISSION[..2])?;
     line.fail_at(44);
     let mut out = Written::new();

@@ -16,48 +16,59 @@ returns-in_err-made-clause-fault g c =
     told_as c.from_residual-in_err-made.result fault (IsFault (FileOrder.Cards c.args.order) files input) c.from_residual-in_err-made.ensures.1
     (cards_fault c.args.order files input c.in_ok-deck.deck.items fault c.in_ok-deck.ensures.deck told)
 
-pub returns-in-Ok-clause-done : goal.returns-in-Ok-clause-done
-returns-in-Ok-clause-done g c =
+pub returns-clause-done : goal.returns-clause-done
+returns-clause-done g c =
     let files = g.S.Store.files c.args.store.now in
     let input = g.I.Read.remaining c.args.input.now in
     let deck = c.in_ok-deck.deck.items in
     let order = c.args.order in
-    let card : IsCardFile order.device deck c.in_ok-made.made.bytes.items = rw c.as_slice.ensures.value at c.in_ok-made.ensures.file in
-    let made : MakesFile order.device deck order.jobs.now files (g.S.Store.files c.write.new.self) =
-    made_file order.device deck order.jobs.now c.in_ok-made.made.bytes.items files _ _ card c.in_ok-deck.ensures.same
-    (rw c.as_slice-2.ensures.value at c.in-Ok.ensures.sets) in
+    let card : IsCardFile order.device order.name deck c.in_ok-made.made.bytes.items = record {
+      good = rw c.as_slice.ensures.value at c.in_ok-made.ensures.good;
+      file = rw c.as_slice.ensures.value at c.in_ok-made.ensures.file;
+      few = rw c.as_slice-2.ensures.value at c.in_ok-write_file.ensures.limit;
+    } in
+    let made : MakesFile order deck files (g.S.Store.files c.write_file.new.store) =
+    made_file order deck c.in_ok-made.made.bytes.items files _ _ card c.in_ok-deck.ensures.same
+    (rw c.as_slice-2.ensures.value at c.in_ok-write_file.ensures.sets) in
     let count : c.in_ok-made.made.count ≡ length (deck_job order.device deck).records = rw c.as_slice.ensures.value at c.in_ok-made.ensures.count in
-    let line = c.as_slice-in-Ok.ensures.value ∙ c.cards_text.ensures.line ∙ ap cards_line count in
+    let line = c.as_slice-3.ensures.value ∙ c.cards_text.ensures.line ∙ ap cards_line count in
     let before = g.O.Write.contents c.args.out.now in
     let after = g.O.Write.contents c.put.new.out in
     done_as c.put.result _ _ (subst (λ text. OnOk c.put.result (Appends before after text)) line c.put.ensures.text) (λ printed.
-    of_deck (λ read. MakesCards order.device read order.jobs.now files (g.S.Store.files c.write.new.self) before after) deck
+    of_deck (λ read. MakesCards order read files (g.S.Store.files c.write_file.new.store) before after) deck
     (made, printed) order.deck.now files input c.in_ok-deck.ensures.deck)
 
-pub returns-in-Ok-clause-files : goal.returns-in-Ok-clause-files
-returns-in-Ok-clause-files g c =
+pub returns-clause-files : goal.returns-clause-files
+returns-clause-files g c =
     let files = g.S.Store.files c.args.store.now in
     let input = g.I.Read.remaining c.args.input.now in
     let deck = c.in_ok-deck.deck.items in
     let order = c.args.order in
-    let card : IsCardFile order.device deck c.in_ok-made.made.bytes.items = rw c.as_slice.ensures.value at c.in_ok-made.ensures.file in
-    let made : MakesFile order.device deck order.jobs.now files (g.S.Store.files c.write.new.self) =
-    made_file order.device deck order.jobs.now c.in_ok-made.made.bytes.items files _ _ card c.in_ok-deck.ensures.same
-    (rw c.as_slice-2.ensures.value at c.in-Ok.ensures.sets) in
-    let leaves = of_deck (λ read. MakesFile order.device read order.jobs.now files (g.S.Store.files c.write.new.self)) deck made order.deck.now files input
-    c.in_ok-deck.ensures.deck in
-    inr leaves
+    let card : IsCardFile order.device order.name deck c.in_ok-made.made.bytes.items = record {
+      good = rw c.as_slice.ensures.value at c.in_ok-made.ensures.good;
+      file = rw c.as_slice.ensures.value at c.in_ok-made.ensures.file;
+      few = rw c.as_slice-2.ensures.value at c.in_ok-write_file.ensures.limit;
+    } in
+    let made : MakesFile order deck files (g.S.Store.files c.write_file.new.store) =
+    made_file order deck c.in_ok-made.made.bytes.items files _ _ card c.in_ok-deck.ensures.same
+    (rw c.as_slice-2.ensures.value at c.in_ok-write_file.ensures.sets) in
+    inr (of_deck (λ read. MakesFile order read files (g.S.Store.files c.write_file.new.store)) deck made order.deck.now files input
+    c.in_ok-deck.ensures.deck)
 
-pub returns-in-Ok-clause-made : goal.returns-in-Ok-clause-made
-returns-in-Ok-clause-made g c =
+pub returns-clause-made : goal.returns-clause-made
+returns-clause-made g c =
     let files = g.S.Store.files c.args.store.now in
     let input = g.I.Read.remaining c.args.input.now in
     let deck = c.in_ok-deck.deck.items in
     let order = c.args.order in
-    let card : IsCardFile order.device deck c.in_ok-made.made.bytes.items = rw c.as_slice.ensures.value at c.in_ok-made.ensures.file in
-    let made : MakesFile order.device deck order.jobs.now files (g.S.Store.files c.write.new.self) =
-    made_file order.device deck order.jobs.now c.in_ok-made.made.bytes.items files _ _ card c.in_ok-deck.ensures.same
-    (rw c.as_slice-2.ensures.value at c.in-Ok.ensures.sets) in
-    let leaves = of_deck (λ read. MakesFile order.device read order.jobs.now files (g.S.Store.files c.write.new.self)) deck made order.deck.now files input
+    let card : IsCardFile order.device order.name deck c.in_ok-made.made.bytes.items = record {
+      good = rw c.as_slice.ensures.value at c.in_ok-made.ensures.good;
+      file = rw c.as_slice.ensures.value at c.in_ok-made.ensures.file;
+      few = rw c.as_slice-2.ensures.value at c.in_ok-write_file.ensures.limit;
+    } in
+    let made : MakesFile order deck files (g.S.Store.files c.write_file.new.store) =
+    made_file order deck c.in_ok-made.made.bytes.items files _ _ card c.in_ok-deck.ensures.same
+    (rw c.as_slice-2.ensures.value at c.in_ok-write_file.ensures.sets) in
+    let leaves = of_deck (λ read. MakesFile order read files (g.S.Store.files c.write_file.new.store)) deck made order.deck.now files input
     c.in_ok-deck.ensures.deck in
     whatever c.put.result _ _ leaves

@@ -1,7 +1,7 @@
 use Rattle.std.proofs.Common.{codes, ap, ◌∙◌}
 use Rattle.clap.specs.Words.{new_app}
 use Rattle.clap.specs.Simple.{app_of_fields}
-use Rattle.rje_words.specs.CommandLine.{IsApp, file_rule, flag_rule}
+use Rattle.rje_words.specs.CommandLine.{IsApp, file_rule, flag_rule, name_rule}
 use Rattle.rje_words.proofs.words.app.cards.Goals as goal
 
 pub returns : goal.returns
@@ -12,4 +12,5 @@ returns c =
     let jobs = c.in_ok-command-2.ensures _ (file_rule (codes "JOBS")) deck c.file.ensures in
     let printer = c.in_ok-command-3.ensures _ (flag_rule (codes "printer")) jobs c.flag-printer.ensures in
     let punch = c.in_ok-command-4.ensures _ (flag_rule (codes "punch")) printer c.flag-punch.ensures in
-    c.with_arg-5.ensures _ (flag_rule (codes "transparent")) punch c.flag-transparent.ensures
+    let transparent = c.in_ok-command-5.ensures _ (flag_rule (codes "transparent")) punch c.flag-transparent.ensures in
+    c.with_arg-6.ensures _ name_rule transparent c.name.ensures

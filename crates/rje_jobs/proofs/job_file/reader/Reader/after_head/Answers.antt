@@ -4,6 +4,6 @@ use Rattle.rje_jobs.proofs.job_file.reader.Reader.after_head.Goals as goal
 pub returns-then-byte-place-clause-refused : goal.returns-then-byte-place-clause-refused
 returns-then-byte-place-clause-refused c = head_refused c.args.self.now c.args.place c.args.byte c.requires.due c.requires.place c.if-byte-place.true
 
-pub returns-else-place-eq5-clause-step : goal.returns-else-place-eq5-clause-step
-returns-else-place-eq5-clause-step c =
-    rw c.at-else-place-eq5.ensures (head_step c.args.self.now c.args.place c.args.byte c.requires.due c.requires.place c.if-place-eq5.false c.if-byte-place.false)
+pub returns-else-place-eq4-clause-step : goal.returns-else-place-eq4-clause-step
+returns-else-place-eq4-clause-step c =
+    rw c.at-else-place-eq4.ensures (head_step c.args.self.now c.args.place c.args.byte c.requires.due c.requires.place c.if-place-eq4.false c.if-byte-place.false)

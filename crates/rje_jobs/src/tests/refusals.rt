@@ -1,0 +1,45 @@
+//! Calls that take memory, in ample memory and in memory of which a growth is refused: the script refusals/run runs these tests with
+//! each growth refused in turn.
+use super::entries::FILE;
+use crate::{FileFault, read_entries, sent_file, write_entries};
+use std::process::Abort;
+
+#[test]
+fn entries_are_read_or_find_no_memory(rt: HostRuntime) {
+    match read_entries(rt.alloc(), &FILE) {
+        Ok(entries) => assert!(rt; entries.len() == 1),
+        Err(fault) => assert!(rt; fault == FileFault::OutOfMemory),
+    }
+
+    // A fault of the bytes is told whatever memory there is.
+    let told = read_entries(rt.alloc(), &FILE[..35]).err();
+    assert!(rt; told == Some(FileFault::Truncated(35)));
+}
+
+#[test]
+fn entries_are_written_or_find_no_memory(rt: HostRuntime) {
+    let Ok(mut entries) = read_entries(rt.alloc(), &FILE) else {
+        return;
+    };
+    match write_entries(rt.alloc(), entries.as_slice()) {
+        Ok(bytes) => assert!(rt; bytes.as_slice() == FILE.as_slice()),
+        Err(fault) => assert!(rt; fault == FileFault::OutOfMemory),
+    }
+
+    // So is an entry without a name.
+    for entry in entries.iter_mut() {
+        entry.name = *b"pay1    ";
+    }
+    let told = write_entries(rt.alloc(), entries.as_slice()).err();
+    assert!(rt; told == Some(FileFault::BadEntry(1)));
+}
+
+#[test]
+fn what_was_counted_is_marked_or_finds_no_memory(rt: HostRuntime) {
+    let mut sent = FILE;
+    sent[22] = 1;
+    match sent_file(rt.alloc(), &FILE, 1) {
+        Ok(bytes) => assert!(rt; bytes.as_slice() == sent.as_slice()),
+        Err(fault) => assert!(rt; fault == FileFault::OutOfMemory),
+    }
+}

@@ -1,0 +1,231 @@
+//! What `send` sends of a job file, and what it writes back.
+ghost use Rattle.std.specs.Prelude.{None};
+
+use arrayvec::ArrayVec;
+use line_world::MemoryLine;
+use rje_commands::{MemoryStore, Store, StoreFault, command, receive_over, send_over};
+use std::alloc::Global;
+use std::process::Abort;
+use std::test::Fail;
+
+/// What a command writes, in memory of its own.
+type Written = ArrayVec<u8, 4096>;
+
+const ACK0: &[u8] = b"\x32\x32\x10\x70\xFF";
+
+const ACK1: &[u8] = b"\x32\x32\x10\x61\xFF";
+
+const RVI: &[u8] = b"\x32\x32\x10\x7C\xFF";
+
+/// The version 2 file of three jobs in these states (0 waiting, 1 sent), of one record `A` each.
+fn three_jobs(rt: &impl Abort, states: [u8; 3]) -> Written {
+    let mut file = Written::new();
+    let header = b"RJ37\x00\x02\x00\x00\x00\x00\x00\x00\x00\x03";
+    assert!(rt; file.try_extend_from_slice(header).is_ok());
+    for state in states {
+        assert!(rt; file.try_extend_from_slice(b"        ").is_ok());
+        assert!(rt; file.try_push(state).is_ok());
+        let rest = b"\x00\x00\x00\x00\x00\x00\x00\x00\x00\x01\x00\x01\xC1";
+        assert!(rt; file.try_extend_from_slice(rest).is_ok());
+    }
+    file
+}
+
+/// A line in memory on which these come, one in each hearing.
+fn line_of(alloc: Global, pieces: &[&[u8]]) -> Result<MemoryLine, Fail> {
+    let mut put = Vec::new(alloc);
+    for piece in pieces {
+        put.push(Vec::from_slice(alloc, piece)?)?;
+    }
+    let mut line = MemoryLine::new(alloc);
+    line.put(put);
+    Ok(line)
+}
+
+/// What is left of the file `jobs` of this store is sent over this line: it ends with this status and
+/// writes these texts.
+fn assert_sends(
+    rt: &(impl Abort + AllocGlobal),
+    line: &mut MemoryLine,
+    store: &mut impl Store,
+    status: u8,
+    text: &[u8],
+    told: &[u8],
+) {
+    let mut out = Written::new();
+    let mut err = Written::new();
+    let ended = send_over(rt.alloc(), line, "jobs", store, &mut out, &mut err);
+    assert!(rt; ended == status);
+    assert!(rt; out.as_slice() == text);
+    assert!(rt; err.as_slice() == told);
+}
+
+/// The file `jobs` of this store is this.
+fn assert_file(
+    rt: &(impl Abort + AllocGlobal),
+    store: &mut MemoryStore,
+    file: &[u8],
+) -> Result<(), Fail> {
+    assert!(rt; store.read(rt.alloc(), "jobs")?.as_slice() == file);
+    Ok(())
+}
+
+#[test]
+fn what_was_sent_is_passed_over(rt: HostRuntime) -> Result<(), Fail> {
+    let mut store = MemoryStore::new(rt.alloc());
+    store.write("jobs", three_jobs(&rt, [0, 1, 0]).as_slice())?;
+    let mut line = line_of(rt.alloc(), &[ACK0, ACK1, ACK0])?;
+    let text = b"counted 2 of 2 jobs\noutcome done\n";
+    assert_sends(&rt, &mut line, &mut store, 0, text, b"");
+    assert_file(&rt, &mut store, three_jobs(&rt, [1, 1, 1]).as_slice())
+}
+
+#[test]
+fn what_was_not_counted_is_sent_by_the_next(rt: HostRuntime) -> Result<(), Fail> {
+    let mut store = MemoryStore::new(rt.alloc());
+    store.write("jobs", three_jobs(&rt, [0, 1, 0]).as_slice())?;
+    let mut line = line_of(rt.alloc(), &[ACK0, RVI])?;
+    let text = b"counted 1 of 2 jobs\noutcome turned\n";
+    assert_sends(&rt, &mut line, &mut store, 4, text, b"");
+    assert_file(&rt, &mut store, three_jobs(&rt, [1, 1, 0]).as_slice())?;
+    let mut line = line_of(rt.alloc(), &[ACK0, ACK1])?;
+    let text = b"counted 1 of 1 jobs\noutcome done\n";
+    assert_sends(&rt, &mut line, &mut store, 0, text, b"");
+    assert_file(&rt, &mut store, three_jobs(&rt, [1, 1, 1]).as_slice())
+}
+
+#[test]
+fn what_was_counted_is_marked_after_a_fault_of_the_line(rt: HostRuntime) -> Result<(), Fail> {
+    let mut store = MemoryStore::new(rt.alloc());
+    store.write("jobs", three_jobs(&rt, [0, 1, 0]).as_slice())?;
+    let mut line = line_of(rt.alloc(), &[ACK0, ACK1])?;
+
+    // The bid and its answer, the first block and its answer, and then the second block.
+    line.fail_at(5);
+    let text = b"counted 1 of 2 jobs\noutcome open\n";
+    assert_sends(&rt, &mut line, &mut store, 3, text, b"rje: line failed\n");
+    assert_file(&rt, &mut store, three_jobs(&rt, [1, 1, 0]).as_slice())
+}
+
+#[test]
+fn an_older_file_is_written_back_as_version_2(rt: HostRuntime) -> Result<(), Fail> {
+    let older =
+        b"RJ37\x00\x01\x00\x00\x00\x00\x00\x00\x00\x01\x00\x00\x01\x00\x00\x00\x00\x00\x00\x00\x01\x00\x01\xC1";
+    let sent =
+        b"RJ37\x00\x02\x00\x00\x00\x00\x00\x00\x00\x01        \x01\x00\x00\x00\x00\x00\x00\x00\x00\x00\x01\x00\x01\xC1";
+    let mut store = MemoryStore::new(rt.alloc());
+    store.write("jobs", older)?;
+    let mut line = line_of(rt.alloc(), &[ACK0, ACK1])?;
+    let text = b"counted 1 of 1 jobs\noutcome done\n";
+    assert_sends(&rt, &mut line, &mut store, 0, text, b"");
+    assert_file(&rt, &mut store, sent)
+}
+
+/// One file, which can't be written.
+#[derive(Drop)]
+struct ReadOnly {
+    file: Written,
+}
+
+impl Store for ReadOnly {
+    ghost files = { λ _. None };
+
+    fn read(&mut self, alloc: Global, _name: &str) -> Result<Vec<u8>, StoreFault> {
+        match Vec::from_slice(alloc, self.file.as_slice()) {
+            Ok(bytes) => Ok(bytes),
+            Err(_) => Err(StoreFault::OutOfMemory),
+        }
+    }
+
+    fn write(&mut self, _name: &str, _bytes: &[u8]) -> Result<(), StoreFault> {
+        Err(StoreFault::Failed)
+    }
+}
+
+#[test]
+fn a_file_that_cannot_be_written_back_is_told_behind_the_lines(
+    rt: HostRuntime,
+) -> Result<(), Fail> {
+    let mut store = ReadOnly {
+        file: three_jobs(&rt, [0, 1, 1]),
+    };
+    let mut line = line_of(rt.alloc(), &[ACK0, ACK1])?;
+    let text = b"counted 1 of 1 jobs\noutcome done\n";
+    assert_sends(
+        &rt,
+        &mut line,
+        &mut store,
+        3,
+        text,
+        b"rje: can't write jobs\n",
+    );
+    let mut line = line_of(rt.alloc(), &[ACK0, ACK1])?;
+    line.fail_at(3);
+    let text = b"counted 0 of 1 jobs\noutcome open\n";
+    assert_sends(&rt, &mut line, &mut store, 3, text, b"rje: line failed\n");
+    Ok(())
+}
+
+#[test]
+fn a_job_that_was_cut_is_kept_as_cut_and_cannot_be_sent(rt: HostRuntime) -> Result<(), Fail> {
+    let block = b"\x32\x32\x02\xC1\x1E\x26\xD9\x86\xFF";
+    let pieces = [
+        b"\x32\x32\x2D".as_slice(),
+        block.as_slice(),
+        b"\x32\x32\x37".as_slice(),
+    ];
+    let mut line = line_of(rt.alloc(), &pieces)?;
+    let mut store = MemoryStore::new(rt.alloc());
+    let mut out = Written::new();
+    let mut err = Written::new();
+    let ended = receive_over(
+        rt.alloc(),
+        &mut line,
+        "jobs",
+        &mut store,
+        &mut out,
+        &mut err,
+    );
+    assert!(rt; ended == 0);
+    assert!(rt; out.as_slice() == b"handed 1 jobs, 0 whole\n".as_slice());
+    let mut out = Written::new();
+    let mut input: &[u8] = b"";
+    let words = ["show", "jobs"];
+    let ended = command(
+        rt.alloc(),
+        &words,
+        &mut store,
+        &mut input,
+        &mut out,
+        &mut err,
+    );
+    assert!(rt; ended == 0);
+    assert!(rt; out.as_slice() == b"1 unset normal cut 1 records\n".as_slice());
+    let mut line = line_of(rt.alloc(), &[ACK0])?;
+    assert_sends(
+        &rt,
+        &mut line,
+        &mut store,
+        1,
+        b"",
+        b"rje: job 1 can't be sent\n",
+    );
+    Ok(())
+}
+
+#[test]
+fn the_number_of_a_bad_job_is_that_in_the_file(rt: HostRuntime) -> Result<(), Fail> {
+    let mut store = MemoryStore::new(rt.alloc());
+    let file = three_jobs(&rt, [1, 0, 3]);
+    store.write("jobs", file.as_slice())?;
+    let mut line = line_of(rt.alloc(), &[ACK0])?;
+    assert_sends(
+        &rt,
+        &mut line,
+        &mut store,
+        1,
+        b"",
+        b"rje: job 3 can't be sent\n",
+    );
+    assert_file(&rt, &mut store, file.as_slice())
+}
