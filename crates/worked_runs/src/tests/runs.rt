@@ -9,7 +9,7 @@ use bsc_codes::SYN;
 use bsc_link::{Outcome, Reply, Say, Sound, Wish};
 use line_world::{Driven, Fate, MAX_DAMAGE, Turn, WorldFault, drive, run};
 use rje_jobs::Job;
-use rje_station::{ReceivingStation, SendingStation};
+use rje_station::{Event, ReceivingStation, SendingStation, Trace};
 use std::alloc::{AllocError, AllocGlobal, Global};
 use std::process::Abort;
 use std::test::Fail;
@@ -312,12 +312,46 @@ fn empty_records_fill_blocks_of_510(rt: HostRuntime) -> Result<(), Fail> {
     assert_long_run(&rt, job_of(&rt, 1021, 0)?, 5)
 }
 
+/// What a sender notes of one block whose acknowledgement is lost once.
+const SENDERS_EVENTS: [Event; 8] = [
+    Event::Said(Say::Bid),
+    Event::Heard(Sound::Ack0),
+    Event::Said(Say::Block),
+    Event::Heard(Sound::Quiet),
+    Event::Said(Say::Ask),
+    Event::Heard(Sound::Ack1),
+    Event::Counted,
+    Event::Said(Say::End),
+];
+
+/// What its receiver notes.
+const RECEIVERS_EVENTS: [Event; 8] = [
+    Event::Heard(Sound::Enq),
+    Event::Replied(Reply::Ack0),
+    Event::Heard(Sound::Block),
+    Event::Accepted,
+    Event::Replied(Reply::Ack1),
+    Event::Heard(Sound::Enq),
+    Event::Replied(Reply::Ack1),
+    Event::Heard(Sound::Eot),
+];
+
+/// The trace has just these events.
+fn assert_events(rt: &impl Abort, trace: &Trace, events: &[Event]) {
+    assert!(rt; trace.len() == events.len());
+    for (i, event) in events.iter().enumerate() {
+        assert!(rt; trace.get(i) == Some(*event));
+    }
+}
+
 /// The stations of one job, after a run in which its acknowledgement was lost.
 fn assert_driven(rt: &impl Abort, driven: &Driven<'_>, jobs: &[Job]) {
     assert_turns(rt, &driven.turns, &[BID, BLOCK_UNHEARD, ASK_ACK1, END]);
     assert_eq!(rt; driven.sender.counted(), 1);
     assert_eq!(rt; driven.sender.outcome(), Some(Outcome::Done));
     assert_same_jobs(rt, driven.receiver.jobs(), jobs);
+    assert_events(rt, driven.sender.trace(), &SENDERS_EVENTS);
+    assert_events(rt, driven.receiver.trace(), &RECEIVERS_EVENTS);
 }
 
 #[test]
