@@ -37,6 +37,7 @@ fn assert_said(rt: &impl Abort, report: &Report, said: &[Say]) {
     }
 }
 
+/// Printed at some growth: block 2 found no memory.
 #[test]
 fn a_run_says_a_block_again_that_found_no_memory(rt: HostRuntime) -> Result<(), Fail> {
     // Seven records of 80 bytes are two blocks.
@@ -133,6 +134,7 @@ fn try_pair(rt: &(impl Abort + AllocGlobal), call: Call) -> &'static str {
     told
 }
 
+/// Printed at some growth: no memory for the run, a block of the primary found no memory, a block of the secondary found no memory.
 #[test]
 fn a_run_of_two_stations_says_a_block_again_that_found_no_memory(
     rt: HostRuntime,
@@ -141,6 +143,7 @@ fn a_run_of_two_stations_says_a_block_again_that_found_no_memory(
     Ok(())
 }
 
+/// Printed at some growth: no memory for the run, a block of the primary found no memory, a block of the secondary found no memory.
 #[test]
 fn two_driven_stations_say_a_block_again_that_found_no_memory(rt: HostRuntime) -> Result<(), Fail> {
     println!(rt; "{}", try_pair(&rt, Call::Drive))?;

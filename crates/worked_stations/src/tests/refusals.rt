@@ -43,6 +43,7 @@ fn a_sender_of_one_record_is_made_or_finds_no_memory(rt: HostRuntime) {
     assert_made_or_no_memory(&rt, 1);
 }
 
+/// As many growths as: a_sender_of_one_record_is_made_or_finds_no_memory.
 #[test]
 fn a_sender_of_a_thousand_records_is_made_or_finds_no_memory(rt: HostRuntime) {
     assert_made_or_no_memory(&rt, 1000);
