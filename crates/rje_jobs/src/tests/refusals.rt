@@ -1,8 +1,55 @@
 //! Calls that take memory, in ample memory and in memory of which a growth is refused: the script refusals/run runs these tests with
 //! each growth refused in turn.
-use super::entries::FILE;
-use crate::{FileFault, read_entries, sent_file, write_entries};
+use super::entries::{FILE, OLD_FILE};
+use crate::{
+    DeckFault, FileFault, Form, job_of_deck, list_job, punch_job, read_entries, read_jobs,
+    sent_file, write_entries, write_jobs,
+};
+use rje_text::{Mode, Select};
 use std::process::Abort;
+
+#[test]
+fn a_deck_makes_a_job_or_finds_no_memory(rt: HostRuntime) {
+    match job_of_deck(rt.alloc(), b"A\nB\n", Select::Unset, Mode::Normal) {
+        Ok(job) => assert!(rt; job.records.len() == 2),
+        Err(fault) => assert!(rt; fault == DeckFault::OutOfMemory),
+    }
+
+    // A fault of the deck is told whatever memory there is.
+    let told = job_of_deck(rt.alloc(), b"A\n\t\n", Select::Unset, Mode::Normal).err();
+    assert!(rt; told == Some(DeckFault::BadCharacter(2, 1)));
+}
+
+#[test]
+fn a_job_is_listed_and_punched_or_finds_no_memory(rt: HostRuntime) {
+    let Ok(job) = job_of_deck(rt.alloc(), b"A\nB\n", Select::Unset, Mode::Normal) else {
+        return;
+    };
+    match list_job(rt.alloc(), &job) {
+        Ok(text) => assert!(rt; text.as_slice() == b"A\nB\n".as_slice()),
+        Err(fault) => assert!(rt; fault == FileFault::OutOfMemory),
+    }
+    match punch_job(rt.alloc(), &job, Form::Ascii) {
+        Ok(text) => assert!(rt; text.as_slice() == b"A\nB\n".as_slice()),
+        Err(fault) => assert!(rt; fault == FileFault::OutOfMemory),
+    }
+}
+
+#[test]
+fn jobs_are_read_and_written_or_find_no_memory(rt: HostRuntime) {
+    match read_jobs(rt.alloc(), &OLD_FILE) {
+        Ok(jobs) => {
+            assert!(rt; jobs.len() == 1);
+            match write_jobs(rt.alloc(), jobs.as_slice()) {
+                Ok(bytes) => assert!(rt; bytes.as_slice() == OLD_FILE.as_slice()),
+                Err(fault) => assert!(rt; fault == FileFault::OutOfMemory),
+            }
+        }
+        Err(fault) => assert!(rt; fault == FileFault::OutOfMemory),
+    }
+    let told = read_jobs(rt.alloc(), &OLD_FILE[..27]).err();
+    assert!(rt; told == Some(FileFault::Truncated(27)));
+}
 
 #[test]
 fn entries_are_read_or_find_no_memory(rt: HostRuntime) {
