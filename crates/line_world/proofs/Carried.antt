@@ -1,5 +1,5 @@
 -- What is heard of what a line in memory brings after a fate.
-use Rattle.std.proofs.Common.{◌≡◌, inr, ℕ, Bool, false, List, [], ◌++◌, Option, Some, None, Result, Ok, Err, IfOk, IfErr, ap, sym, ◌∙◌, subst}
+use Rattle.std.proofs.Common.{◌≡◌, inr, ℕ, false, List, [], ◌++◌, Option, Some, None, Result, Ok, Err, IfOk, IfErr, ap, sym, ◌∙◌, subst}
 use Rattle.std.specs.List.{flat_map}
 use Rattle.std.proofs.lemmas.List.{append_assoc}
 use Rattle.bsc_frame.specs.declared.heard.Heard.{Heard}
@@ -9,22 +9,20 @@ use Rattle.bsc_frame.specs.Written.{Written}
 use Rattle.bsc_link.specs.declared.reply.Reply.{Reply}
 use Rattle.bsc_link.specs.declared.sound.Sound.{Sound}
 use Rattle.bsc_link.specs.declared.wish.Wish.{Wish}
-use Rattle.bsc_link.specs.Receiver.{receiver_news}
+use Rattle.rje_station.specs.declared.arrival.Arrival.{Arrival}
 use Rattle.rje_station.specs.Hearing.{Hearing, HearsSound, sound_of}
 use Rattle.rje_station.specs.JoinedJobs.{begun_in}
 use Rattle.rje_station.specs.Line.{Talk, Passes}
-use Rattle.rje_station.specs.Receiving.{Receiving, Received, MayRefuse, Replied, after_receiving, after_replying, frame_of, sound_taken}
+use Rattle.rje_station.specs.Receiving.{Receiving, Received, MayRefuse, Replied, after_receiving, after_replying, frame_of}
 use Rattle.rje_station.specs.Sending.{Sending, after_hearing}
 use Rattle.line_world.specs.declared.fate.Fate.{Fate}
 use Rattle.line_world.specs.declared.turn.Turn.{Turn}
 use Rattle.line_world.specs.declared.turn_fault.TurnFault.{TurnFault}
 use Rattle.line_world.specs.declared.turn_fault.TurnFault.TheVariants as Fault
-use Rattle.line_world.specs.Arrival.{from_end, heard_at_end}
 use Rattle.line_world.specs.Damage.{Fits, IsNoDamage}
 use Rattle.line_world.specs.Driving.{bytes_after, MayDamage, IsDamaged, IsFateFault, GoesUp, GoesDown, IsReplyCarried, IsReplyFault}
 use Rattle.bsc_history.specs.Fate.{is_damage_of, sound_of_reply}
 use Rattle.line_world.specs.MemoryLine.{LineInMemory, talk_of}
-use Rattle.line_world.proofs.Arrivals.{heard_last}
 use Rattle.line_world.proofs.Cutting.{append_nil}
 
 quiet_hears : (t u : Talk) (what : Heard) → (h : Hearing t u what) → h.left ≡ [] → IsHeard t.coming what
@@ -44,27 +42,34 @@ line_hears l m what bytes comes h = subst (λ xs. IsHeard xs what) comes (hears_
 
 -- ---- Up.
 
-module _ (r r' : Receiving) (wish : Wish) (reply : Option Reply) (l m : LineInMemory) (arrived : Sound) (refused : Bool)
+-- of two arrivals that are told as one, the sounds are the same ..
+pub same_sound : (a b : Arrival) → ◌≡◌ {A = Option Arrival} (Some a) (Some b) → a.sound ≡ b.sound
+same_sound a b e = cc
+
+-- .. and so are the refusals
+pub same_refusal : (a b : Arrival) → ◌≡◌ {A = Option Arrival} (Some a) (Some b) → a.refused ≡ b.refused
+same_refusal a b e = cc
+
+module _ (r r' : Receiving) (wish : Wish) (reply : Option Reply) (l m : LineInMemory) (arrival : Arrival)
     (g : Received r r' wish reply (λ what. Passes (Some (talk_of l)) (Some (talk_of m)) (λ t u. Hearing t u what)))
-    (seen : ◌≡◌ {A = Sound × Bool} (arrived, refused) (heard_at_end (from_end r'.trace 1) (from_end r'.trace 2))) where
-  -- the trace tells what was heard and refused
-  told : ◌≡◌ {A = Sound × Bool} (arrived, refused) (sound_of g.what, g.refused)
-  told = seen ∙ heard_last r'.trace (sound_of g.what) g.refused (r.trace, (receiver_news r.core (sound_taken g.what g.refused) wish).accepted, ap (λ s. s.trace) g.state)
+    (seen : r'.arrival ≡ Some arrival) where
+  told : ◌≡◌ {A = Option Arrival} (Some arrival) (Some (record { sound = sound_of g.what; refused = g.refused }))
+  told = sym seen ∙ ap (λ s. s.arrival) g.state
 
-  pub arrived_is : arrived ≡ sound_of g.what
-  arrived_is = ap (λ p. p.0) told
+  pub arrived_is : arrival.sound ≡ sound_of g.what
+  arrived_is = same_sound arrival _ told
 
-  pub refused_is : refused ≡ g.refused
-  refused_is = ap (λ p. p.1) told
+  pub refused_is : arrival.refused ≡ g.refused
+  refused_is = same_refusal arrival _ told
 
-pub goes_up : (turn : Turn) (said : Sound) (sent : List ℕ) (r r' : Receiving) (reply : Option Reply) (l m : LineInMemory) (arrived : Sound) (refused : Bool)
+pub goes_up : (turn : Turn) (said : Sound) (sent : List ℕ) (r r' : Receiving) (reply : Option Reply) (l m : LineInMemory) (arrival : Arrival)
     → Fits turn.up sent → flat_map (λ p. p) l.waiting ≡ bytes_after turn.up sent
     → Received r r' turn.wish reply (λ what. Passes (Some (talk_of l)) (Some (talk_of m)) (λ t u. Hearing t u what))
-    → ◌≡◌ {A = Sound × Bool} (arrived, refused) (heard_at_end (from_end r'.trace 1) (from_end r'.trace 2)) → MayDamage turn.up said arrived
-    → GoesUp turn said sent r r' arrived refused reply
-goes_up turn said sent r r' reply l m arrived refused fits comes g seen may =
-    let a : arrived ≡ sound_of g.what = arrived_is r r' turn.wish reply l m arrived refused g seen in
-    let f : refused ≡ g.refused = refused_is r r' turn.wish reply l m arrived refused g seen in
+    → r'.arrival ≡ Some arrival → MayDamage turn.up said arrival.sound
+    → GoesUp turn said sent r r' arrival.sound arrival.refused reply
+goes_up turn said sent r r' reply l m arrival fits comes g seen may =
+    let a : arrival.sound ≡ sound_of g.what = arrived_is r r' turn.wish reply l m arrival g seen in
+    let f : arrival.refused ≡ g.refused = refused_is r r' turn.wish reply l m arrival g seen in
     record {
       what = g.what;
       carried = record { fits = fits; heard = line_hears l m g.what (bytes_after turn.up sent) comes g.told; may = subst (MayDamage turn.up said) a may };

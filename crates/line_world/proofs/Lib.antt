@@ -1,6 +1,5 @@
 pub mod Pieces
 pub mod Cutting
-pub mod Arrivals
 pub mod Carried
 pub mod TurnFaults
 pub mod Planned

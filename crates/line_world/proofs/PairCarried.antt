@@ -10,26 +10,24 @@ use Rattle.bsc_link.specs.declared.sound.Sound.{Sound}
 use Rattle.bsc_link.specs.declared.wish.Wish.{Wish}
 use Rattle.bsc_link.specs.declared.rank.Rank.{Rank}
 use Rattle.bsc_link.specs.Contender.{ContenderState, after_bid}
-use Rattle.bsc_link.specs.Receiver.{receiver_news}
 use Rattle.bsc_link.specs.Sender.{say_in, sender_sent_end}
 use Rattle.rje_jobs.specs.declared.job.Job.{Job}
+use Rattle.rje_station.specs.declared.arrival.Arrival.{Arrival}
 use Rattle.rje_station.specs.Hearing.{Hearing, HearsSound, sound_of}
 use Rattle.rje_station.specs.JoinedJobs.{begun_in}
 use Rattle.rje_station.specs.Line.{Talk, Passes}
-use Rattle.rje_station.specs.Receiving.{MayRefuse, sound_taken}
+use Rattle.rje_station.specs.Receiving.{MayRefuse}
 use Rattle.rje_station.specs.Sending.{IsWrittenOf, after_speaking, after_hearing, is_end}
 use Rattle.rje_station.specs.Station.{Contending, due_at, is_receiving, after_own_speaking, after_answer, HeardOther, HeardAnswer, after_other, lets_in, contender_said, contender_answered}
 use Rattle.line_world.specs.declared.turn.Turn.{Turn}
 use Rattle.line_world.specs.declared.turn_fault.TurnFault.{TurnFault}
 use Rattle.line_world.specs.declared.turn_fault.TurnFault.TheVariants as Fault
-use Rattle.line_world.specs.Arrival.{from_end, heard_at_end, EndsWithHearing}
 use Rattle.bsc_history.specs.Conversation.{is_block}
 use Rattle.line_world.specs.Damage.{AreHeardAs, Fits}
 use Rattle.line_world.specs.Driving.{bytes_after, MayDamage, IsReplyFault}
 use Rattle.bsc_history.specs.Fate.{sound_of as up_sound}
 use Rattle.line_world.specs.MemoryLine.{LineInMemory, talk_of}
-use Rattle.line_world.proofs.Arrivals.{heard_last}
-use Rattle.line_world.proofs.Carried.{line_hears}
+use Rattle.line_world.proofs.Carried.{line_hears, same_sound, same_refusal}
 use Rattle.bsc_history.proofs.ForRuns.{and-false}
 use Rattle.line_world.proofs.ReceivingTurns.{refused_block}
 use Rattle.line_world.proofs.SendingTurns.{unsent}
@@ -46,36 +44,33 @@ passed_enq c _ e = absurd (true≢false e)
 pub passed_unrefused : (what : Heard) (begun : Option Job) (refused : Bool) → sound_of what ≡ Sound.Enq → MayRefuse what begun refused → refused ≡ false
 passed_unrefused what begun refused is may = refused_block what begun refused may ∙ and-false refused (is_block (sound_of what)) (rw is refl)
 
-module _ (s s' : Contending) (wish : Wish) (reply : Option Reply) (l m : LineInMemory) (arrived : Sound) (refused : Bool)
+module _ (s s' : Contending) (wish : Wish) (reply : Option Reply) (l m : LineInMemory) (arrival : Arrival)
     (g : HeardOther s s' wish reply (λ what. Passes (Some (talk_of l)) (Some (talk_of m)) (λ t u. Hearing t u what)))
-    (seen : ◌≡◌ {A = Sound × Bool} (arrived, refused) (heard_at_end (from_end s'.receiver.trace 1) (from_end s'.receiver.trace 2))) where
-  ending : EndsWithHearing s'.receiver.trace (sound_of g.what) g.refused
-  ending = elim (cases_Bool (lets_in s.contender (sound_of g.what))) [
-    | inl let_in ↦ (s.receiver.trace, (receiver_news s.receiver.core (sound_taken g.what g.refused) wish).accepted, ap (λ x. x.receiver.trace) g.state ∙ rw let_in refl)
+    (seen : s'.receiver.arrival ≡ Some arrival) where
+  -- an ENQ that is passed over is told too
+  brought : s'.receiver.arrival ≡ Some (record { sound = sound_of g.what; refused = g.refused })
+  brought = elim (cases_Bool (lets_in s.contender (sound_of g.what))) [
+    | inl let_in ↦ ap (λ x. x.receiver.arrival) g.state ∙ rw let_in refl
     | inr out ↦
         let is : sound_of g.what ≡ Sound.Enq = passed_enq s.contender (sound_of g.what) out in
         let none : g.refused ≡ false = passed_unrefused g.what (begun_in s.receiver.jobs) g.refused is g.may in
-        (s.receiver.trace, false, ap (λ x. x.receiver.trace) g.state ∙ rw (out, is, none) refl)
+        ap (λ x. x.receiver.arrival) g.state ∙ rw (out, is, none) refl
   ]
 
-  -- the trace tells what was heard and refused
-  told : ◌≡◌ {A = Sound × Bool} (arrived, refused) (sound_of g.what, g.refused)
-  told = seen ∙ heard_last s'.receiver.trace (sound_of g.what) g.refused ending
+  pub arrived_across : arrival.sound ≡ sound_of g.what
+  arrived_across = same_sound arrival _ (sym seen ∙ brought)
 
-  pub arrived_across : arrived ≡ sound_of g.what
-  arrived_across = ap (λ p. p.0) told
+  pub refused_across : arrival.refused ≡ g.refused
+  refused_across = same_refusal arrival _ (sym seen ∙ brought)
 
-  pub refused_across : refused ≡ g.refused
-  refused_across = ap (λ p. p.1) told
-
-pub goes_across : (turn : Turn) (said : Sound) (sent : List ℕ) (s s' : Contending) (reply : Option Reply) (l m : LineInMemory) (arrived : Sound) (refused : Bool)
+pub goes_across : (turn : Turn) (said : Sound) (sent : List ℕ) (s s' : Contending) (reply : Option Reply) (l m : LineInMemory) (arrival : Arrival)
     → Fits turn.up sent → flat_map (λ p. p) l.waiting ≡ bytes_after turn.up sent
     → HeardOther s s' turn.wish reply (λ what. Passes (Some (talk_of l)) (Some (talk_of m)) (λ t u. Hearing t u what))
-    → ◌≡◌ {A = Sound × Bool} (arrived, refused) (heard_at_end (from_end s'.receiver.trace 1) (from_end s'.receiver.trace 2)) → MayDamage turn.up said arrived
-    → GoesAcross turn said sent s s' arrived refused reply
-goes_across turn said sent s s' reply l m arrived refused fits comes g seen may =
-    let a : arrived ≡ sound_of g.what = arrived_across s s' turn.wish reply l m arrived refused g seen in
-    let f : refused ≡ g.refused = refused_across s s' turn.wish reply l m arrived refused g seen in
+    → s'.receiver.arrival ≡ Some arrival → MayDamage turn.up said arrival.sound
+    → GoesAcross turn said sent s s' arrival.sound arrival.refused reply
+goes_across turn said sent s s' reply l m arrival fits comes g seen may =
+    let a : arrival.sound ≡ sound_of g.what = arrived_across s s' turn.wish reply l m arrival g seen in
+    let f : arrival.refused ≡ g.refused = refused_across s s' turn.wish reply l m arrival g seen in
     record {
       what = g.what;
       carried = record { fits = fits; heard = line_hears l m g.what (bytes_after turn.up sent) comes g.told; may = subst (MayDamage turn.up said) a may };

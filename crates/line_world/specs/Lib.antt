@@ -5,7 +5,6 @@ pub mod Run
 pub mod Turns
 pub mod Traces
 pub mod Driving
-pub mod Arrival
 pub mod GoodTurn
 pub mod CleanLine
 pub mod Headline

@@ -2,7 +2,6 @@
 ghost use Rattle.std.specs.Prelude.{◌≡◌, true, false, None, IfOk, OnOk, IfErr, OnErr};
 ghost use Rattle.bsc_history.specs.Fate.{is_damage_of as is_damage, sound_of as up_sound};
 ghost use Rattle.line_world.specs.declared.turn_fault.TurnFault.TheVariants as Fault;
-ghost use Rattle.line_world.specs.Arrival.{from_end as event_from_end, sound_told, heard_at_end};
 ghost use Rattle.line_world.specs.Driving.{MayDamage, IsDamaged, IsFateFault, GoesUp, GoesDown, IsReplyFault, Takes, IsTurnFault};
 
 use crate::carrying::carry;
@@ -11,7 +10,7 @@ use crate::unfailing::{hear_down, hear_up, speak_down};
 use crate::{Driven, Fate, MemoryLine, Spoken, Turn};
 use bsc_history::{is_damage_of, sound_of, sound_of_reply};
 use bsc_link::{Reply, Say, Sound};
-use rje_station::{Event, ReceivingStation, SendingStation, StationFault, Trace};
+use rje_station::{Arrival, ReceivingStation, SendingStation, StationFault};
 use std::alloc::Global;
 
 /// Both ends of a line.
@@ -21,13 +20,6 @@ pub(crate) struct Ends<'a> {
     receiver: ReceivingStation,
     sending_line: MemoryLine,
     receiving_line: MemoryLine,
-}
-
-/// What the receiver heard, whether it was refused, and the reply that is due.
-struct Arrival {
-    arrived: Sound,
-    refused: bool,
-    reply: Option<Reply>,
 }
 
 impl<'a> Ends<'a> {
@@ -88,32 +80,33 @@ impl<'a> Ends<'a> {
             Err(StationFault::Over) => return Ok(None),
             Err(_) => unreachable!(),
         };
-        let Arrival {
-            arrived,
-            refused,
-            reply,
-        } = self.go_up(alloc, said, turn)?;
+        let (arrival, reply) = self.go_up(alloc, said, turn)?;
         let heard = match said {
             Say::End => Sound::Quiet,
             _ => self.go_down(alloc, turn)?,
         };
         Ok(Some(Spoken {
             said,
-            arrived,
-            refused,
+            arrived: arrival.sound,
+            refused: arrival.refused,
             reply,
             heard,
         }))
     }
 
     /// What the sender sent comes to the receiver, which takes one step.
-    fn go_up(&mut self, alloc: Global, said: Say, turn: &Turn) -> Result<Arrival, TurnFault>
+    fn go_up(
+        &mut self,
+        alloc: Global,
+        said: Say,
+        turn: &Turn,
+    ) -> Result<(Arrival, Option<Reply>), TurnFault>
         requires receiving { self.old.receiving_line.until_failure ≡ 0 }
         requires live { self.old.receiver.over ≡ false }
         ensures sending { OnOk result (self.new.sending_line ≡ self.old.sending_line) }
         ensures receiving { OnOk result (self.new.receiving_line.until_failure ≡ 0) }
         ensures owes { OnOk result (self.new.receiver.over ≡ true → self.new.receiver.due ≡ None) }
-        ensures up { IfOk result (λ a. GoesUp turn.now (up_sound said) self.old.sending_line.sent self.old.receiver self.new.receiver a.arrived a.refused a.reply) }
+        ensures up { IfOk result (λ a. GoesUp turn.now (up_sound said) self.old.sending_line.sent self.old.receiver self.new.receiver a.0.sound a.0.refused a.1) }
         ensures sender { OnOk result (self.new.sender ≡ self.old.sender) }
         ensures fault { IfErr result (IsFateFault turn.now.up (up_sound said) self.old.sending_line.sent) }
     {
@@ -123,14 +116,9 @@ impl<'a> Ends<'a> {
             &self.sending_line,
             &mut self.receiving_line,
         )?;
-        let reply = hear_up(&mut self.receiver, &mut self.receiving_line, turn.wish);
-        let (arrived, refused) = last_hearing(self.receiver.trace());
-        check_damage(&turn.up, sound_of(said), arrived)?;
-        Ok(Arrival {
-            arrived,
-            refused,
-            reply,
-        })
+        let (arrival, reply) = hear_up(&mut self.receiver, &mut self.receiving_line, turn.wish);
+        check_damage(&turn.up, sound_of(said), arrival.sound)?;
+        Ok((arrival, reply))
     }
 
     /// The reply that is due comes to the sender, which takes one step.
@@ -158,35 +146,6 @@ impl<'a> Ends<'a> {
         check_damage(&turn.down, sound_of_reply(Some(reply)), heard)?;
         Ok(heard)
     }
-}
-
-/// What the last hearing in a receiver's trace brought, and whether it was refused: a hearing is told by one event, or by two.
-pub(crate) fn last_hearing(trace: &Trace) -> (Sound, bool)
-    ensures { result ≡ heard_at_end (event_from_end trace.now 1) (event_from_end trace.now 2) }
-{
-    let before = sound_in(from_end(trace, 2));
-    match from_end(trace, 1) {
-        Some(Event::Heard(sound)) => (sound, false),
-        Some(Event::Refused) => (before, true),
-        _ => (before, false),
-    }
-}
-
-/// The sound that an event tells.
-fn sound_in(event: Option<Event>) -> Sound
-    ensures { result ≡ sound_told event }
-{
-    match event {
-        Some(Event::Heard(sound)) => sound,
-        _ => Sound::Quiet,
-    }
-}
-
-/// The event so many places before the end of a trace.
-fn from_end(trace: &Trace, places: usize) -> Option<Event>
-    ensures { result ≡ event_from_end trace.now places }
-{
-    trace.get(trace.len().saturating_sub(places))
 }
 
 /// Refuses bytes that are heard as damage of what was said may not be.

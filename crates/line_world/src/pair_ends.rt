@@ -7,14 +7,14 @@ ghost use Rattle.rje_station.specs.Station.{due_at, is_deaf};
 ghost use Rattle.line_world.specs.PairDriving.{GoesAcross, ComesBack, SpeaksAlone, IsAloneFault, Collides, SpeaksInVain, after_end_of, TakesPair, IsPairTurnFault};
 
 use crate::carrying::carry;
-use crate::ends::{check_damage, last_hearing};
+use crate::ends::check_damage;
 use crate::speaking::speaks;
 use crate::turn_fault::TurnFault;
 use crate::unfailing::{hear_across, hear_back, reply_back, say_due};
 use crate::{MemoryLine, PairSpoken, PairTurn, Paired, Spoken, Turn};
 use bsc_history::{sound_of, sound_of_reply};
 use bsc_link::{Reply, Say, Sound};
-use rje_station::Station;
+use rje_station::{Arrival, Station};
 use std::alloc::Global;
 
 /// Both ends of a line.
@@ -24,13 +24,6 @@ pub(crate) struct PairEnds<'a> {
     secondary: Station<'a>,
     primary_line: MemoryLine,
     secondary_line: MemoryLine,
-}
-
-/// What the other station heard, whether it was refused, and the reply that is due.
-struct Arrival {
-    arrived: Sound,
-    refused: bool,
-    reply: Option<Reply>,
 }
 
 impl<'a> PairEnds<'a> {
@@ -161,11 +154,7 @@ fn speak_alone<'a>(
     ensures fault { IfErr result (IsAloneFault turn.now speaker.old listener.old) }
 {
     let said = say_due(speaker, near);
-    let Arrival {
-        arrived,
-        refused,
-        reply,
-    } = go_across(alloc, turn, said, near, listener, far)?;
+    let (arrival, reply) = go_across(alloc, turn, said, near, listener, far)?;
     let heard = match said {
         Say::End => Sound::Quiet,
         _ => come_back(alloc, turn, speaker, near, listener, far)?,
@@ -173,8 +162,8 @@ fn speak_alone<'a>(
     end_of(listener, said);
     Ok(Spoken {
         said,
-        arrived,
-        refused,
+        arrived: arrival.sound,
+        refused: arrival.refused,
         reply,
         heard,
     })
@@ -188,24 +177,19 @@ fn go_across(
     near: &MemoryLine,
     listener: &mut Station<'_>,
     far: &mut MemoryLine,
-) -> Result<Arrival, TurnFault>
+) -> Result<(Arrival, Option<Reply>), TurnFault>
     requires far { far.old.until_failure ≡ 0 }
     requires hears { is_deaf listener.old ≡ false }
     ensures far { OnOk result (far.new.until_failure ≡ 0) }
     ensures live { OnOk result (listener.new.failed ≡ false) }
     ensures owes { OnOk result (listener.new.receiver.over ≡ true → listener.new.receiver.due ≡ None) }
-    ensures across { IfOk result (λ a. GoesAcross turn.now (up_sound said) near.now.sent listener.old listener.new a.arrived a.refused a.reply) }
+    ensures across { IfOk result (λ a. GoesAcross turn.now (up_sound said) near.now.sent listener.old listener.new a.0.sound a.0.refused a.1) }
     ensures fault { IfErr result (IsFateFault turn.now.up (up_sound said) near.now.sent) }
 {
     carry(alloc, &turn.up, near, far)?;
-    let reply = hear_across(listener, far, turn.wish);
-    let (arrived, refused) = last_hearing(listener.receiver().trace());
-    check_damage(&turn.up, sound_of(said), arrived)?;
-    Ok(Arrival {
-        arrived,
-        refused,
-        reply,
-    })
+    let (arrival, reply) = hear_across(listener, far, turn.wish);
+    check_damage(&turn.up, sound_of(said), arrival.sound)?;
+    Ok((arrival, reply))
 }
 
 /// The reply that is due comes to the station that spoke, which takes one step.

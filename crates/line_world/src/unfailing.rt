@@ -10,25 +10,29 @@ ghost use Rattle.line_world.specs.MemoryLine.{talk_of};
 
 use crate::MemoryLine;
 use bsc_link::{Reply, Say, Sound, Wish};
-use rje_station::{ReceivingStation, SendingStation, Station, StationFault};
+use rje_station::{Arrival, ReceivingStation, SendingStation, Station, StationFault};
 
-/// The receiving station hears what comes.
+/// The receiving station hears what comes: what that was, and the reply that is due.
 pub(crate) fn hear_up(
     receiver: &mut ReceivingStation,
     line: &mut MemoryLine,
     wish: Wish,
-) -> Option<Reply>
+) -> (Arrival, Option<Reply>)
     requires calm { line.old.until_failure ≡ 0 }
     requires short { length (flat_map (λ p. p) line.old.waiting) ≤ 8192 }
     requires live { receiver.old.over ≡ false }
-    ensures heard { Received receiver.old receiver.new wish result (λ what. Hearing (talk_of line.old) (talk_of line.new) what) }
+    ensures heard { Received receiver.old receiver.new wish result.1 (λ what. Hearing (talk_of line.old) (talk_of line.new) what) }
+    ensures arrival { receiver.new.arrival ≡ Some result.0 }
     ensures owes { receiver.new.over ≡ true → receiver.new.due ≡ None }
     ensures calm { line.new.until_failure ≡ 0 }
 {
     let Ok(reply) = receiver.hear(line, wish) else {
         unreachable!()
     };
-    reply
+    let Some(arrival) = receiver.arrival() else {
+        unreachable!()
+    };
+    (arrival, reply)
 }
 
 /// The receiving station sends the reply that is due; it owes none where it is over.
@@ -96,16 +100,17 @@ pub(crate) fn hear_back(station: &mut Station<'_>, line: &mut MemoryLine, pause:
     sound
 }
 
-/// A station hears the other one.
+/// A station hears the other one: what came, and the reply that is due.
 pub(crate) fn hear_across(
     station: &mut Station<'_>,
     line: &mut MemoryLine,
     wish: Wish,
-) -> Option<Reply>
+) -> (Arrival, Option<Reply>)
     requires calm { line.old.until_failure ≡ 0 }
     requires short { length (flat_map (λ p. p) line.old.waiting) ≤ 8192 }
     requires hears { is_deaf station.old ≡ false }
-    ensures heard { HeardOther station.old station.new wish result (λ what. Hearing (talk_of line.old) (talk_of line.new) what) }
+    ensures heard { HeardOther station.old station.new wish result.1 (λ what. Hearing (talk_of line.old) (talk_of line.new) what) }
+    ensures arrival { station.new.receiver.arrival ≡ Some result.0 }
     ensures live { station.new.failed ≡ false }
     ensures owes { station.new.receiver.over ≡ true → station.new.receiver.due ≡ None }
     ensures calm { line.new.until_failure ≡ 0 }
@@ -113,7 +118,10 @@ pub(crate) fn hear_across(
     let Ok(reply) = station.hear_other(line, wish) else {
         unreachable!()
     };
-    reply
+    let Some(arrival) = station.receiver().arrival() else {
+        unreachable!()
+    };
+    (arrival, reply)
 }
 
 /// A station sends the reply that is due; it owes none where the other one's transmission is over.

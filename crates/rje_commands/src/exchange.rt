@@ -1,6 +1,6 @@
 //! Stations that take turns over a line, until the transmission ends.
 use bsc_link::{Say, Sound, Wish};
-use rje_station::{Event, Line, ReceivingStation, SendingStation, StationFault, Trace};
+use rje_station::{Line, ReceivingStation, SendingStation, StationFault};
 
 /// After so many quiet hearings in a row a receiving station leaves.
 const MAX_QUIET: u32 = 40;
@@ -42,11 +42,7 @@ pub fn receive_all<L: Line>(
             Err(StationFault::Over) => return Ok(Left::Ended),
             Err(fault) => return Err(fault),
         }
-        quiet = if heard_nothing(station.trace()) {
-            quiet + 1
-        } else {
-            0
-        };
+        quiet = if heard_nothing(station) { quiet + 1 } else { 0 };
         if quiet == MAX_QUIET {
             break;
         }
@@ -79,9 +75,9 @@ pub fn take_turns<N: Line, F: Line>(
 }
 
 /// Whether the last hearing was quiet.
-fn heard_nothing(trace: &Trace) -> bool {
-    match trace.len().checked_sub(1) {
-        Some(last) => trace.get(last) == Some(Event::Heard(Sound::Quiet)),
+fn heard_nothing(station: &ReceivingStation) -> bool {
+    match station.arrival() {
+        Some(arrival) => arrival.sound == Sound::Quiet,
         None => false,
     }
 }

@@ -13,6 +13,7 @@ use Rattle.rje_text.specs.declared.unpacked.Unpacked.{Unpacked}
 use Rattle.rje_text.specs.Reading.{IsRead}
 use Rattle.rje_jobs.specs.declared.job.Job.{Job}
 use Rattle.rje_jobs.specs.Joined.{mode_of_begun}
+use Rattle.rje_station.specs.declared.arrival.Arrival.{Arrival}
 use Rattle.rje_station.specs.declared.event.Event.{Event}
 use Rattle.rje_station.specs.declared.event.Event.TheVariants as event
 use Rattle.rje_station.specs.declared.station_fault.StationFault.{StationFault}
@@ -31,11 +32,13 @@ pub record Receiving : Type 0 where
   pub due : Option Reply
   -- it neither speaks nor hears any more
   pub over : Bool
+  -- what the last hearing brought; none before the first
+  pub arrival : Option Arrival
   pub trace : List Event
 
 -- a station that has done nothing
 abbrev pub first_receiving : Receiving
-first_receiving = record { jobs = []; core = first_receiver_state; due = None; over = false; trace = [] }
+first_receiving = record { jobs = []; core = first_receiver_state; due = None; over = false; arrival = None; trace = [] }
 
 -- ---- Hearing.
 
@@ -72,6 +75,7 @@ after_receiving s h refused wish =
       core = receiver_hears s.core sound wish;
       due = news.reply;
       over = news.ended;
+      arrival = Some (record { sound = sound_of h; refused = refused });
       trace = last_events (s.trace ++ event.Heard (sound_of h) ∷ received_events news.accepted refused);
     }
 

@@ -1,5 +1,5 @@
 -- A station that sends and receives: what it holds, and what each call makes of it (own profile, over the tables of bsc_link).
-use Rattle.std.specs.Prelude.{◌≡◌, ℕ, Bool, true, false, ◌||◌, List, [], ◌∷◌, ◌++◌, Option, None, if◌then◌else◌}
+use Rattle.std.specs.Prelude.{◌≡◌, ℕ, Bool, true, false, ◌||◌, List, [], ◌∷◌, ◌++◌, Option, Some, None, if◌then◌else◌}
 use Rattle.bsc_codes.specs.declared.block.Block.{Block}
 use Rattle.bsc_frame.specs.declared.heard.Heard.{Heard}
 use Rattle.bsc_link.specs.declared.contender_place.ContenderPlace.{ContenderPlace}
@@ -125,7 +125,7 @@ gives_way rank sound s = s
 
 -- an ENQ that isn't taken is noted, and no reply is due
 abbrev pub after_passing : Receiving → Receiving
-after_passing r = record r { due = None; trace = last_events (r.trace ++ event.Heard Sound.Enq ∷ []) }
+after_passing r = record r { due = None; arrival = Some (record { sound = Sound.Enq; refused = false }); trace = last_events (r.trace ++ event.Heard Sound.Enq ∷ []) }
 
 -- after it heard the other station
 abbrev pub after_other : Contending → Heard → Bool → Wish → Contending

@@ -1,6 +1,7 @@
 //! Both stations over a line: the sending and the receiving 3780, step by step.
 #![tactic(auto)]
 
+mod arrival;
 mod came;
 mod event;
 mod hear_fault;
@@ -16,6 +17,7 @@ mod station_fault;
 mod trace;
 mod writing;
 
+pub use arrival::Arrival;
 pub use came::Came;
 pub use event::Event;
 pub use hearing::MAX_HEARD;

@@ -15,7 +15,7 @@ use crate::hear_fault::HearFault;
 use crate::hearing::hear;
 use crate::sound_heard::sound_of;
 use crate::writing::transmission_of;
-use crate::{Event, Line, StationFault, Trace};
+use crate::{Arrival, Event, Line, StationFault, Trace};
 use bsc_frame::{Frame, Heard};
 use bsc_link::{Receiver, Reply, Sound, Wish};
 use joined_jobs::JoinedJobs;
@@ -31,6 +31,7 @@ pub struct ReceivingStation {
     core: Receiver,
     due: Option<Reply>,
     over: bool,
+    arrival: Option<Arrival>,
     trace: Trace,
 }
 
@@ -39,7 +40,7 @@ impl Model for ReceivingStation {
 
     ghost Value = { Receiving };
 
-    ghost view = { λ s. record { jobs = s.jobs; core = s.core; due = s.due; over = s.over; trace = s.trace } };
+    ghost view = { λ s. record { jobs = s.jobs; core = s.core; due = s.due; over = s.over; arrival = s.arrival; trace = s.trace } };
 }
 
 impl ReceivingStation {
@@ -54,6 +55,7 @@ impl ReceivingStation {
             core: Receiver::new(),
             due: None,
             over: false,
+            arrival: None,
             trace,
         })
     }
@@ -74,9 +76,17 @@ impl ReceivingStation {
             core: _,
             due: _,
             over: _,
+            arrival: _,
             trace: _,
         } = self;
         jobs.into_vec()
+    }
+
+    /// What the last hearing brought. None: nothing was heard yet.
+    pub fn arrival(&self) -> Option<Arrival>
+        ensures { result ≡ self.now.arrival }
+    {
+        self.arrival
     }
 
     /// The last events.
@@ -155,6 +165,10 @@ impl ReceivingStation {
         ensures { self.new ≡ after_passing self.old }
     {
         self.due = None;
+        self.arrival = Some(Arrival {
+            sound: Sound::Enq,
+            refused: false,
+        });
         self.trace.note(Event::Heard(Sound::Enq));
     }
 
@@ -197,7 +211,9 @@ impl ReceivingStation {
         let accepted = ahead.hear(Sound::Block, wish).accepted;
         let refused = refuses(&mut self.jobs, accepted, heard);
         let news = self.core.hear(sound_taken(heard, refused), wish);
-        note_received(&mut self.trace, sound_of(heard), news.accepted, refused);
+        let sound = sound_of(heard);
+        self.arrival = Some(Arrival { sound, refused });
+        note_received(&mut self.trace, sound, news.accepted, refused);
         self.due = news.reply;
         self.over = news.ended;
         news.reply

@@ -1,8 +1,6 @@
--- What the line brings is what the fate leaves, and the trace tells what was heard of it.
-use Rattle.std.proofs.Common.{rules, ◌≡◌, Bool, Err}
-use Rattle.bsc_link.specs.declared.sound.Sound.{Sound}
+-- What the line brings is what the fate leaves, and the station tells what was heard of it.
+use Rattle.std.proofs.Common.{rules, ◌≡◌, Err}
 use Rattle.rje_station.specs.Hearing.{sound_of as sound_heard}
-use Rattle.line_world.specs.Arrival.{from_end, heard_at_end}
 use Rattle.bsc_history.specs.Fate.{sound_of}
 use Rattle.line_world.proofs.Carried.{damage_fault, line_hears}
 use Rattle.line_world.proofs.PairCarried.{goes_across, arrived_across}
@@ -17,13 +15,12 @@ pub returns-in_err-check_damage-clause-fault : goal.returns-in_err-check_damage-
 returns-in_err-check_damage-clause-fault c =
     let told : c.from_residual-in_err-check_damage.result ≡ Err c.in_err-check_damage.field-0.0 = search rules in
     let heard = c.hear_across-reply.ensures.heard in
-    let seen : ◌≡◌ {A = Sound × Bool} (c.last_hearing-arrived.result.0, c.last_hearing-arrived.result.1) (heard_at_end (from_end c.hear_across-reply.new.station.receiver.trace 1) (from_end c.hear_across-reply.new.station.receiver.trace 2)) = search rules in
-    let is : c.last_hearing-arrived.result.0 ≡ sound_heard heard.what = arrived_across _ _ _ _ c.carry.new.to c.hear_across-reply.new.line _ _ heard seen in
+    let is : c.hear_across-reply.result.0.sound ≡ sound_heard heard.what = arrived_across _ _ _ _ c.carry.new.to c.hear_across-reply.new.line _ heard c.hear_across-reply.ensures.arrival in
     let wrong = c.in_err-check_damage.ensures.wrong in
     rw (told, ← c.sound_of.ensures) (damage_fault _ _ _ _ heard.what _ c.in_err-check_damage.ensures.fault wrong (line_hears c.carry.new.to c.hear_across-reply.new.line heard.what _ c.in_ok-carry.ensures.comes heard.told) is)
 
 pub returns-clause-across : goal.returns-clause-across
 returns-clause-across c =
     let may = c.in_ok-check_damage.ensures.may in
-    goes_across c.args.turn.now (sound_of c.args.said) c.args.near.now.sent c.args.listener.now c.hear_across-reply.new.station c.hear_across-reply.result c.carry.new.to c.hear_across-reply.new.line
-    c.last_hearing-arrived.result.0 c.last_hearing-arrived.result.1 c.in_ok-carry.ensures.fits c.in_ok-carry.ensures.comes c.hear_across-reply.ensures.heard (search rules) (rw c.sound_of.ensures at may)
+    goes_across c.args.turn.now (sound_of c.args.said) c.args.near.now.sent c.args.listener.now c.hear_across-reply.new.station c.hear_across-reply.result.1 c.carry.new.to c.hear_across-reply.new.line
+    c.hear_across-reply.result.0 c.in_ok-carry.ensures.fits c.in_ok-carry.ensures.comes c.hear_across-reply.ensures.heard c.hear_across-reply.ensures.arrival (rw c.sound_of.ensures at may)

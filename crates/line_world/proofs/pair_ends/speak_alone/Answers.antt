@@ -8,11 +8,11 @@ use Rattle.line_world.proofs.pair_ends.speak_alone.Goals as goal
 pub returns-in_err-heard-in_default : goal.returns-in_err-heard-in_default
 returns-in_err-heard-in_default c =
     let told : c.from_residual-in_err-heard-in_default.result ≡ Err c.in_err-heard-in_default.field-0.0 = search rules in
-    let across = c.in_ok-arrived.ensures.across in
+    let across = c.in_ok-arrival.ensures.across in
     let written : IsWrittenOf (due_at c.args.speaker.now) c.args.speaker.now.sender.rest c.say_due-said.new.line.sent = search rules in
     rw told (record {
       near = tt;
       far = tt;
       spoke = tt;
-      fault = fault_back c.args.turn.now c.args.speaker.now c.args.listener.now c.go_across.new.listener c.say_due-said.new.line.sent c.in_ok-arrived.field-0.arrived c.in_ok-arrived.field-0.refused c.in_ok-arrived.field-0.reply _ written (rw c.say_due-said.ensures.said at across) c.in_err-heard-in_default.ensures.fault;
+      fault = fault_back c.args.turn.now c.args.speaker.now c.args.listener.now c.go_across.new.listener c.say_due-said.new.line.sent c.in_ok-arrival.arrival.sound c.in_ok-arrival.arrival.refused c.in_ok-arrival.reply _ written (rw c.say_due-said.ensures.said at across) c.in_err-heard-in_default.ensures.fault;
     })

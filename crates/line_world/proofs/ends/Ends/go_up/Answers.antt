@@ -1,8 +1,6 @@
--- What the line brings is what the fate leaves, and the trace tells what was heard of it.
-use Rattle.std.proofs.Common.{rules, ◌≡◌, Bool, Err}
-use Rattle.bsc_link.specs.declared.sound.Sound.{Sound}
+-- What the line brings is what the fate leaves, and the station tells what was heard of it.
+use Rattle.std.proofs.Common.{rules, ◌≡◌, Err}
 use Rattle.rje_station.specs.Hearing.{sound_of as sound_heard}
-use Rattle.line_world.specs.Arrival.{from_end, heard_at_end}
 use Rattle.bsc_history.specs.Fate.{sound_of}
 use Rattle.line_world.proofs.Carried.{goes_up, damage_fault, line_hears, arrived_is}
 use Rattle.line_world.proofs.ends.Ends.go_up.Goals as goal
@@ -16,13 +14,12 @@ pub returns-in_err-check_damage-clause-fault : goal.returns-in_err-check_damage-
 returns-in_err-check_damage-clause-fault c =
     let told : c.from_residual-in_err-check_damage.result ≡ Err c.in_err-check_damage.field-0.0 = search rules in
     let heard = c.hear_up-reply.ensures.heard in
-    let seen : ◌≡◌ {A = Sound × Bool} (c.last_hearing-arrived.result.0, c.last_hearing-arrived.result.1) (heard_at_end (from_end c.hear_up-reply.new.receiver.trace 1) (from_end c.hear_up-reply.new.receiver.trace 2)) = search rules in
-    let is : c.last_hearing-arrived.result.0 ≡ sound_heard heard.what = arrived_is _ _ _ _ c.carry.new.to c.hear_up-reply.new.line _ _ heard seen in
+    let is : c.hear_up-reply.result.0.sound ≡ sound_heard heard.what = arrived_is _ _ _ _ c.carry.new.to c.hear_up-reply.new.line _ heard c.hear_up-reply.ensures.arrival in
     let wrong = c.in_err-check_damage.ensures.wrong in
     rw (told, ← c.sound_of.ensures) (damage_fault _ _ _ _ heard.what _ c.in_err-check_damage.ensures.fault wrong (line_hears c.carry.new.to c.hear_up-reply.new.line heard.what _ c.in_ok-carry.ensures.comes heard.told) is)
 
 pub returns-clause-up : goal.returns-clause-up
 returns-clause-up c =
     let may = c.in_ok-check_damage.ensures.may in
-    goes_up c.args.turn.now (sound_of c.args.said) c.args.self.now.sending_line.sent c.args.self.now.receiver c.hear_up-reply.new.receiver c.hear_up-reply.result c.carry.new.to c.hear_up-reply.new.line
-    c.last_hearing-arrived.result.0 c.last_hearing-arrived.result.1 c.in_ok-carry.ensures.fits c.in_ok-carry.ensures.comes c.hear_up-reply.ensures.heard (search rules) (rw c.sound_of.ensures at may)
+    goes_up c.args.turn.now (sound_of c.args.said) c.args.self.now.sending_line.sent c.args.self.now.receiver c.hear_up-reply.new.receiver c.hear_up-reply.result.1 c.carry.new.to c.hear_up-reply.new.line
+    c.hear_up-reply.result.0 c.in_ok-carry.ensures.fits c.in_ok-carry.ensures.comes c.hear_up-reply.ensures.heard c.hear_up-reply.ensures.arrival (rw c.sound_of.ensures at may)

@@ -1,5 +1,5 @@
 -- What is due is one transmission.
-use Rattle.std.proofs.Common.{rules, ◌≡◌, ◌∙◌}
+use Rattle.std.proofs.Common.{◌∙◌}
 use Rattle.rje_station.proofs.Said.{said_once}
 use Rattle.rje_station.proofs.station.Station.speak.Goals as goal
 
