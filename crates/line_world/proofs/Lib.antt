@@ -37,3 +37,4 @@ pub mod PairNoted
 pub mod Sends
 pub mod OneWay
 pub mod Calm
+pub mod TurnsOverLines

@@ -3,6 +3,7 @@ pub mod Plan
 pub mod Damage
 pub mod Run
 pub mod Turns
+pub mod AnyLines
 pub mod Traces
 pub mod Driving
 pub mod GoodTurn

@@ -1,3 +1,4 @@
 pub mod Inputs
 pub mod Printed
 pub mod Sending
+pub mod Patience

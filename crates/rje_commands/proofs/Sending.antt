@@ -2,9 +2,10 @@
 use Rattle.std.proofs.Common.{◌≡◌, ℕ, List, Option, Result, Ok, Err, IfOk, OnOk, length, ap, ◌∙◌, subst}
 use Rattle.std.specs.Io.KnownBytes.{Appends}
 use Rattle.std.proofs.lemmas.List.{length-map}
-use Rattle.bsc_link.specs.declared.outcome.Outcome.{Outcome}
 use Rattle.rje_jobs.specs.declared.job.Job.{Job}
 use Rattle.rje_jobs.specs.Unsent.{IsLeft, unsent}
+use Rattle.rje_station.specs.Sending.{Sending, first_sending, outcome_of}
+use Rattle.line_world.specs.AnyLines.{SendsToEnd}
 use Rattle.rje_commands.specs.declared.command_fault.CommandFault.{CommandFault}
 use Rattle.rje_commands.specs.declared.socket_commands.ending.Ending.{Ending}
 use Rattle.rje_commands.specs.Commands.{OfFile}
@@ -16,20 +17,20 @@ use Rattle.rje_commands.proofs.Inputs.{of_file, set_after}
 marked_after : (file name : List ℕ) (counted : ℕ) (f g h : Option FileMap) → Tells f g IsSame → MarksSent file counted name g h → MarksSent file counted name f h
 marked_after file name counted f g h same m = (m.0, m.1, m.2, set_after name m.0 f g h same m.3)
 
-pub sends_left : (r : Result Ending CommandFault) (name file : List ℕ) (jobs : List Job) (counted : ℕ) (outcome : Option Outcome)
+pub sends_left : (r : Result Ending CommandFault) (name file : List ℕ) (jobs : List Job) (station : Sending)
     (f g h : Option FileMap) (before after : Option (List ℕ))
-    → OfFile name f (λ read. file ≡ read) → Tells f g IsSame → IsLeft file jobs → IfOk r (λ ending. ending ≡ ending_of outcome)
-    → OnOk r (Appends before after (sent_text counted (length jobs) outcome)) → OnOk r (MarksSent file counted name g h)
+    → OfFile name f (λ read. file ≡ read) → Tells f g IsSame → IsLeft file jobs → OnOk r (SendsToEnd (first_sending jobs) station) → IfOk r (λ ending. ending ≡ ending_of (outcome_of station))
+    → OnOk r (Appends before after (sent_text station.counted (length jobs) (outcome_of station))) → OnOk r (MarksSent file station.counted name g h)
     → IfOk r (λ ending. OfFile name f (λ read. SendsLeft ending name read f h before after))
-sends_left (Err fault) name file jobs counted outcome f g h before after read same left ended printed marked = tt
-sends_left (Ok ending) name file jobs counted outcome f g h before after read same left ended printed marked =
+sends_left (Err fault) name file jobs station f g h before after read same left took ended printed marked = tt
+sends_left (Ok ending) name file jobs station f g h before after read same left took ended printed marked =
     let given : length jobs ≡ length (unsent left.0) = ap length left.3 ∙ length-map (unsent left.0) (λ e. e.job) in
     of_file (λ read. SendsLeft ending name read f h before after) file (record {
       entries = left.0;
-      counted = counted;
-      outcome = outcome;
+      station = station;
       file_is = left.1;
-      marks = marked_after file name counted f g h same marked;
+      sends = subst (λ js. SendsToEnd (first_sending js) station) left.3 took;
+      marks = marked_after file name station.counted f g h same marked;
       ending_is = ended;
-      text_is = subst (λ n. Appends before after (sent_text counted n outcome)) given printed;
+      text_is = subst (λ n. Appends before after (sent_text station.counted n (outcome_of station))) given printed;
     }) name f read

@@ -5,12 +5,17 @@ use Rattle.bsc_link.specs.declared.outcome.Outcome.{Outcome}
 use Rattle.rje_jobs.specs.declared.entry.Entry.{Entry}
 use Rattle.rje_jobs.specs.declared.job.Job.{Job}
 use Rattle.rje_jobs.specs.declared.job_file.version.FileVersion.TheVariants.{Second}
-use Rattle.rje_jobs.specs.Entry.{entry_of}
+use Rattle.rje_jobs.specs.Entry.{entry_of, jobs_in}
 use Rattle.rje_jobs.specs.JobFile.{HasEntries, IsEntryFileOf}
 use Rattle.rje_jobs.specs.Unsent.{IsSentFile, unsent}
+use Rattle.rje_station.specs.Receiving.{Receiving, first_receiving}
+use Rattle.rje_station.specs.Sending.{Sending, first_sending, outcome_of}
+use Rattle.line_world.specs.AnyLines.{SendsToEnd}
 use Rattle.rje_print.specs.ReportTexts.{counted_line, handed_line, outcome_line, whole_jobs}
 use Rattle.rje_commands.specs.declared.socket_commands.ending.Ending.{Ending}
+use Rattle.rje_commands.specs.declared.exchange.Left.{Left}
 use Rattle.rje_commands.specs.Commands.{OfFile}
+use Rattle.rje_commands.specs.Patience.{LeavesSo}
 use Rattle.rje_commands.specs.Store.{FileMap, Tells, Sets}
 
 -- the exit status
@@ -44,22 +49,41 @@ MakesJobFile jobs name files made =
 abbrev pub WritesJobs : List Job → (name : List ℕ) → (files made : Option FileMap) → (before after : Option (List ℕ)) → Type 0
 WritesJobs jobs name files made before after = MakesJobFile jobs name files made × Appends before after (received_text jobs)
 
+-- only where the sender ended the transmission all was received
+abbrev pub ending_of_left : Left → Ending
+ending_of_left Left.Ended = Ending.Done
+ending_of_left Left.Abandoned = Ending.Other
+
+-- one transmission was received: a new station took some turns and left so, the file of this name became that of its jobs, and just their
+-- line was printed
+pub record Receives (ending : Ending) (name : List ℕ) (files made : Option FileMap) (before after : Option (List ℕ)) : Type 0 where
+  pub left : Left
+  pub station : Receiving
+  pub leaves : LeavesSo left first_receiving station
+  pub ending_is : ending ≡ ending_of_left left
+  pub writes : WritesJobs station.jobs name files made before after
+
+-- a command over a line ended with this status, and one transmission was received
+abbrev pub EndsReceiving : (status : ℕ) → (name : List ℕ) → (files made : Option FileMap) → (before after : Option (List ℕ)) → Type 0
+EndsReceiving status name files made before after =
+    (ending : Ending) × (status ≡ ending_status ending) × Receives ending name files made before after
+
 -- the file of this name became that of the same entries as this file's, in which just the first counted of those that were not Sent are Sent,
 -- and no other file changed
 abbrev pub MarksSent : (file : List ℕ) → (counted : ℕ) → (name : List ℕ) → (files made : Option FileMap) → Type 0
 MarksSent file counted name files made =
     (bytes : List ℕ) × IsSentFile file counted bytes × (length bytes ≤ 16777216) × Tells files made (Sets name bytes)
 
--- what was left of the job file of this name was sent: so many of its jobs were counted and are Sent in the file now, the transmission ended so,
--- and just the lines of it were printed
+-- what was left of the job file of this name was sent: a new station for these jobs took some turns to the end of its transmission; the
+-- jobs that it counted are Sent in the file now, it ended so, and just the lines of it were printed
 pub record SendsLeft (ending : Ending) (name file : List ℕ) (files made : Option FileMap) (before after : Option (List ℕ)) : Type 0 where
   pub entries : List Entry
-  pub counted : ℕ
-  pub outcome : Option Outcome
+  pub station : Sending
   pub file_is : HasEntries entries file
-  pub marks : MarksSent file counted name files made
-  pub ending_is : ending ≡ ending_of outcome
-  pub text_is : Appends before after (sent_text counted (length (unsent entries)) outcome)
+  pub sends : SendsToEnd (first_sending (jobs_in (unsent entries))) station
+  pub marks : MarksSent file station.counted name files made
+  pub ending_is : ending ≡ ending_of (outcome_of station)
+  pub text_is : Appends before after (sent_text station.counted (length (unsent entries)) (outcome_of station))
 
 -- a command over a line ended with this status, and what was left of the job file of this name was sent
 abbrev pub EndsSending : (status : ℕ) → (name : List ℕ) → (files made : Option FileMap) → (before after : Option (List ℕ)) → Type 0

@@ -5,3 +5,4 @@ pub mod CommandFault
 pub mod Inside
 pub mod Command
 pub mod Ending
+pub mod Patience

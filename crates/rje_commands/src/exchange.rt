@@ -1,6 +1,12 @@
 //! Stations that take turns over a line, until the transmission ends.
+ghost use Rattle.std.specs.Prelude.{◌≡◌, ◌<◌, ◌+◌, true, false, if◌then◌else◌, IfOk, OnOk, IfErr};
+ghost use Rattle.bsc_history.specs.declared.spoken_turn.SpokenTurn.{SpokenTurn};
+ghost use Rattle.rje_commands.specs.Patience.{LeavesSo, HearsOut, was_quiet};
+ghost use Rattle.line_world.specs.AnyLines.{SenderTakes, SenderFails, SendsToEnd, SendsToFault, ReceiverTakes, ReceiverFails, ReceivesToFault, BothTake, BothFail, BothToEnd, BothToFault};
+
 use bsc_link::{Say, Sound, Wish};
-use rje_station::{Line, ReceivingStation, SendingStation, StationFault};
+use line_world::Spoken;
+use rje_station::{Arrival, Line, ReceivingStation, SendingStation, StationFault};
 
 /// After so many quiet hearings in a row a receiving station leaves.
 const MAX_QUIET: u32 = 40;
@@ -18,37 +24,99 @@ pub enum Left {
 }
 
 /// Sends what the station has, to the end of its transmission.
-pub fn send_all<L: Line>(station: &mut SendingStation, line: &mut L) -> Result<(), StationFault> {
+pub fn send_all<L: Line>(station: &mut SendingStation, line: &mut L) -> Result<(), StationFault>
+    ensures took { OnOk result (SendsToEnd station.old station.new) }
+    ensures fault { IfErr result (SendsToFault station.old station.new) }
+{
     for _ in 0..u64::MAX {
-        match station.speak(line) {
-            Ok(Say::End) | Err(StationFault::Over) => return Ok(()),
-            Ok(_) => station.hear(line, false)?,
-            Err(fault) => return Err(fault),
-        };
+        if !speak_and_hear(station, line)? {
+            return Ok(());
+        }
     }
     Ok(())
+}
+
+/// One turn of a sending station, and whether there is one: it says what is due, and but for EOT it listens.
+fn speak_and_hear<L: Line>(station: &mut SendingStation, line: &mut L) -> Result<bool, StationFault>
+    ensures takes { IfOk result (λ is_turn. is_turn ≡ true → (t : SpokenTurn) × SenderTakes station.old station.new t) }
+    ensures over { IfOk result (λ is_turn. is_turn ≡ false → (station.old.over ≡ true) × (station.new ≡ station.old)) }
+    ensures fault { IfErr result (SenderFails station.old station.new) }
+{
+    match station.speak(line) {
+        Ok(Say::End) => Ok(true),
+        Ok(_) => {
+            station.hear(line, false)?;
+            Ok(true)
+        }
+        Err(StationFault::Over) => Ok(false),
+        Err(fault) => Err(fault),
+    }
 }
 
 /// Receives what comes, until the sender ends the transmission or stays quiet for long.
 pub fn receive_all<L: Line>(
     station: &mut ReceivingStation,
     line: &mut L,
-) -> Result<Left, StationFault> {
+) -> Result<Left, StationFault>
+    ensures left { IfOk result (λ left. LeavesSo left station.old station.new) }
+    ensures fault { IfErr result (ReceivesToFault station.old station.new) }
+{
+    let left = hear_out(station, line)?;
+    if left == Left::Abandoned {
+        station.abandon();
+    }
+    Ok(left)
+}
+
+/// Receives until the sender ends the transmission, or there is no more hope of it.
+fn hear_out<L: Line>(station: &mut ReceivingStation, line: &mut L) -> Result<Left, StationFault>
+    ensures heard { IfOk result (λ left. HearsOut left station.old station.new) }
+    ensures fault { IfErr result (ReceivesToFault station.old station.new) }
+{
     let mut quiet = 0;
     for _ in 0..MAX_HEARINGS {
-        station.hear(line, Wish::Go)?;
-        match station.speak(line) {
-            Ok(_) => {}
-            Err(StationFault::Over) => return Ok(Left::Ended),
-            Err(fault) => return Err(fault),
+        if !hear_and_speak(station, line)? {
+            return Ok(Left::Ended);
         }
-        quiet = if heard_nothing(station) { quiet + 1 } else { 0 };
+        quiet = quiet_after(quiet, station);
         if quiet == MAX_QUIET {
-            break;
+            return Ok(Left::Abandoned);
         }
     }
-    station.abandon();
     Ok(Left::Abandoned)
+}
+
+/// How many quiet hearings in a row there are, with the last one.
+fn quiet_after(quiet: u32, station: &ReceivingStation) -> u32
+    requires few { quiet < 40 }
+    ensures { result ≡ (if was_quiet station.now.arrival then quiet + 1 else 0) }
+{
+    match station.arrival() {
+        Some(
+            Arrival {
+                sound: Sound::Quiet,
+                refused: _,
+            },
+        ) => quiet + 1,
+        _ => 0,
+    }
+}
+
+/// One turn of a receiving station: it listens, and it replies where the transmission isn't over, which is answered.
+fn hear_and_speak<L: Line>(
+    station: &mut ReceivingStation,
+    line: &mut L,
+) -> Result<bool, StationFault>
+    ensures takes { OnOk result ((t : SpokenTurn) × ReceiverTakes station.old station.new t) }
+    ensures over { IfOk result (λ goes_on. goes_on ≡ false → station.new.over ≡ true) }
+    ensures fault { IfErr result (ReceiverFails station.old station.new) }
+{
+    station.hear(line, Wish::Go)?;
+    match station.speak(line) {
+        Ok(_) => Ok(true),
+        Err(StationFault::Over) => Ok(false),
+        Err(fault) => Err(fault),
+    }
 }
 
 /// Lets a sender and a receiver take turns, each at its end of a line, to the end of the transmission.
@@ -57,27 +125,49 @@ pub fn take_turns<N: Line, F: Line>(
     near: &mut N,
     receiver: &mut ReceivingStation,
     far: &mut F,
-) -> Result<(), StationFault> {
+) -> Result<(), StationFault>
+    ensures took { OnOk result (BothToEnd sender.old sender.new receiver.old receiver.new) }
+    ensures fault { IfErr result (BothToFault sender.old sender.new receiver.old receiver.new) }
+{
     for _ in 0..u64::MAX {
-        let said = match sender.speak(near) {
-            Ok(said) => said,
-            Err(StationFault::Over) => return Ok(()),
-            Err(fault) => return Err(fault),
-        };
-        receiver.hear(far, Wish::Go)?;
-        if said == Say::End {
+        let Some(_) = take_turn(sender, near, receiver, far)? else {
             return Ok(());
-        }
-        receiver.speak(far)?;
-        sender.hear(near, false)?;
+        };
     }
     Ok(())
 }
 
-/// Whether the last hearing was quiet.
-fn heard_nothing(station: &ReceivingStation) -> bool {
-    match station.arrival() {
-        Some(arrival) => arrival.sound == Sound::Quiet,
-        None => false,
-    }
+/// One turn of a sender and a receiver; None where the sender has nothing to say any more.
+fn take_turn<N: Line, F: Line>(
+    sender: &mut SendingStation,
+    near: &mut N,
+    receiver: &mut ReceivingStation,
+    far: &mut F,
+) -> Result<Option<Spoken>, StationFault>
+    ensures takes { IfOk result (λ spoken. BothTake spoken sender.old sender.new receiver.old receiver.new) }
+    ensures fault { IfErr result (BothFail sender.old sender.new receiver.old receiver.new) }
+{
+    let said = match sender.speak(near) {
+        Ok(said) => said,
+        Err(StationFault::Over) => return Ok(None),
+        Err(fault) => return Err(fault),
+    };
+    let reply = receiver.hear(far, Wish::Go)?;
+    let Some(Arrival { sound, refused }) = receiver.arrival() else {
+        unreachable!()
+    };
+    let heard = match said {
+        Say::End => Sound::Quiet,
+        _ => {
+            receiver.speak(far)?;
+            sender.hear(near, false)?
+        }
+    };
+    Ok(Some(Spoken {
+        said,
+        arrived: sound,
+        refused,
+        reply,
+        heard,
+    }))
 }

@@ -2,6 +2,7 @@
 ghost use Rattle.std.specs.Prelude.{◌≡◌, IfOk, OnOk};
 ghost use Rattle.std.specs.Io.KnownBytes.{Appends};
 ghost use Rattle.rje_station.specs.Sending.{outcome_of};
+ghost use Rattle.line_world.specs.AnyLines.{BothToEnd};
 ghost use Rattle.rje_commands.specs.Ending.{ending_of, loop_text};
 
 use crate::command_fault::CommandFault;
@@ -51,6 +52,7 @@ fn loop_over<'a, N: Line, F: Line, O: Write>(
     given: usize,
     out: &mut O,
 ) -> Result<Ending, CommandFault<'a>>
+    ensures took { OnOk result (BothToEnd sender.old sender.new receiver.old receiver.new) }
     ensures ended { IfOk result (λ ending. ending ≡ ending_of (outcome_of sender.new)) }
     ensures printed { OnOk result (Appends (O.contents out.old) (O.contents out.new)
         (loop_text sender.new.counted given receiver.new.jobs (outcome_of sender.new))) }

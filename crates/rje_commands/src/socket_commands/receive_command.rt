@@ -1,7 +1,6 @@
 //! `receive`: one transmission from whoever connects, into a job file.
-ghost use Rattle.std.specs.Prelude.{◌≡◌, ◌⊎◌, List, OnOk};
-ghost use Rattle.rje_jobs.specs.declared.job.Job.{Job as Handed};
-ghost use Rattle.rje_commands.specs.Ending.{MakesJobFile, WritesJobs};
+ghost use Rattle.std.specs.Prelude.{◌≡◌, ◌⊎◌, IfOk, OnOk};
+ghost use Rattle.rje_commands.specs.Ending.{MakesJobFile, Receives, EndsReceiving};
 
 use crate::command_fault::CommandFault;
 use crate::commands::{put, write_file};
@@ -54,9 +53,8 @@ pub fn receive_over<L: Line, S: Store, O: Write, E: Write>(
     out: &mut O,
     err: &mut E,
 ) -> u8
-    ensures written { (result ≡ 0) ⊎ (result ≡ 4) → (jobs : List Handed)
-        × WritesJobs jobs name.now (S.files store.old) (S.files store.new)
-        (O.contents out.old) (O.contents out.new) }
+    ensures received { (result ≡ 0) ⊎ (result ≡ 4) → EndsReceiving result name.now
+        (S.files store.old) (S.files store.new) (O.contents out.old) (O.contents out.new) }
 {
     match received(alloc, line, name, store, out) {
         Ok(ending) => ending.status(),
@@ -71,9 +69,8 @@ fn received<'a, L: Line, S: Store, O: Write>(
     store: &mut S,
     out: &mut O,
 ) -> Result<Ending, CommandFault<'a>>
-    ensures written { OnOk result ((jobs : List Handed)
-        × WritesJobs jobs name.entry.now (S.files store.old) (S.files store.new)
-        (O.contents out.old) (O.contents out.new)) }
+    ensures received { IfOk result (λ ending. Receives ending name.entry.now
+        (S.files store.old) (S.files store.new) (O.contents out.old) (O.contents out.new)) }
 {
     let mut station = ReceivingStation::new(alloc)?;
     let left = receive_all(&mut station, line);

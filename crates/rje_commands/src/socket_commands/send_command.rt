@@ -3,6 +3,7 @@ ghost use Rattle.std.specs.Prelude.{◌≡◌, ◌⊎◌, length, IfOk, OnOk};
 ghost use Rattle.std.specs.Io.KnownBytes.{Appends};
 ghost use Rattle.rje_jobs.specs.Unsent.{IsLeft};
 ghost use Rattle.rje_station.specs.Sending.{outcome_of};
+ghost use Rattle.line_world.specs.AnyLines.{SendsToEnd};
 ghost use Rattle.rje_commands.specs.Commands.{OfFile};
 ghost use Rattle.rje_commands.specs.Ending.{ending_of, sent_text, MarksSent, SendsLeft, EndsSending};
 ghost use Rattle.rje_commands.specs.Store.{Tells, IsSame};
@@ -126,6 +127,7 @@ fn transmit<'a, L: Line, S: Store, O: Write>(
     store: &mut S,
     out: &mut O,
 ) -> Result<Ending, CommandFault<'a>>
+    ensures took { OnOk result (SendsToEnd station.old station.new) }
     ensures ended { IfOk result (λ ending. ending ≡ ending_of (outcome_of station.new)) }
     ensures printed { OnOk result (Appends (O.contents out.old) (O.contents out.new)
         (sent_text station.new.counted (length station.old.jobs) (outcome_of station.new))) }

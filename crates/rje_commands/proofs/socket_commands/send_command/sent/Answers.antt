@@ -1,7 +1,8 @@
-use Rattle.std.proofs.Common.{ap, length, ◌∙◌, OnOk, subst}
+use Rattle.std.proofs.Common.{ap, ◌≡◌, length, ◌∙◌, OnOk, subst}
 use Rattle.std.specs.Io.KnownBytes.{Appends}
 use Rattle.rje_jobs.specs.Unsent.{IsLeft}
-use Rattle.rje_station.specs.Sending.{outcome_of}
+use Rattle.rje_station.specs.Sending.{first_sending, outcome_of}
+use Rattle.line_world.specs.AnyLines.{SendsToEnd}
 use Rattle.rje_commands.specs.Ending.{MarksSent, sent_text}
 use Rattle.rje_commands.proofs.Sending.{sends_left}
 use Rattle.rje_commands.proofs.socket_commands.send_command.sent.Goals as goal
@@ -17,10 +18,12 @@ returns g c =
     let file = c.in_ok-file.file in
     let jobs = c.in_ok-jobs.jobs in
     let left : IsLeft file.bytes.items jobs = rw c.as_slice.ensures.value at c.in_ok-jobs.ensures.left in
+    let first : c.in_ok-station.station ≡ first_sending jobs = c.in_ok-station.ensures.ready ∙ ap first_sending c.as_slice-2.ensures.slice in
     let given = ap (λ s. length s.jobs) c.in_ok-station.ensures.ready ∙ ap length c.as_slice-2.ensures.slice in
     record {
-      sent = sends_left c.transmit.result c.args.name.now file.bytes.items jobs station.counted (outcome_of station) f read made before after
-          c.in_ok-file.ensures.bytes c.in_ok-file.ensures.same left c.transmit.ensures.ended
+      sent = sends_left c.transmit.result c.args.name.now file.bytes.items jobs station f read made before after
+          c.in_ok-file.ensures.bytes c.in_ok-file.ensures.same left
+          (subst (λ s. OnOk c.transmit.result (SendsToEnd s station)) first c.transmit.ensures.took) c.transmit.ensures.ended
           (subst (λ n. OnOk c.transmit.result (Appends before after (sent_text station.counted n (outcome_of station)))) given c.transmit.ensures.printed)
           (subst (λ n. OnOk c.transmit.result (MarksSent file.bytes.items station.counted n read made)) c.in_ok-file.ensures.name c.transmit.ensures.marked);
     }

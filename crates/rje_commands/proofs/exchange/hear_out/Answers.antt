@@ -1,0 +1,29 @@
+use Rattle.std.proofs.Common.{rules, ◌≡◌, Err}
+use Rattle.rje_commands.proofs.Patience.{hears_first, hears_on, hears_end, hears_quiet, hears_long, hears_fault}
+use Rattle.rje_commands.proofs.exchange.hear_out.Goals as goal
+
+pub loop-init : goal.loop-init
+loop-init g c = hears_first c.args.station.now
+
+pub returns-in_err-hear_and_speak-clause-fault : goal.returns-in_err-hear_and_speak-clause-fault
+returns-in_err-hear_and_speak-clause-fault g c =
+    let told : c.from_residual.result ≡ Err c.in_err-hear_and_speak.field-0.0 = search rules in
+    rw told (hears_fault c.args.station.now c.loop.station c.hear_and_speak.new.station c.loop.counter c.loop.quiet _ c.loop.invariant c.in_err-hear_and_speak.ensures.fault)
+
+pub returns-then-not-branch-clause-heard : goal.returns-then-not-branch-clause-heard
+returns-then-not-branch-clause-heard g c =
+    hears_end c.args.station.now c.loop.station c.hear_and_speak.new.station c.loop.counter c.loop.quiet c.loop.invariant c.in_ok-hear_and_speak.ensures.takes (search rules)
+
+pub quiet_after-quiet-requires : goal.quiet_after-quiet-requires
+quiet_after-quiet-requires g c = record { few = c.loop.invariant.few }
+
+pub returns-then-quiet-eq-MAX_QUIET-clause-heard : goal.returns-then-quiet-eq-MAX_QUIET-clause-heard
+returns-then-quiet-eq-MAX_QUIET-clause-heard g c =
+    hears_quiet c.args.station.now c.loop.station c.hear_and_speak.new.station c.loop.counter c.loop.quiet _ c.loop.invariant c.in_ok-hear_and_speak.ensures.takes c.quiet_after-quiet.ensures (search rules)
+
+pub loop-preserved : goal.loop-preserved
+loop-preserved g c =
+    hears_on c.args.station.now c.loop.station c.hear_and_speak.new.station c.loop.counter c.loop.quiet _ c.loop.invariant c.in_ok-hear_and_speak.ensures.takes c.quiet_after-quiet.ensures (search rules)
+
+pub returns-clause-heard : goal.returns-clause-heard
+returns-clause-heard g c = hears_long c.args.station.now c.loop.station c.loop.counter c.loop.quiet c.loop.invariant (search rules)
