@@ -14,7 +14,8 @@ use std::alloc::{AllocError, Global};
 /// The job of a deck: a card for each line, in EBCDIC. A transparent job goes to the punch,
 /// its cards filled to 80 bytes. The first fault of the deck is told before any memory is taken.
 pub fn job_of_deck(alloc: Global, deck: &[u8], select: Select, mode: Mode) -> Result<Job, DeckFault>
-    ensures job { IfOk result (λ job. (deck_fault deck.now ≡ None) × (job ≡ job_of select mode deck.now)) }
+    ensures job { IfOk result (λ job. (deck_fault deck.now ≡ None)
+        × (job ≡ job_of select mode deck.now)) }
     ensures told { IfErr result (λ fault. IsTold deck.now fault) }
 {
     let cards = cards_of_deck(deck, mode)?;
@@ -29,7 +30,8 @@ pub fn job_of_deck(alloc: Global, deck: &[u8], select: Select, mode: Mode) -> Re
 
 /// The cards of a deck, which the whole deck is checked for. Takes no memory, and so never tells of a want of it.
 pub fn cards_of_deck<'a>(deck: &'a [u8], mode: Mode) -> Result<Cards<'a>, DeckFault>
-    ensures cards { IfOk result (λ cards. (deck_fault deck.entry.now ≡ None) × (cards ≡ cards_of mode deck.entry.now)) }
+    ensures cards { IfOk result (λ cards. (deck_fault deck.entry.now ≡ None)
+        × (cards ≡ cards_of mode deck.entry.now)) }
     ensures few { IfOk result (λ cards. length cards < 2 ^ 64) }
     ensures fault { IfErr result (λ fault. deck_fault deck.entry.now ≡ Some fault) }
     ensures told { IfErr result (λ fault. IsTold deck.entry.now fault) }
@@ -51,7 +53,8 @@ fn collected(alloc: Global, cards: Cards) -> Result<Vec<Record>, AllocError>
 
 /// How many lines the deck has; its first fault where it has one.
 fn count_lines(deck: &[u8]) -> Result<usize, DeckFault>
-    ensures counted { IfOk result (λ count. (deck_fault deck.now ≡ None) × (count ≡ length (lines deck.now))) }
+    ensures counted { IfOk result (λ count. (deck_fault deck.now ≡ None)
+        × (count ≡ length (lines deck.now))) }
     ensures told { IfErr result (λ fault. deck_fault deck.now ≡ Some fault) }
 {
     let mut number = 0;

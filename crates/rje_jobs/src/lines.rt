@@ -12,7 +12,8 @@ const CR: u8 = b'\r';
 
 /// The first line and what stands behind it; None where nothing stands there.
 pub(crate) fn next_line(rest: &[u8]) -> Option<(&[u8], &[u8])>
-    ensures line { MatchOption result (rest.now ≡ []) (λ next. lines rest.now ≡ next.0.now ∷ lines next.1.now) }
+    ensures line { MatchOption result (rest.now ≡ [])
+        (λ next. lines rest.now ≡ next.0.now ∷ lines next.1.now) }
     ensures shorter { IfSome result (λ next. length next.1.now < length rest.now) }
 {
     if rest.is_empty() {

@@ -170,8 +170,11 @@ impl Reader {
     /// Behind a mode: whether the job is whole, in the first version.
     fn after_mode(&self) -> Reader
         ensures sound { IsSound result }
-        ensures there { (xs : List ℕ) → AfterMode self.now.version (Rest self.now.version self.now.jobs) xs → Expects result xs }
-        ensures back { (xs : List ℕ) → Expects result xs → AfterMode self.now.version (Rest self.now.version self.now.jobs) xs }
+        ensures there { (xs : List ℕ)
+            → AfterMode self.now.version (Rest self.now.version self.now.jobs) xs
+            → Expects result xs }
+        ensures back { (xs : List ℕ) → Expects result xs
+            → AfterMode self.now.version (Rest self.now.version self.now.jobs) xs }
     {
         match self.version {
             FileVersion::First => self.at(Due::Whole),

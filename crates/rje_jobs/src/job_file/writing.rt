@@ -14,7 +14,8 @@ use std::alloc::AllocError;
 
 /// Appends the version 1 file of these jobs.
 pub(super) fn write_all_jobs(jobs: &[Job], out: &mut Vec<u8>) -> Result<(), AllocError>
-    ensures file { OnOk result (out.new.items ≡ out.old.items ++ file_of FileVersion.First (map entry_of jobs.now)) }
+    ensures file { OnOk result (out.new.items
+        ≡ out.old.items ++ file_of FileVersion.First (map entry_of jobs.now)) }
     ensures fit { OnOk result (AreForFile FileVersion.First (map entry_of jobs.now)) }
 {
     write_front(FileVersion::First, jobs.len(), out)?;
@@ -26,8 +27,10 @@ pub(super) fn write_all_jobs(jobs: &[Job], out: &mut Vec<u8>) -> Result<(), Allo
 
 /// Appends the version 2 file of these entries.
 pub(super) fn write_all_entries(entries: &[Entry], out: &mut Vec<u8>) -> Result<(), AllocError>
-    ensures file { OnOk result (out.new.items ≡ out.old.items ++ file_of FileVersion.Second entries.now) }
-    ensures fit { OnOk result (bad_entry entries.now ≡ None → AreForFile FileVersion.Second entries.now) }
+    ensures file { OnOk result (out.new.items
+        ≡ out.old.items ++ file_of FileVersion.Second entries.now) }
+    ensures fit { OnOk result (bad_entry entries.now ≡ None
+        → AreForFile FileVersion.Second entries.now) }
 {
     write_front(FileVersion::Second, entries.len(), out)?;
     for entry in entries {
@@ -38,7 +41,8 @@ pub(super) fn write_all_entries(entries: &[Entry], out: &mut Vec<u8>) -> Result<
 
 /// Appends what stands before the first of so many jobs.
 fn write_front(version: FileVersion, count: usize, out: &mut Vec<u8>) -> Result<(), AllocError>
-    ensures { OnOk result ((tail : List ℕ) → out.new.items ++ tail ≡ out.old.items ++ (head ++ (version_byte version ∷ (big_bytes 8 count ++ tail)))) }
+    ensures { OnOk result ((tail : List ℕ) → out.new.items ++ tail
+        ≡ out.old.items ++ (head ++ (version_byte version ∷ (big_bytes 8 count ++ tail)))) }
 {
     out.extend_from_slice(&HEAD)?;
     out.push(byte_of_version(version))?;
@@ -47,7 +51,8 @@ fn write_front(version: FileVersion, count: usize, out: &mut Vec<u8>) -> Result<
 }
 
 fn write_job(job: &Job, out: &mut Vec<u8>) -> Result<(), AllocError>
-    ensures job { OnOk result (out.new.items ≡ out.old.items ++ entry_bytes FileVersion.First (entry_of job.now)) }
+    ensures job { OnOk result (out.new.items
+        ≡ out.old.items ++ entry_bytes FileVersion.First (entry_of job.now)) }
     ensures fit { OnOk result (FitsFields FileVersion.First (entry_of job.now)) }
 {
     out.extend_from_slice(&[
@@ -59,8 +64,10 @@ fn write_job(job: &Job, out: &mut Vec<u8>) -> Result<(), AllocError>
 }
 
 fn write_entry(entry: &Entry, out: &mut Vec<u8>) -> Result<(), AllocError>
-    ensures entry { OnOk result (out.new.items ≡ out.old.items ++ entry_bytes FileVersion.Second entry.now) }
-    ensures fit { OnOk result (is_entry entry.now ≡ true → FitsFields FileVersion.Second entry.now) }
+    ensures entry { OnOk result (out.new.items
+        ≡ out.old.items ++ entry_bytes FileVersion.Second entry.now) }
+    ensures fit { OnOk result (is_entry entry.now ≡ true
+        → FitsFields FileVersion.Second entry.now) }
 {
     out.extend_from_slice(&entry.name)?;
     out.extend_from_slice(&[
