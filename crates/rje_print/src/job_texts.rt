@@ -1,5 +1,5 @@
 //! The texts of jobs, one after another.
-ghost use Rattle.std.specs.Prelude.{◌≡◌, IfOk};
+ghost use Rattle.std.specs.Prelude.{◌≡◌, IfOk, IfErr};
 ghost use Rattle.rje_print.specs.JobTexts.{IsShown, IsPaper, paper};
 
 use crate::job_lines::push_entry;
@@ -27,6 +27,7 @@ pub fn entries_text(alloc: Global, entries: &[Entry]) -> Result<Vec<u8>, AllocEr
 /// The paper of these jobs, one after another: the cards in ASCII of a job for the punch, and else its listing.
 pub fn papers_text(alloc: Global, jobs: &[Job]) -> Result<Vec<u8>, FileFault>
     ensures paper { IfOk result (λ text. IsPaper jobs.now text.items) }
+    ensures memory { IfErr result (λ fault. fault ≡ FileFault.OutOfMemory) }
 {
     let mut text = Vec::new(alloc);
     for job in jobs {
@@ -37,7 +38,8 @@ pub fn papers_text(alloc: Global, jobs: &[Job]) -> Result<Vec<u8>, FileFault>
 }
 
 fn paper_of(alloc: Global, job: &Job) -> Result<Vec<u8>, FileFault>
-    ensures { IfOk result (λ text. text.items ≡ paper job.now) }
+    ensures paper { IfOk result (λ text. text.items ≡ paper job.now) }
+    ensures memory { IfErr result (λ fault. fault ≡ FileFault.OutOfMemory) }
 {
     match job.select {
         Select::Punch => punch_job(alloc, job, Form::Ascii),
