@@ -52,7 +52,8 @@ fn list_blocks(alloc: Global, cards: Cards) -> Result<Vec<u8>, AllocError>
 /// Packs a record, and gives the block that was full before it.
 fn pack(packer: &mut Packer, item: Record) -> Option<Block>
     requires { pack_fault packer.old.select packer.old.mode item ≡ None }
-    ensures blocks { (rest : List Item) → packed packer.old (item ∷ rest) ≡ option_to_list result ++ packed packer.new rest }
+    ensures blocks { (rest : List Item) → packed packer.old (item ∷ rest)
+        ≡ option_to_list result ++ packed packer.new rest }
     ensures select { packer.new.select ≡ packer.old.select }
     ensures mode { packer.new.mode ≡ packer.old.mode }
 {
@@ -97,8 +98,10 @@ impl Listing {
     /// Puts the line of the next block behind the others, and counts the block's records.
     fn add(&mut self, block: &Block) -> Result<(), AllocError>
         requires { CanAdd block.now self.old.so_far self.old.count }
-        ensures lines { OnOk result (AddsBlock block.now self.old.text.items self.new.text.items self.old.number self.new.number) }
-        ensures reads { OnOk result (CountsBlock block.now self.old.so_far self.new.so_far self.old.count self.new.count) }
+        ensures lines { OnOk result (AddsBlock block.now
+            self.old.text.items self.new.text.items self.old.number self.new.number) }
+        ensures reads { OnOk result (CountsBlock block.now
+            self.old.so_far self.new.so_far self.old.count self.new.count) }
     {
         one_fault();
         let mut line = PrintedLine::new();
