@@ -1,6 +1,8 @@
 //! What no clause says of the program: printed texts, statuses, and that commands succeed where memory is ample.
 mod commands;
 mod job_commands;
+mod receiving;
 mod sending;
 mod socket_commands;
+mod told_line;
 mod trials;

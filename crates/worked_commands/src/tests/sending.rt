@@ -15,6 +15,8 @@ const ACK0: &[u8] = b"\x32\x32\x10\x70\xFF";
 
 const ACK1: &[u8] = b"\x32\x32\x10\x61\xFF";
 
+const EOT: &[u8] = b"\x32\x32\x37\xFF";
+
 const RVI: &[u8] = b"\x32\x32\x10\x7C\xFF";
 
 /// The version 2 file of three jobs in these states (0 waiting, 1 sent), of one record `A` each.
@@ -92,6 +94,40 @@ fn what_was_not_counted_is_sent_by_the_next(rt: HostRuntime) -> Result<(), Fail>
     let text = b"counted 1 of 1 jobs\noutcome done\n";
     assert_sends(&rt, &mut line, &mut store, 0, text, b"");
     assert_file(&rt, &mut store, three_jobs(&rt, [1, 1, 1]).as_slice())
+}
+
+#[test]
+fn a_transmission_that_ends_otherwise_is_told_with_status_4(rt: HostRuntime) -> Result<(), Fail> {
+    // Seven tries in silence, and an EOT in place of an answer.
+    for (pieces, text, counted) in [
+        (
+            [].as_slice(),
+            b"counted 0 of 2 jobs\noutcome gave up\n".as_slice(),
+            0,
+        ),
+        (
+            [ACK0, ACK1, EOT].as_slice(),
+            b"counted 1 of 2 jobs\noutcome ended\n".as_slice(),
+            1,
+        ),
+    ] {
+        let mut store = MemoryStore::new(rt.alloc());
+        store.write("jobs", three_jobs(&rt, [0, 1, 0]).as_slice())?;
+        let mut line = line_of(rt.alloc(), pieces)?;
+        assert_sends(&rt, &mut line, &mut store, 4, text, b"");
+        assert_file(&rt, &mut store, three_jobs(&rt, [counted, 1, 0]).as_slice())?;
+    }
+    Ok(())
+}
+
+#[test]
+fn a_receiver_that_babbles_is_told_behind_the_lines(rt: HostRuntime) -> Result<(), Fail> {
+    let mut store = MemoryStore::new(rt.alloc());
+    store.write("jobs", three_jobs(&rt, [0, 1, 0]).as_slice())?;
+    let mut line = line_of(rt.alloc(), &[ACK0, ACK1, &[0x00; 8193]])?;
+    let text = b"counted 1 of 2 jobs\noutcome open\n";
+    assert_sends(&rt, &mut line, &mut store, 3, text, b"rje: babble\n");
+    assert_file(&rt, &mut store, three_jobs(&rt, [1, 1, 0]).as_slice())
 }
 
 #[test]
