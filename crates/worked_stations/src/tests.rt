@@ -1,4 +1,6 @@
 //! What no clause says of stations: worked examples from the field, and that calls succeed where memory is ample.
+mod failing_lines;
+mod hostile;
 mod pair_stations;
 mod refusals;
 mod stations;

@@ -1,0 +1,240 @@
+//! Which call answers where a call of the line fails, and lines that are closed.
+ghost use Rattle.std.specs.Prelude.{◌+◌, ◌-◌, ◌^◌, min, Some, None, ⊤};
+
+use super::job_of;
+use super::stations::{ENQ, FAILED, one_piece};
+use bsc_link::{Outcome, Wish};
+use line_world::MemoryLine;
+use rje_jobs::Job;
+use rje_station::{
+    Came, Line, LineFault, MAX_HEARD, ReceivingStation, SendingStation, StationFault,
+};
+use std::alloc::Global;
+use std::process::Abort;
+use std::test::Fail;
+
+const ACK0: [u8; 5] = [0x32, 0x32, 0x10, 0x70, 0xFF];
+
+const ACK1: [u8; 5] = [0x32, 0x32, 0x10, 0x61, 0xFF];
+
+/// The block of the record C1 that ends its job.
+const BLOCK: [u8; 9] = [0x32, 0x32, 0x02, 0xC1, 0x1E, 0x03, 0x18, 0x5D, 0xFF];
+
+const EOT: [u8; 4] = [0x32, 0x32, 0x37, 0xFF];
+
+/// A line in memory on which these come, one in each hearing, and of which this call fails, or none where it is 0.
+fn line_of(alloc: Global, pieces: &[&[u8]], failing: u64) -> Result<MemoryLine, Fail> {
+    let mut put = Vec::new(alloc);
+    for piece in pieces {
+        put.push(Vec::from_slice(alloc, piece)?)?;
+    }
+    let mut line = MemoryLine::new(alloc);
+    line.put(put);
+    line.fail_at(failing);
+    Ok(line)
+}
+
+/// The call of this number of a sender: it speaks in each odd one, and hears in each even one.
+fn call_sender<L: Line>(
+    station: &mut SendingStation,
+    line: &mut L,
+    call: u64,
+) -> Option<StationFault> {
+    if call % 2 == 1 {
+        station.speak(line).err()
+    } else {
+        station.hear(line, false).err()
+    }
+}
+
+/// The call of this number of a receiver: it hears in each odd one, and speaks in each even one.
+fn call_receiver<L: Line>(
+    station: &mut ReceivingStation,
+    line: &mut L,
+    call: u64,
+) -> Option<StationFault> {
+    if call % 2 == 1 {
+        station.hear(line, Wish::Go).err()
+    } else {
+        station.speak(line).err()
+    }
+}
+
+/// How many of the five calls of a conversation of one block are well, where this one of the line fails.
+fn well(failing: u64) -> u64 {
+    if failing == 0 {
+        5
+    } else {
+        failing.saturating_sub(1)
+    }
+}
+
+#[test]
+fn the_call_of_a_sender_that_fails_answers_so(rt: HostRuntime) -> Result<(), Fail> {
+    let jobs = [job_of(&rt, 1, 1)?];
+    for failing in 0..6 {
+        let mut line = line_of(rt.alloc(), &[&ACK0, &ACK1], failing)?;
+        let mut station = SendingStation::new(rt.alloc(), &jobs)?;
+        let well = well(failing);
+        for call in 1..6 {
+            let fault = call_sender(&mut station, &mut line, call);
+            if call <= well {
+                assert!(rt; fault.is_none());
+            } else if call == failing {
+                assert!(rt; fault == FAILED);
+            } else {
+                assert!(rt; fault == Some(StationFault::Over));
+            }
+        }
+
+        // The fourth call hears that the block is acknowledged.
+        let counted = 4 <= well;
+        assert!(rt; station.counted() == usize::from(counted));
+        assert!(rt; station.outcome().is_some() == counted);
+        assert!(rt; station.outcome().is_none() || station.outcome() == Some(Outcome::Done));
+        assert!(rt; station.jobs().len() == 1);
+    }
+    Ok(())
+}
+
+#[test]
+fn the_call_of_a_receiver_that_fails_answers_so(rt: HostRuntime) -> Result<(), Fail> {
+    for failing in 0..6 {
+        let mut line = line_of(rt.alloc(), &[&ENQ, &BLOCK, &EOT], failing)?;
+        let mut station = ReceivingStation::new(rt.alloc())?;
+        let well = well(failing);
+        for call in 1..6 {
+            let fault = call_receiver(&mut station, &mut line, call);
+            if call <= well {
+                assert!(rt; fault.is_none());
+            } else if call == failing {
+                assert!(rt; fault == FAILED);
+            } else {
+                assert!(rt; fault == Some(StationFault::Over));
+            }
+        }
+
+        // The third call hears the block.
+        assert!(rt; station.jobs().len() == usize::from(3 <= well));
+        assert!(rt; station.jobs().iter().all(is_the_job));
+        assert!(rt; call_receiver(&mut station, &mut line, 6) == Some(StationFault::Over));
+    }
+    Ok(())
+}
+
+/// Whether a job is whole, and its one record C1.
+pub(super) fn is_the_job(job: &Job) -> bool {
+    job.whole
+        && job.records.len() == 1
+        && job
+            .records
+            .as_slice()
+            .iter()
+            .all(|record| record.bytes.as_slice() == [0xC1].as_slice())
+}
+
+/// A line that the other end closed.
+#[derive(Drop)]
+struct ClosedLine {
+    transmissions: u64,
+    failures: u64,
+    last_fault: Option<LineFault>,
+}
+
+impl ClosedLine {
+    fn new() -> ClosedLine {
+        ClosedLine {
+            transmissions: 0,
+            failures: 0,
+            last_fault: None,
+        }
+    }
+}
+
+impl Line for ClosedLine {
+    ghost failures = { λ line. line.failures };
+
+    ghost transmissions = { λ line. line.transmissions };
+
+    ghost last_fault = { λ line. line.last_fault };
+
+    ghost may_fail = { λ _ _ _. ⊤ };
+
+    ghost talk = { λ _. None };
+
+    fn transmit(&mut self, _bytes: &[u8]) -> Result<(), LineFault> {
+        self.transmissions = self.transmissions.saturating_add(1);
+        self.failures = self.failures.saturating_add(1);
+        self.last_fault = Some(LineFault::Closed);
+        Err(LineFault::Closed)
+    }
+
+    fn listen(&mut self, _piece: &mut [u8]) -> Result<Came, LineFault> {
+        self.failures = self.failures.saturating_add(1);
+        self.last_fault = Some(LineFault::Closed);
+        Err(LineFault::Closed)
+    }
+}
+
+#[test]
+fn a_closed_line_is_told_as_closed(rt: HostRuntime) -> Result<(), Fail> {
+    let closed = Some(StationFault::Line(LineFault::Closed));
+    let over = Some(StationFault::Over);
+    let jobs = [job_of(&rt, 1, 1)?];
+    for first in 1..3 {
+        let mut line = ClosedLine::new();
+        let mut sender = SendingStation::new(rt.alloc(), &jobs)?;
+        assert!(rt; call_sender(&mut sender, &mut line, first) == closed);
+        assert!(rt; call_sender(&mut sender, &mut line, 1) == over);
+        assert!(rt; call_sender(&mut sender, &mut line, 2) == over);
+        assert!(rt; sender.counted() == 0);
+        assert!(rt; sender.outcome().is_none());
+    }
+    let mut line = ClosedLine::new();
+    let mut receiver = ReceivingStation::new(rt.alloc())?;
+    assert!(rt; call_receiver(&mut receiver, &mut line, 1) == closed);
+    assert!(rt; call_receiver(&mut receiver, &mut line, 1) == over);
+    assert!(rt; call_receiver(&mut receiver, &mut line, 2) == over);
+    assert!(rt; receiver.jobs().is_empty());
+    Ok(())
+}
+
+/// What a sender that bid hears of so many SYN and then an ACK0.
+fn hear_after_syns(
+    rt: &(impl Abort + AllocGlobal),
+    count: usize,
+) -> Result<Option<StationFault>, Fail> {
+    let jobs = [job_of(rt, 1, 1)?];
+    let mut bytes = Vec::new(rt.alloc());
+    for _ in 0..count {
+        bytes.push(0x32)?;
+    }
+    bytes.extend_from_slice(&[0x10, 0x70])?;
+    let mut line = MemoryLine::new(rt.alloc());
+    line.put(one_piece(rt.alloc(), bytes.as_slice())?);
+    let mut sender = SendingStation::new(rt.alloc(), &jobs)?;
+    sender.speak(&mut line)?;
+    Ok(sender.hear(&mut line, false).err())
+}
+
+#[test]
+fn one_hearing_of_a_sender_has_8192_bytes(rt: HostRuntime) -> Result<(), Fail> {
+    assert!(rt; hear_after_syns(&rt, MAX_HEARD - 2)?.is_none());
+    assert!(rt; hear_after_syns(&rt, MAX_HEARD - 1)? == Some(StationFault::Babble));
+    Ok(())
+}
+
+#[test]
+fn faults_of_stations_and_lines_are_printed(rt: HostRuntime) -> Result<(), Fail> {
+    for (fault, text) in [
+        (StationFault::OutOfMemory, "out of memory"),
+        (StationFault::Line(LineFault::Closed), "line closed"),
+        (StationFault::Line(LineFault::Failed), "line failed"),
+        (StationFault::Babble, "babble"),
+        (StationFault::Over, "the transmission is over"),
+        (StationFault::BadJob(12), "job 12 can't be sent"),
+    ] {
+        assert!(rt; format!(in rt.alloc(); "{fault}")?.as_str() == text);
+    }
+    Ok(())
+}
