@@ -38,3 +38,4 @@ pub mod Sends
 pub mod OneWay
 pub mod Calm
 pub mod TurnsOverLines
+pub mod AnyLines

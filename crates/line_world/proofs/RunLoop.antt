@@ -44,7 +44,7 @@ outcome_plan : (plan : Plan) (h : History) → (plan ≡ [] → ⊥) → outcome
 outcome_plan [] h n = absurd (n refl)
 outcome_plan (b ∷ plan) h n = refl
 
-some_jobs : (jobs : List Job) → 0 < length jobs → (length jobs == 0) ≡ false
+pub some_jobs : (jobs : List Job) → 0 < length jobs → (length jobs == 0) ≡ false
 some_jobs [] l = absurd (omega (arith, l))
 some_jobs (j ∷ js) l = search rules
 

@@ -1,18 +1,26 @@
--- Stations that take turns over lines of any kind, whatever these do. Own profile.
-use Rattle.std.specs.Prelude.{◌≡◌, ◌⊎◌, ◌-◌, ◌^◌, Bool, true, false, [], ◌∷◌, length, Option, Some, None}
+-- Stations that take turns over lines of any kind, whatever these do; and what holds where the lines keep the headline's premises. Own
+-- profile.
+use Rattle.std.specs.Prelude.{◌≡◌, ◌⊎◌, ℕ, ◌-◌, ◌^◌, Bool, true, false, List, [], ◌∷◌, length, Option, Some, None}
+use Rattle.std.specs.List.{AllByRecursion}
+use Rattle.bsc_codes.specs.declared.block.Block.{Block}
+use Rattle.bsc_frame.specs.declared.frame.Frame.TheVariants as frame
 use Rattle.bsc_frame.specs.declared.heard.Heard.{Heard}
+use Rattle.bsc_frame.specs.declared.heard.Heard.TheVariants as heard
 use Rattle.bsc_link.specs.declared.say.Say.{Say}
 use Rattle.bsc_link.specs.declared.sound.Sound.{Sound}
 use Rattle.bsc_link.specs.declared.wish.Wish.{Wish}
 use Rattle.bsc_link.specs.Sender.{say_in}
+use Rattle.rje_jobs.specs.declared.job.Job.{Job}
+use Rattle.rje_jobs.specs.Fitting.{JobFits}
 use Rattle.rje_station.specs.declared.station_fault.StationFault.{StationFault}
 use Rattle.rje_station.specs.Hearing.{sound_of}
 use Rattle.rje_station.specs.JoinedJobs.{begun_in}
-use Rattle.rje_station.specs.Receiving.{Receiving, MayRefuse, after_receiving, after_replying}
+use Rattle.rje_station.specs.Receiving.{Receiving, MayRefuse, first_receiving, after_receiving, after_replying}
 use Rattle.rje_station.specs.Receiving.{after_refusal as receiver_refused}
-use Rattle.rje_station.specs.Sending.{Sending, after_speaking}
+use Rattle.rje_station.specs.Sending.{Sending, first_sending, after_speaking}
 use Rattle.rje_station.specs.Sending.{after_refusal as sender_refused}
 use Rattle.bsc_history.specs.declared.spoken_turn.SpokenTurn.{SpokenTurn}
+use Rattle.bsc_history.specs.Fate.{sound_of as sound_of_say, sound_of_reply, MayBeHeardAs}
 use Rattle.bsc_history.specs.History.{History}
 use Rattle.line_world.specs.declared.spoken.Spoken.{Spoken}
 use Rattle.line_world.specs.Turns.{after_turn}
@@ -107,3 +115,24 @@ BothToEnd s s' r r' = (h : History) × SenderTook s h s' × ReceiverTook r h r' 
 abbrev pub BothToFault : Sending → Sending → Receiving → Receiving → StationFault → Type 0
 BothToFault s s' r r' fault =
     (h : History) × (near : Sending) × (far : Receiving) × SenderTook s h near × ReceiverTook r h far × BothFail near s' far r' fault
+
+-- WHERE THE LINES KEEP THE PREMISES
+
+-- In this turn they did: what arrived and what was heard is what was said and replied, or nothing, or damage that passes for no block and
+-- no EOT, and of a control sequence other than TTD for none; and a block that came is the one that was outstanding at the sender.
+pub record IsFaithful (s : Sending) (what : Heard) (t : SpokenTurn) : Type 0 where
+  pub up : MayBeHeardAs (sound_of_say t.said) t.arrived
+  pub block : (b : Block) → what ≡ heard.Frame (frame.Block b) → (more : List Block) × (s.rest ≡ b ∷ more)
+  pub down : MayBeHeardAs (sound_of_reply t.reply) t.heard
+
+-- in each turn that both took they did
+abbrev pub AreFaithful : (s s' : Sending) (r r' : Receiving) (h : History) → SenderTook s h s' → ReceiverTook r h r' → Type 0
+AreFaithful s s' r r' [] sent received = Unit {0}
+AreFaithful s s' r r' (t ∷ past) (near, sent, says) (far, received, hears) = IsFaithful near hears.what t × AreFaithful s near r far past sent received
+
+-- the headline over such lines: two new stations took the same turns, the sending one with jobs that can be sent; so many jobs it
+-- counts, and these the receiving one hands out
+abbrev pub OverFaithfulLines : (ℕ → List Job → List Job → Type 0) → Type 0
+OverFaithfulLines Holds =
+    (jobs : List Job) (s : Sending) (r : Receiving) (h : History) (sent : SenderTook (first_sending jobs) h s) (received : ReceiverTook first_receiving h r)
+    → AllByRecursion JobFits jobs → AreFaithful (first_sending jobs) s first_receiving r h sent received → Holds s.counted jobs r.jobs

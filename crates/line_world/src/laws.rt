@@ -1,4 +1,5 @@
 //! What holds of every run.
+ghost use Rattle.line_world.specs.AnyLines.{OverFaithfulLines};
 ghost use Rattle.line_world.specs.CleanLine.{CleanLineIsEnough};
 ghost use Rattle.line_world.specs.Fairness.{FairLineIsEnough};
 ghost use Rattle.line_world.specs.Headline.{AreHandedInOrder, AreHandedWhole, HandsFirstJobs, OfHistories, OfRuns};
@@ -78,6 +79,18 @@ pub fn runs_keep_order()
     ensures first_jobs { OfRuns HandsFirstJobs }
 {
     cut_reads_back();
+}
+
+/// The headline, over lines of any kind. Where two new stations take the same turns, and in each of them the line brings what was said and
+/// replied, or nothing, or damage that passes for no block, no EOT and no control sequence, what the receiving station hands out is a
+/// prefix of the jobs that the sending one was given, and every job that it counts was handed out whole.
+pub fn faithful_lines_keep_order()
+    ensures in_order { OverFaithfulLines (λ counted given handed. AreHandedInOrder given handed) }
+    ensures counted_whole { OverFaithfulLines AreHandedWhole }
+    ensures first_jobs { OverFaithfulLines HandsFirstJobs }
+{
+    stations_keep_history();
+    histories_keep_order();
 }
 
 /// The headline, each way of two stations that both have jobs. Whatever the line loses or damages, the records of each station's jobs

@@ -35,8 +35,8 @@ pub use fairness::is_fair;
 pub use fate::Fate;
 pub use laws::{
     broken_schedules_have_no_conversation, broken_schedules_have_no_pair_conversation,
-    clean_line_is_enough, fair_line_is_enough, histories_keep_order, one_way_is_a_run,
-    pair_runs_keep_order, runs_keep_order, stations_keep_history,
+    clean_line_is_enough, fair_line_is_enough, faithful_lines_keep_order, histories_keep_order,
+    one_way_is_a_run, pair_runs_keep_order, runs_keep_order, stations_keep_history,
 };
 pub use memory_line::{MAX_TRANSMISSION, MemoryLine};
 pub use pair_report::PairReport;
