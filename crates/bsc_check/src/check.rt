@@ -34,14 +34,16 @@ impl Check {
     /// Adds one byte.
     #[tactic(auto, using(crate::proofs::Shifts::one_byte_more))]
     pub fn add(&mut self, byte: u8)
-        ensures { (bytes : List ℕ) → IsCheckOf self.old bytes → IsCheckOf self.new (bytes ++ byte ∷ []) }
+        ensures { (bytes : List ℕ) → IsCheckOf self.old bytes
+            → IsCheckOf self.new (bytes ++ byte ∷ []) }
     {
         self.register = next_register(self.register, byte);
     }
 
     /// Adds each byte, in order.
     pub fn add_all(&mut self, bytes: &[u8])
-        ensures { (before : List ℕ) → IsCheckOf self.old before → IsCheckOf self.new (before ++ bytes.now) }
+        ensures { (before : List ℕ) → IsCheckOf self.old before
+            → IsCheckOf self.new (before ++ bytes.now) }
     {
         for byte in bytes {
             self.add(*byte);

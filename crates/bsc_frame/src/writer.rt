@@ -58,7 +58,8 @@ fn write_block(out: &mut ArrayVec<u8, 1033>, block: &Block) -> Result<(), FrameF
     ensures ok { OnOk result (Written (frame.Block block.now) out.new.items) }
     ensures err { OnErr result (out.new.items ≡ out.old.items) }
     ensures fault { IfErr result (λ fault. Refused (frame.Block block.now) fault) }
-    ensures refused { (fault : FrameFault) → Refused (frame.Block block.now) fault → result ≡ Err fault }
+    ensures refused { (fault : FrameFault) → Refused (frame.Block block.now) fault
+        → result ≡ Err fault }
 {
     match bad_place(block) {
         Some(place) => Err(FrameFault::TextByte(place)),
@@ -71,7 +72,8 @@ fn write_block(out: &mut ArrayVec<u8, 1033>, block: &Block) -> Result<(), FrameF
 
 /// The place of the byte for which a block is refused.
 fn bad_place(block: &Block) -> Option<usize>
-    ensures { MatchOption result (OnFalse block.now.transparent (AllByRecursion IsNormalText block.now.text.items))
+    ensures { MatchOption result (OnFalse block.now.transparent
+        (AllByRecursion IsNormalText block.now.text.items))
         (λ place. IsTextRefused block.now.transparent block.now.text.items (FrameFault.TextByte place)) }
 {
     if block.transparent {
@@ -83,7 +85,8 @@ fn bad_place(block: &Block) -> Option<usize>
 
 /// The place of the first byte that is no normal text byte.
 fn first_bad(text: &[u8]) -> Option<usize>
-    ensures { MatchOption result (AllByRecursion IsNormalText text.now) (λ place. IsFirstBad text.now place) }
+    ensures { MatchOption result (AllByRecursion IsNormalText text.now)
+        (λ place. IsFirstBad text.now place) }
 {
     for (i, byte) in text.iter().enumerate() {
         if !is_normal(*byte) {
@@ -95,7 +98,8 @@ fn first_bad(text: &[u8]) -> Option<usize>
 
 /// Writes a block that isn't refused.
 fn put_block(out: &mut ArrayVec<u8, 1033>, block: &Block)
-    ensures items { out.new.items ≡ SYN ∷ SYN ∷ (body_without_fill (frame.Block block.now) ++ PAD ∷ []) }
+    ensures items { out.new.items ≡ SYN ∷ SYN ∷
+        (body_without_fill (frame.Block block.now) ++ PAD ∷ []) }
     ensures room { array_vec_len block.now.text ≤ 512 }
 {
     begin(out);

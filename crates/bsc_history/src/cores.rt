@@ -21,9 +21,11 @@ pub fn converse(
     places: &[SoundTurn],
 ) -> Result<SoundReport, SoundFault>
     requires begins { MayBegin plan.now }
-    ensures conversation { IfOk result (λ report. IsConversationOver plan.now places.now (reverse report.turns.items)) }
+    ensures conversation { IfOk result
+        (λ report. IsConversationOver plan.now places.now (reverse report.turns.items)) }
     ensures known { IfOk result (λ report. report.known ≡ known (reverse report.turns.items)) }
-    ensures outcome { IfOk result (λ report. report.outcome ≡ outcome plan.now (reverse report.turns.items)) }
+    ensures outcome { IfOk result (λ report. report.outcome
+        ≡ outcome plan.now (reverse report.turns.items)) }
     ensures fault { IfErr result (λ fault. IsSoundFault plan.now places.now fault) }
 {
     if plan.is_empty() {
@@ -43,9 +45,11 @@ fn converse_blocks(
     places: &[SoundTurn],
 ) -> Result<SoundReport, SoundFault>
     requires begins { BeginsWithJob plan.now }
-    ensures conversation { IfOk result (λ report. IsConversationOver plan.now places.now (reverse report.turns.items)) }
+    ensures conversation { IfOk result
+        (λ report. IsConversationOver plan.now places.now (reverse report.turns.items)) }
     ensures known { IfOk result (λ report. report.known ≡ known (reverse report.turns.items)) }
-    ensures outcome { IfOk result (λ report. report.outcome ≡ outcome plan.now (reverse report.turns.items)) }
+    ensures outcome { IfOk result (λ report. report.outcome
+        ≡ outcome plan.now (reverse report.turns.items)) }
     ensures fault { IfErr result (λ fault. IsSoundFault plan.now places.now fault) }
 {
     let mut sender = Sender::new();
@@ -86,13 +90,17 @@ fn one_turn(
     ensures said { IfSome result (λ t. t.said ≡ say_in sender.old.place) }
     ensures up { IfSome result (λ t. after_fate place.up (sound_of t.said) ≡ Some t.arrived) }
     ensures refused { IfSome result (λ t. t.refused ≡ (place.refused && is_block t.arrived)) }
-    ensures down { IfSome result (λ t. after_fate place.down (sound_of_reply t.reply) ≡ Some t.heard) }
+    ensures down { IfSome result (λ t. after_fate place.down (sound_of_reply t.reply)
+        ≡ Some t.heard) }
     ensures wish { IfSome result (λ t. t.wish ≡ place.wish) }
     ensures pause { IfSome result (λ t. t.pause ≡ place.pause) }
-    ensures reply { IfSome result (λ t. t.reply ≡ (receiver_news receiver.old (taken t.arrived t.refused) t.wish).reply) }
+    ensures reply { IfSome result (λ t. t.reply
+        ≡ (receiver_news receiver.old (taken t.arrived t.refused) t.wish).reply) }
     ensures sender { IfSome result (λ t. sender.new ≡ sender_turn plan.now known.old sender.old t) }
-    ensures receiver { IfSome result (λ t. receiver.new ≡ receiver_hears receiver.old (taken t.arrived t.refused) t.wish) }
-    ensures known { IfSome result (λ t. known.new ≡ counts_in (counts_block (line_for sender.old t.heard t.pause)) known.old) }
+    ensures receiver { IfSome result (λ t. receiver.new
+        ≡ receiver_hears receiver.old (taken t.arrived t.refused) t.wish) }
+    ensures known { IfSome result (λ t. known.new
+        ≡ counts_in (counts_block (line_for sender.old t.heard t.pause)) known.old) }
     ensures broken { result ≡ None → CoresBreak sender.old receiver.old place }
 {
     let said = sender.say();
@@ -125,7 +133,8 @@ pub fn hear_answer(
     pause: bool,
 ) -> bool
     requires within { known ≤ length plan.now }
-    ensures sender { sender.new ≡ hears_after plan.now known sender.old (say_in sender.old.place) heard pause }
+    ensures sender { sender.new ≡ hears_after plan.now known sender.old
+        (say_in sender.old.place) heard pause }
     ensures counted { result ≡ counts_block (line_for sender.old heard pause) }
 {
     match sender.say() {

@@ -22,8 +22,10 @@ pub(crate) fn carry(
     ensures fits { OnOk result (Fits fate.now from.now.sent) }
     ensures short { OnOk result (length (flat_map (λ p. p) to.new.waiting) ≤ 8192) }
     ensures calm { to.new.until_failure ≡ to.old.until_failure }
-    ensures comes { OnOk result (flat_map (λ p. p) to.new.waiting ≡ bytes_after fate.now from.now.sent) }
-    ensures fault { IfErr result (λ fault. (said : Sound) → IsFateFault fate.now said from.now.sent fault) }
+    ensures comes { OnOk result (flat_map (λ p. p) to.new.waiting
+        ≡ bytes_after fate.now from.now.sent) }
+    ensures fault { IfErr result (λ fault. (said : Sound)
+        → IsFateFault fate.now said from.now.sent fault) }
 {
     to.put(pieces_of(alloc, fate, from.sent())?);
     Ok(())
@@ -32,8 +34,10 @@ pub(crate) fn carry(
 /// The pieces that come of what was sent.
 fn pieces_of(alloc: Global, fate: &Fate, sent: &[u8]) -> Result<Vec<Vec<u8>>, TurnFault>
     ensures fits { OnOk result (Fits fate.now sent.now) }
-    ensures bytes { IfOk result (λ pieces. flat_map (λ p. p) (map (λ p. p.items) pieces.items) ≡ bytes_after fate.now sent.now) }
-    ensures fault { IfErr result (λ fault. (said : Sound) → IsFateFault fate.now said sent.now fault) }
+    ensures bytes { IfOk result (λ pieces. flat_map (λ p. p) (map (λ p. p.items) pieces.items)
+        ≡ bytes_after fate.now sent.now) }
+    ensures fault { IfErr result (λ fault. (said : Sound)
+        → IsFateFault fate.now said sent.now fault) }
 {
     match fate {
         Fate::Arrives { cuts } if !are_cuts(0, sent.len(), cuts) => Err(TurnFault::BadCut),
@@ -63,7 +67,8 @@ fn cut_apart(
 ) -> Result<Vec<Vec<u8>>, AllocError>
     requires within { from ≤ length bytes.now }
     requires cuts { AreCuts from (length bytes.now) cuts.now }
-    ensures bytes { IfOk result (λ pieces. flat_map (λ p. p) (map (λ p. p.items) pieces.items) ≡ drop from bytes.now) }
+    ensures bytes { IfOk result (λ pieces. flat_map (λ p. p) (map (λ p. p.items) pieces.items)
+        ≡ drop from bytes.now) }
 {
     let mut pieces = Vec::new(alloc);
     let mut place = from;
@@ -77,7 +82,8 @@ fn cut_apart(
 
 /// These bytes in one piece.
 fn one_piece(alloc: Global, bytes: &[u8]) -> Result<Vec<Vec<u8>>, AllocError>
-    ensures bytes { IfOk result (λ pieces. flat_map (λ p. p) (map (λ p. p.items) pieces.items) ≡ bytes.now) }
+    ensures bytes { IfOk result (λ pieces.
+        flat_map (λ p. p) (map (λ p. p.items) pieces.items) ≡ bytes.now) }
 {
     let mut pieces = Vec::new(alloc);
     pieces.push(Vec::from_slice(alloc, bytes)?)?;

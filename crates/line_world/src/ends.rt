@@ -72,7 +72,9 @@ impl<'a> Ends<'a> {
         requires live { self.old.sender.over ≡ false → self.old.receiver.over ≡ false }
         ensures sending { OnOk result (self.new.sending_line.until_failure ≡ 0) }
         ensures receiving { OnOk result (self.new.receiving_line.until_failure ≡ 0) }
-        ensures taken { IfOk result (λ spoken. Takes spoken turn.now self.old.sender self.new.sender self.old.receiver self.new.receiver) }
+        ensures taken { IfOk result (λ spoken.
+            Takes spoken turn.now self.old.sender self.new.sender self.old.receiver
+            self.new.receiver) }
         ensures fault { IfErr result (IsTurnFault turn.now self.old.sender self.old.receiver) }
     {
         let said = match self.sender.speak(&mut self.sending_line) {
@@ -106,9 +108,12 @@ impl<'a> Ends<'a> {
         ensures sending { OnOk result (self.new.sending_line ≡ self.old.sending_line) }
         ensures receiving { OnOk result (self.new.receiving_line.until_failure ≡ 0) }
         ensures owes { OnOk result (self.new.receiver.over ≡ true → self.new.receiver.due ≡ None) }
-        ensures up { IfOk result (λ a. GoesUp turn.now (up_sound said) self.old.sending_line.sent self.old.receiver self.new.receiver a.0.sound a.0.refused a.1) }
+        ensures up { IfOk result (λ a. GoesUp turn.now
+            (up_sound said) self.old.sending_line.sent self.old.receiver self.new.receiver a.0.sound
+            a.0.refused a.1) }
         ensures sender { OnOk result (self.new.sender ≡ self.old.sender) }
-        ensures fault { IfErr result (IsFateFault turn.now.up (up_sound said) self.old.sending_line.sent) }
+        ensures fault { IfErr result (IsFateFault turn.now.up
+            (up_sound said) self.old.sending_line.sent) }
     {
         carry(
             alloc,
@@ -129,7 +134,9 @@ impl<'a> Ends<'a> {
         requires owes { self.old.receiver.over ≡ true → self.old.receiver.due ≡ None }
         ensures sending { OnOk result (self.new.sending_line.until_failure ≡ 0) }
         ensures receiving { OnOk result (self.new.receiving_line.until_failure ≡ 0) }
-        ensures down { IfOk result (λ heard. GoesDown turn.now self.old.sender self.new.sender self.old.receiver self.new.receiver heard) }
+        ensures down { IfOk result (λ heard.
+            GoesDown turn.now self.old.sender self.new.sender self.old.receiver
+            self.new.receiver heard) }
         ensures fault { IfErr result (IsReplyFault turn.now.down self.old.receiver.due) }
     {
         let Some(reply) = speak_down(&mut self.receiver, &mut self.receiving_line) else {

@@ -13,7 +13,8 @@ use rje_text::next_block;
 pub fn turns_needed(jobs: &[Job]) -> Option<u64>
     ensures fit { OnSome result (AllByRecursion JobFits jobs.now) }
     ensures enough { IfSome result (λ turns. turns ≡ turns_for jobs.now) }
-    ensures none { IfNone result ((AllByRecursion JobFits jobs.now → ⊥) ⊎ (2 ^ 64 ≤ turns_for jobs.now)) }
+    ensures none { IfNone result ((AllByRecursion JobFits jobs.now → ⊥)
+        ⊎ (2 ^ 64 ≤ turns_for jobs.now)) }
 {
     let mut blocks: u64 = 0;
     for job in jobs {

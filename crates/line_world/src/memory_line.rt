@@ -115,7 +115,8 @@ impl Line for MemoryLine {
         ensures may { OnErr result (may_fail_on self.old (length bytes.now) 0) }
         ensures last { IfErr result (λ fault. last_fault_of self.new ≡ Some fault) }
         ensures same { OnOk result (last_fault_of self.new ≡ last_fault_of self.old) }
-        ensures ages { (bytes calls : ℕ) → may_fail_on self.new bytes calls → may_fail_on self.old bytes (1 + calls) }
+        ensures ages { (bytes calls : ℕ) → may_fail_on self.new bytes calls
+            → may_fail_on self.old bytes (1 + calls) }
         ensures begun { self.new.transmissions ≡ one_more self.old.transmissions }
         ensures sent { OnOk result (Sends bytes.now (talk_of self.old) (talk_of self.new)) }
 
@@ -143,14 +144,18 @@ impl Line for MemoryLine {
         ensures may { OnErr result (may_fail_on self.old 0 0) }
         ensures last { IfErr result (λ fault. last_fault_of self.new ≡ Some fault) }
         ensures same { OnOk result (last_fault_of self.new ≡ last_fault_of self.old) }
-        ensures ages { (bytes calls : ℕ) → may_fail_on self.new bytes calls → may_fail_on self.old bytes (1 + calls) }
+        ensures ages { (bytes calls : ℕ) → may_fail_on self.new bytes calls
+            → may_fail_on self.old bytes (1 + calls) }
         ensures none { self.new.transmissions ≡ self.old.transmissions }
         ensures within { IfOk result (λ came. IsWithin came (length piece.new)) }
-        ensures heard { IfOk result (λ came. Hears came piece.new (talk_of self.old) (talk_of self.new)) }
+        ensures heard { IfOk result (λ came.
+            Hears came piece.new (talk_of self.old) (talk_of self.new)) }
 
         // The pieces come in order, empty ones are passed over, one longer than the slice comes in parts, and then it is quiet.
-        ensures came { IfOk result (λ came. came ≡ came_with (given_to (length piece.old) (ready self.old.waiting))) }
-        ensures bytes { OnOk result (piece.new ≡ laid (given_to (length piece.old) (ready self.old.waiting)) piece.old) }
+        ensures came { IfOk result (λ came. came
+            ≡ came_with (given_to (length piece.old) (ready self.old.waiting))) }
+        ensures bytes { OnOk result (piece.new
+            ≡ laid (given_to (length piece.old) (ready self.old.waiting)) piece.old) }
         ensures left { OnOk result (self.new ≡ after_listening (length piece.old) self.old) }
 
         // The call fails that was named, and gives nothing; nothing else does.
@@ -174,7 +179,8 @@ impl Line for MemoryLine {
 
 /// Passes over pieces of which every byte was given.
 fn pass_empty(pieces: &[Vec<u8>], piece: &mut usize, given: &mut usize)
-    ensures ready { pieces_in (λ p. p.items) given.new (drop piece.new pieces.now) ≡ ready (pieces_in (λ p. p.items) given.old (drop piece.old pieces.now)) }
+    ensures ready { pieces_in (λ p. p.items) given.new (drop piece.new pieces.now)
+        ≡ ready (pieces_in (λ p. p.items) given.old (drop piece.old pieces.now)) }
 {
     while *piece < pieces.len() && pieces[*piece].len() <= *given {
         *piece += 1;

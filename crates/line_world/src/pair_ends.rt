@@ -69,12 +69,17 @@ impl<'a> PairEnds<'a> {
     ) -> Result<Option<PairSpoken>, TurnFault>
         requires primary_line { self.old.primary_line.until_failure ≡ 0 }
         requires secondary_line { self.old.secondary_line.until_failure ≡ 0 }
-        requires primary_hears { due_at self.old.secondary ≢ said.Nothing → is_deaf self.old.primary ≡ false }
-        requires secondary_hears { due_at self.old.primary ≢ said.Nothing → is_deaf self.old.secondary ≡ false }
+        requires primary_hears { due_at self.old.secondary ≢ said.Nothing
+            → is_deaf self.old.primary ≡ false }
+        requires secondary_hears { due_at self.old.primary ≢ said.Nothing
+            → is_deaf self.old.secondary ≡ false }
         ensures primary_line { OnOk result (self.new.primary_line.until_failure ≡ 0) }
         ensures secondary_line { OnOk result (self.new.secondary_line.until_failure ≡ 0) }
-        ensures taken { IfOk result (λ spoken. TakesPair spoken turn.now self.old.primary self.new.primary self.old.secondary self.new.secondary) }
-        ensures fault { IfErr result (IsPairTurnFault turn.now self.old.primary self.old.secondary) }
+        ensures taken { IfOk result (λ spoken.
+            TakesPair spoken turn.now self.old.primary self.new.primary self.old.secondary
+            self.new.secondary) }
+        ensures fault { IfErr result (IsPairTurnFault turn.now self.old.primary
+            self.old.secondary) }
     {
         let up = self.primary.due();
         let down = self.secondary.due();
@@ -122,7 +127,8 @@ impl<'a> PairEnds<'a> {
         requires secondary { due_at self.old.secondary ≢ said.Nothing }
         ensures primary_line { self.new.primary_line.until_failure ≡ 0 }
         ensures secondary_line { self.new.secondary_line.until_failure ≡ 0 }
-        ensures collide { Collides pause self.old.primary self.new.primary self.old.secondary self.new.secondary result }
+        ensures collide { Collides pause self.old.primary self.new.primary self.old.secondary
+            self.new.secondary result }
     {
         let first = speak_in_vain(alloc, pause, &mut self.primary, &mut self.primary_line);
         let second = speak_in_vain(alloc, pause, &mut self.secondary, &mut self.secondary_line);
@@ -150,7 +156,8 @@ fn speak_alone<'a>(
     requires hears { is_deaf listener.old ≡ false }
     ensures near { OnOk result (near.new.until_failure ≡ 0) }
     ensures far { OnOk result (far.new.until_failure ≡ 0) }
-    ensures spoke { IfOk result (λ spoken. SpeaksAlone turn.now speaker.old speaker.new listener.old listener.new spoken) }
+    ensures spoke { IfOk result (λ spoken.
+        SpeaksAlone turn.now speaker.old speaker.new listener.old listener.new spoken) }
     ensures fault { IfErr result (IsAloneFault turn.now speaker.old listener.old) }
 {
     let said = say_due(speaker, near);
@@ -182,8 +189,11 @@ fn go_across(
     requires hears { is_deaf listener.old ≡ false }
     ensures far { OnOk result (far.new.until_failure ≡ 0) }
     ensures live { OnOk result (listener.new.failed ≡ false) }
-    ensures owes { OnOk result (listener.new.receiver.over ≡ true → listener.new.receiver.due ≡ None) }
-    ensures across { IfOk result (λ a. GoesAcross turn.now (up_sound said) near.now.sent listener.old listener.new a.0.sound a.0.refused a.1) }
+    ensures owes { OnOk result (listener.new.receiver.over ≡ true
+        → listener.new.receiver.due ≡ None) }
+    ensures across { IfOk result (λ a.
+        GoesAcross turn.now (up_sound said) near.now.sent listener.old listener.new a.0.sound
+        a.0.refused a.1) }
     ensures fault { IfErr result (IsFateFault turn.now.up (up_sound said) near.now.sent) }
 {
     carry(alloc, &turn.up, near, far)?;
@@ -208,7 +218,8 @@ fn come_back(
     requires owes { listener.old.receiver.over ≡ true → listener.old.receiver.due ≡ None }
     ensures near { OnOk result (near.new.until_failure ≡ 0) }
     ensures far { OnOk result (far.new.until_failure ≡ 0) }
-    ensures back { IfOk result (λ heard. ComesBack turn.now speaker.old speaker.new listener.old listener.new heard) }
+    ensures back { IfOk result (λ heard.
+        ComesBack turn.now speaker.old speaker.new listener.old listener.new heard) }
     ensures fault { IfErr result (IsReplyFault turn.now.down listener.old.receiver.due) }
 {
     let Some(reply) = reply_back(listener, far) else {

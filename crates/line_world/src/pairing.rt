@@ -26,7 +26,9 @@ pub fn run_pair(
     down: &[Job],
     turns: &[PairTurn],
 ) -> Result<PairReport, WorldFault>
-    ensures run { IfOk result (λ report. IsPairRun up.now down.now turns.now report.turns.items (told report.up) (told report.down)) }
+    ensures run { IfOk result (λ report.
+        IsPairRun up.now down.now turns.now report.turns.items (told report.up)
+        (told report.down)) }
     ensures fit { OnOk result (AllByRecursion JobFits up.now × AllByRecursion JobFits down.now) }
 
     // The headline, each way: records in order and each once, ..
@@ -34,12 +36,16 @@ pub fn run_pair(
     ensures down_in_order { IfOk result (λ report. AreHandedInOrder down.now report.down.handed) }
 
     // .. every counted job whole, ..
-    ensures up_counted_whole { IfOk result (λ report. AreHandedWhole report.up.counted up.now report.up.handed) }
-    ensures down_counted_whole { IfOk result (λ report. AreHandedWhole report.down.counted down.now report.down.handed) }
+    ensures up_counted_whole { IfOk result
+        (λ report. AreHandedWhole report.up.counted up.now report.up.handed) }
+    ensures down_counted_whole { IfOk result
+        (λ report. AreHandedWhole report.down.counted down.now report.down.handed) }
 
     // .. and more exactly, the first jobs and a beginning of the next.
-    ensures up_first_jobs { IfOk result (λ report. HandsFirstJobs report.up.counted up.now report.up.handed) }
-    ensures down_first_jobs { IfOk result (λ report. HandsFirstJobs report.down.counted down.now report.down.handed) }
+    ensures up_first_jobs { IfOk result
+        (λ report. HandsFirstJobs report.up.counted up.now report.up.handed) }
+    ensures down_first_jobs { IfOk result
+        (λ report. HandsFirstJobs report.down.counted down.now report.down.handed) }
 
     // A job that can't be sent is told before any turn, and else the first turn of which a looked-at fate breaks a rule. Want of memory is
     // told of jobs that can be sent.
@@ -86,19 +92,32 @@ pub fn drive_pair<'a>(
 ) -> Result<Paired<'a>, WorldFault>
     requires primary { primary ≡ first_contending rank.Primary primary.sender.jobs }
     requires secondary { secondary ≡ first_contending rank.Secondary secondary.sender.jobs }
-    ensures run { IfOk result (λ p. IsPairRun primary.entry.sender.jobs secondary.entry.sender.jobs turns.now p.turns.items (told_by p.secondary p.primary) (told_by p.primary p.secondary)) }
+    ensures run { IfOk result (λ p. IsPairRun primary.entry.sender.jobs secondary.entry.sender.jobs
+        turns.now p.turns.items (told_by p.secondary p.primary) (told_by p.primary p.secondary)) }
 
     // Both stations stand where the turns left them.
-    ensures drive { IfOk result (λ p. IsPairDrive primary.entry.sender.jobs secondary.entry.sender.jobs turns.now p.turns.items p.primary p.secondary) }
+    ensures drive { IfOk result (λ p. IsPairDrive primary.entry.sender.jobs
+        secondary.entry.sender.jobs turns.now p.turns.items p.primary p.secondary) }
 
     // The headline, each way, of the stations that are given back.
-    ensures up_in_order { IfOk result (λ p. AreHandedInOrder primary.entry.sender.jobs p.secondary.receiver.jobs) }
-    ensures down_in_order { IfOk result (λ p. AreHandedInOrder secondary.entry.sender.jobs p.primary.receiver.jobs) }
-    ensures up_counted_whole { IfOk result (λ p. AreHandedWhole p.primary.sender.counted primary.entry.sender.jobs p.secondary.receiver.jobs) }
-    ensures down_counted_whole { IfOk result (λ p. AreHandedWhole p.secondary.sender.counted secondary.entry.sender.jobs p.primary.receiver.jobs) }
-    ensures up_first_jobs { IfOk result (λ p. HandsFirstJobs p.primary.sender.counted primary.entry.sender.jobs p.secondary.receiver.jobs) }
-    ensures down_first_jobs { IfOk result (λ p. HandsFirstJobs p.secondary.sender.counted secondary.entry.sender.jobs p.primary.receiver.jobs) }
-    ensures fault { IfErr result (IsPairDriveFault primary.entry.sender.jobs secondary.entry.sender.jobs turns.now) }
+    ensures up_in_order { IfOk result (λ p.
+        AreHandedInOrder primary.entry.sender.jobs p.secondary.receiver.jobs) }
+    ensures down_in_order { IfOk result
+        (λ p. AreHandedInOrder secondary.entry.sender.jobs p.primary.receiver.jobs) }
+    ensures up_counted_whole { IfOk result
+        (λ p. AreHandedWhole p.primary.sender.counted primary.entry.sender.jobs
+        p.secondary.receiver.jobs) }
+    ensures down_counted_whole { IfOk result
+        (λ p. AreHandedWhole p.secondary.sender.counted secondary.entry.sender.jobs
+        p.primary.receiver.jobs) }
+    ensures up_first_jobs { IfOk result
+        (λ p. HandsFirstJobs p.primary.sender.counted primary.entry.sender.jobs
+        p.secondary.receiver.jobs) }
+    ensures down_first_jobs { IfOk result
+        (λ p. HandsFirstJobs p.secondary.sender.counted secondary.entry.sender.jobs
+        p.primary.receiver.jobs) }
+    ensures fault { IfErr result (IsPairDriveFault primary.entry.sender.jobs
+        secondary.entry.sender.jobs turns.now) }
 {
     pair_runs_keep_order();
     let _up_jobs_fit = primary.sender().jobs();
@@ -115,9 +134,12 @@ fn take_turns<'a>(
 ) -> Result<Paired<'a>, WorldFault>
     requires primary { primary ≡ first_contending rank.Primary primary.sender.jobs }
     requires secondary { secondary ≡ first_contending rank.Secondary secondary.sender.jobs }
-    ensures run { IfOk result (λ p. IsPairRun primary.entry.sender.jobs secondary.entry.sender.jobs turns.now p.turns.items (told_by p.secondary p.primary) (told_by p.primary p.secondary)) }
-    ensures drive { IfOk result (λ p. IsPairDrive primary.entry.sender.jobs secondary.entry.sender.jobs turns.now p.turns.items p.primary p.secondary) }
-    ensures fault { IfErr result (IsPairDriveFault primary.entry.sender.jobs secondary.entry.sender.jobs turns.now) }
+    ensures run { IfOk result (λ p. IsPairRun primary.entry.sender.jobs secondary.entry.sender.jobs
+        turns.now p.turns.items (told_by p.secondary p.primary) (told_by p.primary p.secondary)) }
+    ensures drive { IfOk result (λ p. IsPairDrive primary.entry.sender.jobs
+        secondary.entry.sender.jobs turns.now p.turns.items p.primary p.secondary) }
+    ensures fault { IfErr result (IsPairDriveFault primary.entry.sender.jobs
+        secondary.entry.sender.jobs turns.now) }
 {
     one_hearing();
     every_hearing();

@@ -23,23 +23,31 @@ use std::alloc::{AllocError, Global};
 
 /// One transmission of these jobs over a schedule: two new stations in conversation, over lines that do to their bytes what the turns say.
 pub fn run(alloc: Global, jobs: &[Job], turns: &[Turn]) -> Result<Report, WorldFault>
-    ensures run { IfOk result (λ report. IsRun jobs.now turns.now report.turns.items report.handed report.counted report.outcome) }
+    ensures run { IfOk result (λ report.
+        IsRun jobs.now turns.now report.turns.items report.handed report.counted report.outcome) }
     ensures fit { OnOk result (AllByRecursion JobFits jobs.now) }
 
     // The headline. Whatever the line loses or damages, the records handed out are a prefix of those given, in order and each once, ..
     ensures in_order { IfOk result (λ report. AreHandedInOrder jobs.now report.handed) }
 
     // .. and every job that counts as sent was handed out whole.
-    ensures counted_whole { IfOk result (λ report. AreHandedWhole report.counted jobs.now report.handed) }
+    ensures counted_whole { IfOk result
+        (λ report. AreHandedWhole report.counted jobs.now report.handed) }
 
     // More exactly: the first jobs as they were given, as many as are counted or one more, and then nothing, or a beginning of the next.
-    ensures first_jobs { IfOk result (λ report. HandsFirstJobs report.counted jobs.now report.handed) }
+    ensures first_jobs { IfOk result (λ report.
+        HandsFirstJobs report.counted jobs.now report.handed) }
 
     // On a fair line of seven turns for the bid and seven for each block, where no turn is refused, every job is counted and handed out.
-    ensures fair { IfOk result (λ report. IsFair turns.now → turns_for jobs.now ≤ length turns.now → AllByRecursion (λ t. t.refused ≡ false) report.turns.items → (report.counted ≡ length jobs.now) × (report.handed ≡ jobs.now)) }
+    ensures fair { IfOk result (λ report. IsFair turns.now → turns_for jobs.now ≤ length turns.now
+        → AllByRecursion (λ t. t.refused ≡ false) report.turns.items
+        → (report.counted ≡ length jobs.now) × (report.handed ≡ jobs.now)) }
 
     // So it is on a clean line of good turns alone, of which there is one more than there are blocks.
-    ensures clean { IfOk result (λ report. AllByRecursion IsGood turns.now → length (blocks jobs.now) + 1 ≤ length turns.now → AllByRecursion (λ t. t.refused ≡ false) report.turns.items → (report.counted ≡ length jobs.now) × (report.handed ≡ jobs.now)) }
+    ensures clean { IfOk result (λ report. AllByRecursion IsGood turns.now
+        → length (blocks jobs.now) + 1 ≤ length turns.now
+        → AllByRecursion (λ t. t.refused ≡ false) report.turns.items
+        → (report.counted ≡ length jobs.now) × (report.handed ≡ jobs.now)) }
 
     // A job that can't be sent is told before any turn, and else the first turn of which a looked-at fate breaks a rule.
     ensures fault { IfErr result (IsRunFault jobs.now turns.now) }
@@ -68,26 +76,39 @@ pub fn drive<'a>(
 ) -> Result<Driven<'a>, WorldFault>
     requires sender { sender ≡ first_sending sender.jobs }
     requires receiver { receiver ≡ first_receiving }
-    ensures run { IfOk result (λ driven. IsRun sender.entry.jobs turns.now driven.turns.items driven.receiver.jobs driven.sender.counted (outcome_of driven.sender)) }
+    ensures run { IfOk result (λ driven.
+        IsRun sender.entry.jobs turns.now driven.turns.items driven.receiver.jobs
+        driven.sender.counted (outcome_of driven.sender)) }
     ensures jobs { IfOk result (λ driven. driven.sender.jobs ≡ sender.entry.jobs) }
 
     // Both stations stand where the turns left them, and no reply is due.
-    ensures drive { IfOk result (λ driven. IsDrive sender.entry.jobs turns.now driven.turns.items driven.sender driven.receiver) }
+    ensures drive { IfOk result (λ driven.
+        IsDrive sender.entry.jobs turns.now driven.turns.items driven.sender driven.receiver) }
 
     // The headline, of the stations that are given back: records in order and each once, ..
-    ensures in_order { IfOk result (λ driven. AreHandedInOrder sender.entry.jobs driven.receiver.jobs) }
+    ensures in_order { IfOk result (λ driven.
+        AreHandedInOrder sender.entry.jobs driven.receiver.jobs) }
 
     // .. every counted job whole, ..
-    ensures counted_whole { IfOk result (λ driven. AreHandedWhole driven.sender.counted sender.entry.jobs driven.receiver.jobs) }
+    ensures counted_whole { IfOk result
+        (λ driven. AreHandedWhole driven.sender.counted sender.entry.jobs driven.receiver.jobs) }
 
     // .. and more exactly, the first jobs and a beginning of the next.
-    ensures first_jobs { IfOk result (λ driven. HandsFirstJobs driven.sender.counted sender.entry.jobs driven.receiver.jobs) }
+    ensures first_jobs { IfOk result (λ driven.
+        HandsFirstJobs driven.sender.counted sender.entry.jobs driven.receiver.jobs) }
 
     // On a fair line of seven turns for the bid and seven for each block, where no turn is refused, every job is counted and handed out; ..
-    ensures fair { IfOk result (λ driven. IsFair turns.now → turns_for sender.entry.jobs ≤ length turns.now → AllByRecursion (λ t. t.refused ≡ false) driven.turns.items → (driven.sender.counted ≡ length sender.entry.jobs) × (driven.receiver.jobs ≡ sender.entry.jobs)) }
+    ensures fair { IfOk result (λ driven. IsFair turns.now → turns_for sender.entry.jobs
+        ≤ length turns.now → AllByRecursion (λ t. t.refused ≡ false) driven.turns.items
+        → (driven.sender.counted ≡ length sender.entry.jobs)
+        × (driven.receiver.jobs ≡ sender.entry.jobs)) }
 
     // .. and so it is on a clean line of good turns alone, of which there is one more than there are blocks.
-    ensures clean { IfOk result (λ driven. AllByRecursion IsGood turns.now → length (blocks sender.entry.jobs) + 1 ≤ length turns.now → AllByRecursion (λ t. t.refused ≡ false) driven.turns.items → (driven.sender.counted ≡ length sender.entry.jobs) × (driven.receiver.jobs ≡ sender.entry.jobs)) }
+    ensures clean { IfOk result (λ driven. AllByRecursion IsGood turns.now
+        → length (blocks sender.entry.jobs) + 1 ≤ length turns.now
+        → AllByRecursion (λ t. t.refused ≡ false) driven.turns.items
+        → (driven.sender.counted ≡ length sender.entry.jobs)
+        × (driven.receiver.jobs ≡ sender.entry.jobs)) }
     ensures fault { IfErr result (IsDriveFault sender.entry.jobs turns.now) }
 {
     runs_keep_order();
@@ -107,8 +128,11 @@ fn take_turns<'a>(
     requires receiver { ends.receiver ≡ first_receiving }
     requires sending_line { ends.sending_line.until_failure ≡ 0 }
     requires receiving_line { ends.receiving_line.until_failure ≡ 0 }
-    ensures run { IfOk result (λ driven. IsRun ends.entry.sender.jobs turns.now driven.turns.items driven.receiver.jobs driven.sender.counted (outcome_of driven.sender)) }
-    ensures drive { IfOk result (λ driven. IsDrive ends.entry.sender.jobs turns.now driven.turns.items driven.sender driven.receiver) }
+    ensures run { IfOk result (λ driven.
+        IsRun ends.entry.sender.jobs turns.now driven.turns.items driven.receiver.jobs
+        driven.sender.counted (outcome_of driven.sender)) }
+    ensures drive { IfOk result (λ driven.
+        IsDrive ends.entry.sender.jobs turns.now driven.turns.items driven.sender driven.receiver) }
     ensures jobs { IfOk result (λ driven. driven.sender.jobs ≡ ends.entry.sender.jobs) }
     ensures fault { IfErr result (IsDriveFault ends.entry.sender.jobs turns.now) }
 {

@@ -34,7 +34,8 @@ impl Series {
     /// Puts one more run behind these. What an error leaves isn't said.
     pub(crate) fn push(&mut self, report: Report) -> Result<(), AllocError>
         requires room { self.old.counted + report.counted < 2 ^ 64 }
-        ensures reports { OnOk result (self.new.reports.items ≡ self.old.reports.items ++ report ∷ []) }
+        ensures reports { OnOk result (self.new.reports.items
+            ≡ self.old.reports.items ++ report ∷ []) }
         ensures handed { OnOk result (self.new.handed ≡ self.old.handed ++ report.handed) }
         ensures counted { OnOk result (self.new.counted ≡ self.old.counted + report.counted) }
     {

@@ -21,7 +21,8 @@ pub(crate) fn hear_up(
     requires calm { line.old.until_failure ≡ 0 }
     requires short { length (flat_map (λ p. p) line.old.waiting) ≤ 8192 }
     requires live { receiver.old.over ≡ false }
-    ensures heard { Received receiver.old receiver.new wish result.1 (λ what. Hearing (talk_of line.old) (talk_of line.new) what) }
+    ensures heard { Received receiver.old receiver.new wish result.1
+        (λ what. Hearing (talk_of line.old) (talk_of line.new) what) }
     ensures arrival { receiver.new.arrival ≡ Some result.0 }
     ensures owes { receiver.new.over ≡ true → receiver.new.due ≡ None }
     ensures calm { line.new.until_failure ≡ 0 }
@@ -75,7 +76,8 @@ pub(crate) fn say_due(station: &mut Station<'_>, line: &mut MemoryLine) -> Say
     requires calm { line.old.until_failure ≡ 0 }
     requires due { due_at station.old ≢ said.Nothing }
     ensures said { result ≡ due_at station.old }
-    ensures sent { SpokeDue (due_at station.old) station.old.sender.rest (talk_of line.old) (talk_of line.new) }
+    ensures sent { SpokeDue (due_at station.old) station.old.sender.rest (talk_of line.old)
+        (talk_of line.new) }
     ensures state { station.new ≡ after_own_speaking station.old }
     ensures calm { line.new.until_failure ≡ 0 }
 {
@@ -109,7 +111,8 @@ pub(crate) fn hear_across(
     requires calm { line.old.until_failure ≡ 0 }
     requires short { length (flat_map (λ p. p) line.old.waiting) ≤ 8192 }
     requires hears { is_deaf station.old ≡ false }
-    ensures heard { HeardOther station.old station.new wish result.1 (λ what. Hearing (talk_of line.old) (talk_of line.new) what) }
+    ensures heard { HeardOther station.old station.new wish result.1
+        (λ what. Hearing (talk_of line.old) (talk_of line.new) what) }
     ensures arrival { station.new.receiver.arrival ≡ Some result.0 }
     ensures live { station.new.failed ≡ false }
     ensures owes { station.new.receiver.over ≡ true → station.new.receiver.due ≡ None }

@@ -38,8 +38,10 @@ pub fn send_all<L: Line>(station: &mut SendingStation, line: &mut L) -> Result<(
 
 /// One turn of a sending station, and whether there is one: it says what is due, and but for EOT it listens.
 fn speak_and_hear<L: Line>(station: &mut SendingStation, line: &mut L) -> Result<bool, StationFault>
-    ensures takes { IfOk result (λ is_turn. is_turn ≡ true → (t : SpokenTurn) × SenderTakes station.old station.new t) }
-    ensures over { IfOk result (λ is_turn. is_turn ≡ false → (station.old.over ≡ true) × (station.new ≡ station.old)) }
+    ensures takes { IfOk result (λ is_turn. is_turn ≡ true → (t : SpokenTurn)
+        × SenderTakes station.old station.new t) }
+    ensures over { IfOk result (λ is_turn. is_turn ≡ false → (station.old.over ≡ true)
+        × (station.new ≡ station.old)) }
     ensures fault { IfErr result (SenderFails station.old station.new) }
 {
     match station.speak(line) {
@@ -144,7 +146,8 @@ fn take_turn<N: Line, F: Line>(
     receiver: &mut ReceivingStation,
     far: &mut F,
 ) -> Result<Option<Spoken>, StationFault>
-    ensures takes { IfOk result (λ spoken. BothTake spoken sender.old sender.new receiver.old receiver.new) }
+    ensures takes { IfOk result (λ spoken.
+        BothTake spoken sender.old sender.new receiver.old receiver.new) }
     ensures fault { IfErr result (BothFail sender.old sender.new receiver.old receiver.new) }
 {
     let said = match sender.speak(near) {

@@ -33,7 +33,8 @@ impl Store for MemoryStore {
     fn read(&mut self, alloc: Global, name: &str) -> Result<Vec<u8>, StoreFault>
         ensures has { IfOk result (λ bytes. files_of self.old name.now ≡ Some bytes.items) }
         ensures limit { IfOk result (λ bytes. length bytes.items ≤ MAX_INPUT) }
-        ensures failed { IsErrOf result StoreFault.Failed ↔ CannotRead (files_of self.old name.now) }
+        ensures failed { IsErrOf result StoreFault.Failed
+            ↔ CannotRead (files_of self.old name.now) }
         ensures same { IsSame (files_of self.old) (files_of self.new) }
     {
         match self.files.get(name) {
@@ -45,7 +46,8 @@ impl Store for MemoryStore {
     }
 
     fn write(&mut self, name: &str, bytes: &[u8]) -> Result<(), StoreFault>
-        ensures sets { OnOk result (Sets name.now bytes.now (files_of self.old) (files_of self.new)) }
+        ensures sets { OnOk result (Sets name.now bytes.now (files_of self.old)
+            (files_of self.new)) }
         ensures memory { IsOkUnless result StoreFault.OutOfMemory }
         ensures same { OnErr result (IsSame (files_of self.old) (files_of self.new)) }
     {

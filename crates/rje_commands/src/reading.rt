@@ -11,9 +11,11 @@ pub const MAX_INPUT: usize = 16_777_216;
 /// All bytes of a reader, which has at most `MAX_INPUT`. Failed where it has more, and where a read fails,
 /// an interruption included.
 pub fn read_all<I: Read>(alloc: Global, input: &mut I) -> Result<Vec<u8>, StoreFault>
-    ensures all { IfOk result (λ bytes. IfSome (I.remaining input.old) (λ rest. bytes.items ≡ rest)) }
+    ensures all { IfOk result (λ bytes.
+        IfSome (I.remaining input.old) (λ rest. bytes.items ≡ rest)) }
     ensures limit { IfOk result (λ bytes. length bytes.items ≤ MAX_INPUT) }
-    ensures too_much { IfSome (I.remaining input.old) (λ rest. MAX_INPUT < length rest → IsErr result) }
+    ensures too_much { IfSome (I.remaining input.old)
+        (λ rest. MAX_INPUT < length rest → IsErr result) }
 {
     let mut bytes = Vec::new(alloc);
     let mut piece = [0u8; 4096];

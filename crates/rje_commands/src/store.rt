@@ -30,6 +30,7 @@ pub trait Store {
 
     /// Makes these bytes the file of this name, in place of what it had. A store may fail at any time.
     fn write(&mut self, name: &str, bytes: &[u8]) -> Result<(), StoreFault>
-        ensures sets { OnOk result (Tells (files self.old) (files self.new) (Sets name.now bytes.now)) }
+        ensures sets { OnOk result (Tells (files self.old) (files self.new)
+            (Sets name.now bytes.now)) }
         ensures same { OnErr result (Tells (files self.old) (files self.new) IsSame) };
 }

@@ -15,8 +15,11 @@ pub(crate) fn hear<L: Line>(line: &mut L) -> Result<Heard, HearFault>
     ensures grows { L.failures line.old ≤ L.failures line.new }
     ensures none { L.transmissions line.new ≡ L.transmissions line.old }
     ensures ages { Ages (L.may_fail line.old) (L.may_fail line.new) }
-    ensures heard { IfOk result (λ h. Passes (L.talk line.old) (L.talk line.new) (λ t u. Hearing t u h)) }
-    ensures lost { IfErr result (λ fault. IsLost (Fails (MayNotHear (L.may_fail line.old)) (L.failures line.old) (L.failures line.new) (L.last_fault line.new))
+    ensures heard { IfOk result (λ h. Passes (L.talk line.old) (L.talk line.new)
+        (λ t u. Hearing t u h)) }
+    ensures lost { IfErr result (λ fault.
+        IsLost (Fails (MayNotHear (L.may_fail line.old)) (L.failures line.old) (L.failures line.new)
+        (L.last_fault line.new))
         (Passes (L.talk line.old) (L.talk line.new) Babbling) fault) }
 {
     let mut listener = Listener::new();

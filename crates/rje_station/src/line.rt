@@ -30,7 +30,8 @@ pub trait Line {
         ensures may { OnErr result (may_fail self.old (length bytes.now) 0) }
         ensures fault { IfErr result (λ fault. last_fault self.new ≡ Some fault) }
         ensures same { OnOk result (last_fault self.new ≡ last_fault self.old) }
-        ensures ages { (bytes calls : ℕ) → may_fail self.new bytes calls → may_fail self.old bytes (1 + calls) }
+        ensures ages { (bytes calls : ℕ) → may_fail self.new bytes calls
+            → may_fail self.old bytes (1 + calls) }
 
         // A transmission that fails was begun.
         ensures begun { transmissions self.new ≡ one_more (transmissions self.old) }
@@ -44,8 +45,10 @@ pub trait Line {
         ensures may { OnErr result (may_fail self.old 0 0) }
         ensures fault { IfErr result (λ fault. last_fault self.new ≡ Some fault) }
         ensures same { OnOk result (last_fault self.new ≡ last_fault self.old) }
-        ensures ages { (bytes calls : ℕ) → may_fail self.new bytes calls → may_fail self.old bytes (1 + calls) }
+        ensures ages { (bytes calls : ℕ) → may_fail self.new bytes calls
+            → may_fail self.old bytes (1 + calls) }
         ensures none { transmissions self.new ≡ transmissions self.old }
         ensures within { IfOk result (λ came. IsWithin came (length piece.new)) }
-        ensures heard { IfOk result (λ came. Passes (talk self.old) (talk self.new) (Hears came piece.new)) };
+        ensures heard { IfOk result (λ came.
+            Passes (talk self.old) (talk self.new) (Hears came piece.new)) };
 }

@@ -116,7 +116,9 @@ impl ReceivingStation {
         ensures ages { Ages (L.may_fail line.old) (L.may_fail line.new) }
 
         // The line failed or babbled, or the station was over before; it is over then, and the jobs stay.
-        ensures cause { IfErr result (λ fault. IsCause (Fails (MayNotHear (L.may_fail line.old)) (L.failures line.old) (L.failures line.new) (L.last_fault line.new))
+        ensures cause { IfErr result (λ fault.
+            IsCause (Fails (MayNotHear (L.may_fail line.old)) (L.failures line.old)
+            (L.failures line.new) (L.last_fault line.new))
             (Passes (L.talk line.old) (L.talk line.new) Babbling) self.old.over fault) }
         ensures kept { IfErr result (λ fault. self.new ≡ after_refusal fault self.old) }
         ensures untouched { IfErr result (λ fault. IfOver fault (line.new ≡ line.old)) }
@@ -134,12 +136,15 @@ impl ReceivingStation {
 
     /// One hearing, of which nothing is made yet.
     pub(crate) fn listen<L: Line>(&mut self, line: &mut L) -> Result<Heard, StationFault>
-        ensures heard { IfOk result (λ what. Passes (L.talk line.old) (L.talk line.new) (λ t u. Hearing t u what)) }
+        ensures heard { IfOk result (λ what.
+            Passes (L.talk line.old) (L.talk line.new) (λ t u. Hearing t u what)) }
         ensures same { OnOk result (self.new ≡ self.old) }
         ensures live { OnOk result (self.old.over ≡ false) }
         ensures none { L.transmissions line.new ≡ L.transmissions line.old }
         ensures ages { Ages (L.may_fail line.old) (L.may_fail line.new) }
-        ensures cause { IfErr result (λ fault. IsCause (Fails (MayNotHear (L.may_fail line.old)) (L.failures line.old) (L.failures line.new) (L.last_fault line.new))
+        ensures cause { IfErr result (λ fault.
+            IsCause (Fails (MayNotHear (L.may_fail line.old)) (L.failures line.old)
+            (L.failures line.new) (L.last_fault line.new))
             (Passes (L.talk line.old) (L.talk line.new) Babbling) self.old.over fault) }
         ensures kept { IfErr result (λ fault. self.new ≡ after_refusal fault self.old) }
         ensures untouched { IfErr result (λ fault. IfOver fault (line.new ≡ line.old)) }
@@ -175,16 +180,21 @@ impl ReceivingStation {
     /// Sends the reply that is due, once; sends nothing where none is.
     pub fn speak<L: Line>(&mut self, line: &mut L) -> Result<Option<Reply>, StationFault>
         ensures said { IfOk result (λ reply. reply ≡ self.old.due) }
-        ensures sent { OnOk result (Passes (L.talk line.old) (L.talk line.new) (Replied self.old.due)) }
+        ensures sent { OnOk result (Passes (L.talk line.old) (L.talk line.new)
+            (Replied self.old.due)) }
         ensures state { OnOk result (self.new ≡ after_replying self.old) }
         ensures live { OnOk result (self.old.over ≡ false) }
-        ensures once { OnOk result (L.transmissions line.new ≡ with_reply self.old.due (L.transmissions line.old)) }
+        ensures once { OnOk result (L.transmissions line.new
+            ≡ with_reply self.old.due (L.transmissions line.old)) }
         ensures ages { Ages (L.may_fail line.old) (L.may_fail line.new) }
 
         // The line failed, or the station was over before; it is over then, and the jobs stay.
-        ensures cause { IfErr result (λ fault. IsCause (Fails (MayNotSend (L.may_fail line.old)) (L.failures line.old) (L.failures line.new) (L.last_fault line.new)) ⊥ self.old.over fault) }
+        ensures cause { IfErr result (λ fault.
+            IsCause (Fails (MayNotSend (L.may_fail line.old)) (L.failures line.old)
+            (L.failures line.new) (L.last_fault line.new)) ⊥ self.old.over fault) }
         ensures kept { IfErr result (λ fault. self.new ≡ after_refusal fault self.old) }
-        ensures tried { IfErr result (λ fault. IfLine fault (L.transmissions line.new ≡ one_more (L.transmissions line.old))) }
+        ensures tried { IfErr result (λ fault.
+            IfLine fault (L.transmissions line.new ≡ one_more (L.transmissions line.old))) }
         ensures untouched { IfErr result (λ fault. IfOver fault (line.new ≡ line.old)) }
     {
         if self.over {
@@ -256,7 +266,8 @@ fn sound_taken(heard: &Heard, refused: bool) -> Sound
 
 /// Notes a hearing.
 fn note_received(trace: &mut Trace, sound: Sound, accepted: bool, refused: bool)
-    ensures { trace.new ≡ last_events (trace.old ++ event.Heard sound ∷ received_events accepted refused) }
+    ensures { trace.new ≡ last_events (trace.old ++ event.Heard sound ∷ received_events
+        accepted refused) }
 {
     trace.note(Event::Heard(sound));
     if refused {

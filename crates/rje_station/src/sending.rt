@@ -123,16 +123,21 @@ impl<'a> SendingStation<'a> {
     /// Sends what is due, and the same again where it is called twice. After EOT the station is over.
     pub fn speak<L: Line>(&mut self, line: &mut L) -> Result<Say, StationFault>
         ensures said { IfOk result (λ say. say ≡ say_in self.old.core.place) }
-        ensures sent { OnOk result (Passes (L.talk line.old) (L.talk line.new) (Spoke (say_in self.old.core.place) self.old.rest)) }
+        ensures sent { OnOk result (Passes (L.talk line.old) (L.talk line.new)
+            (Spoke (say_in self.old.core.place) self.old.rest)) }
         ensures state { OnOk result (self.new ≡ after_speaking self.old) }
         ensures live { OnOk result (self.old.over ≡ false) }
-        ensures once { OnOk result (L.transmissions line.new ≡ one_more (L.transmissions line.old)) }
+        ensures once { OnOk result (L.transmissions line.new
+            ≡ one_more (L.transmissions line.old)) }
         ensures ages { Ages (L.may_fail line.old) (L.may_fail line.new) }
 
         // The line failed, or the station was over before; it is over then, and jobs and counts stay.
-        ensures cause { IfErr result (λ fault. IsCause (Fails (MayNotSend (L.may_fail line.old)) (L.failures line.old) (L.failures line.new) (L.last_fault line.new)) ⊥ self.old.over fault) }
+        ensures cause { IfErr result (λ fault.
+            IsCause (Fails (MayNotSend (L.may_fail line.old)) (L.failures line.old)
+            (L.failures line.new) (L.last_fault line.new)) ⊥ self.old.over fault) }
         ensures kept { IfErr result (λ fault. self.new ≡ after_refusal fault self.old) }
-        ensures tried { IfErr result (λ fault. IfLine fault (L.transmissions line.new ≡ one_more (L.transmissions line.old))) }
+        ensures tried { IfErr result (λ fault.
+            IfLine fault (L.transmissions line.new ≡ one_more (L.transmissions line.old))) }
         ensures untouched { IfErr result (λ fault. IfOver fault (line.new ≡ line.old)) }
     {
         if self.over {
@@ -150,14 +155,17 @@ impl<'a> SendingStation<'a> {
 
     /// Listens, and takes one step. With `pause` the next block has to wait.
     pub fn hear<L: Line>(&mut self, line: &mut L, pause: bool) -> Result<Sound, StationFault>
-        ensures heard { IfOk result (λ sound. Passes (L.talk line.old) (L.talk line.new) (λ t u. HearsSound t u sound)) }
+        ensures heard { IfOk result (λ sound.
+            Passes (L.talk line.old) (L.talk line.new) (λ t u. HearsSound t u sound)) }
         ensures state { IfOk result (λ sound. self.new ≡ after_hearing self.old sound pause) }
         ensures live { OnOk result (self.old.over ≡ false) }
         ensures none { L.transmissions line.new ≡ L.transmissions line.old }
         ensures ages { Ages (L.may_fail line.old) (L.may_fail line.new) }
 
         // The line failed or babbled, or the station was over before; it is over then, and jobs and counts stay.
-        ensures cause { IfErr result (λ fault. IsCause (Fails (MayNotHear (L.may_fail line.old)) (L.failures line.old) (L.failures line.new) (L.last_fault line.new))
+        ensures cause { IfErr result (λ fault.
+            IsCause (Fails (MayNotHear (L.may_fail line.old)) (L.failures line.old)
+            (L.failures line.new) (L.last_fault line.new))
             (Passes (L.talk line.old) (L.talk line.new) Babbling) self.old.over fault) }
         ensures kept { IfErr result (λ fault. self.new ≡ after_refusal fault self.old) }
         ensures untouched { IfErr result (λ fault. IfOver fault (line.new ≡ line.old)) }

@@ -96,17 +96,22 @@ impl<'a> Station<'a> {
     /// Sends what is due, and the same again where it is called twice. Where nothing is due it touches no line.
     pub fn speak<L: Line>(&mut self, line: &mut L) -> Result<Say, StationFault>
         ensures said { IfOk result (λ say. say ≡ due_at self.old) }
-        ensures sent { OnOk result (Passes (L.talk line.old) (L.talk line.new) (SpokeDue (due_at self.old) self.old.sender.rest)) }
+        ensures sent { OnOk result (Passes (L.talk line.old) (L.talk line.new)
+            (SpokeDue (due_at self.old) self.old.sender.rest)) }
         ensures silent { OnOk result (IfSilent (due_at self.old) (line.new ≡ line.old)) }
         ensures state { OnOk result (self.new ≡ after_own_speaking self.old) }
         ensures live { OnOk result (self.old.failed ≡ false) }
-        ensures once { OnOk result (L.transmissions line.new ≡ with_said (due_at self.old) (L.transmissions line.old)) }
+        ensures once { OnOk result (L.transmissions line.new
+            ≡ with_said (due_at self.old) (L.transmissions line.old)) }
         ensures ages { Ages (L.may_fail line.old) (L.may_fail line.new) }
 
         // The line failed, or a fault came before; jobs and counts stay.
-        ensures cause { IfErr result (λ fault. IsCause (Fails (MayNotSend (L.may_fail line.old)) (L.failures line.old) (L.failures line.new) (L.last_fault line.new)) ⊥ self.old.failed fault) }
+        ensures cause { IfErr result (λ fault.
+            IsCause (Fails (MayNotSend (L.may_fail line.old)) (L.failures line.old)
+            (L.failures line.new) (L.last_fault line.new)) ⊥ self.old.failed fault) }
         ensures kept { IfErr result (λ fault. self.new ≡ after_own_refusal fault self.old) }
-        ensures tried { IfErr result (λ fault. IfLine fault (L.transmissions line.new ≡ one_more (L.transmissions line.old))) }
+        ensures tried { IfErr result (λ fault.
+            IfLine fault (L.transmissions line.new ≡ one_more (L.transmissions line.old))) }
         ensures untouched { IfErr result (λ fault. IfOver fault (line.new ≡ line.old)) }
     {
         if self.failed {
@@ -127,7 +132,8 @@ impl<'a> Station<'a> {
     /// Listens for the answer to what was said, and takes one step. With `pause` the next block has to wait. Where nothing is due it
     /// touches no line.
     pub fn hear_answer<L: Line>(&mut self, line: &mut L, pause: bool) -> Result<Sound, StationFault>
-        ensures heard { IfOk result (λ sound. HeardAnswer (L.talk line.old) (L.talk line.new) (due_at self.old) sound) }
+        ensures heard { IfOk result (λ sound.
+            HeardAnswer (L.talk line.old) (L.talk line.new) (due_at self.old) sound) }
         ensures silent { OnOk result (IfSilent (due_at self.old) (line.new ≡ line.old)) }
         ensures state { IfOk result (λ sound. self.new ≡ after_answer self.old sound pause) }
         ensures live { OnOk result (self.old.failed ≡ false) }
@@ -135,7 +141,9 @@ impl<'a> Station<'a> {
         ensures ages { Ages (L.may_fail line.old) (L.may_fail line.new) }
 
         // The line failed or babbled, or a fault came before; jobs and counts stay.
-        ensures cause { IfErr result (λ fault. IsCause (Fails (MayNotHear (L.may_fail line.old)) (L.failures line.old) (L.failures line.new) (L.last_fault line.new))
+        ensures cause { IfErr result (λ fault.
+            IsCause (Fails (MayNotHear (L.may_fail line.old)) (L.failures line.old)
+            (L.failures line.new) (L.last_fault line.new))
             (Passes (L.talk line.old) (L.talk line.new) Babbling) self.old.failed fault) }
         ensures kept { IfErr result (λ fault. self.new ≡ after_own_refusal fault self.old) }
         ensures untouched { IfErr result (λ fault. IfOver fault (line.new ≡ line.old)) }
@@ -170,7 +178,9 @@ impl<'a> Station<'a> {
         ensures ages { Ages (L.may_fail line.old) (L.may_fail line.new) }
 
         // The line failed or babbled, or a fault came before, or the other station's transmission is over; jobs and counts stay.
-        ensures cause { IfErr result (λ fault. IsCause (Fails (MayNotHear (L.may_fail line.old)) (L.failures line.old) (L.failures line.new) (L.last_fault line.new))
+        ensures cause { IfErr result (λ fault.
+            IsCause (Fails (MayNotHear (L.may_fail line.old)) (L.failures line.old)
+            (L.failures line.new) (L.last_fault line.new))
             (Passes (L.talk line.old) (L.talk line.new) Babbling) (is_deaf self.old) fault) }
         ensures kept { IfErr result (λ fault. self.new ≡ after_other_refusal fault self.old) }
         ensures untouched { IfErr result (λ fault. IfOver fault (line.new ≡ line.old)) }
@@ -187,16 +197,21 @@ impl<'a> Station<'a> {
     /// Sends the reply that is due, once; sends nothing where none is.
     pub fn reply<L: Line>(&mut self, line: &mut L) -> Result<Option<Reply>, StationFault>
         ensures said { IfOk result (λ reply. reply ≡ self.old.receiver.due) }
-        ensures sent { OnOk result (Passes (L.talk line.old) (L.talk line.new) (Replied self.old.receiver.due)) }
+        ensures sent { OnOk result (Passes (L.talk line.old) (L.talk line.new)
+            (Replied self.old.receiver.due)) }
         ensures state { OnOk result (self.new ≡ after_own_reply self.old) }
         ensures live { OnOk result (is_deaf self.old ≡ false) }
-        ensures once { OnOk result (L.transmissions line.new ≡ with_reply self.old.receiver.due (L.transmissions line.old)) }
+        ensures once { OnOk result (L.transmissions line.new
+            ≡ with_reply self.old.receiver.due (L.transmissions line.old)) }
         ensures ages { Ages (L.may_fail line.old) (L.may_fail line.new) }
 
         // The line failed, or a fault came before, or the other station's transmission is over; jobs and counts stay.
-        ensures cause { IfErr result (λ fault. IsCause (Fails (MayNotSend (L.may_fail line.old)) (L.failures line.old) (L.failures line.new) (L.last_fault line.new)) ⊥ (is_deaf self.old) fault) }
+        ensures cause { IfErr result (λ fault.
+            IsCause (Fails (MayNotSend (L.may_fail line.old)) (L.failures line.old)
+            (L.failures line.new) (L.last_fault line.new)) ⊥ (is_deaf self.old) fault) }
         ensures kept { IfErr result (λ fault. self.new ≡ after_other_refusal fault self.old) }
-        ensures tried { IfErr result (λ fault. IfLine fault (L.transmissions line.new ≡ one_more (L.transmissions line.old))) }
+        ensures tried { IfErr result (λ fault.
+            IfLine fault (L.transmissions line.new ≡ one_more (L.transmissions line.old))) }
         ensures untouched { IfErr result (λ fault. IfOver fault (line.new ≡ line.old)) }
     {
         if self.failed {

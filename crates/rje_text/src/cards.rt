@@ -19,7 +19,8 @@ pub(crate) fn unpack_cards(
     so_far: Option<Mode>,
 ) -> Result<Unpacked, TextFault>
     requires { length text.now ≤ 512 }
-    ensures read { IfOk result (λ u. (card_reading text.now ≡ Some u) × Agrees Mode.Transparent so_far) }
+    ensures read { IfOk result (λ u. (card_reading text.now ≡ Some u)
+        × Agrees Mode.Transparent so_far) }
     ensures told { IfErr result (λ fault. IsCardFault so_far text.now fault) }
 {
     if text.len() % CARD != 0 {

@@ -26,7 +26,8 @@ pub fn unpack(alloc: Global, block: &Block, so_far: Option<Mode>) -> Result<Unpa
 
 fn unpack_normal(alloc: Global, text: &[u8], so_far: Option<Mode>) -> Result<Unpacked, TextFault>
     requires { length text.now ≤ 512 }
-    ensures read { IfOk result (λ u. (normal_reading so_far text.now ≡ Some u) × Agrees Mode.Normal so_far) }
+    ensures read { IfOk result (λ u. (normal_reading so_far text.now ≡ Some u)
+        × Agrees Mode.Normal so_far) }
     ensures told { IfErr result (λ fault. IsNormalFault so_far text.now fault) }
 {
     let (select, front) = front_of(text, so_far);

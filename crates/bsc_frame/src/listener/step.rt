@@ -18,7 +18,8 @@ pub(crate) fn step(
     byte: u8,
 ) -> Option<Frame>
     requires { CheckRuns stage.old text.old.items check.old }
-    ensures next { progress_of result (so_far_of stage.new text.new.items) ≡ next (so_far_of stage.old text.old.items) byte }
+    ensures next { progress_of result (so_far_of stage.new text.new.items)
+        ≡ next (so_far_of stage.old text.old.items) byte }
     ensures runs { CheckRuns stage.new text.new.items check.new }
 {
     match *stage {

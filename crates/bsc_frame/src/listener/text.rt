@@ -25,7 +25,8 @@ use bsc_codes::{Block, Closing, DLE, ENQ, ETB, ETX, MAX_TEXT, SYN};
 /// Whether a byte is data that this stage keeps; it is kept then. Most bytes of a line are, and need no more than this.
 pub(crate) fn keeps(stage: Stage, text: &mut ArrayVec<u8, 512>, check: &mut Check, byte: u8) -> bool
     requires { CheckRuns stage text.old.items check.old }
-    ensures next { result ≡ true → On (so_far_of stage text.new.items) ≡ next (so_far_of stage text.old.items) byte }
+    ensures next { result ≡ true → On (so_far_of stage text.new.items)
+        ≡ next (so_far_of stage text.old.items) byte }
     ensures runs { CheckRuns stage text.new.items check.new }
     ensures left { result ≡ false → text.new ≡ text.old }
     ensures check { result ≡ false → check.new ≡ check.old }
@@ -51,7 +52,8 @@ pub(crate) fn at_normal(
     byte: u8,
 ) -> Option<Frame>
     requires { IsCheckOf check.old text.old.items }
-    ensures next { progress_of result (so_far_of stage.new text.new.items) ≡ next (Text false text.old.items) byte }
+    ensures next { progress_of result (so_far_of stage.new text.new.items)
+        ≡ next (Text false text.old.items) byte }
     ensures runs { CheckRuns stage.new text.new.items check.new }
 {
     if is_normal(byte) {
@@ -97,7 +99,8 @@ pub(crate) fn at_text_dle(
     byte: u8,
 ) -> Option<Frame>
     requires { IsCheckOf check.old text.old.items }
-    ensures next { progress_of result (so_far_of stage.new text.new.items) ≡ next (TextDle text.old.items) byte }
+    ensures next { progress_of result (so_far_of stage.new text.new.items)
+        ≡ next (TextDle text.old.items) byte }
     ensures runs { CheckRuns stage.new text.new.items check.new }
 {
     match byte {
@@ -123,7 +126,8 @@ fn keep(
     byte: u8,
 )
     requires { IsCheckOf check.old text.old.items }
-    ensures next { On (so_far_of stage.new text.new.items) ≡ with_byte transparent text.old.items byte }
+    ensures next { On (so_far_of stage.new text.new.items)
+        ≡ with_byte transparent text.old.items byte }
     ensures runs { CheckRuns stage.new text.new.items check.new }
 {
     if text.len() < MAX_TEXT {
@@ -155,7 +159,8 @@ fn close(
     closing: Closing,
 )
     requires { IsCheckOf check.old text.now.items }
-    ensures next { On (so_far_of stage.new text.now.items) ≡ closed transparent text.now.items closing }
+    ensures next { On (so_far_of stage.new text.now.items)
+        ≡ closed transparent text.now.items closing }
     ensures runs { CheckRuns stage.new text.now.items check.new }
 {
     check.add(closing_byte(closing));

@@ -129,7 +129,8 @@ fn begin_job(jobs: &[Job], at: usize) -> (Frame, usize)
 fn after_block(jobs: &[Job], at: usize, closing: Closing, place: usize) -> (Frame, usize, usize)
     requires fit { AllByRecursion JobFits jobs.now }
     requires within { IsPlace (drop at jobs.now) closing place }
-    ensures rest { rest_in (drop result.2 jobs.now) result.0 result.1 ≡ more_in (drop at jobs.now) closing place }
+    ensures rest { rest_in (drop result.2 jobs.now) result.0 result.1
+        ≡ more_in (drop at jobs.now) closing place }
     ensures at { IsAt (drop result.2 jobs.now) result.0 result.1 }
     ensures counted { result.2 ≡ counted_by closing at }
 {
