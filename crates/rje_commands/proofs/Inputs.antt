@@ -4,7 +4,7 @@ use Rattle.std.specs.Prelude.{IfSome, bytes_eq, if◌then◌else◌}
 use Rattle.std.specs.Option.{IsSomeAnd}
 use Rattle.std.specs.Result.{IsErrAnd}
 use Rattle.rje_jobs.specs.declared.job.Job.{Job}
-use Rattle.rje_jobs.specs.JobFile.{HasJobs}
+use Rattle.rje_files.specs.JobFile.{HasJobs}
 use Rattle.line_world.specs.declared.turn.Turn.{Turn}
 use Rattle.line_world.specs.declared.world_fault.WorldFault.{WorldFault}
 use Rattle.line_world.specs.Run.{IsRunFault}

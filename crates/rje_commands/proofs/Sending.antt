@@ -3,7 +3,7 @@ use Rattle.std.proofs.Common.{◌≡◌, ℕ, List, Option, Result, Ok, Err, IfO
 use Rattle.std.specs.Io.KnownBytes.{Appends}
 use Rattle.std.proofs.lemmas.List.{length-map}
 use Rattle.rje_jobs.specs.declared.job.Job.{Job}
-use Rattle.rje_jobs.specs.Unsent.{IsLeft, unsent}
+use Rattle.rje_files.specs.Unsent.{IsLeft, unsent}
 use Rattle.rje_station.specs.Sending.{Sending, first_sending, outcome_of}
 use Rattle.line_world.specs.AnyLines.{SendsToEnd}
 use Rattle.rje_commands.specs.declared.command_fault.CommandFault.{CommandFault}

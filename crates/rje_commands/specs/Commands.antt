@@ -3,13 +3,13 @@ use Rattle.std.specs.Prelude.{◌≡◌, ◌≢◌, ◌≤◌, ◌⊎◌, ℕ, L
 use Rattle.std.specs.Io.KnownBytes.{Appends}
 use Rattle.std.specs.Option.{IsSomeAnd}
 use Rattle.bsc_link.specs.declared.outcome.Outcome.{Outcome}
-use Rattle.rje_jobs.specs.declared.entry.Entry.{Entry}
-use Rattle.rje_jobs.specs.declared.entry.State.TheVariants.{Waiting}
 use Rattle.rje_jobs.specs.declared.job.Job.{Job}
-use Rattle.rje_jobs.specs.declared.job_file.version.FileVersion.TheVariants.{Second}
 use Rattle.rje_jobs.specs.Deck.{deck_fault, job_of, IsTold as IsToldOfDeck}
-use Rattle.rje_jobs.specs.FileFault.{IsTold as IsToldOfFile}
-use Rattle.rje_jobs.specs.JobFile.{HasEntries, HasJobs, IsEntryFile, IsEntryFileOf}
+use Rattle.rje_files.specs.declared.entry.Entry.{Entry}
+use Rattle.rje_files.specs.declared.entry.State.TheVariants.{Waiting}
+use Rattle.rje_files.specs.declared.job_file.version.FileVersion.TheVariants.{Second}
+use Rattle.rje_files.specs.FileFault.{IsTold as IsToldOfFile}
+use Rattle.rje_files.specs.JobFile.{HasEntries, HasJobs, IsEntryFile, IsEntryFileOf}
 use Rattle.rje_station.specs.StationFault.{IsFirstUnfit}
 use Rattle.line_world.specs.declared.spoken.Spoken.{Spoken}
 use Rattle.line_world.specs.declared.turn.Turn.{Turn}

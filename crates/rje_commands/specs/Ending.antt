@@ -2,12 +2,12 @@
 use Rattle.std.specs.Prelude.{◌≡◌, ◌≤◌, ◌++◌, ℕ, List, length, map, Option, Some}
 use Rattle.std.specs.Io.KnownBytes.{Appends}
 use Rattle.bsc_link.specs.declared.outcome.Outcome.{Outcome}
-use Rattle.rje_jobs.specs.declared.entry.Entry.{Entry}
 use Rattle.rje_jobs.specs.declared.job.Job.{Job}
-use Rattle.rje_jobs.specs.declared.job_file.version.FileVersion.TheVariants.{Second}
-use Rattle.rje_jobs.specs.Entry.{entry_of, jobs_in}
-use Rattle.rje_jobs.specs.JobFile.{HasEntries, IsEntryFileOf}
-use Rattle.rje_jobs.specs.Unsent.{IsSentFile, unsent}
+use Rattle.rje_files.specs.declared.entry.Entry.{Entry}
+use Rattle.rje_files.specs.declared.job_file.version.FileVersion.TheVariants.{Second}
+use Rattle.rje_files.specs.Entry.{entry_of, jobs_in}
+use Rattle.rje_files.specs.JobFile.{HasEntries, IsEntryFileOf}
+use Rattle.rje_files.specs.Unsent.{IsSentFile, unsent}
 use Rattle.rje_station.specs.Receiving.{Receiving, first_receiving}
 use Rattle.rje_station.specs.Sending.{Sending, first_sending, outcome_of}
 use Rattle.line_world.specs.AnyLines.{SendsToEnd}

@@ -1,8 +1,8 @@
 -- Of what the private functions of the commands tell; no promise rests on it.
 use Rattle.std.specs.Prelude.{◌≡◌, ℕ, List, Option, ⊤}
 use Rattle.rje_jobs.specs.Deck.{IsTold as IsToldOfDeck}
-use Rattle.rje_jobs.specs.FileFault.{IsTold as IsToldOfFile}
-use Rattle.rje_jobs.specs.JobFile.{IsEntryFile}
+use Rattle.rje_files.specs.FileFault.{IsTold as IsToldOfFile}
+use Rattle.rje_files.specs.JobFile.{IsEntryFile}
 use Rattle.line_world.specs.declared.world_fault.WorldFault.TheVariants as world
 use Rattle.rje_print.specs.Script.{IsFirstBadLine}
 use Rattle.rje_commands.specs.declared.command_fault.CommandFault.{CommandFault}

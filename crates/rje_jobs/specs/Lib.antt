@@ -1,13 +1,8 @@
 pub mod Deck
-pub mod Entry
-pub mod JobFile
-pub mod FileFault
 pub mod Ascii
 pub mod Listing
 pub mod Punch
 pub mod Fitting
-pub mod Unsent
 pub mod Blocks
 pub mod Joined
 pub mod Laws
-pub mod Reading

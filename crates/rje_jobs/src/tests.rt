@@ -1,7 +1,6 @@
-//! What no clause says: worked decks, files, listings and cards.
+//! What no clause says: worked decks, listings and cards.
 mod decks;
-mod entries;
-mod files;
+mod listings;
 mod refusals;
 
 use arrayvec::ArrayVec;

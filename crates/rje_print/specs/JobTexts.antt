@@ -4,12 +4,12 @@ use Rattle.std.specs.List.{before_first, flat_map, AllByRecursion}
 use Rattle.rje_text.specs.declared.mode.Mode.{Mode}
 use Rattle.rje_text.specs.declared.select.Select.{Select}
 use Rattle.rje_jobs.specs.declared.job.Job.{Job}
-use Rattle.rje_jobs.specs.declared.entry.Entry.{Entry}
-use Rattle.rje_jobs.specs.declared.entry.State.{State}
 use Rattle.rje_jobs.specs.declared.punch.Form.TheVariants.{Ascii}
 use Rattle.rje_jobs.specs.Fitting.{JobFits}
 use Rattle.rje_jobs.specs.Listing.{listing}
 use Rattle.rje_jobs.specs.Punch.{punched}
+use Rattle.rje_files.specs.declared.entry.Entry.{Entry}
+use Rattle.rje_files.specs.declared.entry.State.{State}
 
 -- how a selection is printed
 abbrev pub select_name : Select → List ℕ

@@ -4,7 +4,7 @@ ghost use Rattle.rje_print.specs.JobTexts.{select_name, mode_name, state_name};
 ghost use Rattle.rje_print.specs.JobTexts.{name_letters, name_text, entry_line, cards_line, good_line};
 
 use crate::printed_line::{MAX_LINE, PrintedLine, push, push_number};
-use rje_jobs::{Entry, JobName, State};
+use rje_files::{Entry, JobName, State};
 use rje_text::{Mode, Select};
 
 /// Puts the line of an entry into an empty line.

@@ -4,7 +4,8 @@ ghost use Rattle.rje_print.specs.JobTexts.{IsShown, IsPaper, paper};
 
 use crate::job_lines::push_entry;
 use crate::printed_line::PrintedLine;
-use rje_jobs::{Entry, FileFault, Form, Job, list_job, punch_job};
+use rje_files::Entry;
+use rje_jobs::{FileFault, Form, Job, list_job, punch_job};
 use rje_text::Select;
 use std::alloc::{AllocError, Global};
 

@@ -4,7 +4,7 @@ use Rattle.std.specs.Option.{IsSomeAnd, option_map_or}
 use Rattle.std.specs.Str.{bytes_eq}
 use Rattle.std.specs.Str.Parse.{IsNumeral, digits_value, without_leading_plus}
 use Rattle.clap.specs.Words.{HasKind, Row, Text, fault_of, first_of, one_of, subcommand_of}
-use Rattle.rje_jobs.specs.Entry.{IsNameOf, blank_name}
+use Rattle.rje_files.specs.Entry.{IsNameOf, blank_name}
 use Rattle.rje_words.specs.declared.device.Device.{Device}
 use Rattle.rje_words.specs.declared.order.CardsOrder.{CardsOrder}
 use Rattle.rje_words.specs.declared.order.LoopOrder.{LoopOrder}

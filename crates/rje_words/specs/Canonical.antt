@@ -3,7 +3,7 @@ use Rattle.std.specs.Prelude.{◌≡◌, ◌⊎◌, true, false, List, [], ◌�
 use Rattle.std.specs.List.{flat_map}
 use Rattle.clap.specs.Words.{Text}
 use Rattle.clap.specs.declared.error.kind.ErrorKind.TheVariants.{ArgumentConflict}
-use Rattle.rje_jobs.specs.Entry.{IsNameOf}
+use Rattle.rje_files.specs.Entry.{IsNameOf}
 use Rattle.rje_words.specs.declared.device.Device.{Device}
 use Rattle.rje_words.specs.declared.order.Order.{Order}
 use Rattle.rje_words.specs.declared.words_fault.WordsFault.{WordsFault}

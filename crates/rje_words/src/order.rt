@@ -1,6 +1,6 @@
 //! What the words of the command line ask for.
 use crate::device::Device;
-use rje_jobs::JobName;
+use rje_files::JobName;
 use std::net::SocketAddr;
 
 /// What the words ask for.

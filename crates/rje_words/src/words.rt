@@ -15,7 +15,7 @@ use crate::order::{CardsOrder, FileOrder, LoopOrder, Order, PeerOrder, SocketOrd
 use crate::words_fault::WordsFault;
 use app::program;
 use clap::ArgMatches;
-use rje_jobs::{JobName, NO_NAME, name_of};
+use rje_files::{JobName, NO_NAME, name_of};
 use std::alloc::Global;
 
 /// The deck that is standard input.

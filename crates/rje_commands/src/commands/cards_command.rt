@@ -1,8 +1,8 @@
 //! `cards`: a job file of a deck's job.
 ghost use Rattle.std.specs.Prelude.{◌≡◌, ◌≢◌, [], ◌∷◌, None, length, IfErr, IfOk, OnOk};
 ghost use Rattle.rje_jobs.specs.Deck.{deck_fault};
-ghost use Rattle.rje_jobs.specs.JobFile.{IsEntryFileOf};
-ghost use Rattle.rje_jobs.specs.declared.job_file.version.FileVersion.TheVariants.{Second};
+ghost use Rattle.rje_files.specs.JobFile.{IsEntryFileOf};
+ghost use Rattle.rje_files.specs.declared.job_file.version.FileVersion.TheVariants.{Second};
 ghost use Rattle.rje_words.specs.declared.order.FileOrder.{FileOrder};
 ghost use Rattle.rje_commands.specs.Commands.{Does, IsFault, Leaves, OfDeck, MakesFile};
 ghost use Rattle.rje_commands.specs.Commands.{deck_entry, deck_job};
@@ -13,7 +13,8 @@ use crate::command_fault::CommandFault;
 use crate::commands::inputs::read_deck;
 use crate::commands::output::{put, write_file};
 use crate::store::Store;
-use rje_jobs::{Entry, JobName, State, job_of_deck, write_entries};
+use rje_files::{Entry, JobName, State, write_entries};
+use rje_jobs::job_of_deck;
 use rje_print::cards_text;
 use rje_words::{CardsOrder, Device};
 use std::alloc::Global;

@@ -1,6 +1,6 @@
 //! What a command reads: a deck, or a job file.
 ghost use Rattle.std.specs.Prelude.{◌≡◌, IfOk, IfErr};
-ghost use Rattle.rje_jobs.specs.JobFile.{HasEntries, HasJobs};
+ghost use Rattle.rje_files.specs.JobFile.{HasEntries, HasJobs};
 ghost use Rattle.rje_commands.specs.Commands.{OfDeck, OfFile};
 ghost use Rattle.rje_commands.specs.Inside.{IsReadFault, IsInputFault};
 ghost use Rattle.rje_commands.specs.Store.{Tells, IsSame};
@@ -8,7 +8,8 @@ ghost use Rattle.rje_commands.specs.Store.{Tells, IsSame};
 use crate::command_fault::CommandFault;
 use crate::reading::read_all;
 use crate::store::{Store, StoreFault};
-use rje_jobs::{Entry, Jobs, jobs_of, read_entries};
+use rje_files::{Entry, jobs_of, read_entries};
+use rje_jobs::Jobs;
 use rje_words::STANDARD_INPUT;
 use std::alloc::Global;
 use std::io::Read;

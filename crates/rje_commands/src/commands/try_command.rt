@@ -10,7 +10,7 @@ use crate::commands::inputs::read_file;
 use crate::commands::output::put;
 use crate::store::Store;
 use line_world::run;
-use rje_jobs::{jobs_of, read_entries};
+use rje_files::{jobs_of, read_entries};
 use rje_print::{read_script, run_text};
 use rje_words::TryOrder;
 use std::alloc::{AllocError, Global};

@@ -1,7 +1,7 @@
 //! `send`: one transmission of what is left of a job file to a listening receiver.
 ghost use Rattle.std.specs.Prelude.{◌≡◌, ◌⊎◌, length, IfOk, OnOk};
 ghost use Rattle.std.specs.Io.KnownBytes.{Appends};
-ghost use Rattle.rje_jobs.specs.Unsent.{IsLeft};
+ghost use Rattle.rje_files.specs.Unsent.{IsLeft};
 ghost use Rattle.rje_station.specs.Sending.{outcome_of};
 ghost use Rattle.line_world.specs.AnyLines.{SendsToEnd};
 ghost use Rattle.rje_commands.specs.Commands.{OfFile};
@@ -15,7 +15,8 @@ use crate::socket_commands::Ending;
 use crate::socket_line::SocketLine;
 use crate::store::Store;
 use crate::telling::tell;
-use rje_jobs::{Jobs, first_unsendable, read_entries, sent_file, unsent_jobs};
+use rje_files::{first_unsendable, read_entries, sent_file, unsent_jobs};
+use rje_jobs::Jobs;
 use rje_print::{counted_text, outcome_text};
 use rje_station::{Line, SendingStation};
 use rje_words::PeerOrder;

@@ -1,5 +1,5 @@
-use Rattle.rje_jobs.specs.FileFault.{IsTold}
-use Rattle.rje_jobs.specs.JobFile.{IsEntryFile}
+use Rattle.rje_files.specs.FileFault.{IsTold}
+use Rattle.rje_files.specs.JobFile.{IsEntryFile}
 use Rattle.rje_commands.specs.declared.command_fault.CommandFault.TheVariants.{File}
 use Rattle.rje_commands.specs.Inside.{IsInputFault}
 use Rattle.rje_commands.proofs.Inputs.{of_file, told_as}

@@ -1,6 +1,6 @@
 use Rattle.std.proofs.Common.{ap, ◌≡◌, length, ◌∙◌, OnOk, subst}
 use Rattle.std.specs.Io.KnownBytes.{Appends}
-use Rattle.rje_jobs.specs.Unsent.{IsLeft}
+use Rattle.rje_files.specs.Unsent.{IsLeft}
 use Rattle.rje_station.specs.Sending.{first_sending, outcome_of}
 use Rattle.line_world.specs.AnyLines.{SendsToEnd}
 use Rattle.rje_commands.specs.Ending.{MarksSent, sent_text}

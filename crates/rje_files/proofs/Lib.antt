@@ -1,0 +1,12 @@
+pub mod Spelled
+pub mod ActionBytes
+pub mod Numbers
+pub mod Grammar
+pub mod Steps
+pub mod Longest
+pub mod Collected
+pub mod OneFile
+pub mod OneFault
+pub mod Sent
+pub mod Unsendable
+pub mod Names

@@ -1,0 +1,37 @@
+use Rattle.std.proofs.Common.{◌≡◌, ◌+◌, ◌-◌, ◌++◌, ◌∷◌, ℕ, suc, subst, length, arith}
+use Rattle.std.specs.Int.{bytes_high_first}
+use Rattle.rje_files.specs.declared.job_file.version.FileVersion.{FileVersion}
+use Rattle.rje_files.specs.declared.job_file.version.FileVersion.TheVariants.{First}
+use Rattle.rje_files.specs.JobFile.{head, version_byte}
+use Rattle.rje_files.specs.Reading.Grammar.{Entries}
+use Rattle.rje_files.proofs.Grammar.{only_first}
+use Rattle.rje_files.proofs.Collected.{job_bytes, FitsJob, mapped_length, mapped_fit, jobs_whole, job_spelled, job_fits, more_items, one_longer, all_longer}
+use Rattle.rje_files.proofs.job_file.collecting.collect_jobs.Goals as goal
+
+pub entry_at-requires : goal.entry_at-requires
+entry_at-requires c =
+    let e : c.front_at-version.result.1 - c.loop-i.i ≡ suc (c.front_at-version.result.1 - c.loop-i.i - 1) = omega (arith, c.loop-i-test.true) in
+    subst (λ (n : ℕ). Entries c.front_at-version.result.0 n c.loop-i.rest.now) e c.loop-i.invariant.more
+
+pub loop-i-preserved : goal.loop-i-preserved
+loop-i-preserved c =
+    let e : c.front_at-version.result.1 - c.loop-i.i - 1 ≡ c.front_at-version.result.1 - (c.loop-i.i + 1) = omega arith in
+    let first : c.front_at-version.result.0 ≡ First = only_first c.front_at-version.result.0 _ c.front_at-version.ensures.known in
+    record {
+      many = one_longer _ _ _ _ c.in_ok-push.ensures.items c.loop-i.invariant.many;
+      spelled = more_items job_bytes _ _ _ _ _ _ c.in_ok-push.ensures.items c.loop-i.invariant.spelled
+          (job_spelled c.front_at-version.result.0 _ _ c.in_ok-entry.entry first c.in_ok-entry.ensures.spelled);
+      fit = all_longer FitsJob _ _ _ c.in_ok-push.ensures.items c.loop-i.invariant.fit (job_fits c.front_at-version.result.0 c.in_ok-entry.entry first c.in_ok-entry.ensures.fit);
+      more = subst (λ (n : ℕ). Entries c.front_at-version.result.0 n c.in_ok-entry.more.now) e c.in_ok-entry.ensures.entries;
+    }
+
+pub returns : goal.returns
+returns c =
+    let e : c.front_at-version.result.1 - c.loop-i.i ≡ 0 = omega (arith, c.loop-i-test.false) in
+    let many : length c.loop-i.jobs.items ≡ c.front_at-version.result.1 = omega (arith, c.loop-i.invariant.many, c.loop-i-test.false, c.loop-i.auto.i-end) in (
+      (omega (arith, mapped_length c.loop-i.jobs.items, many), mapped_fit c.loop-i.jobs.items c.loop-i.invariant.fit),
+      jobs_whole c.args.bytes.now c.front_at-version.result.2.now c.loop-i.rest.now c.front_at-version.result.1 c.loop-i.jobs.items
+          (subst (λ (v : FileVersion). c.args.bytes.now ≡ head ++ (version_byte v ∷ (bytes_high_first 8 c.front_at-version.result.1 ++ c.front_at-version.result.2.now)))
+          (only_first c.front_at-version.result.0 _ c.front_at-version.ensures.known) c.front_at-version.ensures.spelled)
+          c.loop-i.invariant.spelled many (subst (λ (n : ℕ). Entries c.front_at-version.result.0 n c.loop-i.rest.now) e c.loop-i.invariant.more),
+    )

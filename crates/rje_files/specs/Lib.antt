@@ -1,0 +1,6 @@
+pub mod Entry
+pub mod JobFile
+pub mod FileFault
+pub mod Unsent
+pub mod Laws
+pub mod Reading

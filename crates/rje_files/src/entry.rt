@@ -1,0 +1,48 @@
+//! A job in a job file: with its name, and how far it is.
+ghost use Rattle.std.specs.Prelude.{◌≡◌, map, IfOk};
+ghost use Rattle.rje_files.specs.Entry.{entry_of};
+
+use crate::{JobName, NO_NAME};
+use rje_jobs::{Job, Jobs};
+use std::alloc::{AllocError, Global};
+
+/// How far a job is.
+#[derive(Clone, Copy, Debug, PartialEq, Eq)]
+pub enum State {
+    /// To be sent.
+    Waiting,
+    /// Counted as sent.
+    Sent,
+    /// Received to its end.
+    Whole,
+    /// Received, and cut off before its end.
+    Cut,
+}
+
+/// A job in a job file, with its name and its state. The job is whole where the state isn't Cut.
+#[derive(Debug, Drop)]
+pub struct Entry {
+    pub name: JobName,
+    pub state: State,
+    pub job: Job,
+}
+
+impl From<Job> for Entry {
+    ghost from_gives = { λ job entry. entry ≡ entry_of job };
+
+    /// The entry of a job that has no name, and no state but Whole or Cut.
+    fn from(job: Job) -> Entry {
+        Entry {
+            name: NO_NAME,
+            state: if job.whole { State::Whole } else { State::Cut },
+            job,
+        }
+    }
+}
+
+/// The entries of jobs that have no names, and no states but Whole or Cut.
+pub fn entries_of(alloc: Global, jobs: Jobs) -> Result<Vec<Entry>, AllocError>
+    ensures entries { IfOk result (λ entries. entries.items ≡ map entry_of jobs) }
+{
+    jobs.into_vec().into_iter().map(Entry::from).collect(alloc)
+}

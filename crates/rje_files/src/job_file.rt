@@ -1,0 +1,93 @@
+//! Job files. Numbers are big-endian.
+//!
+//! | Offset | Field |
+//! |---|---|
+//! | 0 | `52 4A 33 37`, RJ37 in ASCII |
+//! | 4 | the version, 2 bytes: `00 01` or `00 02` |
+//! | 6 | the number of jobs, 8 bytes |
+//! | 14 | the jobs, one after the other, and nothing behind them |
+//!
+//! A job of version 1: its selection (0 Unset, 1 Printer, 2 Punch), its mode (0 Normal, 1 Transparent), whether it is whole (0 or 1), each in a
+//! byte; the number of its records, 8 bytes; the records. A record: its action (0 for Plain, else the action's code) and the length of its data,
+//! 0 to 144, each in a byte; its data.
+//!
+//! A job of version 2: its name, 8 bytes: up to eight of A to Z and 0 to 9 in ASCII, and then 20; its state in a byte (0 Waiting, 1 Sent, 2 Whole,
+//! 3 Cut); its selection, its mode, its records as in version 1.
+ghost use Rattle.std.specs.Prelude.{◌≡◌, IfOk, IfErr};
+ghost use Rattle.rje_files.specs.JobFile.{IsFileOf, IsEntryFileOf, IsJobFile, IsEntryFile, HasEntries};
+ghost use Rattle.rje_files.specs.FileFault.{IsTold, IsRefused};
+
+mod checking;
+mod collecting;
+mod name;
+mod reader;
+mod version;
+mod writing;
+
+use crate::Entry;
+use checking::first_fault;
+use collecting::{collect_entries, collect_jobs};
+use name::first_bad;
+use rje_jobs::{FileFault, Job, Jobs};
+use std::alloc::Global;
+use version::FileVersion;
+use writing::{write_all_entries, write_all_jobs};
+
+/// What a job file begins with: its name, and the first byte of its version.
+const HEAD: [u8; 5] = *b"RJ37\x00";
+
+/// The version 1 file of these jobs. Each list of jobs has one, also of jobs that can't be sent.
+pub fn write_jobs(alloc: Global, jobs: &[Job]) -> Result<Vec<u8>, FileFault>
+    ensures file { IfOk result (λ bytes. IsFileOf jobs.now bytes.items) }
+    ensures memory { IfErr result (λ fault. fault ≡ FileFault.OutOfMemory) }
+{
+    let mut out = Vec::new(alloc);
+    write_all_jobs(jobs, &mut out)?;
+    Ok(out)
+}
+
+/// The version 2 file of these entries. Each is looked at before any memory is taken.
+pub fn write_entries(alloc: Global, entries: &[Entry]) -> Result<Vec<u8>, FileFault>
+    ensures file { IfOk result (λ bytes. IsEntryFileOf FileVersion.Second entries.now bytes.items) }
+    ensures told { IfErr result (λ fault. IsRefused entries.now fault) }
+{
+    match first_bad(entries) {
+        Some(number) => Err(FileFault::BadEntry(number)),
+        None => {
+            let mut out = Vec::new(alloc);
+            match write_all_entries(entries, &mut out) {
+                Ok(()) => Ok(out),
+                Err(_) => Err(FileFault::OutOfMemory),
+            }
+        }
+    }
+}
+
+/// The jobs whose version 1 file these bytes are. All bytes are checked before any memory is taken, and none is set aside by the counts in them.
+pub fn read_jobs(alloc: Global, bytes: &[u8]) -> Result<Jobs, FileFault>
+    ensures file { IfOk result (λ jobs. IsFileOf jobs bytes.now) }
+    ensures told { IfErr result (λ fault. IsTold IsJobFile bytes.now fault) }
+{
+    match first_fault(FileVersion::First, bytes) {
+        Some(fault) => Err(fault),
+        None => match collect_jobs(alloc, bytes) {
+            Ok(jobs) => Ok(Jobs::from(jobs)),
+            Err(_) => Err(FileFault::OutOfMemory),
+        },
+    }
+}
+
+/// The entries whose file these bytes are, of either version. All bytes are checked before any memory is taken, and none is set aside by the
+/// counts in them.
+pub fn read_entries(alloc: Global, bytes: &[u8]) -> Result<Vec<Entry>, FileFault>
+    ensures file { IfOk result (λ entries. HasEntries entries.items bytes.now) }
+    ensures told { IfErr result (λ fault. IsTold IsEntryFile bytes.now fault) }
+{
+    match first_fault(FileVersion::Second, bytes) {
+        Some(fault) => Err(fault),
+        None => match collect_entries(alloc, bytes) {
+            Ok(entries) => Ok(entries),
+            Err(_) => Err(FileFault::OutOfMemory),
+        },
+    }
+}

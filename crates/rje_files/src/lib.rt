@@ -1,0 +1,19 @@
+//! Job files, and what stands in them.
+#![tactic(auto)]
+
+mod entry;
+mod job_file;
+mod laws;
+mod name;
+#[cfg(test)]
+mod tests;
+mod unsent;
+
+pub use entry::{Entry, State, entries_of};
+pub use job_file::{read_entries, read_jobs, write_entries, write_jobs};
+pub use laws::{
+    entries_are_of_one_list, file_is_of_one_list, names_are_padded, one_entry_fault,
+    one_file_fault, read_alike,
+};
+pub use name::{JobName, NO_NAME, name_of};
+pub use unsent::{first_unsendable, jobs_of, mark_sent, sent_file, unsent_jobs};

@@ -1,0 +1,298 @@
+//! Job files of version 2, worked out.
+use super::record;
+use crate::{
+    Entry, State, entries_of, first_unsendable, jobs_of, mark_sent, name_of, read_entries,
+    read_jobs, sent_file, unsent_jobs, write_entries, write_jobs,
+};
+use rje_jobs::{FileFault, Job};
+use rje_text::{Action, Mode, Records, Select};
+use std::process::Abort;
+use std::test::Fail;
+
+/// The version 2 file of one waiting job PAY1 (default device, normal, one record `A`).
+pub(super) const FILE: [u8; 36] = [
+    0x52, 0x4A, 0x33, 0x37, 0x00, 0x02, 0x00, 0x00, 0x00, 0x00, 0x00, 0x00, 0x00, 0x01, 0x50, 0x41,
+    0x59, 0x31, 0x20, 0x20, 0x20, 0x20, 0x00, 0x00, 0x00, 0x00, 0x00, 0x00, 0x00, 0x00, 0x00, 0x00,
+    0x01, 0x00, 0x01, 0xC1,
+];
+
+/// The version 1 file of that job.
+pub(super) const OLD_FILE: [u8; 28] = [
+    0x52, 0x4A, 0x33, 0x37, 0x00, 0x01, 0x00, 0x00, 0x00, 0x00, 0x00, 0x00, 0x00, 0x01, 0x00, 0x00,
+    0x01, 0x00, 0x00, 0x00, 0x00, 0x00, 0x00, 0x00, 0x01, 0x00, 0x01, 0xC1,
+];
+
+/// The entry of one record `A`.
+fn entry(
+    rt: &(impl Abort + AllocGlobal),
+    name: [u8; 8],
+    state: State,
+    whole: bool,
+) -> Result<Entry, Fail> {
+    let mut records = Records::new(rt.alloc());
+    records.push(record(rt, Action::Plain, &[0xC1]))?;
+    Ok(Entry {
+        name,
+        state,
+        job: Job {
+            select: Select::Unset,
+            mode: Mode::Normal,
+            records,
+            whole,
+        },
+    })
+}
+
+/// Why these bytes are not read as entries, if they are not.
+fn fault_of(rt: &impl AllocGlobal, bytes: &[u8]) -> Option<FileFault> {
+    read_entries(rt.alloc(), bytes).err()
+}
+
+/// The file with this byte in place of its own.
+fn with_byte(place: usize, byte: u8) -> [u8; 36] {
+    let mut bytes = FILE;
+    if place < bytes.len() {
+        bytes[place] = byte;
+    }
+    bytes
+}
+
+#[test]
+fn an_entry_has_one_file(rt: HostRuntime) -> Result<(), Fail> {
+    let mut entries = Vec::new(rt.alloc());
+    entries.push(entry(&rt, *b"PAY1    ", State::Waiting, true)?)?;
+    let written = write_entries(rt.alloc(), entries.as_slice())?;
+    assert!(rt; written.as_slice() == FILE.as_slice());
+    let read = read_entries(rt.alloc(), &FILE)?;
+    assert!(rt; read.len() == 1);
+    assert!(rt; read[0].name == *b"PAY1    ");
+    assert!(rt; read[0].state == State::Waiting);
+    assert!(rt; read[0].job.whole);
+    let again = write_entries(rt.alloc(), read.as_slice())?;
+    assert!(rt; again.as_slice() == FILE.as_slice());
+    Ok(())
+}
+
+#[test]
+fn a_file_that_is_cut_or_goes_on_is_refused_there(rt: HostRuntime) {
+    for k in 0..36usize {
+        assert!(rt;
+            fault_of(&rt, &FILE[..k]) == Some(FileFault::Truncated(k)),
+            "cut to {k}"
+        );
+    }
+    let mut longer = [0; 37];
+    longer[..36].copy_from_slice(&FILE);
+    assert!(rt; fault_of(&rt, &longer) == Some(FileFault::Trailing(36)));
+}
+
+#[test]
+fn jobs_alone_are_cut_at_the_version(rt: HostRuntime) {
+    assert!(rt; read_jobs(rt.alloc(), &FILE).err() == Some(FileFault::Version(2)));
+    for k in 6..36usize {
+        assert!(rt;
+            read_jobs(rt.alloc(), &FILE[..k]).err() == Some(FileFault::Version(2)),
+            "cut to {k}"
+        );
+    }
+    for k in 0..6usize {
+        assert!(rt;
+            read_jobs(rt.alloc(), &FILE[..k]).err() == Some(FileFault::Truncated(k)),
+            "cut to {k}"
+        );
+    }
+}
+
+#[test]
+fn bad_fields_are_told_with_their_place(rt: HostRuntime) {
+    assert!(rt; fault_of(&rt, &with_byte(22, 0x04)) == Some(FileFault::BadField(22)));
+    assert!(rt; fault_of(&rt, &with_byte(14, 0x20)) == Some(FileFault::BadField(15)));
+    assert!(rt; fault_of(&rt, &with_byte(14, 0x70)) == Some(FileFault::BadField(14)));
+    assert!(rt; fault_of(&rt, &with_byte(19, 0x41)) == Some(FileFault::BadField(19)));
+    assert!(rt; fault_of(&rt, &with_byte(18, 0x39)).is_none());
+    assert!(rt; fault_of(&rt, &with_byte(18, 0x3A)) == Some(FileFault::BadField(18)));
+    assert!(rt; fault_of(&rt, &with_byte(18, 0x5B)) == Some(FileFault::BadField(18)));
+    assert!(rt; fault_of(&rt, &with_byte(23, 0x03)) == Some(FileFault::BadField(23)));
+    assert!(rt; fault_of(&rt, &with_byte(24, 0x02)) == Some(FileFault::BadField(24)));
+    assert!(rt; fault_of(&rt, &with_byte(5, 0x03)) == Some(FileFault::Version(3)));
+    assert!(rt; fault_of(&rt, &with_byte(5, 0x00)) == Some(FileFault::Version(0)));
+    assert!(rt; fault_of(&rt, b"RJ37\x01") == Some(FileFault::Truncated(5)));
+}
+
+#[test]
+fn states_tell_whether_a_job_is_whole(rt: HostRuntime) -> Result<(), Fail> {
+    let read = read_entries(rt.alloc(), &with_byte(22, 0x03))?;
+    assert!(rt; read[0].state == State::Cut);
+    assert!(rt; !read[0].job.whole);
+    let read = read_entries(rt.alloc(), &with_byte(22, 0x01))?;
+    assert!(rt; read[0].state == State::Sent);
+    assert!(rt; read[0].job.whole);
+    Ok(())
+}
+
+#[test]
+fn a_file_of_jobs_is_read_alike(rt: HostRuntime) -> Result<(), Fail> {
+    let read = read_entries(rt.alloc(), &OLD_FILE)?;
+    assert!(rt; read.len() == 1);
+    assert!(rt; read[0].name == [0x20; 8]);
+    assert!(rt; read[0].state == State::Whole);
+    let mut cut = OLD_FILE;
+    cut[16] = 0;
+    let read = read_entries(rt.alloc(), &cut)?;
+    assert!(rt; read[0].state == State::Cut);
+    let jobs = read_jobs(rt.alloc(), &cut)?;
+    let again = write_jobs(rt.alloc(), jobs.as_slice())?;
+    assert!(rt; again.as_slice() == cut.as_slice());
+    for k in 0..28usize {
+        assert!(rt;
+            fault_of(&rt, &OLD_FILE[..k]) == Some(FileFault::Truncated(k)),
+            "cut to {k}"
+        );
+    }
+    Ok(())
+}
+
+#[test]
+fn a_bad_entry_is_told_with_its_number(rt: HostRuntime) -> Result<(), Fail> {
+    let mut entries = Vec::new(rt.alloc());
+    entries.push(entry(&rt, *b"        ", State::Whole, true)?)?;
+    entries.push(entry(&rt, *b"ABCDEFG8", State::Cut, false)?)?;
+    assert!(rt; write_entries(rt.alloc(), entries.as_slice()).is_ok());
+    entries.push(entry(&rt, *b" A      ", State::Whole, true)?)?;
+    entries.push(entry(&rt, *b"a       ", State::Whole, true)?)?;
+    assert!(rt;
+        write_entries(rt.alloc(), entries.as_slice()).err() == Some(FileFault::BadEntry(3))
+    );
+    let mut cut = Vec::new(rt.alloc());
+    cut.push(entry(&rt, *b"PAY1    ", State::Whole, false)?)?;
+    assert!(rt; write_entries(rt.alloc(), cut.as_slice()).err() == Some(FileFault::BadEntry(1)));
+    let mut whole = Vec::new(rt.alloc());
+    whole.push(entry(&rt, *b"PAY1    ", State::Cut, true)?)?;
+    assert!(rt; write_entries(rt.alloc(), whole.as_slice()).err() == Some(FileFault::BadEntry(1)));
+    Ok(())
+}
+
+#[test]
+fn the_first_that_are_not_sent_become_sent(rt: HostRuntime) -> Result<(), Fail> {
+    let mut entries = Vec::new(rt.alloc());
+    entries.push(entry(&rt, [0x20; 8], State::Waiting, true)?)?;
+    entries.push(entry(&rt, [0x20; 8], State::Sent, true)?)?;
+    entries.push(entry(&rt, [0x20; 8], State::Whole, true)?)?;
+    entries.push(entry(&rt, [0x20; 8], State::Waiting, true)?)?;
+    mark_sent(&mut entries[..], 2);
+    assert!(rt; entries[0].state == State::Sent);
+    assert!(rt; entries[1].state == State::Sent);
+    assert!(rt; entries[2].state == State::Sent);
+    assert!(rt; entries[3].state == State::Waiting);
+    mark_sent(&mut entries[..], 9);
+    assert!(rt; entries[3].state == State::Sent);
+    Ok(())
+}
+
+/// Why the file with this byte in place of its own is not read as entries: by the table, place by place.
+fn told_at(place: usize, byte: u8) -> Option<FileFault> {
+    let low = byte == 0x00;
+    match place {
+        0..=3 => Some(FileFault::NotJobFile),
+        4 if !low => Some(FileFault::Version(0xFF02)),
+        5 => Some(FileFault::Version(u16::from(byte))),
+        6..=12 | 25..=31 if !low => Some(FileFault::Truncated(36)),
+        13 => Some(if low {
+            FileFault::Trailing(14)
+        } else {
+            FileFault::Truncated(36)
+        }),
+        14..=21 => Some(FileFault::BadField(place)),
+        22..=24 | 33 if !low => Some(FileFault::BadField(place)),
+        32 => Some(if low {
+            FileFault::Trailing(33)
+        } else {
+            FileFault::Truncated(36)
+        }),
+        34 => Some(if low {
+            FileFault::Trailing(35)
+        } else {
+            FileFault::BadField(34)
+        }),
+        _ => None,
+    }
+}
+
+#[test]
+fn each_byte_replaced_by_00_or_ff_is_told_of_entries(rt: HostRuntime) {
+    for place in 0..36usize {
+        for byte in [0x00, 0xFF] {
+            let bytes = with_byte(place, byte);
+            assert!(rt;
+                fault_of(&rt, &bytes) == told_at(place, byte),
+                "byte {place}"
+            );
+            let told = match told_at(place, byte) {
+                Some(FileFault::NotJobFile) => FileFault::NotJobFile,
+                Some(FileFault::Version(n)) => FileFault::Version(n),
+                _ => FileFault::Version(2),
+            };
+            assert!(rt;
+                read_jobs(rt.alloc(), &bytes).err() == Some(told),
+                "byte {place}"
+            );
+        }
+    }
+}
+
+#[test]
+fn a_thousand_entries_are_written_and_read(rt: HostRuntime) -> Result<(), Fail> {
+    let mut entries = Vec::new(rt.alloc());
+    for _ in 0..1_000usize {
+        entries.push(entry(&rt, *b"PAY1    ", State::Waiting, true)?)?;
+    }
+    let written = write_entries(rt.alloc(), entries.as_slice())?;
+    assert!(rt; written.len() == 14 + 22 * 1_000);
+    let read = read_entries(rt.alloc(), written.as_slice())?;
+    assert!(rt; read.len() == 1_000);
+    let again = write_entries(rt.alloc(), read.as_slice())?;
+    assert!(rt; again.as_slice() == written.as_slice());
+    let sent = sent_file(rt.alloc(), written.as_slice(), 999)?;
+    let left = read_entries(rt.alloc(), sent.as_slice())?;
+    assert!(rt; left.len() == 1_000);
+    assert!(rt; left[998].state == State::Sent);
+    assert!(rt; left[999].state == State::Waiting);
+    assert!(rt; unsent_jobs(rt.alloc(), left)?.len() == 1);
+    Ok(())
+}
+
+#[test]
+fn entries_without_jobs_have_a_file(rt: HostRuntime) -> Result<(), Fail> {
+    let none = b"RJ37\x00\x02\x00\x00\x00\x00\x00\x00\x00\x00";
+    assert!(rt; write_entries(rt.alloc(), &[])?.as_slice() == none.as_slice());
+    assert!(rt; read_entries(rt.alloc(), none)?.is_empty());
+    Ok(())
+}
+
+#[test]
+fn the_first_that_cannot_be_sent_is_found(rt: HostRuntime) -> Result<(), Fail> {
+    let mut entries = Vec::new(rt.alloc());
+    entries.push(entry(&rt, [0x20; 8], State::Sent, true)?)?;
+    entries.push(entry(&rt, [0x20; 8], State::Whole, true)?)?;
+    assert!(rt; first_unsendable(entries.as_slice()).is_none());
+    entries.push(entry(&rt, [0x20; 8], State::Cut, false)?)?;
+    assert!(rt; first_unsendable(entries.as_slice()) == Some(3));
+    let jobs = unsent_jobs(rt.alloc(), entries)?;
+    assert!(rt; jobs.len() == 2);
+    let again = entries_of(rt.alloc(), jobs)?;
+    assert!(rt; again.len() == 2);
+    assert!(rt; again[0].state == State::Whole);
+    assert!(rt; again[1].state == State::Cut);
+    assert!(rt; jobs_of(rt.alloc(), again)?.len() == 2);
+    Ok(())
+}
+
+#[test]
+fn a_text_gives_a_name(rt: HostRuntime) {
+    assert!(rt; name_of("PAY1") == Some(*b"PAY1    "));
+    assert!(rt; name_of("A") == Some(*b"A       "));
+    assert!(rt; name_of("ABCDEFG8") == Some(*b"ABCDEFG8"));
+    for text in ["", "ABCDEFGH9", "a", "A B", "A ", "@", "[", "/", ":"] {
+        assert!(rt; name_of(text).is_none(), "{text}");
+    }
+}

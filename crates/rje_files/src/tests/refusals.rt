@@ -1,0 +1,62 @@
+//! Calls that take memory, in ample memory and in memory of which a growth is refused: the script refusals/run runs these tests with
+//! each growth refused in turn.
+use super::entries::{FILE, OLD_FILE};
+use crate::{read_entries, read_jobs, sent_file, write_entries, write_jobs};
+use rje_jobs::FileFault;
+use std::process::Abort;
+
+#[test]
+fn jobs_are_read_and_written_or_find_no_memory(rt: HostRuntime) {
+    match read_jobs(rt.alloc(), &OLD_FILE) {
+        Ok(jobs) => {
+            assert!(rt; jobs.len() == 1);
+            match write_jobs(rt.alloc(), jobs.as_slice()) {
+                Ok(bytes) => assert!(rt; bytes.as_slice() == OLD_FILE.as_slice()),
+                Err(fault) => assert!(rt; fault == FileFault::OutOfMemory),
+            }
+        }
+        Err(fault) => assert!(rt; fault == FileFault::OutOfMemory),
+    }
+    let told = read_jobs(rt.alloc(), &OLD_FILE[..27]).err();
+    assert!(rt; told == Some(FileFault::Truncated(27)));
+}
+
+#[test]
+fn entries_are_read_or_find_no_memory(rt: HostRuntime) {
+    match read_entries(rt.alloc(), &FILE) {
+        Ok(entries) => assert!(rt; entries.len() == 1),
+        Err(fault) => assert!(rt; fault == FileFault::OutOfMemory),
+    }
+
+    // A fault of the bytes is told whatever memory there is.
+    let told = read_entries(rt.alloc(), &FILE[..35]).err();
+    assert!(rt; told == Some(FileFault::Truncated(35)));
+}
+
+#[test]
+fn entries_are_written_or_find_no_memory(rt: HostRuntime) {
+    let Ok(mut entries) = read_entries(rt.alloc(), &FILE) else {
+        return;
+    };
+    match write_entries(rt.alloc(), entries.as_slice()) {
+        Ok(bytes) => assert!(rt; bytes.as_slice() == FILE.as_slice()),
+        Err(fault) => assert!(rt; fault == FileFault::OutOfMemory),
+    }
+
+    // So is an entry without a name.
+    for entry in entries.iter_mut() {
+        entry.name = *b"pay1    ";
+    }
+    let told = write_entries(rt.alloc(), entries.as_slice()).err();
+    assert!(rt; told == Some(FileFault::BadEntry(1)));
+}
+
+#[test]
+fn what_was_counted_is_marked_or_finds_no_memory(rt: HostRuntime) {
+    let mut sent = FILE;
+    sent[22] = 1;
+    match sent_file(rt.alloc(), &FILE, 1) {
+        Ok(bytes) => assert!(rt; bytes.as_slice() == sent.as_slice()),
+        Err(fault) => assert!(rt; fault == FileFault::OutOfMemory),
+    }
+}

@@ -1,5 +1,0 @@
-use Rattle.rje_jobs.proofs.OneFile.{one_file}
-use Rattle.rje_jobs.proofs.laws.entries_are_of_one_list.Goals as goal
-
-pub returns : goal.returns
-returns c = record { one_list = one_file }

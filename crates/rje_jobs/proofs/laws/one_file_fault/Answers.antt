@@ -1,6 +1,0 @@
-use Rattle.rje_jobs.specs.JobFile.{IsJobFile}
-use Rattle.rje_jobs.proofs.OneFault.{one_fault}
-use Rattle.rje_jobs.proofs.laws.one_file_fault.Goals as goal
-
-pub returns : goal.returns
-returns c = record { one_fault = one_fault IsJobFile }
