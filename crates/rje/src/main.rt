@@ -17,7 +17,7 @@ fn run(rt: &HostRuntime) -> io::Result<u8> {
     let alloc = rt.alloc();
     let words: Vec<String> = env::args(rt)?.skip(1).collect(alloc)?;
     let words: Vec<&str> = words.iter().map(|word| word.as_str()).collect(alloc)?;
-    let mut store = FileStore::new(rt);
+    let mut store = FileStore::new(rt, alloc);
     if is_for_sockets(words.as_slice()) {
         return Ok(socket_command(
             rt,

@@ -1,22 +1,70 @@
 //! The system's files.
 ghost use Rattle.std.specs.Prelude.{None};
 
+mod beside;
+
 use crate::reading::read_all;
 use crate::store::{Store, StoreFault};
+use beside::{replace, resolved, try_beside};
 use std::alloc::Global;
-use std::fs;
+use std::fs::{self, OpenOptions, Permissions};
+use std::io::{self, ErrorKind};
 use std::rt::Files;
 
-/// The system's files. It tells none of them.
+/// The system's files. It tells none of them. A file on disk is replaced whole or not at all, by way of a file beside it; a device or a
+/// pipe is written where it is.
 #[derive(Drop)]
 pub struct FileStore<'a, R: Files> {
     rt: &'a R,
+    alloc: Global,
+}
+
+/// What stands under a name that can be written.
+#[derive(Drop)]
+enum Target {
+    /// Nothing.
+    New,
+    /// A file on disk, with this mode.
+    File(Permissions),
+    /// A device or a pipe.
+    Device,
 }
 
 impl<'a, R: Files> FileStore<'a, R> {
     /// The files that the runtime reaches.
-    pub fn new(rt: &'a R) -> Self {
-        FileStore { rt }
+    pub fn new(rt: &'a R, alloc: Global) -> Self {
+        FileStore { rt, alloc }
+    }
+
+    /// What stands under this path, where it can be written.
+    fn target(&self, path: &str) -> io::Result<Target> {
+        match self.rt.metadata(path) {
+            Ok(found) if found.is_dir() => Err(io::Error::from(ErrorKind::IsADirectory)),
+            Ok(found) if found.is_file() => {
+                OpenOptions::new().write(true).open(self.rt, path)?;
+                Ok(Target::File(found.permissions()))
+            }
+            Ok(_) => Ok(Target::Device),
+            Err(error) if error.kind() == ErrorKind::NotFound => Ok(Target::New),
+            Err(error) => Err(error),
+        }
+    }
+
+    fn put(&self, name: &str, bytes: &[u8]) -> io::Result<()> {
+        let path = resolved(self.rt, self.alloc, name)?;
+        match self.target(path.as_str())? {
+            Target::Device => fs::write(self.rt, path.as_str(), bytes),
+            Target::New => replace(self.rt, self.alloc, path.as_str(), None, bytes),
+            Target::File(mode) => replace(self.rt, self.alloc, path.as_str(), Some(mode), bytes),
+        }
+    }
+
+    fn try_target(&self, name: &str) -> io::Result<()> {
+        let path = resolved(self.rt, self.alloc, name)?;
+        match self.target(path.as_str())? {
+            Target::Device => Ok(()),
+            Target::New | Target::File(_) => try_beside(self.rt, self.alloc, path.as_str()),
+        }
     }
 }
 
@@ -31,9 +79,17 @@ impl<'a, R: Files> Store for FileStore<'a, R> {
     }
 
     fn write(&mut self, name: &str, bytes: &[u8]) -> Result<(), StoreFault> {
-        match fs::write(self.rt, name, bytes) {
-            Ok(()) => Ok(()),
-            Err(_) => Err(StoreFault::Failed),
-        }
+        self.put(name, bytes).map_err(|error| fault_of(&error))
+    }
+
+    fn look(&mut self, name: &str) -> Result<(), StoreFault> {
+        self.try_target(name).map_err(|error| fault_of(&error))
+    }
+}
+
+fn fault_of(error: &io::Error) -> StoreFault {
+    match error.kind() {
+        ErrorKind::OutOfMemory => StoreFault::OutOfMemory,
+        _ => StoreFault::Failed,
     }
 }

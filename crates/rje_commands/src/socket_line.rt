@@ -1,12 +1,16 @@
 //! A line over a connection.
 ghost use Rattle.std.specs.Prelude.{◌≡◌, ◌+◌, ◌-◌, ◌^◌, ◌≤◌, min, None, ⊤};
+ghost use Rattle.std.specs.Io.{ReadsAtMost};
 
 use rje_station::{Came, Line, LineFault};
 use std::io::{self, ErrorKind, Read, Write};
 use std::net::OpenStream;
 use std::time::Duration;
 
-/// A line over a stream whose reads time out. It tells no bytes.
+/// So many interruptions of one hearing are passed over.
+const MAX_INTERRUPTIONS: u32 = 1_000_000;
+
+/// A line over a stream whose reads and writes time out. It tells no bytes.
 #[derive(Drop)]
 pub struct SocketLine<S> {
     stream: S,
@@ -17,10 +21,13 @@ pub struct SocketLine<S> {
 }
 
 impl<S: OpenStream + Drop> SocketLine<S> {
-    /// A line over this connection, on which a hearing waits so many milliseconds, at least 1, for more bytes.
+    /// A line over this connection, on which a hearing waits so many milliseconds, at least 1, for more bytes, and a transmission for the
+    /// peer to take its bytes.
     pub fn new(stream: S, milliseconds: u16) -> io::Result<SocketLine<S>> {
+        let time = Some(Duration::from_millis(u64::from(milliseconds)));
         stream.set_nodelay(true)?;
-        stream.set_read_timeout(Some(Duration::from_millis(u64::from(milliseconds))))?;
+        stream.set_read_timeout(time)?;
+        stream.set_write_timeout(time)?;
         Ok(SocketLine {
             stream,
             transmissions: 0,
@@ -66,13 +73,26 @@ impl<S: Read + Write> Line for SocketLine<S> {
     }
 
     fn listen(&mut self, piece: &mut [u8]) -> Result<Came, LineFault> {
-        match self.stream.read(piece) {
+        match read_on(&mut self.stream, piece) {
             Ok(0) => Err(self.failed(LineFault::Closed)),
             Ok(count) => Ok(Came::Bytes(count)),
             Err(error) if is_time_out(error.kind()) => Ok(Came::Quiet),
             Err(_) => Err(self.failed(LineFault::Failed)),
         }
     }
+}
+
+/// Reads, and reads again where it was interrupted.
+fn read_on<S: Read>(stream: &mut S, piece: &mut [u8]) -> io::Result<usize>
+    ensures { ReadsAtMost result piece.new }
+{
+    for _ in 0..MAX_INTERRUPTIONS {
+        match stream.read(piece) {
+            Err(error) if error.kind() == ErrorKind::Interrupted => {}
+            answer => return answer,
+        }
+    }
+    Err(io::Error::from(ErrorKind::Interrupted))
 }
 
 /// Whether a read that fails so waited in vain.

@@ -33,4 +33,11 @@ pub trait Store {
         ensures sets { OnOk result (Tells (files self.old) (files self.new)
             (Sets name.now bytes.now)) }
         ensures same { OnErr result (Tells (files self.old) (files self.new) IsSame) };
+
+    /// Looks whether a file of this name can be written, and changes none. A store may fail at any time.
+    fn look(&mut self, _name: &str) -> Result<(), StoreFault>
+        ensures same { Tells (files self.old) (files self.new) IsSame }
+    {
+        Ok(())
+    }
 }

@@ -51,7 +51,27 @@ pub fn write_file<'a, S: Store>(
     }
     match store.write(name, bytes) {
         Ok(()) => Ok(()),
-        Err(StoreFault::OutOfMemory) => Err(CommandFault::OutOfMemory),
-        Err(StoreFault::Failed) => Err(CommandFault::CannotWrite(name)),
+        Err(fault) => Err(not_written(name, fault)),
+    }
+}
+
+/// Looks whether a file of this name can be written, before there is anything to write.
+pub fn look_at_file<'a, S: Store>(name: &'a str, store: &mut S) -> Result<(), CommandFault<'a>>
+    ensures fault { IfErr result (IsWriteFault name.entry.now) }
+    ensures same { Tells (S.files store.old) (S.files store.new) IsSame }
+{
+    match store.look(name) {
+        Ok(()) => Ok(()),
+        Err(fault) => Err(not_written(name, fault)),
+    }
+}
+
+/// Why the file of this name isn't written.
+fn not_written(name: &str, fault: StoreFault) -> CommandFault<'_>
+    ensures { IsWriteFault name.entry.now result }
+{
+    match fault {
+        StoreFault::OutOfMemory => CommandFault::OutOfMemory,
+        StoreFault::Failed => CommandFault::CannotWrite(name),
     }
 }

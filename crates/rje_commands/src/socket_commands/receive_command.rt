@@ -3,7 +3,7 @@ ghost use Rattle.std.specs.Prelude.{◌≡◌, ◌⊎◌, IfOk, OnOk};
 ghost use Rattle.rje_commands.specs.Ending.{MakesJobFile, Receives, EndsReceiving};
 
 use crate::command_fault::CommandFault;
-use crate::commands::{put, write_file};
+use crate::commands::{look_at_file, put, write_file};
 use crate::exchange::{Left, receive_all};
 use crate::socket_commands::Ending;
 use crate::socket_line::SocketLine;
@@ -18,8 +18,8 @@ use std::alloc::Global;
 use std::io::{self, Write};
 use std::net::{Net, OpenListener, SocketAddr, TcpListener};
 
-/// Takes one connection at this address and one transmission, writes its jobs into a job file and prints how many there are. Answers
-/// the exit status.
+/// Looks whether the job file can be written, takes one connection at this address and one transmission, writes its jobs into the file
+/// and prints how many there are. Answers the exit status.
 pub fn receive<R: Net, S: Store, O: Write, E: Write>(
     rt: &R,
     alloc: Global,
@@ -28,6 +28,9 @@ pub fn receive<R: Net, S: Store, O: Write, E: Write>(
     out: &mut O,
     err: &mut E,
 ) -> u8 {
+    if let Err(fault) = look_at_file(order.jobs, store) {
+        return tell(&fault, err);
+    }
     match accepted(rt, order.address, order.timeout) {
         Ok(mut line) => receive_over(alloc, &mut line, order.jobs, store, out, err),
         Err(_) => tell(&CommandFault::LineFailed, err),

@@ -23,6 +23,7 @@ use rje_words::PeerOrder;
 use std::alloc::Global;
 use std::io::{self, Write};
 use std::net::{Net, SocketAddr, TcpStream};
+use std::time::Duration;
 
 /// Sends the jobs of a job file that were not sent to this address, marks those that were counted, and prints how many there are and how
 /// it ended.
@@ -116,7 +117,8 @@ fn connected<R: Net>(
     address: SocketAddr,
     timeout: u16,
 ) -> io::Result<SocketLine<R::Stream>> {
-    SocketLine::new(TcpStream::connect(rt, address)?, timeout)
+    let time = Duration::from_millis(u64::from(timeout));
+    SocketLine::new(TcpStream::connect_timeout(rt, &address, time)?, timeout)
 }
 
 /// Sends what the station has over a line, marks what was counted, and prints the lines of it.

@@ -232,7 +232,7 @@ fn files_are_read_back(rt: HostRuntime) -> Result<(), Fail> {
         "/tmp/rje_files_are_read_back_{}",
         process::id(rt.process())
     )?;
-    let mut files = FileStore::new(&rt);
+    let mut files = FileStore::new(&rt, rt.alloc());
     files.write(name.as_str(), b"A\n")?;
     assert!(rt; files.read(rt.alloc(), name.as_str())?.as_slice() == b"A\n".as_slice());
     fs::remove_file(&rt, name.as_str())?;

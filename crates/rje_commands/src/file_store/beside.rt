@@ -1,0 +1,110 @@
+//! Files beside a file, by way of which it is replaced whole or not at all.
+use std::alloc::Global;
+use std::fs::{self, OpenFile, OpenOptions, Permissions};
+use std::io::{self, ErrorKind, Write};
+use std::rt::Files;
+
+/// So many names are tried for a file beside another.
+const MAX_NAMES: u32 = 1000;
+
+/// A file beside another: open and empty, under a name of its own.
+#[derive(Drop)]
+struct Beside<F: Drop> {
+    file: F,
+    path: String,
+}
+
+/// The path of the file that a symbolic link leads to, where it leads to one; else the name itself.
+pub(super) fn resolved<R: Files>(rt: &R, alloc: Global, name: &str) -> io::Result<String> {
+    if is_link_to_file(rt, name) {
+        Ok(rt.canonicalize(alloc, name)?.into_string())
+    } else {
+        Ok(String::from_str(alloc, name)?)
+    }
+}
+
+/// Whether this is a symbolic link, and not one to a device or a pipe.
+fn is_link_to_file<R: Files>(rt: &R, name: &str) -> bool {
+    match rt.symlink_metadata(name) {
+        Ok(link) if link.is_symlink() => match rt.metadata(name) {
+            Ok(found) => found.is_file(),
+            Err(_) => true,
+        },
+        _ => false,
+    }
+}
+
+/// Looks whether a file can be made beside this one, and leaves none.
+pub(super) fn try_beside<R: Files>(rt: &R, alloc: Global, path: &str) -> io::Result<()> {
+    let beside = create_beside(rt, alloc, path)?;
+    rt.remove_file(beside.path.as_str())
+}
+
+/// Puts a file of these bytes in the place of this one, with this mode, on disk: whole, or nothing changes.
+pub(super) fn replace<R: Files>(
+    rt: &R,
+    alloc: Global,
+    path: &str,
+    mode: Option<Permissions>,
+    bytes: &[u8],
+) -> io::Result<()> {
+    let Beside {
+        mut file,
+        path: beside,
+    } = create_beside(rt, alloc, path)?;
+    let done = match fill(&mut file, mode, bytes) {
+        Ok(()) => rt.rename(beside.as_str(), path),
+        Err(error) => Err(error),
+    };
+    match done {
+        Ok(()) => sync_folder(rt, path),
+        Err(error) => {
+            let _ = rt.remove_file(beside.as_str());
+            Err(error)
+        }
+    }
+}
+
+/// A new file beside this one.
+fn create_beside<R: Files>(rt: &R, alloc: Global, path: &str) -> io::Result<Beside<R::File>> {
+    for number in 0..MAX_NAMES {
+        let beside = format!(in alloc; "{path}.rje-{number}")?;
+        match OpenOptions::new()
+            .write(true)
+            .create_new(true)
+            .open(rt, beside.as_str())
+        {
+            Ok(file) => return Ok(Beside { file, path: beside }),
+            Err(error) if error.kind() == ErrorKind::AlreadyExists => {}
+            Err(error) => return Err(error),
+        }
+    }
+    Err(io::Error::from(ErrorKind::AlreadyExists))
+}
+
+/// Writes the bytes and has them on disk.
+fn fill<F: Write + OpenFile>(
+    file: &mut F,
+    mode: Option<Permissions>,
+    bytes: &[u8],
+) -> io::Result<()> {
+    if let Some(mode) = mode {
+        file.set_permissions(mode)?;
+    }
+    file.write_all(bytes)?;
+    file.sync_all()
+}
+
+/// Has the names in the folder of this file on disk.
+fn sync_folder<R: Files>(rt: &R, path: &str) -> io::Result<()> {
+    let folder = match path.rsplit_once('/') {
+        Some(("", _)) => "/",
+        Some((folder, _)) => folder,
+        None => ".",
+    };
+    match fs::open(rt, folder)?.sync_all() {
+        // Some file systems keep no names to be put on disk.
+        Err(error) if error.kind() == ErrorKind::InvalidInput => Ok(()),
+        done => done,
+    }
+}
