@@ -1,4 +1,6 @@
 //! What no clause says: worked records, and the texts that carry them.
+mod refusals;
+
 use crate::{Action, Mode, PackFault, Packer, Pushed, Record, Records, Select, TextFault, unpack};
 use arrayvec::ArrayVec;
 use bsc_codes::{Block, Closing};
@@ -259,5 +261,35 @@ fn records_are_a_list(rt: HostRuntime) -> Result<(), Fail> {
             .as_slice()
     );
     assert!(rt; Records::from(items).len() == 2);
+    Ok(())
+}
+
+#[test]
+fn faults_of_records_and_texts_are_printed(rt: HostRuntime) -> Result<(), Fail> {
+    for (fault, text) in [
+        (PackFault::BadByte(12), "no text byte at 12"),
+        (PackFault::CardLength(81), "a card of 81 bytes"),
+        (PackFault::ActionHere, "carriage control in a job of cards"),
+    ] {
+        assert!(rt; format!(in rt.alloc(); "{fault}")?.as_str() == text);
+    }
+    for (fault, text) in [
+        (TextFault::BadCount(3), "no count of blanks at 3"),
+        (
+            TextFault::RecordTooLong(144),
+            "a record passes 144 bytes at 144",
+        ),
+        (
+            TextFault::CardsNot80,
+            "transparent text that is no cards of 80 bytes",
+        ),
+        (
+            TextFault::MixedModes,
+            "another mode than the job's earlier blocks",
+        ),
+        (TextFault::OutOfMemory, "out of memory"),
+    ] {
+        assert!(rt; format!(in rt.alloc(); "{fault}")?.as_str() == text);
+    }
     Ok(())
 }
