@@ -213,3 +213,19 @@ fn a_broken_rule_is_told_with_its_attempt(rt: HostRuntime) -> Result<(), Fail> {
         WorldFault::BadCut(2, 1),
     )
 }
+
+#[test]
+fn faults_of_runs_are_printed(rt: HostRuntime) -> Result<(), Fail> {
+    for (fault, text) in [
+        (WorldFault::OutOfMemory, "out of memory"),
+        (
+            WorldFault::NotDamage(2, 13),
+            "attempt 2 turn 13 is no damage",
+        ),
+        (WorldFault::BadCut(3, 14), "attempt 3 turn 14 has a bad cut"),
+        (WorldFault::BadJob(12), "job 12 can't be sent"),
+    ] {
+        assert!(rt; format!(in rt.alloc(); "{fault}")?.as_str() == text);
+    }
+    Ok(())
+}
