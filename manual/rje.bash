@@ -1,0 +1,24 @@
+# Completions of rje for bash: source this file.
+_rje() {
+    local word=${COMP_WORDS[COMP_CWORD]} before=${COMP_WORDS[COMP_CWORD - 1]} command=${COMP_WORDS[1]}
+    local commands='blocks cards show check print try loop send receive help' words=--help
+    case $command in
+    cards) words+=' --printer --punch --transparent --name' ;;
+    loop) words+=' --timeout' ;;
+    send) words+=' --to --timeout' ;;
+    receive) words+=' --listen --timeout' ;;
+    esac
+    COMPREPLY=()
+    if [ "$COMP_CWORD" = 1 ]; then
+        mapfile -t COMPREPLY < <(compgen -W "$commands --help" -- "$word")
+    elif [ "$command" = help ]; then
+        mapfile -t COMPREPLY < <(compgen -W "$commands" -- "$word")
+    elif [[ $before = --@(name|timeout|to|listen) ]]; then
+        return
+    elif [[ $word = -* ]]; then
+        mapfile -t COMPREPLY < <(compgen -W "$words" -- "$word")
+    else
+        mapfile -t COMPREPLY < <(compgen -f -- "$word")
+    fi
+}
+complete -o filenames -F _rje rje
