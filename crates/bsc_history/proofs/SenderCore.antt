@@ -8,7 +8,7 @@ use Rattle.bsc_link.specs.declared.reply.Reply.{Reply}
 use Rattle.bsc_history.specs.declared.spoken_turn.SpokenTurn.{SpokenTurn}
 use Rattle.bsc_history.specs.History.{History, Plan, what_follows, BeginsWithJob, is_last, is_over, is_even}
 use Rattle.bsc_history.specs.Known.{has_heard_rvi, known, is_counting, has_grant, is_progress, tries_on, holds_on, tries, holds}
-use Rattle.bsc_history.specs.SayingRule.{Says, Ends, due_after_progress, due_after_delay, due_after_block, due_after_inquiry, due_without_progress, due_after, said_of, ending_of, saying}
+use Rattle.bsc_history.specs.SayingRule.{Says, Ends, due_after_progress, due_after_delay, due_after_block, due_after_inquiry, due_without_progress, due_after, said_of, outcome_due, saying}
 use Rattle.bsc_link.specs.declared.sender_place.SenderPlace.{SenderPlace}
 use Rattle.bsc_link.specs.declared.table_line.TableLine.{TableLine}
 use Rattle.bsc_link.specs.Sender.{SenderState, say_in, outcome_in, line_for, counts_block, follow, after_progress, after_wait, is_enough, place_after_progress}
@@ -35,7 +35,7 @@ pub record Matches (plan : Plan) (h : History) (b : Bool) (m n : ℕ) (s : Sende
 
 -- the outcome while the sender goes on
 outcome-going : (plan : Plan) (b g : Bool) (past : History) (said : Say) (arrived : Sound) (refused : Bool) (reply : Option Reply) (heard : Sound) (wish : Wish) (pause : Bool) → is_last (turn said arrived refused reply heard wish pause) ≡ false
-    → outcome_by plan b g (turn said arrived refused reply heard wish pause ∷ past) ≡ ending_of (due_after plan g (turn said arrived refused reply heard wish pause ∷ past))
+    → outcome_by plan b g (turn said arrived refused reply heard wish pause ∷ past) ≡ outcome_due (due_after plan g (turn said arrived refused reply heard wish pause ∷ past))
 outcome-going plan b g past Say.End arrived refused reply heard wish pause going = absurd (true≢false going)
 outcome-going plan b g past Say.Bid arrived refused reply Sound.Eot wish pause going = absurd (true≢false going)
 outcome-going plan b g past Say.Block arrived refused reply Sound.Eot wish pause going = absurd (true≢false going)
@@ -46,30 +46,30 @@ outcome-going plan b g past Say.Nothing arrived refused reply Sound.Eot wish pau
 outcome-going plan b g past _ arrived refused reply _ wish pause going = refl
 
 -- no turn without progress ends the transmission by itself
-ending-block : (heard : Sound) → ending_of (due_after_block heard) ≡ None
+ending-block : (heard : Sound) → outcome_due (due_after_block heard) ≡ None
 ending-block Sound.Nak = refl
 ending-block _ = refl
 
-ending-inquiry : (heard : Sound) → ending_of (due_after_inquiry heard) ≡ None
+ending-inquiry : (heard : Sound) → outcome_due (due_after_inquiry heard) ≡ None
 ending-inquiry Sound.Nak = refl
 ending-inquiry Sound.Ack0 = refl
 ending-inquiry Sound.Ack1 = refl
 ending-inquiry Sound.Rvi = refl
 ending-inquiry _ = refl
 
-ending-delay : (heard : Sound) (pause : Bool) → ending_of (due_after_delay heard pause) ≡ None
+ending-delay : (heard : Sound) (pause : Bool) → outcome_due (due_after_delay heard pause) ≡ None
 ending-delay Sound.Nak true = refl
 ending-delay Sound.Nak false = refl
 ending-delay _ pause = refl
 
-ending-turn : (t : SpokenTurn) (said : Say) → t.said ≡ said → ending_of (due_without_progress t) ≡ None
+ending-turn : (t : SpokenTurn) (said : Say) → t.said ≡ said → outcome_due (due_without_progress t) ≡ None
 ending-turn t Say.Ask e = rw e (ending-inquiry t.heard)
 ending-turn t Say.Delay e = rw e (ending-delay t.heard t.pause)
 ending-turn t Say.Block e = rw e (ending-block t.heard)
 ending-turn t Say.Again e = rw e (ending-block t.heard)
 ending-turn t _ e = rw e refl
 
-ending-without_progress : (granted : Bool) (t : SpokenTurn) → ending_of (if granted then due_without_progress t else Says Say.Bid) ≡ None
+ending-without_progress : (granted : Bool) (t : SpokenTurn) → outcome_due (if granted then due_without_progress t else Says Say.Bid) ≡ None
 ending-without_progress true t = ending-turn t t.said refl
 ending-without_progress false t = refl
 
@@ -81,7 +81,7 @@ say_in-progress Next.NewJob false false = refl
 say_in-progress Next.Block noted true = refl
 say_in-progress Next.Block noted false = refl
 
-outcome_in-progress : (next : Next) (noted pause : Bool) → outcome_in (place_after_progress next noted pause) ≡ ending_of (due_after_progress next noted pause)
+outcome_in-progress : (next : Next) (noted pause : Bool) → outcome_in (place_after_progress next noted pause) ≡ outcome_due (due_after_progress next noted pause)
 outcome_in-progress Next.Done noted pause = refl
 outcome_in-progress Next.NewJob true pause = refl
 outcome_in-progress Next.NewJob false true = refl
@@ -123,7 +123,7 @@ after-wait-goes_on plan past b m n t s place m' n' parity rvi w m-is n-is early 
       tried = λ going low. m-is;
       held = λ going low. n-is;
       says = w.says ∙ ap said_of (sym due);
-      ends = w.open_ended ∙ sym (outcome-going plan b g past t.said t.arrived t.refused t.reply t.heard t.wish t.pause w.going ∙ ap ending_of due ∙ ending-without_progress (has_grant (t ∷ past)) t);
+      ends = w.open_ended ∙ sym (outcome-going plan b g past t.said t.arrived t.refused t.reply t.heard t.wish t.pause w.going ∙ ap outcome_due due ∙ ending-without_progress (has_grant (t ∷ past)) t);
       early = λ none. same_known ∙ early none;
     })
 
@@ -141,7 +141,7 @@ after-wait-gives_up plan past b m n t s place m' n' parity rvi w m-is n-is early
       tried = λ going low. absurd (true-false _ g-is low);
       held = λ going low. absurd (true-false _ g-is low);
       says = ap said_of (sym due);
-      ends = sym (outcome-going plan b g past t.said t.arrived t.refused t.reply t.heard t.wish t.pause w.going ∙ ap ending_of due);
+      ends = sym (outcome-going plan b g past t.said t.arrived t.refused t.reply t.heard t.wish t.pause w.going ∙ ap outcome_due due);
       early = λ none. same_known ∙ early none;
     })
 
@@ -193,7 +193,7 @@ follow-matches plan past b b' m n t s next TableLine.NoChange p goes hopes is ne
 odd-next : (odd : Bool) (n : ℕ) → odd ≡ not (is_even n) → odd ≡ is_even (n + 1)
 odd-next odd n e = e ∙ sym (is_even-next n)
 
-outcome-before : (plan : Plan) (b g : Bool) (past : History) → is_over past ≡ false → outcome_by plan b g past ≡ ending_of (due_after plan g past)
+outcome-before : (plan : Plan) (b g : Bool) (past : History) → is_over past ≡ false → outcome_by plan b g past ≡ outcome_due (due_after plan g past)
 outcome-before plan b g [] goes = refl
 outcome-before plan b g (t ∷ past) goes = outcome-going plan b g past t.said t.arrived t.refused t.reply t.heard t.wish t.pause goes
 

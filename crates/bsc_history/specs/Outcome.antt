@@ -5,16 +5,16 @@ use Rattle.bsc_link.specs.declared.say.Say.{Say}
 use Rattle.bsc_link.specs.declared.outcome.Outcome.{Outcome}
 use Rattle.bsc_history.specs.History.{History, Plan}
 use Rattle.bsc_history.specs.Known.{gives_up_now}
-use Rattle.bsc_history.specs.SayingRule.{due_after, ending_of}
+use Rattle.bsc_history.specs.SayingRule.{due_after, outcome_due}
 
 -- Ended where EOT was heard; else by the line that gave EOT in the last turn, or gives it after that turn. `gave_up`: whether the sender
 -- gave up before the last turn; `gives_up`: whether it does after it
 abbrev pub outcome_by : Plan → Bool → Bool → History → Option Outcome
-outcome_by plan gave_up gives_up [] = ending_of (due_after plan gives_up [])
+outcome_by plan gave_up gives_up [] = outcome_due (due_after plan gives_up [])
 outcome_by plan gave_up gives_up (t ∷ past) =
     elim t.heard [
       | Sound.Eot ↦ Some Outcome.Ended
-      | _ ↦ elim t.said [ Say.End ↦ ending_of (due_after plan gave_up past) | _ ↦ ending_of (due_after plan gives_up (t ∷ past)) ]
+      | _ ↦ elim t.said [ Say.End ↦ outcome_due (due_after plan gave_up past) | _ ↦ outcome_due (due_after plan gives_up (t ∷ past)) ]
     ]
 
 -- the sender gave up before the last turn

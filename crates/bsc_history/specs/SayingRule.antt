@@ -76,9 +76,9 @@ said_of (Ends outcome) = Say.End
 said_of (Says say) = say
 
 -- how the transmission ends by it
-abbrev pub ending_of : Due → Option Outcome
-ending_of (Ends outcome) = Some outcome
-ending_of _ = None
+abbrev pub outcome_due : Due → Option Outcome
+outcome_due (Ends outcome) = Some outcome
+outcome_due _ = None
 
 -- what the sender says after a history, where it gives up and where it doesn't
 abbrev pub saying : Plan → Bool → History → Say

@@ -17,7 +17,7 @@ use Rattle.bsc_link.specs.Sender.{is_enough}
 use Rattle.rje_jobs.specs.declared.job.Job.{Job}
 use Rattle.rje_jobs.specs.Blocks.{blocks}
 use Rattle.rje_jobs.specs.Joined.{joined}
-use Rattle.rje_station.specs.Hearing.{sound_of as sound_heard}
+use Rattle.rje_station.specs.Hearing.{sound_heard}
 use Rattle.rje_station.specs.JoinedJobs.{begun_in}
 use Rattle.rje_station.specs.Laws.{CountsBlocks, TraceGoesOn}
 use Rattle.rje_station.specs.Receiving.{Receiving, MayRefuse, after_receiving, after_abandon}

@@ -15,7 +15,7 @@ use Rattle.rje_jobs.specs.declared.job.Job.{Job}
 use Rattle.rje_jobs.specs.Blocks.{blocks}
 use Rattle.rje_jobs.specs.Fitting.{JobFits}
 use Rattle.rje_jobs.specs.Joined.{joined}
-use Rattle.rje_station.specs.Hearing.{sound_of as sound_heard}
+use Rattle.rje_station.specs.Hearing.{sound_heard}
 use Rattle.rje_station.specs.Receiving.{Receiving, first_receiving, after_receiving, after_replying}
 use Rattle.rje_station.specs.Sending.{Sending, first_sending, ended_by}
 use Rattle.bsc_history.specs.declared.spoken_turn.SpokenTurn.{SpokenTurn}

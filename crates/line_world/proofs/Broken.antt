@@ -9,7 +9,7 @@ use Rattle.bsc_frame.specs.Written.{Written}
 use Rattle.bsc_link.specs.declared.reply.Reply.{Reply}
 use Rattle.bsc_link.specs.declared.say.Say.{Say}
 use Rattle.bsc_link.specs.declared.sound.Sound.{Sound}
-use Rattle.rje_station.specs.Hearing.{sound_of as sound_heard}
+use Rattle.rje_station.specs.Hearing.{sound_heard}
 use Rattle.rje_station.specs.Sending.{IsWrittenOf}
 use Rattle.line_world.specs.declared.fate.Fate.{Fate}
 use Rattle.bsc_history.specs.declared.sound_fate.SoundFate.{SoundFate}

@@ -7,7 +7,7 @@ use Rattle.bsc_link.specs.declared.sound.Sound.{Sound}
 use Rattle.bsc_link.specs.declared.wish.Wish.{Wish}
 use Rattle.bsc_link.specs.declared.receiver_place.ReceiverPlace.{ReceiverPlace}
 use Rattle.bsc_link.specs.Receiver.{ReceiverState, line_when_idle, line_in_transmission, receiver_news}
-use Rattle.rje_station.specs.Hearing.{sound_of}
+use Rattle.rje_station.specs.Hearing.{sound_heard}
 use Rattle.rje_station.specs.Line.{Ages, MayNotHear}
 use Rattle.rje_station.specs.Receiving.{Receiving, sound_taken, after_receiving}
 use Rattle.rje_station.specs.Sending.{is_end}
@@ -83,7 +83,7 @@ ended_owes s sound wish = ended_at s s.place sound wish refl
 
 -- ---- Stations that send and receive.
 
-other_at : (s : Contending) (what : Heard) (refused : Bool) (wish : Wish) (b : Bool) → lets_in s.contender (sound_of what) ≡ b → (after_other s what refused wish).receiver ≡ (if b then after_receiving s.receiver what refused wish else after_passing s.receiver)
+other_at : (s : Contending) (what : Heard) (refused : Bool) (wish : Wish) (b : Bool) → lets_in s.contender (sound_heard what) ≡ b → (after_other s what refused wish).receiver ≡ (if b then after_receiving s.receiver what refused wish else after_passing s.receiver)
 other_at s what refused wish true e = rw (e, after_other) refl
 other_at s what refused wish false e = rw (e, after_other) refl
 
@@ -93,9 +93,9 @@ owes_by false s what refused wish r e = rw e (λ o. refl)
 
 -- one that heard the other's end owes no reply
 pub other_owes : (s : Contending) (what : Heard) (refused : Bool) (wish : Wish) → (after_other s what refused wish).receiver.over ≡ true → (after_other s what refused wish).receiver.due ≡ None
-other_owes s what refused wish = owes_by (lets_in s.contender (sound_of what)) s what refused wish (after_other s what refused wish).receiver (other_at s what refused wish _ refl)
+other_owes s what refused wish = owes_by (lets_in s.contender (sound_heard what)) s what refused wish (after_other s what refused wish).receiver (other_at s what refused wish _ refl)
 
-live_by : (s : Contending) (what : Heard) (refused : Bool) (wish : Wish) (b : Bool) → lets_in s.contender (sound_of what) ≡ b → (after_other s what refused wish).failed ≡ s.failed
+live_by : (s : Contending) (what : Heard) (refused : Bool) (wish : Wish) (b : Bool) → lets_in s.contender (sound_heard what) ≡ b → (after_other s what refused wish).failed ≡ s.failed
 live_by s what refused wish true e = rw (e, after_other) refl
 live_by s what refused wish false e = rw (e, after_other) refl
 

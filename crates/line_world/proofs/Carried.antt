@@ -10,7 +10,7 @@ use Rattle.bsc_link.specs.declared.reply.Reply.{Reply}
 use Rattle.bsc_link.specs.declared.sound.Sound.{Sound}
 use Rattle.bsc_link.specs.declared.wish.Wish.{Wish}
 use Rattle.rje_station.specs.declared.arrival.Arrival.{Arrival}
-use Rattle.rje_station.specs.Hearing.{Hearing, HearsSound, sound_of}
+use Rattle.rje_station.specs.Hearing.{Hearing, HearsSound, sound_heard}
 use Rattle.rje_station.specs.JoinedJobs.{begun_in}
 use Rattle.rje_station.specs.Line.{Talk, Passes}
 use Rattle.rje_station.specs.Receiving.{Receiving, Received, MayRefuse, Replied, after_receiving, after_replying, frame_of}
@@ -53,10 +53,10 @@ same_refusal a b e = cc
 module _ (r r' : Receiving) (wish : Wish) (reply : Option Reply) (l m : LineInMemory) (arrival : Arrival)
     (g : Received r r' wish reply (λ what. Passes (Some (talk_of l)) (Some (talk_of m)) (λ t u. Hearing t u what)))
     (seen : r'.arrival ≡ Some arrival) where
-  told : ◌≡◌ {A = Option Arrival} (Some arrival) (Some (record { sound = sound_of g.what; refused = g.refused }))
+  told : ◌≡◌ {A = Option Arrival} (Some arrival) (Some (record { sound = sound_heard g.what; refused = g.refused }))
   told = sym seen ∙ ap (λ s. s.arrival) g.state
 
-  pub arrived_is : arrival.sound ≡ sound_of g.what
+  pub arrived_is : arrival.sound ≡ sound_heard g.what
   arrived_is = same_sound arrival _ told
 
   pub refused_is : arrival.refused ≡ g.refused
@@ -68,7 +68,7 @@ pub goes_up : (turn : Turn) (said : Sound) (sent : List ℕ) (r r' : Receiving) 
     → r'.arrival ≡ Some arrival → MayDamage turn.up said arrival.sound
     → GoesUp turn said sent r r' arrival.sound arrival.refused reply
 goes_up turn said sent r r' reply l m arrival fits comes g seen may =
-    let a : arrival.sound ≡ sound_of g.what = arrived_is r r' turn.wish reply l m arrival g seen in
+    let a : arrival.sound ≡ sound_heard g.what = arrived_is r r' turn.wish reply l m arrival g seen in
     let f : arrival.refused ≡ g.refused = refused_is r r' turn.wish reply l m arrival g seen in
     record {
       what = g.what;
@@ -110,12 +110,12 @@ reply_carried fate due reply sent l m sound is written fits comes h may =
 
 -- ---- Damage that is none.
 
-pub no_damage : (fate : Fate) (said : Sound) (sent : List ℕ) (sound : Sound) (what : Heard) → IsDamaged fate → is_damage_of said sound ≡ false → IsHeard (bytes_after fate sent) what → sound ≡ sound_of what → IsNoDamage fate said sent
+pub no_damage : (fate : Fate) (said : Sound) (sent : List ℕ) (sound : Sound) (what : Heard) → IsDamaged fate → is_damage_of said sound ≡ false → IsHeard (bytes_after fate sent) what → sound ≡ sound_heard what → IsNoDamage fate said sent
 no_damage (Fate.Arrives cuts) said sent sound what d wrong h is = absurd d
 no_damage Fate.Lost said sent sound what d wrong h is = absurd d
 no_damage (Fate.Damaged bytes) said sent sound what d wrong h is = inr (sound, record { what = what; heard = h; sound_is = is }, wrong)
 
-pub damage_fault : (fate : Fate) (said : Sound) (sent : List ℕ) (sound : Sound) (what : Heard) (fault : TurnFault) → fault ≡ Fault.NotDamage → IsDamaged fate × (is_damage_of said sound ≡ false) → IsHeard (bytes_after fate sent) what → sound ≡ sound_of what
+pub damage_fault : (fate : Fate) (said : Sound) (sent : List ℕ) (sound : Sound) (what : Heard) (fault : TurnFault) → fault ≡ Fault.NotDamage → IsDamaged fate × (is_damage_of said sound ≡ false) → IsHeard (bytes_after fate sent) what → sound ≡ sound_heard what
     → IsFateFault fate said sent fault
 damage_fault fate said sent sound what fault e wrong h is = rw e (no_damage fate said sent sound what wrong.0 wrong.1 h is)
 

@@ -9,7 +9,7 @@ use Rattle.bsc_link.specs.Receiver.{receiver_news}
 use Rattle.bsc_link.specs.Sender.{say_in, counts_block, line_for}
 use Rattle.rje_station.specs.declared.event.Event.{Event}
 use Rattle.rje_station.specs.declared.event.Event.TheVariants as event
-use Rattle.rje_station.specs.Hearing.{sound_of as sound_heard}
+use Rattle.rje_station.specs.Hearing.{sound_heard}
 use Rattle.rje_station.specs.Laws.{TraceGoesOn}
 use Rattle.rje_station.specs.Receiving.{Receiving, sound_taken, received_events, after_receiving, trace_after_reply}
 use Rattle.rje_station.specs.Sending.{Sending, counted_events, after_speaking, after_hearing}

@@ -13,7 +13,7 @@ use Rattle.bsc_link.specs.Contender.{ContenderState, after_bid}
 use Rattle.bsc_link.specs.Sender.{say_in, sender_sent_end}
 use Rattle.rje_jobs.specs.declared.job.Job.{Job}
 use Rattle.rje_station.specs.declared.arrival.Arrival.{Arrival}
-use Rattle.rje_station.specs.Hearing.{Hearing, HearsSound, sound_of}
+use Rattle.rje_station.specs.Hearing.{Hearing, HearsSound, sound_heard}
 use Rattle.rje_station.specs.JoinedJobs.{begun_in}
 use Rattle.rje_station.specs.Line.{Talk, Passes}
 use Rattle.rje_station.specs.Receiving.{MayRefuse}
@@ -25,7 +25,7 @@ use Rattle.line_world.specs.declared.turn_fault.TurnFault.TheVariants as Fault
 use Rattle.bsc_history.specs.Conversation.{is_block}
 use Rattle.line_world.specs.Damage.{AreHeardAs, Fits}
 use Rattle.line_world.specs.Driving.{bytes_after, MayDamage, IsReplyFault}
-use Rattle.bsc_history.specs.Fate.{sound_of as up_sound}
+use Rattle.bsc_history.specs.Fate.{sound_of}
 use Rattle.line_world.specs.MemoryLine.{LineInMemory, talk_of}
 use Rattle.line_world.proofs.Carried.{line_hears, same_sound, same_refusal}
 use Rattle.bsc_history.proofs.ForRuns.{and-false}
@@ -41,23 +41,23 @@ passed_enq c Sound.Enq e = refl
 passed_enq c _ e = absurd (true≢false e)
 
 -- and it isn't refused
-pub passed_unrefused : (what : Heard) (begun : Option Job) (refused : Bool) → sound_of what ≡ Sound.Enq → MayRefuse what begun refused → refused ≡ false
-passed_unrefused what begun refused is may = refused_block what begun refused may ∙ and-false refused (is_block (sound_of what)) (rw is refl)
+pub passed_unrefused : (what : Heard) (begun : Option Job) (refused : Bool) → sound_heard what ≡ Sound.Enq → MayRefuse what begun refused → refused ≡ false
+passed_unrefused what begun refused is may = refused_block what begun refused may ∙ and-false refused (is_block (sound_heard what)) (rw is refl)
 
 module _ (s s' : Contending) (wish : Wish) (reply : Option Reply) (l m : LineInMemory) (arrival : Arrival)
     (g : HeardOther s s' wish reply (λ what. Passes (Some (talk_of l)) (Some (talk_of m)) (λ t u. Hearing t u what)))
     (seen : s'.receiver.arrival ≡ Some arrival) where
   -- an ENQ that is passed over is told too
-  brought : s'.receiver.arrival ≡ Some (record { sound = sound_of g.what; refused = g.refused })
-  brought = elim (cases_Bool (lets_in s.contender (sound_of g.what))) [
+  brought : s'.receiver.arrival ≡ Some (record { sound = sound_heard g.what; refused = g.refused })
+  brought = elim (cases_Bool (lets_in s.contender (sound_heard g.what))) [
     | inl let_in ↦ ap (λ x. x.receiver.arrival) g.state ∙ rw let_in refl
     | inr out ↦
-        let is : sound_of g.what ≡ Sound.Enq = passed_enq s.contender (sound_of g.what) out in
+        let is : sound_heard g.what ≡ Sound.Enq = passed_enq s.contender (sound_heard g.what) out in
         let none : g.refused ≡ false = passed_unrefused g.what (begun_in s.receiver.jobs) g.refused is g.may in
         ap (λ x. x.receiver.arrival) g.state ∙ rw (out, is, none) refl
   ]
 
-  pub arrived_across : arrival.sound ≡ sound_of g.what
+  pub arrived_across : arrival.sound ≡ sound_heard g.what
   arrived_across = same_sound arrival _ (sym seen ∙ brought)
 
   pub refused_across : arrival.refused ≡ g.refused
@@ -69,7 +69,7 @@ pub goes_across : (turn : Turn) (said : Sound) (sent : List ℕ) (s s' : Contend
     → s'.receiver.arrival ≡ Some arrival → MayDamage turn.up said arrival.sound
     → GoesAcross turn said sent s s' arrival.sound arrival.refused reply
 goes_across turn said sent s s' reply l m arrival fits comes g seen may =
-    let a : arrival.sound ≡ sound_of g.what = arrived_across s s' turn.wish reply l m arrival g seen in
+    let a : arrival.sound ≡ sound_heard g.what = arrived_across s s' turn.wish reply l m arrival g seen in
     let f : arrival.refused ≡ g.refused = refused_across s s' turn.wish reply l m arrival g seen in
     record {
       what = g.what;
@@ -152,7 +152,7 @@ nothing_came l m sound comes h = record { what = h.what; heard = line_hears l m 
 -- ---- Faults.
 
 by_reply : (turn : Turn) (s l middle : Contending) (sent : List ℕ) (arrived : Sound) (refused : Bool) (answer due : Option Reply) (fault : TurnFault) → IsWrittenOf (due_at s) s.sender.rest sent
-    → GoesAcross turn (up_sound (due_at s)) sent l middle arrived refused answer → middle.receiver.due ≡ due → IsReplyFault turn.down due fault → IsAloneFault turn s l fault
+    → GoesAcross turn (sound_of (due_at s)) sent l middle arrived refused answer → middle.receiver.due ≡ due → IsReplyFault turn.down due fault → IsAloneFault turn s l fault
 by_reply turn s l middle sent arrived refused answer due Fault.OutOfMemory written across is h = tt
 by_reply turn s l middle sent arrived refused answer None Fault.NotDamage written across is h = absurd h
 by_reply turn s l middle sent arrived refused answer None Fault.BadCut written across is h = absurd h
@@ -168,5 +168,5 @@ by_reply turn s l middle sent arrived refused answer (Some reply) Fault.BadCut w
 }
 
 pub fault_back : (turn : Turn) (s l middle : Contending) (sent : List ℕ) (arrived : Sound) (refused : Bool) (answer : Option Reply) (fault : TurnFault) → IsWrittenOf (due_at s) s.sender.rest sent
-    → GoesAcross turn (up_sound (due_at s)) sent l middle arrived refused answer → IsReplyFault turn.down middle.receiver.due fault → IsAloneFault turn s l fault
+    → GoesAcross turn (sound_of (due_at s)) sent l middle arrived refused answer → IsReplyFault turn.down middle.receiver.due fault → IsAloneFault turn s l fault
 fault_back turn s l middle sent arrived refused answer fault written across h = by_reply turn s l middle sent arrived refused answer middle.receiver.due fault written across refl h

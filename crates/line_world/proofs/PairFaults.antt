@@ -6,7 +6,7 @@ use Rattle.bsc_link.specs.Contender.{takes_enq}
 use Rattle.bsc_link.specs.Sender.{is_enough}
 use Rattle.rje_jobs.specs.declared.job.Job.{Job}
 use Rattle.rje_jobs.specs.Blocks.{blocks}
-use Rattle.rje_station.specs.Hearing.{sound_of as sound_heard}
+use Rattle.rje_station.specs.Hearing.{sound_heard}
 use Rattle.rje_station.specs.Sending.{IsWrittenOf}
 use Rattle.rje_station.specs.Station.{Contending, due_at}
 use Rattle.line_world.specs.declared.fate.Fate.{Fate}

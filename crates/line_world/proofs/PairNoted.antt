@@ -14,7 +14,7 @@ use Rattle.rje_jobs.specs.declared.job.Job.{Job}
 use Rattle.rje_jobs.specs.Blocks.{blocks}
 use Rattle.rje_station.specs.declared.event.Event.{Event}
 use Rattle.rje_station.specs.declared.event.Event.TheVariants as event
-use Rattle.rje_station.specs.Hearing.{sound_of as sound_heard}
+use Rattle.rje_station.specs.Hearing.{sound_heard}
 use Rattle.rje_station.specs.JoinedJobs.{begun_in}
 use Rattle.rje_station.specs.Laws.{TraceGoesOn}
 use Rattle.rje_station.specs.Receiving.{sound_taken, received_events, after_receiving, trace_after_reply}

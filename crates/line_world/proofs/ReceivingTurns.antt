@@ -14,7 +14,7 @@ use Rattle.bsc_link.specs.declared.receiver_place.ReceiverPlace.{ReceiverPlace}
 use Rattle.bsc_link.specs.Receiver.{ReceiverState, receiver_hears, receiver_news}
 use Rattle.rje_jobs.specs.declared.job.Job.{Job}
 use Rattle.rje_jobs.specs.Joined.{joined}
-use Rattle.rje_station.specs.Hearing.{sound_of as sound_heard}
+use Rattle.rje_station.specs.Hearing.{sound_heard}
 use Rattle.rje_station.specs.Laws.{HearsJobs, accepted_after}
 use Rattle.rje_station.specs.JoinedJobs.{begun_in}
 use Rattle.rje_station.specs.Receiving.{Receiving, MayRefuse, sound_taken}

@@ -7,7 +7,7 @@ use Rattle.bsc_link.specs.declared.sound.Sound.{Sound}
 use Rattle.bsc_link.specs.Sender.{say_in, outcome_in}
 use Rattle.rje_jobs.specs.declared.job.Job.{Job}
 use Rattle.rje_jobs.specs.Blocks.{blocks}
-use Rattle.rje_station.specs.Hearing.{sound_of as sound_heard}
+use Rattle.rje_station.specs.Hearing.{sound_heard}
 use Rattle.rje_station.specs.Receiving.{Receiving, first_receiving}
 use Rattle.rje_station.specs.Sending.{Sending, first_sending, outcome_of, IsWrittenOf}
 use Rattle.line_world.specs.declared.fate.Fate.{Fate}

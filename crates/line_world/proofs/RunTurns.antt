@@ -12,7 +12,7 @@ use Rattle.bsc_link.specs.Sender.{say_in, counts_block, line_for}
 use Rattle.bsc_link.specs.Receiver.{receiver_news}
 use Rattle.rje_jobs.specs.declared.job.Job.{Job}
 use Rattle.rje_jobs.specs.Blocks.{blocks}
-use Rattle.rje_station.specs.Hearing.{sound_of as sound_heard}
+use Rattle.rje_station.specs.Hearing.{sound_heard}
 use Rattle.rje_station.specs.declared.event.Event.TheVariants as event
 use Rattle.rje_station.specs.Laws.{TraceGoesOn}
 use Rattle.rje_station.specs.Receiving.{Receiving, received_events, trace_after_reply}

@@ -7,7 +7,7 @@ use Rattle.bsc_link.specs.declared.wish.Wish.{Wish}
 use Rattle.bsc_link.specs.Sender.{say_in}
 use Rattle.std.proofs.lemmas.Bool.{true≢false}
 use Rattle.rje_station.specs.declared.station_fault.StationFault.{StationFault}
-use Rattle.rje_station.specs.Hearing.{sound_of}
+use Rattle.rje_station.specs.Hearing.{sound_heard}
 use Rattle.rje_station.specs.JoinedJobs.{begun_in}
 use Rattle.rje_station.specs.Receiving.{Receiving, MayRefuse, after_receiving, after_replying}
 use Rattle.rje_station.specs.Sending.{Sending, after_speaking, after_hearing, is_end}
@@ -70,7 +70,7 @@ sends_fault s near s' n fault (h, took, long) fails = (h, near, took, fails)
 -- a turn of which the receiving station knows what came and what it replied
 abbrev pub arrived_turn : Say → Receiving → Heard → Bool → SpokenTurn
 arrived_turn said r what refused =
-    record { said = said; arrived = sound_of what; refused = refused; reply = (after_receiving r what refused Wish.Go).due; heard = Sound.Quiet; wish = Wish.Go; pause = false }
+    record { said = said; arrived = sound_heard what; refused = refused; reply = (after_receiving r what refused Wish.Go).due; heard = Sound.Quiet; wish = Wish.Go; pause = false }
 
 -- it replied
 pub reply_taken : (r r' : Receiving) (what : Heard) (refused : Bool) → MayRefuse what (begun_in r.jobs) refused → r' ≡ after_replying (after_receiving r what refused Wish.Go) → (t : SpokenTurn) × ReceiverTakes r r' t
@@ -81,7 +81,7 @@ pub last_taken : (r r' : Receiving) (what : Heard) (refused : Bool) → MayRefus
 last_taken r r' what refused may e = (arrived_turn Say.End r what refused, record { what = what; arrived = refl; may = may; reply = refl; state = e })
 
 -- what the station says of its last hearing is what arrived
-arrival_after : (say : Say) (r : Receiving) (what : Heard) (t : SpokenTurn) → t.said ≡ say → (after_answering r what t).arrival ≡ Some (record { sound = sound_of what; refused = t.refused })
+arrival_after : (say : Say) (r : Receiving) (what : Heard) (t : SpokenTurn) → t.said ≡ say → (after_answering r what t).arrival ≡ Some (record { sound = sound_heard what; refused = t.refused })
 arrival_after Say.End r what t e = rw e refl
 arrival_after Say.Bid r what t e = rw e refl
 arrival_after Say.Block r what t e = rw e refl

@@ -13,14 +13,14 @@ use Rattle.bsc_link.specs.Sender.{say_in}
 use Rattle.rje_jobs.specs.declared.job.Job.{Job}
 use Rattle.rje_jobs.specs.Fitting.{JobFits}
 use Rattle.rje_station.specs.declared.station_fault.StationFault.{StationFault}
-use Rattle.rje_station.specs.Hearing.{sound_of}
+use Rattle.rje_station.specs.Hearing.{sound_heard}
 use Rattle.rje_station.specs.JoinedJobs.{begun_in}
 use Rattle.rje_station.specs.Receiving.{Receiving, MayRefuse, first_receiving, after_receiving, after_replying}
 use Rattle.rje_station.specs.Receiving.{after_refusal as receiver_refused}
 use Rattle.rje_station.specs.Sending.{Sending, first_sending, after_speaking}
 use Rattle.rje_station.specs.Sending.{after_refusal as sender_refused}
 use Rattle.bsc_history.specs.declared.spoken_turn.SpokenTurn.{SpokenTurn}
-use Rattle.bsc_history.specs.Fate.{sound_of as sound_of_say, sound_of_reply, MayBeHeardAs}
+use Rattle.bsc_history.specs.Fate.{sound_of, sound_of_reply, MayBeHeardAs}
 use Rattle.bsc_history.specs.History.{History}
 use Rattle.line_world.specs.declared.spoken.Spoken.{Spoken}
 use Rattle.line_world.specs.Turns.{after_turn}
@@ -45,7 +45,7 @@ after_answering r what t = elim t.said [
 -- the receiving station's part: it heard something, and but for the last turn it replied
 pub record ReceiverTakes (r r' : Receiving) (t : SpokenTurn) : Type 0 where
   pub what : Heard
-  pub arrived : t.arrived ≡ sound_of what
+  pub arrived : t.arrived ≡ sound_heard what
   pub may : MayRefuse what (begun_in r.jobs) t.refused
   pub reply : t.reply ≡ (after_receiving r what t.refused t.wish).due
   pub state : r' ≡ after_answering r what t
@@ -121,7 +121,7 @@ BothToFault s s' r r' fault =
 -- In this turn they did: what arrived and what was heard is what was said and replied, or nothing, or damage that passes for no block and
 -- no EOT, and of a control sequence other than TTD for none; and a block that came is the one that was outstanding at the sender.
 pub record IsFaithful (s : Sending) (what : Heard) (t : SpokenTurn) : Type 0 where
-  pub up : MayBeHeardAs (sound_of_say t.said) t.arrived
+  pub up : MayBeHeardAs (sound_of t.said) t.arrived
   pub block : (b : Block) → what ≡ heard.Frame (frame.Block b) → (more : List Block) × (s.rest ≡ b ∷ more)
   pub down : MayBeHeardAs (sound_of_reply t.reply) t.heard
 

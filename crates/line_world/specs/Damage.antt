@@ -3,7 +3,7 @@ use Rattle.std.specs.Prelude.{◌≡◌, ◌⊎◌, ℕ, ◌<◌, ◌≤◌, fal
 use Rattle.bsc_frame.specs.declared.heard.Heard.{Heard}
 use Rattle.bsc_frame.specs.Heard.{IsHeard}
 use Rattle.bsc_link.specs.declared.sound.Sound.{Sound}
-use Rattle.rje_station.specs.Hearing.{sound_of}
+use Rattle.rje_station.specs.Hearing.{sound_heard}
 use Rattle.line_world.specs.declared.fate.Fate.{Fate}
 use Rattle.bsc_history.specs.declared.sound_fate.SoundFate.{SoundFate}
 use Rattle.bsc_history.specs.Fate.{is_damage_of}
@@ -12,7 +12,7 @@ use Rattle.bsc_history.specs.Fate.{is_damage_of}
 pub record AreHeardAs (bytes : List ℕ) (sound : Sound) : Type 0 where
   pub what : Heard
   pub heard : IsHeard bytes what
-  pub sound_is : sound ≡ sound_of what
+  pub sound_is : sound ≡ sound_heard what
 
 -- what a fate of bytes tells of sounds: damaged bytes tell what is heard of them
 abbrev pub Tells : Fate → SoundFate → Type 0

@@ -8,7 +8,7 @@ use Rattle.bsc_link.specs.declared.say.Say.{Say}
 use Rattle.bsc_link.specs.declared.sound.Sound.{Sound}
 use Rattle.bsc_link.specs.Sender.{say_in}
 use Rattle.rje_station.specs.declared.station_fault.StationFault.{StationFault}
-use Rattle.rje_station.specs.Hearing.{sound_of as sound_heard}
+use Rattle.rje_station.specs.Hearing.{sound_heard}
 use Rattle.rje_station.specs.JoinedJobs.{begun_in}
 use Rattle.rje_station.specs.Receiving.{Receiving, MayRefuse, after_receiving, after_replying, frame_of}
 use Rattle.rje_station.specs.Sending.{Sending, IsWrittenOf, after_speaking, after_hearing}

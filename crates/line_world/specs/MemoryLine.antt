@@ -67,9 +67,9 @@ given_to room [] = []
 given_to room (p ∷ ps) = take room p
 
 -- and the pieces that are left then
-abbrev pub left_by : ℕ → List (List ℕ) → List (List ℕ)
-left_by room [] = []
-left_by room (p ∷ ps) = drop room p ∷ ps
+abbrev pub pieces_left : ℕ → List (List ℕ) → List (List ℕ)
+pieces_left room [] = []
+pieces_left room (p ∷ ps) = drop room p ∷ ps
 
 -- the answer to a call that got these bytes: it is quiet where there are none
 abbrev pub came_with : List ℕ → Came
@@ -82,7 +82,7 @@ laid bytes slice = bytes ++ drop (length bytes) slice
 
 -- after listening with a slice of so many bytes
 abbrev pub after_listening : ℕ → LineInMemory → LineInMemory
-after_listening room l = record (after_call false l) { waiting = left_by room (ready l.waiting) }
+after_listening room l = record (after_call false l) { waiting = pieces_left room (ready l.waiting) }
 
 -- ---- What its fields mean.
 

@@ -8,7 +8,7 @@ use Rattle.bsc_link.specs.declared.say.Say.TheVariants as Say
 use Rattle.rje_jobs.specs.declared.job.Job.{Job}
 use Rattle.rje_jobs.specs.Blocks.{blocks}
 use Rattle.rje_jobs.specs.Joined.{joined}
-use Rattle.rje_station.specs.Hearing.{sound_of}
+use Rattle.rje_station.specs.Hearing.{sound_heard}
 use Rattle.rje_station.specs.JoinedJobs.{begun_in}
 use Rattle.rje_station.specs.Laws.{HasCounted}
 use Rattle.rje_station.specs.Receiving.{Receiving, MayRefuse, after_receiving}
@@ -47,6 +47,6 @@ pub record StandsReceiving (blocks : List Block) (h : History) (r : Receiving) :
 abbrev pub ReceivingTurns : Type 0
 ReceivingTurns =
     (blocks : List Block) (h : History) (r : Receiving) (t : SpokenTurn) (what : Heard) → StandsReceiving blocks h r → MayBeSpoken (plan_of blocks) (t ∷ h)
-    → t.arrived ≡ sound_of what → MayRefuse what (begun_in r.jobs) t.refused
+    → t.arrived ≡ sound_heard what → MayRefuse what (begun_in r.jobs) t.refused
     → ((b : Block) → what ≡ heard.Frame (frame.Block b) → slice_get blocks (known h) ≡ Some b)
     → StandsReceiving blocks (t ∷ h) (after_receiving r what t.refused t.wish)

@@ -1,7 +1,7 @@
 //! A line in memory.
 ghost use Rattle.std.specs.Prelude.{◌≡◌, ◌≢◌, ◌⊎◌, ◌<◌, ◌≤◌, ◌+◌, ℕ, Some, ◌↔◌, ◌==◌, ◌||◌, length, map, min, take, drop, IfOk, OnOk, IfErr, OnErr, IsErr, IsTrue, true, false};
 ghost use Rattle.rje_station.specs.Line.{Rose, Sends, Hears, IsWithin, one_more};
-ghost use Rattle.line_world.specs.MemoryLine.{empty_line, pieces_in, ready, given_to, left_by, came_with, laid, talk_of, may_fail_on, last_fault_of, after_put, after_fail_at, after_call, after_failing, after_transmitting, after_listening};
+ghost use Rattle.line_world.specs.MemoryLine.{empty_line, pieces_in, ready, given_to, pieces_left, came_with, laid, talk_of, may_fail_on, last_fault_of, after_put, after_fail_at, after_call, after_failing, after_transmitting, after_listening};
 
 use arrayvec::ArrayVec;
 use rje_station::{Came, Line, LineFault};

@@ -19,11 +19,11 @@ use Rattle.rje_commands.specs.declared.command_fault.CommandFault.{CommandFault}
 use Rattle.rje_commands.specs.declared.command_fault.CommandFault.TheVariants as told
 use Rattle.rje_commands.specs.Command.{LeavesAsAsked}
 use Rattle.rje_commands.specs.Commands.{OfFile, OfFiles, OfDeck, IsFault, IsCardFile, MakesFile, Leaves}
-use Rattle.rje_commands.specs.Inside.{IsDeckFault, IsTryFault}
-use Rattle.rje_commands.specs.Store.{FileMap, Tells, IsSame, Sets}
+use Rattle.rje_commands.specs.Inside.{IsCardsFault, IsTryFault}
+use Rattle.rje_commands.specs.Store.{FileMap, Discloses, IsSame, Sets}
 
 -- files that stayed the same twice stayed the same
-pub same_twice : (f g h : Option FileMap) → Tells f g IsSame → Tells g h IsSame → Tells f h IsSame
+pub same_twice : (f g h : Option FileMap) → Discloses f g IsSame → Discloses g h IsSame → Discloses f h IsSame
 same_twice None g h p q = tt
 same_twice (Some f) None h p q = absurd p
 same_twice (Some f) (Some g) None p q = absurd q
@@ -47,7 +47,7 @@ module _ (P : List ℕ → Type 0) (bytes : List ℕ) (holds : P bytes) where
 
 -- two files that were read one after the other
 pub of_files : (P : List ℕ → List ℕ → Type 0) (first second : List ℕ) (f g : Option FileMap) (a b : List ℕ) → P a b
-    → OfFile first f (λ file. a ≡ file) → Tells f g IsSame → OfFile second g (λ file. b ≡ file) → OfFiles first second f P
+    → OfFile first f (λ file. a ≡ file) → Discloses f g IsSame → OfFile second g (λ file. b ≡ file) → OfFiles first second f P
 of_files P first second None g a b holds one same two = tt
 of_files P first second (Some f) None a b holds one same two = absurd same
 of_files P first second (Some f) (Some g) a b holds one same two =
@@ -67,14 +67,14 @@ done_as (Err e) P Q done go = tt
 
 -- the fault of a deck's file is one of `cards`
 pub cards_fault : (order : CardsOrder) (files : Option FileMap) (input : Option (List ℕ)) (deck : List ℕ) (fault : CommandFault)
-    → OfDeck order.deck.now files input (λ read. deck ≡ read) → IsDeckFault deck fault → IsFault (FileOrder.Cards order) files input fault
+    → OfDeck order.deck.now files input (λ read. deck ≡ read) → IsCardsFault deck fault → IsFault (FileOrder.Cards order) files input fault
 cards_fault order files input deck told.OutOfMemory is h = tt
-cards_fault order files input deck (told.Deck fault) is h = of_deck (λ read. IsDeckFault read (told.Deck fault)) deck h order.deck.now files input is
+cards_fault order files input deck (told.Deck fault) is h = of_deck (λ read. IsCardsFault read (told.Deck fault)) deck h order.deck.now files input is
 cards_fault order files input deck _ is h = absurd h
 
 -- the fault of a run of two files is one of `try`
 module _ (order : TryOrder) (f g : Option FileMap) (a b : List ℕ)
-    (one : OfFile order.jobs.now f (λ file. a ≡ file)) (same : Tells f g IsSame) (two : OfFile order.script.now g (λ file. b ≡ file)) where
+    (one : OfFile order.jobs.now f (λ file. a ≡ file)) (same : Discloses f g IsSame) (two : OfFile order.script.now g (λ file. b ≡ file)) where
   both : (P : List ℕ → List ℕ → Type 0) → P a b → OfFiles order.jobs.now order.script.now f P
   both P holds = of_files P order.jobs.now order.script.now f g a b holds one same two
 
@@ -99,7 +99,7 @@ leaves words (FileOrder.Print jobs) f g input asked same = inl same
 leaves words (FileOrder.Try order) f g input asked same = inl same
 
 -- a file that was made after a read that left the files as they were
-pub set_after : (name bytes : List ℕ) (f g h : Option FileMap) → Tells f g IsSame → Tells g h (Sets name bytes) → Tells f h (Sets name bytes)
+pub set_after : (name bytes : List ℕ) (f g h : Option FileMap) → Discloses f g IsSame → Discloses g h (Sets name bytes) → Discloses f h (Sets name bytes)
 set_after name bytes None g h p q = tt
 set_after name bytes (Some f) None h p q = absurd p
 set_after name bytes (Some f) (Some g) None p q = absurd q
@@ -107,7 +107,7 @@ set_after name bytes (Some f) (Some g) (Some h) p q = λ other.
     subst (λ (had : Option (List ℕ)). h other ≡ (if bytes_eq other name then Some bytes else had)) (p other) (q other)
 
 pub made_file : (order : CardsOrder) (deck bytes : List ℕ) (f g h : Option FileMap) → IsCardFile order.device order.name deck bytes
-    → Tells f g IsSame → Tells g h (Sets order.jobs.now bytes) → MakesFile order deck f h
+    → Discloses f g IsSame → Discloses g h (Sets order.jobs.now bytes) → MakesFile order deck f h
 made_file order deck bytes f g h card same sets = (bytes, card, set_after order.jobs.now bytes f g h same sets)
 
 -- two things that were done at once

@@ -10,16 +10,16 @@ use Rattle.rje_commands.specs.declared.command_fault.CommandFault.{CommandFault}
 use Rattle.rje_commands.specs.declared.socket_commands.ending.Ending.{Ending}
 use Rattle.rje_commands.specs.Commands.{OfFile}
 use Rattle.rje_commands.specs.Ending.{MarksSent, SendsLeft, ending_of, sent_text}
-use Rattle.rje_commands.specs.Store.{FileMap, IsSame, Tells}
+use Rattle.rje_commands.specs.Store.{FileMap, IsSame, Discloses}
 use Rattle.rje_commands.proofs.Inputs.{of_file, set_after}
 
 -- what is marked after a read that left the files as they were
-marked_after : (file name : List ℕ) (counted : ℕ) (f g h : Option FileMap) → Tells f g IsSame → MarksSent file counted name g h → MarksSent file counted name f h
+marked_after : (file name : List ℕ) (counted : ℕ) (f g h : Option FileMap) → Discloses f g IsSame → MarksSent file counted name g h → MarksSent file counted name f h
 marked_after file name counted f g h same m = (m.0, m.1, m.2, set_after name m.0 f g h same m.3)
 
 pub sends_left : (r : Result Ending CommandFault) (name file : List ℕ) (jobs : List Job) (station : Sending)
     (f g h : Option FileMap) (before after : Option (List ℕ))
-    → OfFile name f (λ read. file ≡ read) → Tells f g IsSame → IsLeft file jobs → OnOk r (SendsToEnd (first_sending jobs) station) → IfOk r (λ ending. ending ≡ ending_of (outcome_of station))
+    → OfFile name f (λ read. file ≡ read) → Discloses f g IsSame → IsLeft file jobs → OnOk r (SendsToEnd (first_sending jobs) station) → IfOk r (λ ending. ending ≡ ending_of (outcome_of station))
     → OnOk r (Appends before after (sent_text station.counted (length jobs) (outcome_of station))) → OnOk r (MarksSent file station.counted name g h)
     → IfOk r (λ ending. OfFile name f (λ read. SendsLeft ending name read f h before after))
 sends_left (Err fault) name file jobs station f g h before after read same left took ended printed marked = tt

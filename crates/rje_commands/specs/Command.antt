@@ -5,15 +5,15 @@ use Rattle.rje_words.specs.declared.order.FileOrder.{FileOrder}
 use Rattle.rje_words.specs.declared.order.Order.TheVariants.{Files, Sockets}
 use Rattle.rje_words.specs.declared.order.SocketOrder.{SocketOrder}
 use Rattle.rje_words.specs.declared.words_fault.WordsFault.{WordsFault}
-use Rattle.rje_words.specs.Asking.{AsksFor, IsTold}
+use Rattle.rje_words.specs.Asking.{AsksFor, IsWordsFault}
 use Rattle.rje_commands.specs.declared.command_fault.CommandFault.{CommandFault}
 use Rattle.rje_commands.specs.CommandFault.{status_of, IsHelp}
 use Rattle.rje_commands.specs.Commands.{Does, IsFault, MakesFile, OfDeck}
-use Rattle.rje_commands.specs.Store.{FileMap, Tells, IsSame}
+use Rattle.rje_commands.specs.Store.{FileMap, Discloses, IsSame}
 
 -- the words ask for help
 abbrev pub AsksForHelp : List (List ℕ) → Type 0
-AsksForHelp words = (fault : WordsFault) × IsTold words fault × IsHelp fault
+AsksForHelp words = (fault : WordsFault) × IsWordsFault words fault × IsHelp fault
 
 -- the words ask for a command over files, and this is what it does; or they ask for help
 abbrev pub DoesAsAsked : List (List ℕ) → (files made : Option FileMap) (input before after : Option (List ℕ)) → Type 0
@@ -27,7 +27,7 @@ IsRefused words files input =
 
 -- the words ask for nothing that can be done, or for a command over sockets
 abbrev pub AsksForNoFiles : List (List ℕ) → Type 0
-AsksForNoFiles words = ((fault : WordsFault) × IsTold words fault) ⊎ ((order : SocketOrder) × AsksFor words (Sockets order))
+AsksForNoFiles words = ((fault : WordsFault) × IsWordsFault words fault) ⊎ ((order : SocketOrder) × AsksFor words (Sockets order))
 
 -- the exit statuses of a command over files
 abbrev pub IsStatus : ℕ → Type 0
@@ -36,6 +36,6 @@ IsStatus status = (status ≡ 0) ⊎ ((status ≡ 1) ⊎ ((status ≡ 2) ⊎ ((s
 -- all files are as they were, or the words ask for `cards` and just the file that it makes was made
 abbrev pub LeavesAsAsked : List (List ℕ) → (files made : Option FileMap) (input : Option (List ℕ)) → Type 0
 LeavesAsAsked words files made input =
-    Tells files made IsSame
+    Discloses files made IsSame
     ⊎ ((order : CardsOrder) × AsksFor words (Files (FileOrder.Cards order))
     × OfDeck order.deck.now files input (λ deck. MakesFile order deck files made))

@@ -4,11 +4,11 @@ use Rattle.std.specs.Io.KnownBytes.{Appends}
 use Rattle.std.specs.Option.{IsSomeAnd}
 use Rattle.bsc_link.specs.declared.outcome.Outcome.{Outcome}
 use Rattle.rje_jobs.specs.declared.job.Job.{Job}
-use Rattle.rje_jobs.specs.Deck.{deck_fault, job_of, IsTold as IsToldOfDeck}
+use Rattle.rje_jobs.specs.Deck.{deck_fault, job_of, IsDeckFault}
 use Rattle.rje_files.specs.declared.entry.Entry.{Entry}
 use Rattle.rje_files.specs.declared.entry.State.TheVariants.{Waiting}
 use Rattle.rje_files.specs.declared.job_file.version.FileVersion.TheVariants.{Second}
-use Rattle.rje_files.specs.FileFault.{IsTold as IsToldOfFile}
+use Rattle.rje_files.specs.FileFault.{IsFileFault}
 use Rattle.rje_files.specs.JobFile.{HasEntries, HasJobs, IsEntryFile, IsEntryFileOf}
 use Rattle.rje_station.specs.StationFault.{IsFirstUnfit}
 use Rattle.line_world.specs.declared.spoken.Spoken.{Spoken}
@@ -17,7 +17,7 @@ use Rattle.line_world.specs.declared.world_fault.WorldFault.TheVariants as world
 use Rattle.line_world.specs.declared.world_fault.WorldFault.{WorldFault}
 use Rattle.line_world.specs.Run.{IsRun, IsRunFault}
 use Rattle.rje_words.specs.declared.device.Device.{Device}
-use Rattle.rje_words.specs.Device.{selection, writing}
+use Rattle.rje_words.specs.Device.{select_of, writing}
 use Rattle.rje_words.specs.declared.order.CardsOrder.{CardsOrder}
 use Rattle.rje_words.specs.declared.order.FileOrder.{FileOrder}
 use Rattle.rje_print.specs.BlockListing.{IsBlockListing}
@@ -25,7 +25,7 @@ use Rattle.rje_print.specs.JobTexts.{cards_line, IsShown, IsGood, IsPaper}
 use Rattle.rje_print.specs.ReportTexts.{run_text}
 use Rattle.rje_print.specs.Script.{IsScript, IsFirstBadLine}
 use Rattle.rje_commands.specs.declared.command_fault.CommandFault.{CommandFault}
-use Rattle.rje_commands.specs.Store.{FileMap, Tells, IsSame, Sets}
+use Rattle.rje_commands.specs.Store.{FileMap, Discloses, IsSame, Sets}
 
 -- WHAT A COMMAND READS
 
@@ -57,7 +57,7 @@ PrintsJobs IsText file before after = (jobs : List Job) × (text : List ℕ) × 
 
 -- the job of this deck for this device
 abbrev pub deck_job : Device → List ℕ → Job
-deck_job device deck = job_of (selection device) (writing device) deck
+deck_job device deck = job_of (select_of device) (writing device) deck
 
 -- the entry of that job, of this name, which waits to be sent
 abbrev pub deck_entry : Device → (name deck : List ℕ) → Entry
@@ -71,7 +71,7 @@ pub record IsCardFile (device : Device) (name deck bytes : List ℕ) : Type 0 wh
 
 -- the file that the order names became that of the deck's job, and no other file changed
 abbrev pub MakesFile : CardsOrder → (deck : List ℕ) → (files made : Option FileMap) → Type 0
-MakesFile order deck files made = (bytes : List ℕ) × IsCardFile order.device order.name deck bytes × Tells files made (Sets order.jobs.now bytes)
+MakesFile order deck files made = (bytes : List ℕ) × IsCardFile order.device order.name deck bytes × Discloses files made (Sets order.jobs.now bytes)
 
 -- so it did, and just the line of how many cards there are was printed
 abbrev pub MakesCards : CardsOrder → (deck : List ℕ) → (files made : Option FileMap) → (before after : Option (List ℕ)) → Type 0
@@ -111,8 +111,8 @@ Does (FileOrder.Try order) files made input before after =
 -- all files are as they were; those of `cards` as they were, or with just the file that it makes
 abbrev pub Leaves : FileOrder → (files made : Option FileMap) (input : Option (List ℕ)) → Type 0
 Leaves (FileOrder.Cards order) files made input =
-    Tells files made IsSame ⊎ OfDeck order.deck.now files input (λ bytes. MakesFile order bytes files made)
-Leaves _ files made input = Tells files made IsSame
+    Discloses files made IsSame ⊎ OfDeck order.deck.now files input (λ bytes. MakesFile order bytes files made)
+Leaves _ files made input = Discloses files made IsSame
 
 -- WHY A COMMAND ISN'T CARRIED OUT
 
@@ -168,8 +168,8 @@ IsFault order files input CommandFault.OutOfMemory = ⊤
 IsFault order files input CommandFault.Output = ⊤
 IsFault order files input (CommandFault.CannotRead name) = Reads order name.now
 IsFault order files input (CommandFault.CannotWrite name) = Writes order name.now
-IsFault order files input (CommandFault.Deck fault) = OfItsDeck order files input (λ deck. IsToldOfDeck deck fault)
-IsFault order files input (CommandFault.File fault) = OfItsFile order files (λ file. IsToldOfFile IsEntryFile file fault)
+IsFault order files input (CommandFault.Deck fault) = OfItsDeck order files input (λ deck. IsDeckFault deck fault)
+IsFault order files input (CommandFault.File fault) = OfItsFile order files (λ file. IsFileFault IsEntryFile file fault)
 IsFault order files input (CommandFault.BadJob number) = IsBadJob order files number
 IsFault order files input (CommandFault.Script line) =
     OfItsScript order files (λ file script. IsEntryFile file × IsFirstBadLine script line)

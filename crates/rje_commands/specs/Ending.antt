@@ -16,7 +16,7 @@ use Rattle.rje_commands.specs.declared.socket_commands.ending.Ending.{Ending}
 use Rattle.rje_commands.specs.declared.exchange.Left.{Left}
 use Rattle.rje_commands.specs.Commands.{OfFile}
 use Rattle.rje_commands.specs.Patience.{LeavesSo}
-use Rattle.rje_commands.specs.Store.{FileMap, Tells, Sets}
+use Rattle.rje_commands.specs.Store.{FileMap, Discloses, Sets}
 
 -- the exit status
 abbrev pub ending_status : Ending → ℕ
@@ -43,7 +43,7 @@ loop_text counted given jobs outcome = counted_line counted given ++ received_te
 -- the file of this name became the version 2 file of these jobs, without names and Whole or Cut, and no other file changed
 abbrev pub MakesJobFile : List Job → (name : List ℕ) → (files made : Option FileMap) → Type 0
 MakesJobFile jobs name files made =
-    (bytes : List ℕ) × IsEntryFileOf Second (map entry_of jobs) bytes × (length bytes ≤ 16777216) × Tells files made (Sets name bytes)
+    (bytes : List ℕ) × IsEntryFileOf Second (map entry_of jobs) bytes × (length bytes ≤ 16777216) × Discloses files made (Sets name bytes)
 
 -- so it did, and just the jobs' line was printed
 abbrev pub WritesJobs : List Job → (name : List ℕ) → (files made : Option FileMap) → (before after : Option (List ℕ)) → Type 0
@@ -72,7 +72,7 @@ EndsReceiving status name files made before after =
 -- and no other file changed
 abbrev pub MarksSent : (file : List ℕ) → (counted : ℕ) → (name : List ℕ) → (files made : Option FileMap) → Type 0
 MarksSent file counted name files made =
-    (bytes : List ℕ) × IsSentFile file counted bytes × (length bytes ≤ 16777216) × Tells files made (Sets name bytes)
+    (bytes : List ℕ) × IsSentFile file counted bytes × (length bytes ≤ 16777216) × Discloses files made (Sets name bytes)
 
 -- what was left of the job file of this name was sent: a new station for these jobs took some turns to the end of its transmission; the
 -- jobs that it counted are Sent in the file now, it ended so, and just the lines of it were printed

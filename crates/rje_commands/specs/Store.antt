@@ -7,10 +7,10 @@ abbrev pub FileMap : Type 0
 FileMap = List ℕ → Option (List ℕ)
 
 -- a store that tells its files goes on telling them, and this holds of the files before and after
-abbrev pub Tells : Option FileMap → Option FileMap → (FileMap → FileMap → Type 0) → Type 0
-Tells None new P = ⊤
-Tells (Some f) None P = ⊥
-Tells (Some f) (Some g) P = P f g
+abbrev pub Discloses : Option FileMap → Option FileMap → (FileMap → FileMap → Type 0) → Type 0
+Discloses None new P = ⊤
+Discloses (Some f) None P = ⊥
+Discloses (Some f) (Some g) P = P f g
 
 -- each name has what it had
 abbrev pub IsSame : FileMap → FileMap → Type 0

@@ -1,10 +1,10 @@
 //! One run of the program over files, a reader and two writers.
 ghost use Rattle.std.specs.Prelude.{◌≡◌, ◌≢◌, ◌⊎◌, map, IfErr, OnOk};
 ghost use Rattle.rje_words.specs.declared.order.FileOrder.{FileOrder as Asked};
-ghost use Rattle.rje_words.specs.Asking.{AsksFor, IsTold};
+ghost use Rattle.rje_words.specs.Asking.{AsksFor, IsWordsFault};
 ghost use Rattle.rje_commands.specs.Commands.{Does, IsFault, Leaves};
 ghost use Rattle.rje_commands.specs.Command.{DoesAsAsked, IsRefused, LeavesAsAsked, AsksForNoFiles, IsStatus};
-ghost use Rattle.rje_commands.specs.Store.{Tells, IsSame};
+ghost use Rattle.rje_commands.specs.Store.{Discloses, IsSame};
 
 use crate::command_fault::CommandFault;
 use crate::commands::{blocks, cards, check, print, show, trial};
@@ -35,7 +35,7 @@ pub fn command<S: Store, I: Read, O: Write, E: Write>(
     ensures files { LeavesAsAsked (map (λ word. word.now) words.now)
         (S.files store.old) (S.files store.new) (I.remaining input.old) }
     ensures files_kept { result ≢ 0 → result ≢ 3
-        → Tells (S.files store.old) (S.files store.new) IsSame }
+        → Discloses (S.files store.old) (S.files store.new) IsSame }
     ensures silent { result ≢ 0 → result ≢ 3 → out.new ≡ out.old }
 {
     let order = match parse(alloc, words) {
@@ -63,7 +63,7 @@ pub fn carry_out<'a, S: Store, I: Read, O: Write>(
     ensures files { Leaves order.entry
         (S.files store.old) (S.files store.new) (I.remaining input.old) }
     ensures kept { IfErr result (λ fault. fault ≢ CommandFault.Output
-        → Tells (S.files store.old) (S.files store.new) IsSame) }
+        → Discloses (S.files store.old) (S.files store.new) IsSame) }
     ensures silent { IfErr result (λ fault. fault ≢ CommandFault.Output → out.new ≡ out.old) }
 {
     match order {

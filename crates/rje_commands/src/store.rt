@@ -1,6 +1,6 @@
 //! The files that the program reads and writes by name.
 ghost use Rattle.std.specs.Prelude.{ℕ, ◌≤◌, List, Option, length, IfOk, OnOk, OnErr};
-ghost use Rattle.rje_commands.specs.Store.{FileMap, Tells, IsSame, Sets, Has};
+ghost use Rattle.rje_commands.specs.Store.{FileMap, Discloses, IsSame, Sets, Has};
 
 use crate::reading::MAX_INPUT;
 use std::alloc::Global;
@@ -26,17 +26,17 @@ pub trait Store {
     fn read(&mut self, alloc: Global, name: &str) -> Result<Vec<u8>, StoreFault>
         ensures has { IfOk result (λ bytes. Has (files self.old) name.now bytes.items) }
         ensures limit { IfOk result (λ bytes. length bytes.items ≤ MAX_INPUT) }
-        ensures same { Tells (files self.old) (files self.new) IsSame };
+        ensures same { Discloses (files self.old) (files self.new) IsSame };
 
     /// Makes these bytes the file of this name, in place of what it had. A store may fail at any time.
     fn write(&mut self, name: &str, bytes: &[u8]) -> Result<(), StoreFault>
-        ensures sets { OnOk result (Tells (files self.old) (files self.new)
+        ensures sets { OnOk result (Discloses (files self.old) (files self.new)
             (Sets name.now bytes.now)) }
-        ensures same { OnErr result (Tells (files self.old) (files self.new) IsSame) };
+        ensures same { OnErr result (Discloses (files self.old) (files self.new) IsSame) };
 
     /// Looks whether a file of this name can be written, and changes none. A store may fail at any time.
     fn look(&mut self, _name: &str) -> Result<(), StoreFault>
-        ensures same { Tells (files self.old) (files self.new) IsSame }
+        ensures same { Discloses (files self.old) (files self.new) IsSame }
     {
         Ok(())
     }

@@ -1,7 +1,7 @@
 -- Names: characters, and then blanks.
 use Rattle.std.proofs.Common.{◌≡◌, ℕ, zero, suc, ◌+◌, ◌-◌, ◌==◌, Bool, true, false, ◌&&◌, ◌||◌, List, [], ◌∷◌, ◌++◌, length, replicate, refl, ap, sym, ◌∙◌, subst, arith, length-append}
 use Rattle.std.proofs.lemmas.Bool.Decides.{nat_tests}
-use Rattle.rje_files.specs.Entry.{is_name_character, is_name_from, is_name, is_name_text}
+use Rattle.rje_files.specs.Entry.{is_name_character, is_name_from, is_job_name, is_name_text}
 use Rattle.rje_files.specs.Laws.{NamesArePadded}
 
 both : (a b : Bool) → (a && b) ≡ true → (a ≡ true) × (b ≡ true)
@@ -77,5 +77,5 @@ names_padded name eight = (
       let many : length name ≡ length p.text + p.blanks = ap length p.whole ∙ length-append p.text (replicate p.blanks 0x20) ∙ ap (λ k. length p.text + k) (length-blanks p.blanks) in
       let left : p.blanks ≡ 8 - length p.text = omega (arith, many, eight) in
       (p.text, omega (arith, many, eight), p.characters, p.whole ∙ ap (λ k. p.text ++ replicate k 0x20) left),
-  λ t. subst (λ (n : List ℕ). is_name n ≡ true) (sym t.3) (text_stands t.0 (8 - length t.0) t.2),
+  λ t. subst (λ (n : List ℕ). is_job_name n ≡ true) (sym t.3) (text_stands t.0 (8 - length t.0) t.2),
 )

@@ -6,7 +6,7 @@ use Rattle.rje_jobs.specs.declared.file_fault.FileFault.{FileFault}
 use Rattle.rje_jobs.specs.declared.file_fault.FileFault.TheVariants.{OutOfMemory, NotJobFile, Version, Truncated, BadField, Trailing, BadEntry}
 use Rattle.rje_files.specs.declared.entry.Entry.{Entry}
 use Rattle.rje_files.specs.Entry.{bad_entry}
-use Rattle.rje_files.specs.FileFault.{Begins, IsLongest, IsFaultAt, IsTold, IsRefused}
+use Rattle.rje_files.specs.FileFault.{Begins, IsLongest, IsFaultAt, IsFileFault, IsEntryFault}
 
 take_take : (p q : ℕ) (xs : List ℕ) → p ≤ q → take p (take q xs) ≡ take p xs
 take_take zero q xs l = refl
@@ -90,7 +90,7 @@ module _ (IsFile : List ℕ → Type 0) (bytes : List ℕ) where
   one_at p h (Trailing n) (BadEntry m) f g = absurd g
   one_at p h (BadEntry n) other f g = absurd f
 
-  pub one_fault : (f g : FileFault) → IsTold IsFile bytes f → IsTold IsFile bytes g → f ≡ g
+  pub one_fault : (f g : FileFault) → IsFileFault IsFile bytes f → IsFileFault IsFile bytes g → f ≡ g
   one_fault f g h k = one_at h.0 h.1 f g h.2 (subst (λ (p : ℕ). IsFaultAt IsFile bytes p g) (one_longest k.0 h.0 k.1 h.1) k.2)
 
 -- and one of entries
@@ -100,7 +100,7 @@ some_number m n o e f = cc
 no_number : (n : ℕ) (o : Option ℕ) → o ≡ None → o ≡ Some n → ⊥
 no_number n o e f = cc
 
-pub one_refusal : (entries : List Entry) (f g : FileFault) → IsRefused entries f → IsRefused entries g → f ≡ g
+pub one_refusal : (entries : List Entry) (f g : FileFault) → IsEntryFault entries f → IsEntryFault entries g → f ≡ g
 one_refusal es OutOfMemory OutOfMemory f g = refl
 one_refusal es OutOfMemory NotJobFile f g = absurd g
 one_refusal es OutOfMemory (Version m) f g = absurd g

@@ -17,7 +17,7 @@ use Rattle.rje_files.specs.declared.entry.State.TheVariants.{Waiting, Sent, Whol
 use Rattle.rje_files.specs.declared.entry.Entry.{Entry}
 use Rattle.rje_files.specs.declared.job_file.version.FileVersion.{FileVersion}
 use Rattle.rje_files.specs.declared.job_file.version.FileVersion.TheVariants.{First, Second}
-use Rattle.rje_files.specs.Entry.{is_name, agrees, entry_of, whole_of as state_whole}
+use Rattle.rje_files.specs.Entry.{is_job_name, agrees, entry_of, whole_of as state_whole}
 use Rattle.rje_files.specs.JobFile.{record_bytes, records_bytes, select_byte, mode_byte, whole_byte, state_byte, version_byte, fields, entry_bytes, file_of, IsOfVersion, FitsFields, AreForFile, IsEntryFileOf}
 use Rattle.rje_files.proofs.ActionBytes.{same_action}
 use Rattle.rje_files.proofs.Grammar.{both}
@@ -153,8 +153,8 @@ same_fields Second e f a b q r =
     let mode = rest_same _ _ _ _ select in
     let state : e.state ≡ f.state = same_state e.state f.state (first_same _ _ _ _ split.1) in
     let whole : e.job.whole ≡ f.job.whole =
-    agreed e.state e.job.whole (both (is_name e.name) (agrees e.state e.job.whole) a.1).1 ∙ ap state_whole state
-    ∙ sym (agreed f.state f.job.whole (both (is_name f.name) (agrees f.state f.job.whole) b.1).1) in
+    agreed e.state e.job.whole (both (is_job_name e.name) (agrees e.state e.job.whole) a.1).1 ∙ ap state_whole state
+    ∙ sym (agreed f.state f.job.whole (both (is_job_name f.name) (agrees f.state f.job.whole) b.1).1) in
     same_entry e f split.0 state
     (same_job e.job f.job (same_select e.job.select f.job.select (first_same _ _ _ _ select)) (same_mode e.job.mode f.job.mode (first_same _ _ _ _ mode)) r whole)
 

@@ -20,8 +20,8 @@ is_name_from ended [] = true
 is_name_from ended (c ∷ cs) = may_stand ended c && is_name_from (c == 0x20) cs
 
 -- a name: characters, and then blanks
-abbrev pub is_name : List ℕ → Bool
-is_name name = is_name_from false name
+abbrev pub is_job_name : List ℕ → Bool
+is_job_name name = is_name_from false name
 
 -- the name of a job that has none
 abbrev pub blank_name : List ℕ
@@ -53,7 +53,7 @@ agrees state whole = if whole_of state then whole else not whole
 
 -- an entry has a name, and a state that its job can have
 abbrev pub is_entry : Entry → Bool
-is_entry e = is_name e.name && agrees e.state e.job.whole
+is_entry e = is_job_name e.name && agrees e.state e.job.whole
 
 -- such an entry, with the eight bytes of its name
 abbrev pub IsEntry : Entry → Type 0

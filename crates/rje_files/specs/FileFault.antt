@@ -29,15 +29,15 @@ IsFaultAt IsFile bytes p (Trailing at) = (at ≡ p) × (5 < p) × (p < length by
 IsFaultAt IsFile bytes p (BadEntry n) = ⊥
 
 -- what is told of bytes of which no jobs are given
-abbrev pub IsTold : (List ℕ → Type 0) → List ℕ → FileFault → Type 0
-IsTold IsFile bytes fault = (p : ℕ) × IsLongest IsFile bytes p × IsFaultAt IsFile bytes p fault
+abbrev pub IsFileFault : (List ℕ → Type 0) → List ℕ → FileFault → Type 0
+IsFileFault IsFile bytes fault = (p : ℕ) × IsLongest IsFile bytes p × IsFaultAt IsFile bytes p fault
 
 -- what is told of entries of which no file is given: the first that is none, and want of memory only where each is one
-abbrev pub IsRefused : List Entry → FileFault → Type 0
-IsRefused entries OutOfMemory = bad_entry entries ≡ None
-IsRefused entries NotJobFile = ⊥
-IsRefused entries (Version n) = ⊥
-IsRefused entries (Truncated at) = ⊥
-IsRefused entries (BadField at) = ⊥
-IsRefused entries (Trailing at) = ⊥
-IsRefused entries (BadEntry n) = bad_entry entries ≡ Some n
+abbrev pub IsEntryFault : List Entry → FileFault → Type 0
+IsEntryFault entries OutOfMemory = bad_entry entries ≡ None
+IsEntryFault entries NotJobFile = ⊥
+IsEntryFault entries (Version n) = ⊥
+IsEntryFault entries (Truncated at) = ⊥
+IsEntryFault entries (BadField at) = ⊥
+IsEntryFault entries (Trailing at) = ⊥
+IsEntryFault entries (BadEntry n) = bad_entry entries ≡ Some n

@@ -5,9 +5,9 @@ use Rattle.rje_jobs.specs.declared.file_fault.FileFault.{FileFault}
 use Rattle.rje_files.specs.declared.entry.Entry.{Entry}
 use Rattle.rje_files.specs.declared.job_file.version.FileVersion.{FileVersion}
 use Rattle.rje_files.specs.declared.job_file.version.FileVersion.TheVariants.{First}
-use Rattle.rje_files.specs.Entry.{entry_of, is_name, is_name_text, padded}
+use Rattle.rje_files.specs.Entry.{entry_of, is_job_name, is_name_text, padded}
 use Rattle.rje_files.specs.JobFile.{IsFileOf, IsEntryFileOf, IsJobFile, IsEntryFile}
-use Rattle.rje_files.specs.FileFault.{IsTold, IsRefused}
+use Rattle.rje_files.specs.FileFault.{IsFileFault, IsEntryFault}
 
 -- bytes are the file of one list of jobs at most
 abbrev pub FileIsOfOneList : Type 0
@@ -25,17 +25,17 @@ ReadAlike = (bytes : List ℕ) (jobs : List Job) (v : FileVersion) (entries : Li
 
 -- at most one fault is told of bytes that are read as entries
 abbrev pub OneEntryFault : Type 0
-OneEntryFault = (bytes : List ℕ) (f g : FileFault) → IsTold IsEntryFile bytes f → IsTold IsEntryFile bytes g → f ≡ g
+OneEntryFault = (bytes : List ℕ) (f g : FileFault) → IsFileFault IsEntryFile bytes f → IsFileFault IsEntryFile bytes g → f ≡ g
 
 -- at most one fault is told of entries
 abbrev pub OneRefusal : Type 0
-OneRefusal = (entries : List Entry) (f g : FileFault) → IsRefused entries f → IsRefused entries g → f ≡ g
+OneRefusal = (entries : List Entry) (f g : FileFault) → IsEntryFault entries f → IsEntryFault entries g → f ≡ g
 
 -- at most one fault is told of bytes
 abbrev pub OneFileFault : Type 0
-OneFileFault = (bytes : List ℕ) (f g : FileFault) → IsTold IsJobFile bytes f → IsTold IsJobFile bytes g → f ≡ g
+OneFileFault = (bytes : List ℕ) (f g : FileFault) → IsFileFault IsJobFile bytes f → IsFileFault IsJobFile bytes g → f ≡ g
 
 -- eight bytes are a name exactly where they are some text of at most eight characters with blanks behind it
 abbrev pub NamesArePadded : Type 0
-NamesArePadded = (name : List ℕ) → length name ≡ 8 → (is_name name ≡ true)
+NamesArePadded = (name : List ℕ) → length name ≡ 8 → (is_job_name name ≡ true)
     ↔ ((text : List ℕ) × (length text ≤ 8) × (is_name_text text ≡ true) × (name ≡ padded text))

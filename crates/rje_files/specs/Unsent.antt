@@ -8,7 +8,7 @@ use Rattle.rje_files.specs.declared.entry.State.{State}
 use Rattle.rje_files.specs.declared.entry.State.TheVariants.{Waiting, Sent, Whole, Cut}
 use Rattle.rje_files.specs.declared.entry.Entry.{Entry}
 use Rattle.rje_files.specs.declared.job_file.version.FileVersion.TheVariants.{Second}
-use Rattle.rje_files.specs.FileFault.{IsTold, IsRefused}
+use Rattle.rje_files.specs.FileFault.{IsFileFault, IsEntryFault}
 use Rattle.rje_files.specs.Entry.{jobs_in}
 use Rattle.rje_files.specs.JobFile.{HasEntries, IsEntryFile, IsEntryFileOf}
 
@@ -56,4 +56,4 @@ IsSentFile file n bytes = (entries : List Entry) × HasEntries entries file × I
 -- why there is no such file: that file is none, or an entry that is made Sent is cut
 abbrev pub IsSentFault : List ℕ → ℕ → FileFault → Type 0
 IsSentFault file n fault =
-    IsTold IsEntryFile file fault ⊎ ((entries : List Entry) × HasEntries entries file × IsRefused (with_sent n entries) fault)
+    IsFileFault IsEntryFile file fault ⊎ ((entries : List Entry) × HasEntries entries file × IsEntryFault (with_sent n entries) fault)

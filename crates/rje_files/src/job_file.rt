@@ -15,7 +15,7 @@
 //! 3 Cut); its selection, its mode, its records as in version 1.
 ghost use Rattle.std.specs.Prelude.{◌≡◌, IfOk, IfErr};
 ghost use Rattle.rje_files.specs.JobFile.{IsFileOf, IsEntryFileOf, IsJobFile, IsEntryFile, HasEntries};
-ghost use Rattle.rje_files.specs.FileFault.{IsTold, IsRefused};
+ghost use Rattle.rje_files.specs.FileFault.{IsFileFault, IsEntryFault};
 
 mod checking;
 mod collecting;
@@ -49,7 +49,7 @@ pub fn write_jobs(alloc: Global, jobs: &[Job]) -> Result<Vec<u8>, FileFault>
 /// The version 2 file of these entries. Each is looked at before any memory is taken.
 pub fn write_entries(alloc: Global, entries: &[Entry]) -> Result<Vec<u8>, FileFault>
     ensures file { IfOk result (λ bytes. IsEntryFileOf FileVersion.Second entries.now bytes.items) }
-    ensures told { IfErr result (λ fault. IsRefused entries.now fault) }
+    ensures told { IfErr result (λ fault. IsEntryFault entries.now fault) }
 {
     match first_bad(entries) {
         Some(number) => Err(FileFault::BadEntry(number)),
@@ -66,7 +66,7 @@ pub fn write_entries(alloc: Global, entries: &[Entry]) -> Result<Vec<u8>, FileFa
 /// The jobs whose version 1 file these bytes are. All bytes are checked before any memory is taken, and none is set aside by the counts in them.
 pub fn read_jobs(alloc: Global, bytes: &[u8]) -> Result<Jobs, FileFault>
     ensures file { IfOk result (λ jobs. IsFileOf jobs bytes.now) }
-    ensures told { IfErr result (λ fault. IsTold IsJobFile bytes.now fault) }
+    ensures told { IfErr result (λ fault. IsFileFault IsJobFile bytes.now fault) }
 {
     match first_fault(FileVersion::First, bytes) {
         Some(fault) => Err(fault),
@@ -81,7 +81,7 @@ pub fn read_jobs(alloc: Global, bytes: &[u8]) -> Result<Jobs, FileFault>
 /// counts in them.
 pub fn read_entries(alloc: Global, bytes: &[u8]) -> Result<Vec<Entry>, FileFault>
     ensures file { IfOk result (λ entries. HasEntries entries.items bytes.now) }
-    ensures told { IfErr result (λ fault. IsTold IsEntryFile bytes.now fault) }
+    ensures told { IfErr result (λ fault. IsFileFault IsEntryFile bytes.now fault) }
 {
     match first_fault(FileVersion::Second, bytes) {
         Some(fault) => Err(fault),

@@ -6,7 +6,7 @@ use Rattle.std.specs.Str.Lines.{lines}
 use Rattle.bsc_codes.specs.CodePage.{ebcdic_of}
 use Rattle.rje_jobs.specs.declared.deck_fault.DeckFault.{DeckFault}
 use Rattle.rje_jobs.specs.declared.deck_fault.DeckFault.TheVariants.{OutOfMemory, LongLine, BadCharacter}
-use Rattle.rje_jobs.specs.Deck.{line_fault, first_fault, deck_fault, IsTold}
+use Rattle.rje_jobs.specs.Deck.{line_fault, first_fault, deck_fault, IsDeckFault}
 
 not_memory : (long : Bool) (number : ℕ) (bad : Option ℕ)
     → cond long (Some (LongLine number)) (option_map (λ i. BadCharacter number (i + 1)) bad) ≡ Some OutOfMemory → ⊥
@@ -27,7 +27,7 @@ lines_are_not_memory number (line ∷ rest) e =
     either (line_fault number line) (first_fault (number + 1) rest) (line_is_not_memory number line) (lines_are_not_memory (number + 1) rest) e
 
 -- a deck's fault is told
-pub told : (deck : List ℕ) (fault : DeckFault) → deck_fault deck ≡ Some fault → IsTold deck fault
+pub told : (deck : List ℕ) (fault : DeckFault) → deck_fault deck ≡ Some fault → IsDeckFault deck fault
 told deck OutOfMemory e = absurd (lines_are_not_memory 1 (lines deck) e)
 told deck (LongLine number) e = e
 told deck (BadCharacter number column) e = e

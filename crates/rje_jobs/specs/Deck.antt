@@ -53,10 +53,10 @@ abbrev pub job_of : Select → Mode → List ℕ → Job
 job_of select mode deck = record { select = deck_select select mode; mode = mode; records = cards_of mode deck; whole = true }
 
 -- what is told of a deck that makes no job: its first fault, and memory only where it has none
-abbrev pub IsTold : List ℕ → DeckFault → Type 0
-IsTold deck OutOfMemory = deck_fault deck ≡ None
-IsTold deck (LongLine number) = deck_fault deck ≡ Some (LongLine number)
-IsTold deck (BadCharacter number column) = deck_fault deck ≡ Some (BadCharacter number column)
+abbrev pub IsDeckFault : List ℕ → DeckFault → Type 0
+IsDeckFault deck OutOfMemory = deck_fault deck ≡ None
+IsDeckFault deck (LongLine number) = deck_fault deck ≡ Some (LongLine number)
+IsDeckFault deck (BadCharacter number column) = deck_fault deck ≡ Some (BadCharacter number column)
 
 -- no line of this part of a deck has a fault; the invariant of `Cards`, the iterator over a deck's cards, cites it
 abbrev pub AreSound : List ℕ → Type 0

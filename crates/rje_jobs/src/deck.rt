@@ -2,7 +2,7 @@
 ghost use Rattle.std.specs.Prelude.{◌≡◌, ◌<◌, ◌≤◌, ◌^◌, length, position, is_none, IfSome, IfOk, IfErr, Some, None};
 ghost use Rattle.std.specs.Str.Lines.{lines};
 ghost use Rattle.bsc_codes.specs.CodePage.{ebcdic_of};
-ghost use Rattle.rje_jobs.specs.Deck.{line_fault, deck_fault, deck_select, cards_of, job_of, IsTold};
+ghost use Rattle.rje_jobs.specs.Deck.{line_fault, deck_fault, deck_select, cards_of, job_of, IsDeckFault};
 
 use crate::cards::{CARD, Cards};
 use crate::lines::next_line;
@@ -16,7 +16,7 @@ use std::alloc::{AllocError, Global};
 pub fn job_of_deck(alloc: Global, deck: &[u8], select: Select, mode: Mode) -> Result<Job, DeckFault>
     ensures job { IfOk result (λ job. (deck_fault deck.now ≡ None)
         × (job ≡ job_of select mode deck.now)) }
-    ensures told { IfErr result (λ fault. IsTold deck.now fault) }
+    ensures told { IfErr result (λ fault. IsDeckFault deck.now fault) }
 {
     let cards = cards_of_deck(deck, mode)?;
     let records = collected(alloc, cards)?;
@@ -34,7 +34,7 @@ pub fn cards_of_deck<'a>(deck: &'a [u8], mode: Mode) -> Result<Cards<'a>, DeckFa
         × (cards ≡ cards_of mode deck.entry.now)) }
     ensures few { IfOk result (λ cards. length cards < 2 ^ 64) }
     ensures fault { IfErr result (λ fault. deck_fault deck.entry.now ≡ Some fault) }
-    ensures told { IfErr result (λ fault. IsTold deck.entry.now fault) }
+    ensures told { IfErr result (λ fault. IsDeckFault deck.entry.now fault) }
 {
     let count = count_lines(deck)?;
     Ok(Cards::new(deck, mode, count))

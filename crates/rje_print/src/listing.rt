@@ -1,6 +1,6 @@
 //! The blocks of a deck's job, and how many records come back.
 ghost use Rattle.std.specs.Prelude.{◌≡◌, ◌+◌, ◌<◌, ◌≤◌, ◌^◌, ◌++◌, ◌∷◌, [], length, List, None, IfOk, IfErr, OnOk, option_to_list};
-ghost use Rattle.rje_jobs.specs.Deck.{IsTold};
+ghost use Rattle.rje_jobs.specs.Deck.{IsDeckFault};
 ghost use Rattle.rje_text.specs.PackFault.{Fits, pack_fault};
 ghost use Rattle.rje_text.specs.Packing.{packed};
 ghost use Rattle.rje_text.specs.declared.record.Record.{Record as Item};
@@ -20,7 +20,7 @@ use std::alloc::{AllocError, Global};
 /// What `blocks` prints for a deck: a line for each block of its job, and how many records reading these blocks gives.
 pub fn block_listing(alloc: Global, deck: &[u8]) -> Result<Vec<u8>, DeckFault>
     ensures listing { IfOk result (λ text. IsBlockListing deck.now text.items) }
-    ensures told { IfErr result (λ fault. IsTold deck.now fault) }
+    ensures told { IfErr result (λ fault. IsDeckFault deck.now fault) }
 {
     let cards = cards_of_deck(deck, Mode::Normal)?;
     deck_jobs_fit();

@@ -26,11 +26,11 @@ sound_of_frame frame.Eot = Sound.Eot
 sound_of_frame (frame.Block block) = Sound.Block
 
 -- what was heard, as the link cores take it
-abbrev pub sound_of : Heard → Sound
-sound_of (heard.Frame f) = sound_of_frame f
-sound_of heard.Bad = Sound.Bad
-sound_of heard.Noise = Sound.Noise
-sound_of heard.Quiet = Sound.Quiet
+abbrev pub sound_heard : Heard → Sound
+sound_heard (heard.Frame f) = sound_of_frame f
+sound_heard heard.Bad = Sound.Bad
+sound_heard heard.Noise = Sound.Noise
+sound_heard heard.Quiet = Sound.Quiet
 
 -- with a frame, what wasn't given is what comes next; without one the line went quiet: at most 8,192 bytes were given, and none was left
 abbrev pub Ends : Heard → List ℕ → List ℕ → List ℕ → Type 0
@@ -52,7 +52,7 @@ pub record Hearing (t u : Talk) (h : Heard) : Type 0 where
 -- one hearing, by its sound
 pub record HearsSound (t u : Talk) (sound : Sound) : Type 0 where
   pub what : Heard
-  pub sound_is : sound ≡ sound_of what
+  pub sound_is : sound ≡ sound_heard what
   pub hearing : Hearing t u what
 
 -- more than 8,192 bytes were given, and there is no frame in the first 8,192

@@ -18,7 +18,7 @@ use Rattle.rje_station.specs.declared.event.Event.{Event}
 use Rattle.rje_station.specs.declared.event.Event.TheVariants as event
 use Rattle.rje_station.specs.declared.station_fault.StationFault.{StationFault}
 use Rattle.rje_station.specs.declared.station_fault.StationFault.TheVariants as fault
-use Rattle.rje_station.specs.Hearing.{sound_of}
+use Rattle.rje_station.specs.Hearing.{sound_heard}
 use Rattle.rje_station.specs.JoinedJobs.{with_block, begun_in}
 use Rattle.rje_station.specs.Line.{Talk, one_more}
 use Rattle.rje_station.specs.Trace.{last_events}
@@ -44,8 +44,8 @@ first_receiving = record { jobs = []; core = first_receiver_state; due = None; o
 
 -- what the core takes: a whole block that was refused is a bad one
 abbrev pub sound_taken : Heard → Bool → Sound
-sound_taken (heard.Frame f) refused = if refused then Sound.Bad else sound_of (heard.Frame f)
-sound_taken h refused = sound_of h
+sound_taken (heard.Frame f) refused = if refused then Sound.Bad else sound_heard (heard.Frame f)
+sound_taken h refused = sound_heard h
 
 -- A whole block alone may be refused: where it doesn't read in the mode of the job that is begun, or for want of memory. One that isn't
 -- refused reads.
@@ -75,8 +75,8 @@ after_receiving s h refused wish =
       core = receiver_hears s.core sound wish;
       due = news.reply;
       over = news.ended;
-      arrival = Some (record { sound = sound_of h; refused = refused });
-      trace = last_events (s.trace ++ event.Heard (sound_of h) ∷ received_events news.accepted refused);
+      arrival = Some (record { sound = sound_heard h; refused = refused });
+      trace = last_events (s.trace ++ event.Heard (sound_heard h) ∷ received_events news.accepted refused);
     }
 
 -- one hearing: something was heard, of which this was told, and it was refused or not

@@ -14,7 +14,7 @@ use Rattle.rje_jobs.specs.declared.job.Job.{Job}
 use Rattle.rje_station.specs.declared.event.Event.TheVariants as event
 use Rattle.rje_station.specs.declared.station_fault.StationFault.{StationFault}
 use Rattle.rje_station.specs.declared.station_fault.StationFault.TheVariants as fault
-use Rattle.rje_station.specs.Hearing.{sound_of, HearsSound}
+use Rattle.rje_station.specs.Hearing.{sound_heard, HearsSound}
 use Rattle.rje_station.specs.JoinedJobs.{begun_in}
 use Rattle.rje_station.specs.Line.{Talk, Passes, one_more}
 use Rattle.rje_station.specs.Receiving.{Receiving, first_receiving, MayRefuse, after_receiving, after_replying, after_abandon}
@@ -130,11 +130,11 @@ after_passing r = record r { due = None; arrival = Some (record { sound = Sound.
 -- after it heard the other station
 abbrev pub after_other : Contending → Heard → Bool → Wish → Contending
 after_other s what refused wish =
-    if lets_in s.contender (sound_of what)
+    if lets_in s.contender (sound_heard what)
     then record s {
-      sender = gives_way s.contender.rank (sound_of what) s.sender;
+      sender = gives_way s.contender.rank (sound_heard what) s.sender;
       receiver = after_receiving s.receiver what refused wish;
-      contender = contender_hears (sound_of what) s.contender;
+      contender = contender_hears (sound_heard what) s.contender;
     }
     else record s { receiver = after_passing s.receiver }
 

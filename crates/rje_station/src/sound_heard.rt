@@ -1,13 +1,13 @@
 //! The kind of what was heard.
 ghost use Rattle.std.specs.Prelude.{◌≡◌};
-ghost use Rattle.rje_station.specs.Hearing.{sound_of_frame as frame_sound, sound_of as heard_sound};
+ghost use Rattle.rje_station.specs.Hearing.{sound_of_frame as frame_sound, sound_heard};
 
 use bsc_frame::{Frame, Heard};
 use bsc_link::Sound;
 
 /// What was heard, as the link cores take it.
 pub(crate) fn sound_of(heard: &Heard) -> Sound
-    ensures { result ≡ heard_sound heard.now }
+    ensures { result ≡ sound_heard heard.now }
 {
     match heard {
         Heard::Frame(frame) => sound_of_frame(frame),

@@ -4,7 +4,7 @@ use Rattle.std.proofs.lemmas.List.{append_assoc, append-nil, drop_more}
 use Rattle.std.proofs.lemmas.Bool.Decides.{nat_tests}
 use Rattle.std.specs.List.{flat_map}
 use Rattle.bsc_codes.specs.Bytes.{BLANK, IGS}
-use Rattle.rje_text.specs.Spelling.{Run, full_counts, run_text, with_blank, runs_of}
+use Rattle.rje_text.specs.Spelling.{Run, full_counts, written_run, with_blank, runs_of}
 use Rattle.rje_text.specs.Spelling.Run.{Blanks, Byte}
 
 -- m blanks in front of the pieces
@@ -14,7 +14,7 @@ blanks_then (suc m) ps = with_blank (blanks_then m ps)
 
 -- what is written for m blanks and then the bytes
 abbrev pub behind : ℕ → List ℕ → List ℕ
-behind m bytes = flat_map run_text (blanks_then m (runs_of bytes))
+behind m bytes = flat_map written_run (blanks_then m (runs_of bytes))
 
 blanks_then-with_blank : (m : ℕ) (ps : List Run) → blanks_then m (with_blank ps) ≡ with_blank (blanks_then m ps)
 blanks_then-with_blank zero ps = refl
@@ -35,22 +35,22 @@ not_blank : (x : ℕ) → x ≢ BLANK → eqb x BLANK ≡ false
 not_blank x e = grind (arith, nat_tests)
 
 pub behind_blank : (m x : ℕ) (xs : List ℕ) → x ≡ BLANK → behind m (x ∷ xs) ≡ behind (m + 1) xs
-behind_blank m x xs e = rw (is_blank x e, add-one m) (ap (flat_map run_text) (blanks_then-with_blank m (runs_of xs)))
+behind_blank m x xs e = rw (is_blank x e, add-one m) (ap (flat_map written_run) (blanks_then-with_blank m (runs_of xs)))
 
-pub behind_byte : (m x : ℕ) (xs : List ℕ) → x ≢ BLANK → behind m (x ∷ xs) ≡ run_text (Blanks m) ++ x ∷ behind 0 xs
+pub behind_byte : (m x : ℕ) (xs : List ℕ) → x ≢ BLANK → behind m (x ∷ xs) ≡ written_run (Blanks m) ++ x ∷ behind 0 xs
 behind_byte zero x xs e = rw (not_blank x e) refl
-behind_byte (suc m) x xs e = rw (not_blank x e) (ap (flat_map run_text) (blanks_then-byte m x (runs_of xs)))
+behind_byte (suc m) x xs e = rw (not_blank x e) (ap (flat_map written_run) (blanks_then-byte m x (runs_of xs)))
 
-pub behind_end : (m : ℕ) → behind m [] ≡ run_text (Blanks m)
+pub behind_end : (m : ℕ) → behind m [] ≡ written_run (Blanks m)
 behind_end zero = refl
-behind_end (suc m) = ap (flat_map run_text) (blanks_then-nil m) ∙ append-nil (run_text (Blanks (suc m)))
+behind_end (suc m) = ap (flat_map written_run) (blanks_then-nil m) ∙ append-nil (written_run (Blanks (suc m)))
 
 -- the step of a loop over the bytes, at a blank
 pub blank_step : (bs : List ℕ) (i m : ℕ) → i < length bs → get_or bs i 0 ≡ BLANK → behind m (drop i bs) ≡ behind (m + 1) (drop (i + 1) bs)
 blank_step bs i m h e = rw (drop_more bs i 0 h) (behind_blank m (get_or bs i 0) (drop (i + 1) bs) e)
 
 -- at another byte
-pub byte_step : (bs : List ℕ) (i m : ℕ) → i < length bs → get_or bs i 0 ≢ BLANK → behind m (drop i bs) ≡ run_text (Blanks m) ++ get_or bs i 0 ∷ behind 0 (drop (i + 1) bs)
+pub byte_step : (bs : List ℕ) (i m : ℕ) → i < length bs → get_or bs i 0 ≢ BLANK → behind m (drop i bs) ≡ written_run (Blanks m) ++ get_or bs i 0 ∷ behind 0 (drop (i + 1) bs)
 byte_step bs i m h e = rw (drop_more bs i 0 h) (behind_byte m (get_or bs i 0) (drop (i + 1) bs) e)
 
 pub byte_join : (out w r : List ℕ) (x : ℕ) → ((out ++ w) ++ x ∷ []) ++ r ≡ out ++ (w ++ x ∷ r)

@@ -9,7 +9,7 @@ use Rattle.rje_text.specs.declared.mode.Mode.{Mode}
 use Rattle.rje_text.specs.declared.text_fault.TextFault.{TextFault}
 use Rattle.rje_text.specs.declared.text_fault.TextFault.TheVariants.{OutOfMemory, BadCount, RecordTooLong, CardsNot80, MixedModes}
 use Rattle.rje_text.specs.Reading.{is_count, card_reading, reading}
-use Rattle.rje_text.specs.TextFault.{HasNoCount, LacksCount, PassesLimit, width_at, reads_normal, IsTold}
+use Rattle.rje_text.specs.TextFault.{HasNoCount, LacksCount, PassesLimit, width_at, reads_normal, IsTextFault}
 use Rattle.rje_text.proofs.Prefixes.{last_of, last-append, IsOpen, EndsWell, CutsWell, normal_front}
 use Rattle.rje_text.proofs.Expanding.{not_equal}
 
@@ -148,19 +148,19 @@ cards_read : (b : Block) (so_far : Option Mode) → b.transparent ≡ true → I
 cards_read b so_far n e = rw n at e
 
 module _ (b : Block) (so_far : Option Mode) where
-  lack_unread : (p : ℕ) → IsTold b so_far (BadCount p) → IsSome (reading b so_far) → ⊥
+  lack_unread : (p : ℕ) → IsTextFault b so_far (BadCount p) → IsSome (reading b so_far) → ⊥
   lack_unread p h e = lacked_whole (reads_normal so_far) (normal_front so_far) b.text.items p h.1 (normal_reads b so_far h.0 e)
 
-  limit_unread : (p : ℕ) → IsTold b so_far (RecordTooLong p) → IsSome (reading b so_far) → ⊥
+  limit_unread : (p : ℕ) → IsTextFault b so_far (RecordTooLong p) → IsSome (reading b so_far) → ⊥
   limit_unread p h e = passed_whole (reads_normal so_far) (normal_front so_far) b.text.items p h.1 (normal_reads b so_far h.0 e)
 
-  cards_unread : IsTold b so_far CardsNot80 → IsSome (reading b so_far) → ⊥
+  cards_unread : IsTextFault b so_far CardsNot80 → IsSome (reading b so_far) → ⊥
   cards_unread h e = false_true (sym (cards_read b so_far h.0 e) ∙ h.1)
 
   normal_or_cards : b.transparent ≡ false → b.transparent ≡ true → ⊥
   normal_or_cards n t = false_true (sym t ∙ n)
 
-  pub one_told : (f g : TextFault) → IsTold b so_far f → IsTold b so_far g → f ≡ g
+  pub one_told : (f g : TextFault) → IsTextFault b so_far f → IsTextFault b so_far g → f ≡ g
   one_told (BadCount p) (BadCount q) h k = ap BadCount (same_lack (reads_normal so_far) (normal_front so_far) b.text.items p q h.1 k.1)
   one_told (BadCount p) (RecordTooLong q) h k = absurd (lack_or_limit (reads_normal so_far) (normal_front so_far) b.text.items p q h.1 k.1)
   one_told (BadCount p) CardsNot80 h k = absurd (normal_or_cards h.0 k.0)

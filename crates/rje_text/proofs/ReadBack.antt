@@ -24,7 +24,7 @@ use Rattle.rje_text.specs.declared.pack_fault.PackFault.{PackFault}
 use Rattle.rje_text.specs.declared.pack_fault.PackFault.TheVariants.{BadByte, CardLength, ActionHere}
 use Rattle.rje_text.specs.Action.{code_of, action_of}
 use Rattle.rje_text.specs.PackFault.{Fits, is_no_data_byte, card_length, action_here, pack_fault}
-use Rattle.rje_text.specs.Spelling.{spelling, selection, compressed, full_counts, rest_of_blanks, run_text, action_escape}
+use Rattle.rje_text.specs.Spelling.{spelling, selection, compressed, full_counts, rest_of_blanks, written_run, action_escape}
 use Rattle.rje_text.specs.Spelling.Run.{Blanks}
 use Rattle.rje_text.specs.Reading.{is_count, record_of, records_in, selection_in, normal_reading, is_cards, cards, card_reading, IsRead}
 use Rattle.rje_text.specs.Cut.{block, text_of, cut_behind, cut}
@@ -57,9 +57,9 @@ rest_stands (suc (suc r)) h =
     let same : replicate ((BLANK + n) - BLANK) BLANK ++ [] ≡ replicate n BLANK = append-nil (replicate ((BLANK + n) - BLANK) BLANK) ∙ ap (λ k. replicate k BLANK) number in
     rw (rest_is n (omega arith)) (subst (λ ys. Stands (IGS ∷ (BLANK + n) ∷ []) ys) same (count (count_is n (omega arith) h) nothing))
 
-blanks_stand : (m : ℕ) → Stands (run_text (Blanks m)) (replicate m BLANK)
+blanks_stand : (m : ℕ) → Stands (written_run (Blanks m)) (replicate m BLANK)
 blanks_stand m =
-    subst (λ ys. Stands (run_text (Blanks m)) ys) (replicate-append-replicate (63 * (m / 63)) (m % 63) BLANK ∙ ap (λ k. replicate k BLANK) (omega arith))
+    subst (λ ys. Stands (written_run (Blanks m)) ys) (replicate-append-replicate (63 * (m / 63)) (m % 63) BLANK ∙ ap (λ k. replicate k BLANK) (omega arith))
     (Stands-append (full_counts_stand (m / 63)) (rest_stands (m % 63) (omega arith)))
 
 -- data bytes that a normal text can carry
@@ -98,7 +98,7 @@ rest_quiet zero = tt
 rest_quiet (suc zero) = (inr (omega arith), tt)
 rest_quiet (suc (suc r)) = rw (rest_is (suc (suc r)) (omega arith)) (inl refl, (inr (omega arith), tt))
 
-blanks_quiet : (m : ℕ) → AreQuiet (run_text (Blanks m))
+blanks_quiet : (m : ℕ) → AreQuiet (written_run (Blanks m))
 blanks_quiet m = quiet-append (full_counts (m / 63)) (rest_of_blanks (m % 63)) (full_counts_quiet (m / 63)) (rest_quiet (m % 63))
 
 behind_quiet : (m : ℕ) (xs : List ℕ) → AreData xs → AreQuiet (behind m xs)
@@ -106,7 +106,7 @@ behind_quiet m [] h = rw (behind_end m) (blanks_quiet m)
 behind_quiet m (x ∷ xs) h =
     ⊎_elim
     (λ (e : x ≡ BLANK). rw (behind_blank m x xs e) (behind_quiet (m + 1) xs h.1))
-    (λ (n : x ≢ BLANK). rw (behind_byte m x xs n) (quiet-append (run_text (Blanks m)) (x ∷ behind 0 xs) (blanks_quiet m) (inr h.0, behind_quiet 0 xs h.1)))
+    (λ (n : x ≢ BLANK). rw (behind_byte m x xs n) (quiet-append (written_run (Blanks m)) (x ∷ behind 0 xs) (blanks_quiet m) (inr h.0, behind_quiet 0 xs h.1)))
     (cases_eq x BLANK)
 
 pub compressed_quiet : (xs : List ℕ) → AreData xs → AreQuiet (compressed xs)

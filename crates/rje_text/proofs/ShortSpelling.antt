@@ -7,7 +7,7 @@ use Rattle.rje_text.specs.declared.mode.Mode.{Mode}
 use Rattle.rje_text.specs.declared.mode.Mode.TheVariants.{Normal, Transparent}
 use Rattle.rje_text.specs.declared.record.Record.{Record}
 use Rattle.rje_text.specs.Action.{code_of}
-use Rattle.rje_text.specs.Spelling.{spelling, compressed, run_text, full_counts, rest_of_blanks, action_escape}
+use Rattle.rje_text.specs.Spelling.{spelling, compressed, written_run, full_counts, rest_of_blanks, action_escape}
 use Rattle.rje_text.specs.Spelling.Run.{Blanks}
 use Rattle.rje_text.proofs.Expanding.{not_equal}
 use Rattle.rje_text.proofs.Blanks.{behind, behind_blank, behind_byte, behind_end, length-full_counts}
@@ -21,7 +21,7 @@ rest_short zero = omega arith
 rest_short (suc zero) = omega arith
 rest_short (suc (suc r)) = rw (rest_is (suc (suc r)) (omega arith)) (omega arith)
 
-blanks_short : (m : ℕ) → length (run_text (Blanks m)) ≤ m
+blanks_short : (m : ℕ) → length (written_run (Blanks m)) ≤ m
 blanks_short m = omega (arith, length-append (full_counts (m / 63)) (rest_of_blanks (m % 63)), length-full_counts (m / 63), rest_short (m % 63))
 
 behind_short : (m : ℕ) (xs : List ℕ) → length (behind m xs) ≤ m + length xs
@@ -29,7 +29,7 @@ behind_short m [] = rw (behind_end m) (omega (arith, blanks_short m))
 behind_short m (x ∷ xs) =
     ⊎_elim
     (λ (e : x ≡ BLANK). rw (behind_blank m x xs e) (omega (arith, behind_short (m + 1) xs)))
-    (λ (n : x ≢ BLANK). rw (behind_byte m x xs n) (omega (arith, length-append (run_text (Blanks m)) (x ∷ behind 0 xs), blanks_short m, behind_short 0 xs)))
+    (λ (n : x ≢ BLANK). rw (behind_byte m x xs n) (omega (arith, length-append (written_run (Blanks m)) (x ∷ behind 0 xs), blanks_short m, behind_short 0 xs)))
     (cases_eq x BLANK)
 
 escape_short : (o : Option ℕ) → length (action_escape o) ≤ 2

@@ -11,7 +11,7 @@ use Rattle.rje_text.specs.declared.text_fault.TextFault.{TextFault}
 use Rattle.rje_text.specs.Action.{code_of, action_of}
 use Rattle.rje_text.specs.Spelling.{spelling}
 use Rattle.rje_text.specs.Reading.{IsRead}
-use Rattle.rje_text.specs.TextFault.{IsTold}
+use Rattle.rje_text.specs.TextFault.{IsTextFault}
 use Rattle.rje_text.specs.PackFault.{Fits}
 use Rattle.rje_text.specs.Cut.{IsCut, cut}
 use Rattle.rje_text.specs.Packing.{new_packing, packed}
@@ -59,7 +59,7 @@ CutIsTheOnlyOne = (select : Select) (mode : Mode) (records : List Record) (block
 
 -- at most one fault is told of a block
 abbrev pub OneFault : Type 0
-OneFault = (b : Block) (so_far : Option Mode) (f g : TextFault) → IsTold b so_far f → IsTold b so_far g → f ≡ g
+OneFault = (b : Block) (so_far : Option Mode) (f g : TextFault) → IsTextFault b so_far f → IsTextFault b so_far g → f ≡ g
 
 -- a new packer that is pushed a job's records gives the blocks of its canonical cut
 abbrev pub PackingIsTheCut : Type 0

@@ -40,13 +40,13 @@ abbrev pub rest_of_blanks : ℕ → List ℕ
 rest_of_blanks r = if r == 0 then [] else if r == 1 then BLANK ∷ [] else IGS ∷ (BLANK + r) ∷ []
 
 -- how a run is written
-abbrev pub run_text : Run → List ℕ
-run_text (Blanks m) = full_counts (m / 63) ++ rest_of_blanks (m % 63)
-run_text (Byte b) = b ∷ []
+abbrev pub written_run : Run → List ℕ
+written_run (Blanks m) = full_counts (m / 63) ++ rest_of_blanks (m % 63)
+written_run (Byte b) = b ∷ []
 
 -- the data with its runs of blanks replaced by counts
 unfoldable pub compressed : List ℕ → List ℕ
-compressed bytes = flat_map run_text (runs_of bytes)
+compressed bytes = flat_map written_run (runs_of bytes)
 
 -- how a record stands in a text of this mode; a card stands there as it is
 abbrev pub spelling : Mode → Record → List ℕ

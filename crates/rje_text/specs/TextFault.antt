@@ -37,9 +37,9 @@ abbrev pub reads_normal : Option Mode → List ℕ → Bool
 reads_normal so_far text = is_some (normal_reading so_far text)
 
 -- what is told of a block that isn't read; a text that reads is refused for its mode, and else for want of memory alone
-abbrev pub IsTold : Block → Option Mode → TextFault → Type 0
-IsTold block so_far (BadCount p) = (block.transparent ≡ false) × LacksCount (reads_normal so_far) block.text.items p
-IsTold block so_far (RecordTooLong p) = (block.transparent ≡ false) × PassesLimit (reads_normal so_far) block.text.items p
-IsTold block so_far CardsNot80 = (block.transparent ≡ true) × IsNone (card_reading block.text.items)
-IsTold block so_far MixedModes = IsSome (reading block so_far) × (HasMode block so_far → ⊥)
-IsTold block so_far OutOfMemory = IsSome (reading block so_far) × HasMode block so_far
+abbrev pub IsTextFault : Block → Option Mode → TextFault → Type 0
+IsTextFault block so_far (BadCount p) = (block.transparent ≡ false) × LacksCount (reads_normal so_far) block.text.items p
+IsTextFault block so_far (RecordTooLong p) = (block.transparent ≡ false) × PassesLimit (reads_normal so_far) block.text.items p
+IsTextFault block so_far CardsNot80 = (block.transparent ≡ true) × IsNone (card_reading block.text.items)
+IsTextFault block so_far MixedModes = IsSome (reading block so_far) × (HasMode block so_far → ⊥)
+IsTextFault block so_far OutOfMemory = IsSome (reading block so_far) × HasMode block so_far

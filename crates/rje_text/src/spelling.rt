@@ -1,7 +1,7 @@
 //! How a record is written in a text.
 ghost use Rattle.std.specs.Prelude.{◌≡◌, ◌+◌, ◌≤◌, ◌++◌, length};
 ghost use Rattle.arrayvec.specs.ArrayVec.{array_vec_len};
-ghost use Rattle.rje_text.specs.Spelling.{action_escape, compressed, run_text, spelling};
+ghost use Rattle.rje_text.specs.Spelling.{action_escape, compressed, written_run, spelling};
 ghost use Rattle.rje_text.specs.Spelling.Run.{Blanks};
 ghost use Rattle.rje_text.specs.Action.{code_of};
 
@@ -66,7 +66,7 @@ fn compress(bytes: &[u8], out: &mut TextInHand)
 /// Appends a run of blanks: a count for each 63 of them, and the rest.
 fn push_blanks(out: &mut TextInHand, run: usize)
     requires { array_vec_len out.old + run ≤ 657 }
-    ensures text { out.new.items ≡ out.old.items ++ run_text (Blanks run) }
+    ensures text { out.new.items ≡ out.old.items ++ written_run (Blanks run) }
     ensures room { array_vec_len out.new ≤ array_vec_len out.old + run }
 {
     if run == 0 {

@@ -1,7 +1,7 @@
 //! Blocks into records.
 ghost use Rattle.std.specs.Prelude.{◌≡◌, ◌↔◌, ◌+◌, ◌<◌, ◌≤◌, ◌^◌, IsTrue, IsSome, IfOk, IfErr, OnOk, Some, length};
 ghost use Rattle.rje_text.specs.Reading.{records_in, normal_reading, Agrees, IsRead};
-ghost use Rattle.rje_text.specs.TextFault.{IsTold};
+ghost use Rattle.rje_text.specs.TextFault.{IsTextFault};
 ghost use Rattle.rje_text.specs.RecordText.{HasFront, reads_records, IsFaultFrom, IsNormalFault};
 
 use crate::cards::unpack_cards;
@@ -14,7 +14,7 @@ use std::alloc::{AllocError, Global};
 /// The whole text is checked before any memory is taken.
 pub fn unpack(alloc: Global, block: &Block, so_far: Option<Mode>) -> Result<Unpacked, TextFault>
     ensures read { IfOk result (λ u. IsRead block.now so_far u) }
-    ensures told { IfErr result (λ fault. IsTold block.now so_far fault) }
+    ensures told { IfErr result (λ fault. IsTextFault block.now so_far fault) }
 {
     let text = block.text.as_slice();
     if block.transparent {

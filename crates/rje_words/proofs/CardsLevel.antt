@@ -16,8 +16,8 @@ use Rattle.clap.proofs.OnLiterals.{clap_on_literals}
 use Rattle.rje_words.specs.Asking.{is_on, word_in}
 use Rattle.clap.specs.Walk.{option as waits_for}
 use Rattle.std.specs.List.{flat_map}
-use Rattle.rje_words.specs.CardsWords.{CardsWord, DeviceOption, file, named, option, option_text, printer, punch, transparent, texts_of}
-use Rattle.rje_words.specs.CommandLine.{is_file, is_name, rje_app}
+use Rattle.rje_words.specs.CardsWords.{CardsWord, DeviceOption, file, named, option, option_text, printer, punch, transparent, words_typed}
+use Rattle.rje_words.specs.CommandLine.{is_file, names_file, rje_app}
 
 -- THE ROW OF AN ID
 
@@ -250,18 +250,18 @@ position seen = position_after seen.deck seen.jobs
 abbrev pub FileFits : Option Text → Option Text → Text → Type 0
 FileFits None None name = is_file name ≡ true
 FileFits None (Some jobs) name = ⊥
-FileFits (Some deck) None name = is_name name ≡ true
+FileFits (Some deck) None name = names_file name ≡ true
 FileFits (Some deck) (Some jobs) name = ⊥
 
 -- the word may stand behind those that were seen
-abbrev pub Fits : CardsWord → Seen → Type 0
-Fits (file name) seen = FileFits seen.deck seen.jobs name
-Fits (option o) seen = is_seen o seen ≡ false
-Fits (named name) seen = (seen.name ≡ None) × (is_name name ≡ true)
+abbrev pub WordFits : CardsWord → Seen → Type 0
+WordFits (file name) seen = FileFits seen.deck seen.jobs name
+WordFits (option o) seen = is_seen o seen ≡ false
+WordFits (named name) seen = (seen.name ≡ None) × (names_file name ≡ true)
 
 abbrev pub AllFit : List CardsWord → Seen → Type 0
 AllFit [] seen = Unit {0}
-AllFit (w ∷ ws) seen = Fits w seen × AllFit ws (with_word w seen)
+AllFit (w ∷ ws) seen = WordFits w seen × AllFit ws (with_word w seen)
 
 abbrev deck_row : Text → Row
 deck_row name = value_row (codes "DECK") (reading_by deck_rule) CommandLine (name ∷ [])
@@ -420,7 +420,7 @@ is_deck [] h e = cc
 is_deck (c ∷ []) h e = single_deck c h (c == 45) refl
 is_deck (c ∷ d ∷ rest) h e = (deck_turn c (d ∷ rest) h (not_false (c == 45) e), deck_walked c (d ∷ rest) h (not_false (c == 45) e))
 
-is_jobs : (name : Text) (h : Held) → is_name name ≡ true
+is_jobs : (name : Text) (h : Held) → names_file name ≡ true
     → (turn_fault cards [] (at h 2) name ≡ jobs_kinds h) × (walked rules [] (at h 2) name ≡ at (positional_held rules jobs_rule name h) 3)
 is_jobs [] h e = cc
 is_jobs (c ∷ cs) h e = (jobs_turn c cs h (not_false (c == 45) e), jobs_walked c cs h (not_false (c == 45) e))
@@ -490,7 +490,7 @@ unfolding clap_on_literals
 value_turn c cs h position e = rw (e, e) refl
 
 -- the word is taken for the name's value
-is_value : (name : Text) (h : Held) (position : ℕ) → is_name name ≡ true
+is_value : (name : Text) (h : Held) (position : ℕ) → names_file name ≡ true
     → (turn_fault cards [] (asked h position) name ≡ []) × (walked rules [] (asked h position) name ≡ at (held_file (codes "name") name h) position)
 is_value [] h position e = cc
 is_value (c ∷ cs) h position e = (value_turn c cs h position (not_false (c == 45) e), name_walked c cs h position (not_false (c == 45) e))
@@ -530,7 +530,7 @@ leads w v text none is ts = (ap₂ or_else none (ap (λ x. walk_fault cards [] x
 
 -- the word passes, and what is held after it is what was seen
 abbrev Steps : CardsWord → Held → Seen → Type 0
-Steps w h seen = (after : Held) × Stands after (with_word w seen) × Leads (at h (position seen)) (texts_of w) (at after (position (with_word w seen)))
+Steps w h seen = (after : Held) × Stands after (with_word w seen) × Leads (at h (position seen)) (words_typed w) (at after (position (with_word w seen)))
 
 option_steps : (o : DeviceOption) (h : Held) (seen : Seen) → Stands h seen → is_seen o seen ≡ false → Steps (option o) h seen
 option_steps o h seen st e = (
@@ -564,7 +564,7 @@ file_steps name h seen st (Some deck) None deck_is jobs_is fits = let is = is_jo
 )
 file_steps name h seen st (Some deck) (Some jobs) deck_is jobs_is fits = absurd fits
 
-name_steps : (name : Text) (h : Held) (seen : Seen) → Stands h seen → seen.name ≡ None → is_name name ≡ true → Steps (named name) h seen
+name_steps : (name : Text) (h : Held) (seen : Seen) → Stands h seen → seen.name ≡ None → names_file name ≡ true → Steps (named name) h seen
 name_steps name h seen st none fits =
     let value = is_value name h (position seen) fits in
     let option_leads = leads (at h (position seen)) (asked h (position seen)) (codes "--name")
@@ -575,7 +575,7 @@ name_steps name h seen st none fits =
       λ ts. ((option_leads (name ∷ ts)).0 ∙ (value_leads ts).0, (option_leads (name ∷ ts)).1 ∙ (value_leads ts).1),
     )
 
-steps : (w : CardsWord) (h : Held) (seen : Seen) → Stands h seen → Fits w seen → Steps w h seen
+steps : (w : CardsWord) (h : Held) (seen : Seen) → Stands h seen → WordFits w seen → Steps w h seen
 steps (file name) h seen st fits =
     let s = file_steps name h seen st seen.deck seen.jobs refl refl fits in
     (s.1, s.3, leads (at h (position seen)) (at s.1 (position (with_file seen.deck name seen))) name s.0 s.2)
@@ -584,15 +584,15 @@ steps (named name) h seen st fits = name_steps name h seen st fits.0 fits.1
 
 -- all the words pass
 abbrev Walks : List CardsWord → Held → Seen → Type 0
-Walks ws h seen = (walk_fault cards [] (at h (position seen)) (flat_map texts_of ws) ≡ [])
-    × Stands (fold (walked rules []) (at h (position seen)) (flat_map texts_of ws)).held (with_words ws seen)
+Walks ws h seen = (walk_fault cards [] (at h (position seen)) (flat_map words_typed ws) ≡ [])
+    × Stands (fold (walked rules []) (at h (position seen)) (flat_map words_typed ws)).held (with_words ws seen)
 
 walks : (ws : List CardsWord) (h : Held) (seen : Seen) → Stands h seen → AllFit ws seen → Walks ws h seen
 unfolding walk_fault
 walks [] h seen st fit = (refl, st)
 walks (w ∷ ws) h seen st fit =
     let s = steps w h seen st fit.0 in
-    let on = s.2 (flat_map texts_of ws) in
+    let on = s.2 (flat_map words_typed ws) in
     let later = walks ws s.0 (with_word w seen) s.1 fit.1 in
     (on.0 ∙ later.0, subst (λ (x : Walk). Stands x.held (with_words ws (with_word w seen))) (sym on.1) later.1)
 
@@ -696,10 +696,10 @@ nothing_stands = record {
 -- the level of `cards` passes, and what was seen is read
 pub level_passes : (ws : List CardsWord) (deck jobs : Text) → AllFit ws nothing_seen → (with_words ws nothing_seen).deck ≡ Some deck
     → (with_words ws nothing_seen).jobs ≡ Some jobs
-    → (level_fault cards [] nothing_held (flat_map texts_of ws) false [] ≡ []) × Reads (rows_after rules [] (flat_map texts_of ws)) deck jobs (with_words ws nothing_seen)
+    → (level_fault cards [] nothing_held (flat_map words_typed ws) false [] ≡ []) × Reads (rows_after rules [] (flat_map words_typed ws)) deck jobs (with_words ws nothing_seen)
 level_passes ws deck jobs fit deck_is jobs_is =
     let on = walks ws nothing_held nothing_seen nothing_stands fit in
-    let h : Held = (walk rules [] nothing_held (flat_map texts_of ws)).held in
+    let h : Held = (walk rules [] nothing_held (flat_map words_typed ws)).held in
     let end = ends ws deck jobs (with_words ws nothing_seen) deck_is jobs_is h on.1 in (
       ap₂ or_else on.0 (ap₂ or_else on.1.quiet (ap₂ or_else (good_defaults rules (settled rules h).rows (refl, (refl, (refl, (refl, (refl, (refl, (refl, tt)))))))) end.1)),
       end.0,
@@ -761,7 +761,7 @@ abbrev pub AllFilesFit : List CardsWord → Seen → Type 0
 AllFilesFit [] seen = Unit {0}
 AllFilesFit (file name ∷ ws) seen = FileFits seen.deck seen.jobs name × AllFilesFit ws (with_file seen.deck name seen)
 AllFilesFit (option o ∷ ws) seen = AllFilesFit ws (with_option o seen)
-AllFilesFit (named name ∷ ws) seen = Fits (named name) seen × AllFilesFit ws (with_word (named name) seen)
+AllFilesFit (named name ∷ ws) seen = WordFits (named name) seen × AllFilesFit ws (with_word (named name) seen)
 
 -- some option among the words was seen before it
 abbrev pub Repeats : List CardsWord → Seen → Type 0
@@ -771,25 +771,25 @@ Repeats (option o ∷ ws) seen = (is_seen o seen ≡ true) ⊎ ((is_seen o seen 
 Repeats (named name ∷ ws) seen = Repeats ws (with_word (named name) seen)
 
 repeats : (ws : List CardsWord) (h : Held) (seen : Seen) → Stands h seen → AllFilesFit ws seen → Repeats ws seen
-    → walk_fault cards [] (at h (position seen)) (flat_map texts_of ws) ≡ ArgumentConflict ∷ []
+    → walk_fault cards [] (at h (position seen)) (flat_map words_typed ws) ≡ ArgumentConflict ∷ []
 unfolding walk_fault
 repeats [] h seen st fit again = absurd again
 repeats (file name ∷ ws) h seen st fit again =
     let s = steps (file name) h seen st fit.0 in
-    (s.2 (flat_map texts_of ws)).0 ∙ repeats ws s.0 (with_word (file name) seen) s.1 fit.1 again
+    (s.2 (flat_map words_typed ws)).0 ∙ repeats ws s.0 (with_word (file name) seen) s.1 fit.1 again
 repeats (named name ∷ ws) h seen st fit again =
     let s = steps (named name) h seen st fit.0 in
-    (s.2 (flat_map texts_of ws)).0 ∙ repeats ws s.0 (with_word (named name) seen) s.1 fit.1 again
+    (s.2 (flat_map words_typed ws)).0 ∙ repeats ws s.0 (with_word (named name) seen) s.1 fit.1 again
 repeats (option o ∷ ws) h seen st fit (inl e) =
-    ap (λ ks. or_else ks (walk_fault cards [] (walked rules [] (at h (position seen)) (option_text o)) (flat_map texts_of ws)))
+    ap (λ ks. or_else ks (walk_fault cards [] (walked rules [] (at h (position seen)) (option_text o)) (flat_map words_typed ws)))
     (option_told o h (position seen) seen st ∙ ap conflict e)
 repeats (option o ∷ ws) h seen st fit (inr later) =
     let s = option_steps o h seen st later.0 in
-    (s.2 (flat_map texts_of ws)).0 ∙ repeats ws s.0 (with_option o seen) s.1 fit later.1
+    (s.2 (flat_map words_typed ws)).0 ∙ repeats ws s.0 (with_option o seen) s.1 fit later.1
 
 module _ (ws : List CardsWord) where
   abbrev ending : Held
-  ending = (walk rules [] nothing_held (flat_map texts_of ws)).held
+  ending = (walk rules [] nothing_held (flat_map words_typed ws)).held
 
   -- what comes after the walk
   abbrev after_words : Kinds
@@ -797,5 +797,5 @@ module _ (ws : List CardsWord) where
       (or_else (defaults_fault (settled rules ending).rows rules) (check_fault cards (finished rules ending) false)))
 
   -- the level of `cards` fails where an option stands twice
-  pub level_conflicts : AllFilesFit ws nothing_seen → Repeats ws nothing_seen → level_fault cards [] nothing_held (flat_map texts_of ws) false [] ≡ ArgumentConflict ∷ []
+  pub level_conflicts : AllFilesFit ws nothing_seen → Repeats ws nothing_seen → level_fault cards [] nothing_held (flat_map words_typed ws) false [] ≡ ArgumentConflict ∷ []
   level_conflicts fit again = ap (λ ks. or_else ks after_words) (repeats ws nothing_held nothing_seen nothing_stands fit again)

@@ -12,10 +12,10 @@ use Rattle.rje_words.specs.declared.order.Order.TheVariants.{Files, Sockets}
 use Rattle.rje_words.specs.declared.order.FileOrder.TheVariants.{Cards}
 use Rattle.rje_words.specs.declared.words_fault.WordsFault.{WordsFault}
 use Rattle.rje_words.specs.declared.words_fault.WordsFault.TheVariants.{Refused, TwoDevices, BadName, BadAddress}
-use Rattle.rje_words.specs.Asking.{IsFaultOf, IsGivenName, IsOrderOf, IsTold, device_in}
+use Rattle.rje_words.specs.Asking.{IsFaultOf, IsGivenName, IsOrderOf, IsWordsFault, device_in}
 use Rattle.rje_words.specs.Canonical.{BadNameTold, CardsAsked, RepeatedRefused, TwoDevicesTold}
-use Rattle.rje_words.specs.CardsWords.{CardsWord, DeviceOption, HaveFiles, HaveName, device_among, file, files_in, has_each_once, is_among, is_same, named, names_in, option, printer, punch, transparent, texts_of}
-use Rattle.rje_words.specs.CommandLine.{is_file, is_name, rje_app}
+use Rattle.rje_words.specs.CardsWords.{CardsWord, DeviceOption, HaveFiles, HaveName, device_among, file, files_in, has_each_once, is_among, is_same, named, names_in, option, printer, punch, transparent, words_typed}
+use Rattle.rje_words.specs.CommandLine.{is_file, names_file, rje_app}
 use Rattle.rje_words.specs.Device.{chosen}
 use Rattle.rje_words.specs.Orders.{IsCards}
 use Rattle.rje_words.specs.WordsFault.{IsRefusedFor, IsWantOfMemory}
@@ -82,8 +82,8 @@ words_seen o (w ∷ ws) seen =
 -- FILES THAT WERE SEEN
 
 abbrev FilesFit : Option Text → Option Text → List Text → Type 0
-FilesFit None None (deck ∷ jobs ∷ []) = (is_file deck ≡ true) × (is_name jobs ≡ true)
-FilesFit (Some deck) None (jobs ∷ []) = is_name jobs ≡ true
+FilesFit None None (deck ∷ jobs ∷ []) = (is_file deck ≡ true) × (names_file jobs ≡ true)
+FilesFit (Some deck) None (jobs ∷ []) = names_file jobs ≡ true
 FilesFit (Some deck) (Some jobs) [] = Unit {0}
 FilesFit _ _ _ = ⊥
 
@@ -119,7 +119,7 @@ file_fits (Some deck) (Some jobs) name names seen d j fit = absurd fit
 
 abbrev NamesFit : Option Text → List Text → Type 0
 NamesFit None [] = Unit {0}
-NamesFit None (name ∷ []) = is_name name ≡ true
+NamesFit None (name ∷ []) = names_file name ≡ true
 NamesFit (Some seen) [] = Unit {0}
 NamesFit _ _ = ⊥
 
@@ -144,7 +144,7 @@ name_seen (option o ∷ ws) seen = name_seen ws (with_option o seen) ∙ ap (λ 
 name_seen (named name ∷ ws) seen = name_seen ws (with_word (named name) seen)
 
 name_fits : (seen : Option Text) (name : Text) (names : List Text) → NamesFit seen (name ∷ names)
-    → (seen ≡ None) × (is_name name ≡ true) × NamesFit (Some name) names
+    → (seen ≡ None) × (names_file name ≡ true) × NamesFit (Some name) names
 name_fits None name [] fit = (refl, fit, tt)
 name_fits None name (n ∷ ns) fit = absurd fit
 name_fits (Some seen) name names fit = absurd fit
@@ -239,10 +239,10 @@ same_name (Some text) name other a b = a.3 ∙ sym b.3
 
 module _ (ws : List CardsWord) (deck jobs : Text) (given : Option Text) (have : HaveFiles ws deck jobs) (has_name : HaveName ws given) (once : has_each_once ws ≡ true) where
   abbrev words : List Text
-  words = codes "cards" ∷ flat_map texts_of ws
+  words = codes "cards" ∷ flat_map words_typed ws
 
   abbrev rows : List Row
-  rows = rows_after rules [] (flat_map texts_of ws)
+  rows = rows_after rules [] (flat_map words_typed ws)
 
   fit : AllFit ws nothing_seen
   fit = all_fit ws nothing_seen (subst (FilesFit None None) (sym have.both) (have.is_deck, have.is_job_file)) (names_fit ws given has_name).0 once (λ o. unseen o)
@@ -255,11 +255,11 @@ module _ (ws : List CardsWord) (deck jobs : Text) (given : Option Text) (have : 
   files_are : ◌≡◌ {A = Option Text × Option Text} ((with_words ws nothing_seen).deck, (with_words ws nothing_seen).jobs) (Some deck, Some jobs)
   files_are = files_seen ws nothing_seen ∙ ap (files_after None None) have.both
 
-  level : (level_fault cards [] nothing_held (flat_map texts_of ws) false [] ≡ []) × Reads rows deck jobs (with_words ws nothing_seen)
+  level : (level_fault cards [] nothing_held (flat_map words_typed ws) false [] ≡ []) × Reads rows deck jobs (with_words ws nothing_seen)
   level = level_passes ws deck jobs fit (ap (λ (p : Option Text × Option Text). p.0) files_are) (ap (λ (p : Option Text × Option Text). p.1) files_are)
 
   faultless : fault_of rje_app words ≡ []
-  faultless = cards_fault (flat_map texts_of ws) ∙ level.0
+  faultless = cards_fault (flat_map words_typed ws) ∙ level.0
 
   device_is : device_in rows ≡ device_among ws
   device_is = same_choice _ _ _ _ _ _ (level.1.for_printer ∙ words_seen printer ws nothing_seen) (level.1.for_punch ∙ words_seen punch ws nothing_seen)
@@ -270,23 +270,23 @@ module _ (ws : List CardsWord) (deck jobs : Text) (given : Option Text) (have : 
 
   -- what holds of the command that is met holds of these rows
   of_rows : (P : Text → List Row → Type 0) → IsSomeAnd (subcommand_of rje_app words) (λ met. P met.0 met.1) → P (codes "cards") rows
-  of_rows P h = subst (λ o. IsSomeAnd o (λ met. P met.0 met.1)) (cards_met (flat_map texts_of ws)) h
+  of_rows P h = subst (λ o. IsSomeAnd o (λ met. P met.0 met.1)) (cards_met (flat_map words_typed ws)) h
 
   -- clap refuses nothing of the words, and finds no address
   memory : (fault : WordsFault) → (IsFaultOf (codes "cards") rows TwoDevices → ⊥) → (IsFaultOf (codes "cards") rows BadName → ⊥)
-      → IsTold words fault → IsWantOfMemory fault
+      → IsWordsFault words fault → IsWantOfMemory fault
   memory (Refused error) no_two no_bad h = memory_only error (subst (λ kinds. HasKind kinds error) faultless h)
   memory TwoDevices no_two no_bad h = absurd (no_two (of_rows (λ name rs. IsFaultOf name rs TwoDevices) h.1))
   memory BadName no_two no_bad h = absurd (no_bad (of_rows (λ name rs. IsFaultOf name rs BadName) h.1))
   memory BadAddress no_two no_bad h = absurd (no_address (codes "cards") rows refl refl (of_rows (λ name rs. IsFaultOf name rs BadAddress) h.1))
 
-  two_or_memory : device_among ws ≡ None → (fault : WordsFault) → IsTold words fault → (fault ≡ TwoDevices) ⊎ IsWantOfMemory fault
+  two_or_memory : device_among ws ≡ None → (fault : WordsFault) → IsWordsFault words fault → (fault ≡ TwoDevices) ⊎ IsWantOfMemory fault
   two_or_memory two (Refused error) h = inr (memory_only error (subst (λ kinds. HasKind kinds error) faultless h))
   two_or_memory two TwoDevices h = inl refl
   two_or_memory two BadName h = absurd ((of_rows (λ name rs. IsFaultOf name rs BadName) h.1).1.0 (device_is ∙ two))
   two_or_memory two BadAddress h = absurd (no_address (codes "cards") rows refl refl (of_rows (λ name rs. IsFaultOf name rs BadAddress) h.1))
 
-  bad_or_memory : (device : Device) → device_among ws ≡ Some device → (fault : WordsFault) → IsTold words fault → (fault ≡ BadName) ⊎ IsWantOfMemory fault
+  bad_or_memory : (device : Device) → device_among ws ≡ Some device → (fault : WordsFault) → IsWordsFault words fault → (fault ≡ BadName) ⊎ IsWantOfMemory fault
   bad_or_memory device one (Refused error) h = inr (memory_only error (subst (λ kinds. HasKind kinds error) faultless h))
   bad_or_memory device one TwoDevices h = absurd (none_some (sym one ∙ sym device_is ∙ (of_rows (λ name rs. IsFaultOf name rs TwoDevices) h.1).1))
     where
@@ -421,15 +421,15 @@ some_repeat (option o ∷ ws) seen e = by_cases (is_seen o seen) (λ t. inl t) (
 ))
 
 module _ (ws : List CardsWord) (deck jobs : Text) (given : Option Text) (have : HaveFiles ws deck jobs) (has_name : HaveName ws given) (twice : has_each_once ws ≡ false) where
-  conflicts : fault_of rje_app (codes "cards" ∷ flat_map texts_of ws) ≡ ArgumentConflict ∷ []
+  conflicts : fault_of rje_app (codes "cards" ∷ flat_map words_typed ws) ≡ ArgumentConflict ∷ []
   conflicts =
-      cards_fault (flat_map texts_of ws)
+      cards_fault (flat_map words_typed ws)
       ∙ level_conflicts ws (all_files_fit ws nothing_seen (subst (FilesFit None None) (sym have.both) (have.is_deck, have.is_job_file)) (names_fit ws given has_name).0) (some_repeat ws nothing_seen twice)
 
-  faulty : fault_of rje_app (codes "cards" ∷ flat_map texts_of ws) ≡ [] → ⊥
+  faulty : fault_of rje_app (codes "cards" ∷ flat_map words_typed ws) ≡ [] → ⊥
   faulty none = let e : ArgumentConflict ∷ [] ≡ [] = sym conflicts ∙ none in cc
 
-  told_twice : (fault : WordsFault) → IsTold (codes "cards" ∷ flat_map texts_of ws) fault → IsRefusedFor ArgumentConflict fault ⊎ IsWantOfMemory fault
+  told_twice : (fault : WordsFault) → IsWordsFault (codes "cards" ∷ flat_map words_typed ws) fault → IsRefusedFor ArgumentConflict fault ⊎ IsWantOfMemory fault
   told_twice (Refused error) h = elim (subst (λ kinds. HasKind kinds error) conflicts h) [
     | inl memory ↦ inr memory
     | inr (inl is) ↦ inl is

@@ -16,9 +16,9 @@ use Rattle.rje_words.specs.declared.order.SocketOrder.{SocketOrder}
 use Rattle.rje_words.specs.declared.order.SocketOrder.TheVariants.{Loop, Send, Receive}
 use Rattle.rje_words.specs.declared.words_fault.WordsFault.{WordsFault}
 use Rattle.rje_words.specs.declared.words_fault.WordsFault.TheVariants.{Refused, TwoDevices, BadName, BadAddress}
-use Rattle.rje_words.specs.Asking.{AsksFor, IsFaultOf, IsOrderOf, IsTold, word_in}
+use Rattle.rje_words.specs.Asking.{AsksFor, IsFaultOf, IsOrderOf, IsWordsFault, word_in}
 use Rattle.rje_words.specs.Canonical.{AskOnlyFor, BlocksAsked, ShowAsked, CheckAsked, PrintAsked, TryAsked}
-use Rattle.rje_words.specs.CommandLine.{rje_app, is_file, is_name}
+use Rattle.rje_words.specs.CommandLine.{rje_app, is_file, names_file}
 use Rattle.rje_words.specs.Orders.{IsBlocks, IsShow, IsCheck, IsPrint, IsTry}
 use Rattle.rje_words.specs.WordsFault.{IsWantOfMemory}
 
@@ -50,7 +50,7 @@ pub record AreTaken {V : Type 0} (view : List Row → V) (words : List Text) (na
 
 module _ {V : Type 0} (view : List Row → V) (word : Text) (words : List Text) (name : Text) (value : V) (taken : AreTaken view (word ∷ words) name value) where
   pub only_memory : (bytes_eq name (codes "cards") ≡ false) → ((rows : List Row) → IsFaultOf name rows BadAddress → ⊥)
-      → (fault : WordsFault) → IsTold (word ∷ words) fault → IsWantOfMemory fault
+      → (fault : WordsFault) → IsWordsFault (word ∷ words) fault → IsWantOfMemory fault
   only_memory two bad (Refused error) h = memory_only error (subst (λ kinds. HasKind kinds error) taken.faultless h)
   only_memory two bad TwoDevices h = let r = as_seen view _ name value (λ n rows. IsFaultOf n rows TwoDevices) taken.found h.1 in absurd (apart _ _ r.2.0 two)
   only_memory two bad BadName h = let r = as_seen view _ name value (λ n rows. IsFaultOf n rows BadName) taken.found h.1 in absurd (apart _ _ r.2.0 two)
@@ -121,11 +121,11 @@ show_name_taken : (c : ℕ) (rest : List ℕ) → (c == 45) ≡ false → fault_
 unfolding clap_on_literals
 show_name_taken c rest h = rw (h, h) refl
 
-pub show_found : (jobs : List ℕ) → is_name jobs ≡ true → seen jobs_in (subcommand_of rje_app (codes "show" ∷ jobs ∷ [])) ≡ Some (codes "show", jobs)
+pub show_found : (jobs : List ℕ) → names_file jobs ≡ true → seen jobs_in (subcommand_of rje_app (codes "show" ∷ jobs ∷ [])) ≡ Some (codes "show", jobs)
 show_found [] h = cc
 show_found (c ∷ rest) h = show_name c rest (not_false (c == 45) h)
 
-pub show_taken : (jobs : List ℕ) → is_name jobs ≡ true → fault_of rje_app (codes "show" ∷ jobs ∷ []) ≡ []
+pub show_taken : (jobs : List ℕ) → names_file jobs ≡ true → fault_of rje_app (codes "show" ∷ jobs ∷ []) ≡ []
 show_taken [] h = cc
 show_taken (c ∷ rest) h = show_name_taken c rest (not_false (c == 45) h)
 
@@ -138,11 +138,11 @@ check_name_taken : (c : ℕ) (rest : List ℕ) → (c == 45) ≡ false → fault
 unfolding clap_on_literals
 check_name_taken c rest h = rw (h, h) refl
 
-pub check_found : (jobs : List ℕ) → is_name jobs ≡ true → seen jobs_in (subcommand_of rje_app (codes "check" ∷ jobs ∷ [])) ≡ Some (codes "check", jobs)
+pub check_found : (jobs : List ℕ) → names_file jobs ≡ true → seen jobs_in (subcommand_of rje_app (codes "check" ∷ jobs ∷ [])) ≡ Some (codes "check", jobs)
 check_found [] h = cc
 check_found (c ∷ rest) h = check_name c rest (not_false (c == 45) h)
 
-pub check_taken : (jobs : List ℕ) → is_name jobs ≡ true → fault_of rje_app (codes "check" ∷ jobs ∷ []) ≡ []
+pub check_taken : (jobs : List ℕ) → names_file jobs ≡ true → fault_of rje_app (codes "check" ∷ jobs ∷ []) ≡ []
 check_taken [] h = cc
 check_taken (c ∷ rest) h = check_name_taken c rest (not_false (c == 45) h)
 
@@ -155,11 +155,11 @@ print_name_taken : (c : ℕ) (rest : List ℕ) → (c == 45) ≡ false → fault
 unfolding clap_on_literals
 print_name_taken c rest h = rw (h, h) refl
 
-pub print_found : (jobs : List ℕ) → is_name jobs ≡ true → seen jobs_in (subcommand_of rje_app (codes "print" ∷ jobs ∷ [])) ≡ Some (codes "print", jobs)
+pub print_found : (jobs : List ℕ) → names_file jobs ≡ true → seen jobs_in (subcommand_of rje_app (codes "print" ∷ jobs ∷ [])) ≡ Some (codes "print", jobs)
 print_found [] h = cc
 print_found (c ∷ rest) h = print_name c rest (not_false (c == 45) h)
 
-pub print_taken : (jobs : List ℕ) → is_name jobs ≡ true → fault_of rje_app (codes "print" ∷ jobs ∷ []) ≡ []
+pub print_taken : (jobs : List ℕ) → names_file jobs ≡ true → fault_of rje_app (codes "print" ∷ jobs ∷ []) ≡ []
 print_taken [] h = cc
 print_taken (c ∷ rest) h = print_name_taken c rest (not_false (c == 45) h)
 
@@ -182,13 +182,13 @@ try_names_taken : (c d : ℕ) (cs ds : List ℕ) → (c == 45) ≡ false → (d 
 unfolding clap_on_literals
 try_names_taken c d cs ds h k = rw (h, h, k, k) refl
 
-pub try_found : (jobs script : List ℕ) → is_name jobs ≡ true → is_name script ≡ true
+pub try_found : (jobs script : List ℕ) → names_file jobs ≡ true → names_file script ≡ true
     → seen files_in (subcommand_of rje_app (codes "try" ∷ jobs ∷ script ∷ [])) ≡ Some (codes "try", record { jobs = jobs; script = script })
 try_found [] script h k = cc
 try_found (c ∷ cs) [] h k = cc
 try_found (c ∷ cs) (d ∷ ds) h k = try_names c d cs ds (not_false (c == 45) h) (not_false (d == 45) k)
 
-pub try_taken : (jobs script : List ℕ) → is_name jobs ≡ true → is_name script ≡ true → fault_of rje_app (codes "try" ∷ jobs ∷ script ∷ []) ≡ []
+pub try_taken : (jobs script : List ℕ) → names_file jobs ≡ true → names_file script ≡ true → fault_of rje_app (codes "try" ∷ jobs ∷ script ∷ []) ≡ []
 try_taken [] script h k = cc
 try_taken (c ∷ cs) [] h k = cc
 try_taken (c ∷ cs) (d ∷ ds) h k = try_names_taken c d cs ds (not_false (c == 45) h) (not_false (d == 45) k)

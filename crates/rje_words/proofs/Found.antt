@@ -14,7 +14,7 @@ use Rattle.clap.specs.declared.parser.ArgMatches.TheViews.{out-ArgMatches}
 use Rattle.rje_words.specs.declared.order.Order.{Order}
 use Rattle.rje_words.specs.declared.words_fault.WordsFault.{WordsFault}
 use Rattle.rje_words.specs.declared.words_fault.WordsFault.TheVariants.{Refused, TwoDevices, BadName, BadAddress}
-use Rattle.rje_words.specs.Asking.{AsksFor, IsFound, IsOrderOf, IsTimeoutOf, IsFaultOf, IsTold}
+use Rattle.rje_words.specs.Asking.{AsksFor, IsFound, IsOrderOf, IsTimeoutOf, IsFaultOf, IsWordsFault}
 use Rattle.rje_words.specs.CommandLine.{rje_app}
 
 -- WHAT IS READ OF A VALUE
@@ -101,17 +101,17 @@ none_refused None error h = h
 none_refused (Some m) error h = h
 
 module _ (words : List Text) (some_word : words ≢ []) where
-  pub refused_told : (error : Error) → HasKind (fault_of rje_app words) error → IsTold words (Refused error)
+  pub refused_told : (error : Error) → HasKind (fault_of rje_app words) error → IsWordsFault words (Refused error)
   refused_told error h = go words some_word h
     where
-      go : (ws : List Text) → ws ≢ [] → HasKind (fault_of rje_app ws) error → IsTold ws (Refused error)
+      go : (ws : List Text) → ws ≢ [] → HasKind (fault_of rje_app ws) error → IsWordsFault ws (Refused error)
       go [] ne h = absurd (ne refl)
       go (w ∷ ws) ne h = h
 
   pub results_told : (r : Result Order WordsFault) (error : Error) → IsErrAnd r (λ fault. fault ≡ Refused error) → HasKind (fault_of rje_app words) error
-      → IfErr r (IsTold words)
+      → IfErr r (IsWordsFault words)
   results_told (Ok order) error is h = tt
-  results_told (Err fault) error is h = subst (IsTold words) (sym is) (refused_told error h)
+  results_told (Err fault) error is h = subst (IsWordsFault words) (sym is) (refused_told error h)
 
   pub order_asked : (order : Order) → IsFound words (λ name rows. IsOrderOf name rows order) → AsksFor words order
   order_asked order h = go words some_word h
@@ -120,10 +120,10 @@ module _ (words : List Text) (some_word : words ≢ []) where
       go [] ne h = absurd (ne refl)
       go (w ∷ ws) ne h = h
 
-  pub fault_told : (fault : WordsFault) → IsFound words (λ name rows. IsFaultOf name rows fault) → IsTold words fault
+  pub fault_told : (fault : WordsFault) → IsFound words (λ name rows. IsFaultOf name rows fault) → IsWordsFault words fault
   fault_told fault h = go words some_word fault h
     where
-      go : (ws : List Text) → ws ≢ [] → (f : WordsFault) → IsFound ws (λ name rows. IsFaultOf name rows f) → IsTold ws f
+      go : (ws : List Text) → ws ≢ [] → (f : WordsFault) → IsFound ws (λ name rows. IsFaultOf name rows f) → IsWordsFault ws f
       go [] ne f h = absurd (ne refl)
       go (w ∷ ws) ne (Refused error) h = absurd (none_refused (subcommand_of rje_app (w ∷ ws)) error h.1)
       go (w ∷ ws) ne TwoDevices h = h
@@ -135,6 +135,6 @@ module _ (words : List Text) (some_word : words ≢ []) where
     orders_asked (Ok order) h = order_asked order (taken, some_and (subcommand_of rje_app words) (name, rows) (λ m. IsOrderOf m.0 m.1 order) met h)
     orders_asked (Err fault) h = tt
 
-    pub faults_told : (r : Result Order WordsFault) → IfErr r (IsFaultOf name rows) → IfErr r (IsTold words)
+    pub faults_told : (r : Result Order WordsFault) → IfErr r (IsFaultOf name rows) → IfErr r (IsWordsFault words)
     faults_told (Ok order) h = tt
     faults_told (Err fault) h = fault_told fault (taken, some_and (subcommand_of rje_app words) (name, rows) (λ m. IsFaultOf m.0 m.1 fault) met h)

@@ -103,7 +103,7 @@ AsksFor (word ∷ words) order = IsFound (word ∷ words) (λ name rows. IsOrder
 
 -- this is why the words ask for nothing that can be done: clap refuses them, memory ran out, or they choose two devices, or a name
 -- or an address that is none
-abbrev pub IsTold : List Text → WordsFault → Type 0
-IsTold [] fault = ⊥
-IsTold words (Refused error) = HasKind (fault_of rje_app words) error
-IsTold words fault = IsFound words (λ name rows. IsFaultOf name rows fault)
+abbrev pub IsWordsFault : List Text → WordsFault → Type 0
+IsWordsFault [] fault = ⊥
+IsWordsFault words (Refused error) = HasKind (fault_of rje_app words) error
+IsWordsFault words fault = IsFound words (λ name rows. IsFaultOf name rows fault)

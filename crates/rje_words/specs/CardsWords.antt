@@ -2,7 +2,7 @@
 use Rattle.std.specs.Prelude.{◌≡◌, Bool, false, true, not, ◌||◌, ◌&&◌, List, [], ◌∷◌, Option, None, Some, codes}
 use Rattle.clap.specs.Words.{Text}
 use Rattle.rje_words.specs.declared.device.Device.{Device}
-use Rattle.rje_words.specs.CommandLine.{is_file, is_name}
+use Rattle.rje_words.specs.CommandLine.{is_file, names_file}
 use Rattle.rje_words.specs.Device.{chosen}
 
 -- an option for a device
@@ -24,10 +24,10 @@ option_text punch = codes "--punch"
 option_text transparent = codes "--transparent"
 
 -- the word, or the two, as they are written
-abbrev pub texts_of : CardsWord → List Text
-texts_of (file name) = name ∷ []
-texts_of (option o) = option_text o ∷ []
-texts_of (named name) = codes "--name" ∷ name ∷ []
+abbrev pub words_typed : CardsWord → List Text
+words_typed (file name) = name ∷ []
+words_typed (option o) = option_text o ∷ []
+words_typed (named name) = codes "--name" ∷ name ∷ []
 
 -- the files among the words, in their order
 abbrev pub files_in : List CardsWord → List Text
@@ -72,9 +72,9 @@ device_among words = chosen (is_among printer words) (is_among punch words) (is_
 pub record HaveFiles (words : List CardsWord) (deck jobs : Text) : Type 0 where
   pub both : files_in words ≡ deck ∷ jobs ∷ []
   pub is_deck : is_file deck ≡ true
-  pub is_job_file : is_name jobs ≡ true
+  pub is_job_file : names_file jobs ≡ true
 
 -- the names among the words are just this one, which has no hyphen in front, or there is none
 abbrev pub HaveName : List CardsWord → Option Text → Type 0
 HaveName words None = names_in words ≡ []
-HaveName words (Some name) = (names_in words ≡ name ∷ []) × (is_name name ≡ true)
+HaveName words (Some name) = (names_in words ≡ name ∷ []) × (names_file name ≡ true)

@@ -85,9 +85,9 @@ rje_app =
     try_app.top) loop_app.top) send_app.top) receive_app.top
 
 -- a word that names a file: more than nothing, without a hyphen in front
-abbrev pub is_name : Text → Bool
-is_name [] = false
-is_name (c ∷ rest) = not (c == 45)
+abbrev pub names_file : Text → Bool
+names_file [] = false
+names_file (c ∷ rest) = not (c == 45)
 
 -- a word that names a deck: a single character, which may be the hyphen, or more without a hyphen in front
 abbrev pub is_file : Text → Bool

@@ -5,11 +5,11 @@ use Rattle.rje_text.specs.declared.select.Select.{Select}
 use Rattle.rje_words.specs.declared.device.Device.{Device}
 
 -- the selection of the job
-abbrev pub selection : Device → Select
-selection Device.Default = Select.Unset
-selection Device.Printer = Select.Printer
-selection Device.Punch = Select.Punch
-selection Device.Transparent = Select.Punch
+abbrev pub select_of : Device → Select
+select_of Device.Default = Select.Unset
+select_of Device.Printer = Select.Printer
+select_of Device.Punch = Select.Punch
+select_of Device.Transparent = Select.Punch
 
 -- how its texts are written
 abbrev pub writing : Device → Mode

@@ -1,6 +1,6 @@
 //! The devices that a deck's job may be for.
 ghost use Rattle.std.specs.Prelude.{◌≡◌};
-ghost use Rattle.rje_words.specs.Device.{selection, writing, chosen};
+ghost use Rattle.rje_words.specs.Device.{select_of, writing, chosen};
 
 use rje_text::{Mode, Select};
 
@@ -33,7 +33,7 @@ impl Device {
 
     /// The selection of the job.
     pub fn select(self) -> Select
-        ensures selection { result ≡ selection self }
+        ensures selection { result ≡ select_of self }
     {
         match self {
             Device::Default => Select::Unset,

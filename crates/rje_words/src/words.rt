@@ -3,7 +3,7 @@ ghost use Rattle.std.specs.Prelude.{◌≡◌, Some, map, codes, IfOk, IfErr, op
 ghost use Rattle.clap.specs.Words.{first_of, found_of, one_of, rows_of};
 ghost use Rattle.rje_words.specs.CommandLine.{IsOneOf, command_names};
 ghost use Rattle.rje_words.specs.Address.{IsAddressOf};
-ghost use Rattle.rje_words.specs.Asking.{AsksFor, IsTold, IsOrderOf, IsFaultOf, IsCardsOrderOf, IsCardsFaultOf};
+ghost use Rattle.rje_words.specs.Asking.{AsksFor, IsWordsFault, IsOrderOf, IsFaultOf, IsCardsOrderOf, IsCardsFaultOf};
 ghost use Rattle.rje_words.specs.Asking.{IsLoopOrderOf, IsPeerOrderOf, IsTimeoutOf, IsGivenName};
 ghost use Rattle.rje_words.specs.Asking.{word_in, is_on};
 
@@ -25,7 +25,7 @@ pub const STANDARD_INPUT: &str = "-";
 /// blocks of the deck on standard input.
 pub fn parse<'a>(alloc: Global, words: &'a [&'a str]) -> Result<Order<'a>, WordsFault>
     ensures asked { IfOk result (AsksFor (map (λ word. word.now) words.entry.now)) }
-    ensures told { IfErr result (IsTold (map (λ word. word.now) words.entry.now)) }
+    ensures told { IfErr result (IsWordsFault (map (λ word. word.now) words.entry.now)) }
 {
     if words.is_empty() {
         return Ok(Order::Files(FileOrder::Blocks(STANDARD_INPUT)));

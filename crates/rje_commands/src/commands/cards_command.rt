@@ -6,8 +6,8 @@ ghost use Rattle.rje_files.specs.declared.job_file.version.FileVersion.TheVarian
 ghost use Rattle.rje_words.specs.declared.order.FileOrder.{FileOrder};
 ghost use Rattle.rje_commands.specs.Commands.{Does, IsFault, Leaves, OfDeck, MakesFile};
 ghost use Rattle.rje_commands.specs.Commands.{deck_entry, deck_job};
-ghost use Rattle.rje_commands.specs.Inside.{IsDeckFault};
-ghost use Rattle.rje_commands.specs.Store.{Tells, IsSame};
+ghost use Rattle.rje_commands.specs.Inside.{IsCardsFault};
+ghost use Rattle.rje_commands.specs.Store.{Discloses, IsSame};
 
 use crate::command_fault::CommandFault;
 use crate::commands::inputs::read_deck;
@@ -37,7 +37,7 @@ pub fn cards<'a, S: Store, I: Read, O: Write>(
     ensures files { Leaves (FileOrder.Cards order.entry)
         (S.files store.old) (S.files store.new) (I.remaining input.old) }
     ensures kept { IfErr result (λ fault. fault ≢ CommandFault.Output
-        → Tells (S.files store.old) (S.files store.new) IsSame) }
+        → Discloses (S.files store.old) (S.files store.new) IsSame) }
     ensures made { IfErr result (λ fault. fault ≡ CommandFault.Output
         → OfDeck order.entry.deck.now (S.files store.old) (I.remaining input.old) (λ deck.
         MakesFile order.entry deck (S.files store.old) (S.files store.new))) }
@@ -67,7 +67,7 @@ fn card_file<'a>(
     ensures file { IfOk result (λ made.
         IsEntryFileOf Second (deck_entry device name deck.now ∷ []) made.bytes.items) }
     ensures count { IfOk result (λ made. made.count ≡ length (deck_job device deck.now).records) }
-    ensures fault { IfErr result (IsDeckFault deck.now) }
+    ensures fault { IfErr result (IsCardsFault deck.now) }
 {
     let job = job_of_deck(alloc, deck, device.select(), device.mode())?;
     let count = job.records.len();

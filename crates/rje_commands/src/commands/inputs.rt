@@ -3,7 +3,7 @@ ghost use Rattle.std.specs.Prelude.{◌≡◌, IfOk, IfErr};
 ghost use Rattle.rje_files.specs.JobFile.{HasEntries, HasJobs};
 ghost use Rattle.rje_commands.specs.Commands.{OfDeck, OfFile};
 ghost use Rattle.rje_commands.specs.Inside.{IsReadFault, IsInputFault};
-ghost use Rattle.rje_commands.specs.Store.{Tells, IsSame};
+ghost use Rattle.rje_commands.specs.Store.{Discloses, IsSame};
 
 use crate::command_fault::CommandFault;
 use crate::reading::read_all;
@@ -25,7 +25,7 @@ pub fn read_deck<'a, S: Store, I: Read>(
         OfDeck name.entry.now (S.files store.old) (I.remaining input.old)
         (λ deck. bytes.items ≡ deck)) }
     ensures fault { IfErr result (IsReadFault name.entry.now) }
-    ensures same { Tells (S.files store.old) (S.files store.new) IsSame }
+    ensures same { Discloses (S.files store.old) (S.files store.new) IsSame }
 {
     let read = if name == STANDARD_INPUT {
         read_all(alloc, input)
@@ -47,7 +47,7 @@ pub fn read_file<'a, S: Store>(
     ensures file { IfOk result (λ bytes.
         OfFile name.entry.now (S.files store.old) (λ file. bytes.items ≡ file)) }
     ensures fault { IfErr result (IsReadFault name.entry.now) }
-    ensures same { Tells (S.files store.old) (S.files store.new) IsSame }
+    ensures same { Discloses (S.files store.old) (S.files store.new) IsSame }
 {
     match store.read(alloc, name) {
         Ok(bytes) => Ok(bytes),
@@ -64,7 +64,7 @@ pub fn read_entry_file<'a, S: Store>(
     ensures file { IfOk result (λ entries.
         OfFile name.entry.now (S.files store.old) (λ file. HasEntries entries.items file)) }
     ensures fault { IfErr result (IsInputFault name.entry.now (S.files store.old)) }
-    ensures same { Tells (S.files store.old) (S.files store.new) IsSame }
+    ensures same { Discloses (S.files store.old) (S.files store.new) IsSame }
 {
     let bytes = read_file(alloc, name, store)?;
     Ok(read_entries(alloc, bytes.as_slice())?)
@@ -79,7 +79,7 @@ pub fn read_job_file<'a, S: Store>(
     ensures file { IfOk result (λ jobs.
         OfFile name.entry.now (S.files store.old) (λ file. HasJobs jobs file)) }
     ensures fault { IfErr result (IsInputFault name.entry.now (S.files store.old)) }
-    ensures same { Tells (S.files store.old) (S.files store.new) IsSame }
+    ensures same { Discloses (S.files store.old) (S.files store.new) IsSame }
 {
     let entries = read_entry_file(alloc, name, store)?;
     Ok(jobs_of(alloc, entries)?)

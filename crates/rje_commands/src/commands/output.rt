@@ -2,7 +2,7 @@
 ghost use Rattle.std.specs.Prelude.{◌≡◌, ◌≤◌, length, OnOk, OnErr, IfErr};
 ghost use Rattle.std.specs.List.{flat_map};
 ghost use Rattle.rje_commands.specs.Inside.{IsWriteFault};
-ghost use Rattle.rje_commands.specs.Store.{Tells, IsSame, Sets};
+ghost use Rattle.rje_commands.specs.Store.{Discloses, IsSame, Sets};
 ghost use Rattle.std.specs.Io.KnownBytes.{Appends};
 
 use crate::command_fault::CommandFault;
@@ -40,11 +40,11 @@ pub fn write_file<'a, S: Store>(
     bytes: &[u8],
     store: &mut S,
 ) -> Result<(), CommandFault<'a>>
-    ensures sets { OnOk result (Tells (S.files store.old) (S.files store.new)
+    ensures sets { OnOk result (Discloses (S.files store.old) (S.files store.new)
         (Sets name.entry.now bytes.now)) }
     ensures limit { OnOk result (length bytes.now ≤ MAX_INPUT) }
     ensures fault { IfErr result (IsWriteFault name.entry.now) }
-    ensures same { OnErr result (Tells (S.files store.old) (S.files store.new) IsSame) }
+    ensures same { OnErr result (Discloses (S.files store.old) (S.files store.new) IsSame) }
 {
     if MAX_INPUT < bytes.len() {
         return Err(CommandFault::CannotWrite(name));
@@ -58,7 +58,7 @@ pub fn write_file<'a, S: Store>(
 /// Looks whether a file of this name can be written, before there is anything to write.
 pub fn look_at_file<'a, S: Store>(name: &'a str, store: &mut S) -> Result<(), CommandFault<'a>>
     ensures fault { IfErr result (IsWriteFault name.entry.now) }
-    ensures same { Tells (S.files store.old) (S.files store.new) IsSame }
+    ensures same { Discloses (S.files store.old) (S.files store.new) IsSame }
 {
     match store.look(name) {
         Ok(()) => Ok(()),

@@ -2,7 +2,7 @@
 ghost use Rattle.std.specs.Prelude.{◌≡◌, ◌≢◌, IfErr, OnOk, None};
 ghost use Rattle.rje_words.specs.declared.order.FileOrder.{FileOrder};
 ghost use Rattle.rje_commands.specs.Commands.{Does, IsFault};
-ghost use Rattle.rje_commands.specs.Store.{Tells, IsSame};
+ghost use Rattle.rje_commands.specs.Store.{Discloses, IsSame};
 
 use crate::command_fault::CommandFault;
 use crate::commands::inputs::read_job_file;
@@ -23,7 +23,7 @@ pub fn print<'a, S: Store, O: Write>(
         (S.files store.old) (S.files store.new)
         None (O.contents out.old) (O.contents out.new)) }
     ensures fault { IfErr result (IsFault (FileOrder.Print name.entry) (S.files store.old) None) }
-    ensures same { Tells (S.files store.old) (S.files store.new) IsSame }
+    ensures same { Discloses (S.files store.old) (S.files store.new) IsSame }
     ensures silent { IfErr result (λ fault. fault ≢ CommandFault.Output → out.new ≡ out.old) }
 {
     let jobs = read_job_file(alloc, name, store)?;

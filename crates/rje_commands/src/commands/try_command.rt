@@ -3,7 +3,7 @@ ghost use Rattle.std.specs.Prelude.{◌≡◌, ◌≢◌, IfErr, IfOk, OnOk, Non
 ghost use Rattle.rje_words.specs.declared.order.FileOrder.{FileOrder};
 ghost use Rattle.rje_commands.specs.Commands.{Does, IsFault, IsRunText};
 ghost use Rattle.rje_commands.specs.Inside.{IsTryFault};
-ghost use Rattle.rje_commands.specs.Store.{Tells, IsSame};
+ghost use Rattle.rje_commands.specs.Store.{Discloses, IsSame};
 
 use crate::command_fault::CommandFault;
 use crate::commands::inputs::read_file;
@@ -27,7 +27,7 @@ pub fn trial<'a, S: Store, O: Write>(
         (S.files store.old) (S.files store.new)
         None (O.contents out.old) (O.contents out.new)) }
     ensures fault { IfErr result (IsFault (FileOrder.Try order.entry) (S.files store.old) None) }
-    ensures same { Tells (S.files store.old) (S.files store.new) IsSame }
+    ensures same { Discloses (S.files store.old) (S.files store.new) IsSame }
     ensures silent { IfErr result (λ fault. fault ≢ CommandFault.Output → out.new ≡ out.old) }
 {
     let file = read_file(alloc, order.jobs, store)?;

@@ -6,7 +6,7 @@ ghost use Rattle.rje_station.specs.Sending.{outcome_of};
 ghost use Rattle.line_world.specs.AnyLines.{SendsToEnd};
 ghost use Rattle.rje_commands.specs.Commands.{OfFile};
 ghost use Rattle.rje_commands.specs.Ending.{ending_of, sent_text, MarksSent, SendsLeft, EndsSending};
-ghost use Rattle.rje_commands.specs.Store.{Tells, IsSame};
+ghost use Rattle.rje_commands.specs.Store.{Discloses, IsSame};
 
 use crate::command_fault::CommandFault;
 use crate::commands::{put_lines, read_file, write_file};
@@ -95,7 +95,7 @@ fn job_file<'a, S: Store>(
     ensures name { IfOk result (λ file. file.name.now ≡ name.entry.now) }
     ensures bytes { IfOk result (λ file. OfFile name.entry.now (S.files store.old)
         (λ read. file.bytes.items ≡ read)) }
-    ensures same { Tells (S.files store.old) (S.files store.new) IsSame }
+    ensures same { Discloses (S.files store.old) (S.files store.new) IsSame }
 {
     let bytes = read_file(alloc, name, store)?;
     Ok(JobFile { name, bytes })

@@ -1,7 +1,7 @@
 //! Whether bytes are a job file, and else why not. Takes no memory.
 ghost use Rattle.std.specs.Prelude.{◌≡◌, ◌∷◌, ◌<◌, List, ℕ, length, take, slice_index, IfSome, IfNone};
 ghost use Rattle.rje_files.specs.JobFile.{IsFileUpTo};
-ghost use Rattle.rje_files.specs.FileFault.{IsTold};
+ghost use Rattle.rje_files.specs.FileFault.{IsFileFault};
 ghost use Rattle.rje_files.specs.Reading.Reader.{Expects, HasRead};
 
 use super::reader::Reader;
@@ -10,7 +10,7 @@ use rje_jobs::FileFault;
 
 /// What is told of bytes that are no job file; None for a job file of this version or an older one.
 pub(super) fn first_fault(newest: FileVersion, bytes: &[u8]) -> Option<FileFault>
-    ensures fault { IfSome result (λ fault. IsTold (IsFileUpTo newest) bytes.now fault) }
+    ensures fault { IfSome result (λ fault. IsFileFault (IsFileUpTo newest) bytes.now fault) }
     ensures file { IfNone result (IsFileUpTo newest bytes.now) }
 {
     let mut reader = Reader::new(newest);
@@ -32,7 +32,7 @@ fn fault_at(newest: FileVersion, bytes: &[u8], place: usize, reader: Reader) -> 
     requires within { place < length bytes.now }
     requires read { HasRead (IsFileUpTo newest) (take place bytes.now) reader }
     requires refused { (xs : List ℕ) → Expects reader (slice_index bytes.now place ∷ xs) → ⊥ }
-    ensures { IsTold (IsFileUpTo newest) bytes.now result }
+    ensures { IsFileFault (IsFileUpTo newest) bytes.now result }
 {
     if place < 4 {
         FileFault::NotJobFile

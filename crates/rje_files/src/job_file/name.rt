@@ -1,6 +1,6 @@
 //! Which entries have a name, and a state that their job can have.
 ghost use Rattle.std.specs.Prelude.{◌≡◌};
-ghost use Rattle.rje_files.specs.Entry.{is_entry, bad_entry, is_name, whole_of};
+ghost use Rattle.rje_files.specs.Entry.{is_entry, bad_entry, is_job_name, whole_of};
 ghost use Rattle.rje_files.specs.Entry.{may_stand as MayStand};
 
 use crate::name::is_name_byte;
@@ -25,7 +25,7 @@ fn is_good(entry: &Entry) -> bool
 }
 
 fn has_name(name: &[u8; 8]) -> bool
-    ensures { result ≡ is_name name.now }
+    ensures { result ≡ is_job_name name.now }
 {
     let mut ended = false;
     for byte in name {

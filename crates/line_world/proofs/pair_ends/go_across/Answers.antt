@@ -1,6 +1,6 @@
 -- What the line brings is what the fate leaves, and the station tells what was heard of it.
 use Rattle.std.proofs.Common.{rules, ◌≡◌, Err}
-use Rattle.rje_station.specs.Hearing.{sound_of as sound_heard}
+use Rattle.rje_station.specs.Hearing.{sound_heard}
 use Rattle.bsc_history.specs.Fate.{sound_of}
 use Rattle.line_world.proofs.Carried.{damage_fault, line_hears}
 use Rattle.line_world.proofs.PairCarried.{goes_across, arrived_across}

@@ -1,7 +1,7 @@
 use Rattle.std.proofs.Common.{◌+◌, ◌<◌, get_or, length, drop, arith, ap, ◌∙◌, rules}
 use Rattle.std.proofs.lemmas.List.{drop_all}
 use Rattle.arrayvec.specs.ArrayVec.{array_vec_len}
-use Rattle.rje_text.specs.Spelling.{compressed, run_text}
+use Rattle.rje_text.specs.Spelling.{compressed, written_run}
 use Rattle.rje_text.specs.Spelling.Run.{Blanks}
 use Rattle.rje_text.proofs.Blanks.{behind, blank_step, byte_step, byte_join, behind_end}
 use Rattle.rje_text.proofs.spelling.compress.Goals as goal
@@ -18,7 +18,7 @@ loop-byte-preserved c =
           (let e = blank_step bs i m h (search rules) in record { text = cc; room = omega (arith, ap array_vec_len w.out-is) })
       | else-byte-eq-BLANK w ↦
           (let e = byte_step bs i m h (search rules) in
-          let j = byte_join c.loop-byte.out.items (run_text (Blanks m)) (behind 0 (drop (i + 1) bs)) (get_or bs i 0) in
+          let j = byte_join c.loop-byte.out.items (written_run (Blanks m)) (behind 0 (drop (i + 1) bs)) (get_or bs i 0) in
           record { text = cc; room = omega (arith, ap array_vec_len w.out-is) })
     ]
 

@@ -1,6 +1,6 @@
 -- What the line brings is what the fate leaves, and the station tells what was heard of it.
 use Rattle.std.proofs.Common.{rules, ◌≡◌, Err}
-use Rattle.rje_station.specs.Hearing.{sound_of as sound_heard}
+use Rattle.rje_station.specs.Hearing.{sound_heard}
 use Rattle.bsc_history.specs.Fate.{sound_of}
 use Rattle.line_world.proofs.Carried.{goes_up, damage_fault, line_hears, arrived_is}
 use Rattle.line_world.proofs.ends.Ends.go_up.Goals as goal

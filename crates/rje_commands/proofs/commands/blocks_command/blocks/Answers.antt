@@ -1,4 +1,4 @@
-use Rattle.rje_jobs.specs.Deck.{IsTold}
+use Rattle.rje_jobs.specs.Deck.{IsDeckFault}
 use Rattle.rje_words.specs.declared.order.FileOrder.{FileOrder}
 use Rattle.rje_print.specs.BlockListing.{IsBlockListing}
 use Rattle.rje_commands.specs.declared.command_fault.CommandFault.TheVariants.{Deck}
@@ -11,9 +11,9 @@ returns-in_err-listing-clause-fault g c =
     let files = g.S.Store.files c.args.store.now in
     let input = g.I.Read.remaining c.args.input.now in
     let fault = c.in_err-listing.field-0.0 in
-    let read : IsTold c.in_ok-deck.deck.items fault = rw c.as_slice.ensures.value at c.in_err-listing.ensures.told in
+    let read : IsDeckFault c.in_ok-deck.deck.items fault = rw c.as_slice.ensures.value at c.in_err-listing.ensures.told in
     told_as c.from_residual-in_err-listing.result (Deck fault) (IsFault (FileOrder.Blocks c.args.name) files input) c.from_residual-in_err-listing.ensures.1
-    (of_deck (λ deck. IsTold deck fault) c.in_ok-deck.deck.items read c.args.name.now files input c.in_ok-deck.ensures.deck)
+    (of_deck (λ deck. IsDeckFault deck fault) c.in_ok-deck.deck.items read c.args.name.now files input c.in_ok-deck.ensures.deck)
 
 pub returns-clause-done : goal.returns-clause-done
 returns-clause-done g c =

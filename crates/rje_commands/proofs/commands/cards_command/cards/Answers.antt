@@ -3,7 +3,7 @@ use Rattle.std.specs.Io.KnownBytes.{Appends}
 use Rattle.rje_print.specs.JobTexts.{cards_line}
 use Rattle.rje_words.specs.declared.order.FileOrder.{FileOrder}
 use Rattle.rje_commands.specs.Commands.{IsFault, IsCardFile, MakesCards, MakesFile, deck_job}
-use Rattle.rje_commands.specs.Inside.{IsDeckFault}
+use Rattle.rje_commands.specs.Inside.{IsCardsFault}
 use Rattle.rje_commands.proofs.Inputs.{of_deck, told_as, done_as, cards_fault, made_file, whatever}
 use Rattle.rje_commands.proofs.commands.cards_command.cards.Goals as goal
 
@@ -12,7 +12,7 @@ returns-in_err-made-clause-fault g c =
     let files = g.S.Store.files c.args.store.now in
     let input = g.I.Read.remaining c.args.input.now in
     let fault = c.in_err-made.field-0.0 in
-    let told : IsDeckFault c.in_ok-deck.deck.items fault = rw c.as_slice.ensures.value at c.in_err-made.ensures.fault in
+    let told : IsCardsFault c.in_ok-deck.deck.items fault = rw c.as_slice.ensures.value at c.in_err-made.ensures.fault in
     told_as c.from_residual-in_err-made.result fault (IsFault (FileOrder.Cards c.args.order) files input) c.from_residual-in_err-made.ensures.1
     (cards_fault c.args.order files input c.in_ok-deck.deck.items fault c.in_ok-deck.ensures.deck told)
 

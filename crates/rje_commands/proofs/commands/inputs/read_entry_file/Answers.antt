@@ -1,4 +1,4 @@
-use Rattle.rje_files.specs.FileFault.{IsTold}
+use Rattle.rje_files.specs.FileFault.{IsFileFault}
 use Rattle.rje_files.specs.JobFile.{IsEntryFile}
 use Rattle.rje_commands.specs.declared.command_fault.CommandFault.TheVariants.{File}
 use Rattle.rje_commands.specs.Inside.{IsInputFault}
@@ -8,7 +8,7 @@ use Rattle.rje_commands.proofs.commands.inputs.read_entry_file.Goals as goal
 pub returns-in_err-read_entries-clause-fault : goal.returns-in_err-read_entries-clause-fault
 returns-in_err-read_entries-clause-fault g c =
     let fault = c.in_err-read_entries.field-0.0 in
-    let read : IsTold IsEntryFile c.in_ok-bytes.bytes.items fault = rw c.as_slice.ensures.value at c.in_err-read_entries.ensures.told in
+    let read : IsFileFault IsEntryFile c.in_ok-bytes.bytes.items fault = rw c.as_slice.ensures.value at c.in_err-read_entries.ensures.told in
     told_as c.from_residual-in_err-read_entries.result (File fault) (IsInputFault c.args.name.now (g.S.Store.files c.args.store.now))
     c.from_residual-in_err-read_entries.ensures.1
-    (of_file (λ file. IsTold IsEntryFile file fault) c.in_ok-bytes.bytes.items read c.args.name.now (g.S.Store.files c.args.store.now) c.in_ok-bytes.ensures.file)
+    (of_file (λ file. IsFileFault IsEntryFile file fault) c.in_ok-bytes.bytes.items read c.args.name.now (g.S.Store.files c.args.store.now) c.in_ok-bytes.ensures.file)
