@@ -1,9 +1,9 @@
 //! Calls that take memory, in ample memory and in memory of which a growth is refused: the script refusals/run runs these tests with each
 //! growth refused in turn.
 use super::pairs::{Call, report_by};
-use super::schedules::{GOOD, assert_same_jobs, pair_schedule, record_of, schedule};
+use super::schedules::{GOOD, TURN, assert_same_jobs, pair_schedule, record_of, schedule};
 use bsc_link::{Outcome, Rank, Reply, Say, Sound};
-use line_world::{Bids, PairSpoken, Report, Spoken, WorldFault, run};
+use line_world::{Bids, PairSpoken, Report, Spoken, WorldFault, run, run_all};
 use rje_jobs::Job;
 use rje_text::{Mode, Records, Select};
 use std::alloc::AllocError;
@@ -24,7 +24,7 @@ fn job_of(rt: &(impl Abort + AllocGlobal), count: usize) -> Result<Job, AllocErr
     })
 }
 
-/// The sender said this, turn by turn.
+/// The sender said this, turn by turn. A block that found no memory got NAK, and one that was said again didn't.
 fn assert_said(rt: &impl Abort, report: &Report, said: &[Say]) {
     assert_eq!(rt; report.turns.len(), said.len());
     for (turn, say) in report.turns.iter().zip(said) {
@@ -34,7 +34,32 @@ fn assert_said(rt: &impl Abort, report: &Report, said: &[Say]) {
                 || (turn.arrived, turn.reply, turn.heard)
                     == (Sound::Block, Some(Reply::Nak), Sound::Nak)
         );
+        assert!(rt; turn.said != Say::Again || is_taken(turn));
     }
+}
+
+/// A block came and was acknowledged.
+fn is_taken(turn: &Spoken) -> bool {
+    turn.arrived == Sound::Block
+        && matches!(
+            (turn.reply, turn.heard),
+            (Some(Reply::Ack0), Sound::Ack0)
+                | (Some(Reply::Ack1), Sound::Ack1)
+                | (Some(Reply::Rvi), Sound::Rvi)
+        )
+}
+
+/// The sender bid, said two blocks, one of them again where it found no memory, and ended: which of them that was.
+fn refused_block(rt: &impl Abort, report: &Report) -> Option<usize> {
+    let place = report.turns.iter().position(|turn| turn.refused);
+    let said: &[Say] = match place {
+        None => &[Say::Bid, Say::Block, Say::Block, Say::End],
+        Some(1) => &[Say::Bid, Say::Block, Say::Again, Say::Block, Say::End],
+        Some(_) => &[Say::Bid, Say::Block, Say::Block, Say::Again, Say::End],
+    };
+    assert_said(rt, report, said);
+    assert!(rt; matches!(place, None | Some(1) | Some(2)));
+    place
 }
 
 /// Printed at some growth: block 2 found no memory.
@@ -54,23 +79,57 @@ fn a_run_says_a_block_again_that_found_no_memory(rt: HostRuntime) -> Result<(), 
     };
     assert_same_jobs(&rt, report.handed.as_slice(), &jobs);
     assert_eq!(rt; report.counted, 1);
-    match report.turns.iter().position(|turn| turn.refused) {
-        None => assert_said(&rt, &report, &[Say::Bid, Say::Block, Say::Block, Say::End]),
-        Some(1) => assert_said(
-            &rt,
-            &report,
-            &[Say::Bid, Say::Block, Say::Again, Say::Block, Say::End],
-        ),
-        Some(place) => {
-            assert_eq!(rt; place, 2);
-            assert_said(
-                &rt,
-                &report,
-                &[Say::Bid, Say::Block, Say::Block, Say::Again, Say::End],
-            );
-            println!(rt; "block 2 found no memory")?;
-        }
+    if refused_block(&rt, &report) == Some(2) {
+        println!(rt; "block 2 found no memory")?;
     }
+    Ok(())
+}
+
+// SEVERAL RUNS
+
+/// The report of a run that sent one job of two blocks and ended so: whether one of its blocks found no memory.
+fn is_one_refused(rt: &impl Abort, report: &Report, outcome: Outcome) -> bool {
+    assert_eq!(rt; report.counted, 1);
+    assert_eq!(rt; report.outcome, Some(outcome));
+    refused_block(rt, report).is_some()
+}
+
+/// Two jobs go in two runs, the second where the receiver ends the first run by its wish to send; or there is no memory for them: what came
+/// of it, for the script.
+fn try_runs(rt: &(impl Abort + AllocGlobal)) -> &'static str {
+    // Seven and eight records of 80 bytes are two blocks each.
+    let (Ok(first), Ok(second)) = (job_of(rt, 7), job_of(rt, 8)) else {
+        return "no memory to begin with";
+    };
+    let turned = schedule(rt.alloc(), &[GOOD, TURN, TURN, TURN, TURN]);
+    let (Ok(turned), Ok(good)) = (turned, schedule(rt.alloc(), &[GOOD; 5])) else {
+        return "no memory to begin with";
+    };
+    let jobs = [first, second];
+    let series = match run_all(rt.alloc(), &jobs, &[turned, good]) {
+        Ok(series) => series,
+        Err(fault) => {
+            assert!(rt; fault == WorldFault::OutOfMemory);
+            return "no memory for the runs";
+        }
+    };
+    assert_same_jobs(rt, series.handed.as_slice(), &jobs);
+    assert_eq!(rt; series.counted, 2);
+    assert_eq!(rt; series.reports.len(), 2);
+    let first = is_one_refused(rt, &series.reports[0], Outcome::Turned);
+    let second = is_one_refused(rt, &series.reports[1], Outcome::Done);
+    assert!(rt; !(first && second));
+    match (first, second) {
+        (true, _) => "a block of run 1 found no memory",
+        (_, true) => "a block of run 2 found no memory",
+        _ => "each block found memory",
+    }
+}
+
+/// Printed at some growth: no memory for the runs, a block of run 1 found no memory, a block of run 2 found no memory.
+#[test]
+fn each_of_two_runs_says_a_block_again_that_found_no_memory(rt: HostRuntime) -> Result<(), Fail> {
+    println!(rt; "{}", try_runs(&rt))?;
     Ok(())
 }
 

@@ -4,13 +4,14 @@ use super::{buffer, record_of};
 use arrayvec::ArrayVec;
 use bsc_codes::{Block, Closing};
 use bsc_frame::{Frame, write_frame};
-use bsc_link::{Rank, Reply, Say, Wish};
+use bsc_link::{Rank, Reply, Say, Sound, Wish};
 use line_world::MemoryLine;
 use rje_jobs::Job;
-use rje_station::{ReceivingStation, SendingStation, Station, StationFault};
-use rje_text::{Mode, Records, Select};
+use rje_station::{Arrival, ReceivingStation, SendingStation, Station, StationFault};
+use rje_text::{Action, Mode, Records, Select};
 use std::alloc::{AllocError, Global};
 use std::process::Abort;
+use std::test::Fail;
 
 /// A job of so many records, at most 1,000, whose memory is taken in one growth.
 fn job_of(rt: &(impl Abort + AllocGlobal), count: usize) -> Result<Job, AllocError> {
@@ -59,13 +60,18 @@ fn put_frame(alloc: Global, line: &mut MemoryLine, frame: &Frame) -> Result<(), 
     Ok(())
 }
 
-/// The block of a job of one record.
-fn one_record(rt: &impl Abort) -> Frame {
+/// A block of one record of this one byte.
+fn block_of(rt: &impl Abort, byte: u8, closing: Closing) -> Frame {
     Frame::Block(Block {
-        text: buffer(rt, &[0xC1, 0x1E]),
-        closing: Closing::Etx,
+        text: buffer(rt, &[byte, 0x1E]),
+        closing,
         transparent: false,
     })
+}
+
+/// The block of a job of one record.
+fn one_record(rt: &impl Abort) -> Frame {
+    block_of(rt, 0xC1, Closing::Etx)
 }
 
 #[test]
@@ -87,6 +93,114 @@ fn a_receiver_without_memory_answers_nak_and_keeps_its_jobs(rt: HostRuntime) {
         Ok(Some(Reply::Nak)) => assert!(rt; station.jobs().is_empty()),
         _ => assert!(rt; false),
     }
+}
+
+/// A job that came: whether it is whole, and the one byte of each of its records.
+type Came = (bool, &'static [u8]);
+
+/// A block of one record, the reply to it, the jobs before and after it, and what is told where it found no memory at first.
+struct Step {
+    byte: u8,
+    closing: Closing,
+    reply: Reply,
+    before: &'static [Came],
+    after: &'static [Came],
+    told: &'static str,
+}
+
+/// A job of one block and a job of two.
+const STEPS: [Step; 3] = [
+    Step {
+        byte: 0xC1,
+        closing: Closing::Etx,
+        reply: Reply::Ack1,
+        before: &[],
+        after: &[(true, &[0xC1])],
+        told: "block 1 found no memory",
+    },
+    Step {
+        byte: 0xC2,
+        closing: Closing::Etb,
+        reply: Reply::Ack0,
+        before: &[(true, &[0xC1])],
+        after: &[(true, &[0xC1]), (false, &[0xC2])],
+        told: "block 2 found no memory",
+    },
+    Step {
+        byte: 0xC3,
+        closing: Closing::Etx,
+        reply: Reply::Ack1,
+        before: &[(true, &[0xC1]), (false, &[0xC2])],
+        after: &[(true, &[0xC1]), (true, &[0xC2, 0xC3])],
+        told: "block 3 found no memory",
+    },
+];
+
+/// The jobs are those that came.
+fn assert_came(rt: &impl Abort, jobs: &[Job], came: &[Came]) {
+    assert!(rt; jobs.len() == came.len());
+    for (job, (whole, bytes)) in jobs.iter().zip(came) {
+        assert!(rt; job.whole == *whole);
+        assert!(rt; (job.select, job.mode) == (Select::Unset, Mode::Normal));
+        assert_records(rt, job, bytes);
+    }
+}
+
+/// The records of the job are of these bytes, one each.
+fn assert_records(rt: &impl Abort, job: &Job, bytes: &[u8]) {
+    assert!(rt; job.records.len() == bytes.len());
+    for (record, byte) in job.records.as_slice().iter().zip(bytes) {
+        assert!(rt; record.action == Action::Plain);
+        assert!(rt; record.bytes.as_slice() == [*byte].as_slice());
+    }
+}
+
+/// The station hears the step's block, and once more where it answers NAK: whether it did. It has its jobs from before then.
+fn hear_step(
+    rt: &(impl Abort + AllocGlobal),
+    station: &mut ReceivingStation,
+    step: &Step,
+) -> Result<bool, StationFault> {
+    let mut line = MemoryLine::new(rt.alloc());
+    let block = block_of(rt, step.byte, step.closing);
+    put_frame(rt.alloc(), &mut line, &block)?;
+    let refused = station.hear(&mut line, Wish::Go)? == Some(Reply::Nak);
+    let sound = Sound::Block;
+    assert!(rt; station.arrival() == Some(Arrival { sound, refused }));
+    if refused {
+        assert_came(rt, station.jobs(), step.before);
+        put_frame(rt.alloc(), &mut line, &block)?;
+        assert!(rt; station.hear(&mut line, Wish::Go)? == Some(step.reply));
+    }
+    assert_came(rt, station.jobs(), step.after);
+    Ok(refused)
+}
+
+/// A receiver hears the blocks of two jobs, of which one may find no memory at first: what came of it, for the script.
+fn try_blocks(rt: &(impl Abort + AllocGlobal)) -> Result<&'static str, StationFault> {
+    let mut station = ReceivingStation::new(rt.alloc())?;
+    let mut line = MemoryLine::new(rt.alloc());
+    put_frame(rt.alloc(), &mut line, &Frame::Enq)?;
+    assert!(rt; station.hear(&mut line, Wish::Go)? == Some(Reply::Ack0));
+    let mut told = "each block found memory";
+    for step in &STEPS {
+        if hear_step(rt, &mut station, step)? {
+            told = step.told;
+        }
+    }
+    Ok(told)
+}
+
+/// Printed at some growth: block 1 found no memory, block 2 found no memory, block 3 found no memory.
+#[test]
+fn a_later_block_without_memory_leaves_all_jobs_and_comes_again(
+    rt: HostRuntime,
+) -> Result<(), Fail> {
+    match try_blocks(&rt) {
+        Ok(told) => println!(rt; "{told}")?,
+        Err(fault) => assert!(rt; fault == StationFault::OutOfMemory),
+    }
+    Ok(())
 }
 
 // TWO STATIONS THAT BOTH HAVE JOBS
