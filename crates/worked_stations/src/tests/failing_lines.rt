@@ -176,25 +176,32 @@ impl Line for ClosedLine {
     }
 }
 
+const CLOSED: Option<StationFault> = Some(StationFault::Line(LineFault::Closed));
+
+const OVER: Option<StationFault> = Some(StationFault::Over);
+
+/// The sender's first call, a speaking or a hearing, finds its line closed.
+fn assert_closed(rt: &impl Abort, sender: &mut SendingStation, first: u64) {
+    let mut line = ClosedLine::new();
+    assert!(rt; call_sender(sender, &mut line, first) == CLOSED);
+    assert!(rt; call_sender(sender, &mut line, 1) == OVER);
+    assert!(rt; call_sender(sender, &mut line, 2) == OVER);
+    assert!(rt; sender.counted() == 0);
+    assert!(rt; sender.outcome().is_none());
+}
+
 #[test]
 fn a_closed_line_is_told_as_closed(rt: HostRuntime) -> Result<(), Fail> {
-    let closed = Some(StationFault::Line(LineFault::Closed));
-    let over = Some(StationFault::Over);
     let jobs = [job_of(&rt, 1, 1)?];
     for first in 1..3 {
-        let mut line = ClosedLine::new();
         let mut sender = SendingStation::new(rt.alloc(), &jobs)?;
-        assert!(rt; call_sender(&mut sender, &mut line, first) == closed);
-        assert!(rt; call_sender(&mut sender, &mut line, 1) == over);
-        assert!(rt; call_sender(&mut sender, &mut line, 2) == over);
-        assert!(rt; sender.counted() == 0);
-        assert!(rt; sender.outcome().is_none());
+        assert_closed(&rt, &mut sender, first);
     }
     let mut line = ClosedLine::new();
     let mut receiver = ReceivingStation::new(rt.alloc())?;
-    assert!(rt; call_receiver(&mut receiver, &mut line, 1) == closed);
-    assert!(rt; call_receiver(&mut receiver, &mut line, 1) == over);
-    assert!(rt; call_receiver(&mut receiver, &mut line, 2) == over);
+    assert!(rt; call_receiver(&mut receiver, &mut line, 1) == CLOSED);
+    assert!(rt; call_receiver(&mut receiver, &mut line, 1) == OVER);
+    assert!(rt; call_receiver(&mut receiver, &mut line, 2) == OVER);
     assert!(rt; receiver.jobs().is_empty());
     Ok(())
 }

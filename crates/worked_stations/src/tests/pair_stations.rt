@@ -49,10 +49,28 @@ impl<'a> End<'a> {
         self.station.hear_other(&mut self.line, Wish::Go)
     }
 
+    /// It hears these bytes of the other station, in one piece.
+    fn hear_bytes(
+        &mut self,
+        rt: &(impl Abort + AllocGlobal),
+        bytes: &[u8],
+    ) -> Result<Option<Reply>, StationFault> {
+        self.hear(one_piece(rt.alloc(), bytes).expect(rt, "no memory"))
+    }
+
     /// It hears these pieces as an answer.
     fn hear_answer(&mut self, pieces: Vec<Vec<u8>>) -> Result<Sound, StationFault> {
         self.line.put(pieces);
         self.station.hear_answer(&mut self.line, false)
+    }
+
+    /// It hears these bytes as an answer, in one piece.
+    fn answer(
+        &mut self,
+        rt: &(impl Abort + AllocGlobal),
+        bytes: &[u8],
+    ) -> Result<Sound, StationFault> {
+        self.hear_answer(one_piece(rt.alloc(), bytes).expect(rt, "no memory"))
     }
 
     /// It listens to the other station, to whatever comes.
@@ -120,6 +138,11 @@ impl<'a> End<'a> {
     }
 }
 
+/// The end of a station of this rank, which has memory.
+fn end_of<'a>(rt: &(impl Abort + AllocGlobal), rank: Rank, jobs: &'a [Job]) -> End<'a> {
+    End::new(rt.alloc(), rank, jobs).expect(rt, "no memory")
+}
+
 /// Nothing is due, and every call answers so and touches no line: the call of the line that is to fail is still to come.
 fn assert_over(rt: &impl Abort, end: &mut End<'_>) {
     end.fail_at(1);
@@ -177,23 +200,22 @@ const RECEIVED: [Event; 6] = [
 ];
 
 /// The station sent its job, received the other's, and has nothing more to do.
-fn assert_both_done(rt: &(impl Abort + AllocGlobal), end: &mut End<'_>) -> Result<(), Fail> {
+fn assert_both_done(rt: &(impl Abort + AllocGlobal), end: &mut End<'_>) {
     assert_events(rt, end.sending(), &SENT);
     assert_events(rt, end.receiving(), &RECEIVED);
-    assert_nothing_is_due(rt, end)?;
+    assert_nothing_is_due(rt, end);
     assert!(rt; end.listen().err() == OVER);
     assert!(rt; end.reply().err() == OVER);
-    Ok(())
 }
 
 #[test]
 fn each_station_sends_and_then_receives(rt: HostRuntime) -> Result<(), Fail> {
     let (ups, downs) = ([job_of(&rt, 1, 1)?], [job_of(&rt, 2, 2)?]);
-    let mut primary = End::new(rt.alloc(), Rank::Primary, &ups)?;
-    let mut secondary = End::new(rt.alloc(), Rank::Secondary, &downs)?;
-    converse(rt.alloc(), &mut primary, &mut secondary)?;
-    assert_both_done(&rt, &mut primary)?;
-    assert_both_done(&rt, &mut secondary)?;
+    let mut primary = end_of(&rt, Rank::Primary, &ups);
+    let mut secondary = end_of(&rt, Rank::Secondary, &downs);
+    assert!(rt; converse(rt.alloc(), &mut primary, &mut secondary).is_ok());
+    assert_both_done(&rt, &mut primary);
+    assert_both_done(&rt, &mut secondary);
     assert_sent(&rt, &primary, &secondary, &ups, 1, 1);
     assert_sent(&rt, &secondary, &primary, &downs, 1, 1);
     assert_same_jobs(&rt, primary.take().as_slice(), &downs);
@@ -256,8 +278,8 @@ fn assert_call_fails(
     counts: Counts,
 ) -> Result<(), Fail> {
     let jobs = [job_of(rt, 1, 1)?];
-    let mut up = End::new(rt.alloc(), Rank::Primary, &jobs)?;
-    let mut down = End::new(rt.alloc(), Rank::Secondary, &jobs)?;
+    let mut up = end_of(rt, Rank::Primary, &jobs);
+    let mut down = end_of(rt, Rank::Secondary, &jobs);
     of_rank(rank, &mut up, &mut down).fail_at(call);
     assert!(rt; converse(rt.alloc(), &mut up, &mut down).err() == FAILED);
     assert_over(rt, of_rank(rank, &mut up, &mut down));
@@ -282,8 +304,8 @@ const BABBLE: Option<StationFault> = Some(StationFault::Babble);
 /// A station of this rank hears babble of the other station.
 fn assert_babble_ends_it(rt: &(impl Abort + AllocGlobal), rank: Rank) -> Result<(), Fail> {
     let jobs = [job_of(rt, 1, 1)?];
-    let mut end = End::new(rt.alloc(), rank, &jobs)?;
     let pieces = syns(rt.alloc(), MAX_HEARD, true)?;
+    let mut end = end_of(rt, rank, &jobs);
     assert!(rt; end.hear(pieces).err() == BABBLE);
     assert_over(rt, &mut end);
     assert_events(rt, end.receiving(), &[Event::Over]);
@@ -293,9 +315,9 @@ fn assert_babble_ends_it(rt: &(impl Abort + AllocGlobal), rank: Rank) -> Result<
 /// A station of this rank hears babble for an answer.
 fn assert_babbled_answer_ends_it(rt: &(impl Abort + AllocGlobal), rank: Rank) -> Result<(), Fail> {
     let jobs = [job_of(rt, 1, 1)?];
-    let mut end = End::new(rt.alloc(), rank, &jobs)?;
-    end.speak()?;
     let pieces = syns(rt.alloc(), MAX_HEARD, true)?;
+    let mut end = end_of(rt, rank, &jobs);
+    assert!(rt; end.speak().is_ok());
     assert!(rt; end.hear_answer(pieces).err() == BABBLE);
     assert_over(rt, &mut end);
     let events = [Event::Said(Say::Bid), Event::Over];
@@ -317,49 +339,48 @@ fn babble_ends_a_station(rt: HostRuntime) -> Result<(), Fail> {
 // NOTHING IS DUE
 
 /// Nothing is due, and neither call touches the line or adds an event.
-fn assert_nothing_is_due(rt: &(impl Abort + AllocGlobal), end: &mut End<'_>) -> Result<(), Fail> {
+fn assert_nothing_is_due(rt: &(impl Abort + AllocGlobal), end: &mut End<'_>) {
     let events = end.sending().len();
-    end.line.transmit(&[1, 2])?;
-    end.line.put(one_piece(rt.alloc(), &[3])?);
+    assert!(rt; end.line.transmit(&[1, 2]).is_ok());
+    end.line
+        .put(one_piece(rt.alloc(), &[3]).expect(rt, "no memory"));
     end.fail_at(1);
     assert!(rt; end.due() == Say::Nothing);
-    assert!(rt; end.speak()? == Say::Nothing);
-    assert!(rt; end.await_answer()? == Sound::Quiet);
+    assert!(rt; end.speak() == Ok(Say::Nothing));
+    assert!(rt; end.await_answer() == Ok(Sound::Quiet));
     assert!(rt; end.due() == Say::Nothing);
     assert!(rt; end.sending().len() == events);
-    assert_untouched(rt, &mut end.line)
+    assert_untouched(rt, &mut end.line);
 }
 
 /// Nothing was done with a line that sent 1, 2, on which 3 comes next, and of which the next call fails.
-fn assert_untouched(rt: &impl Abort, line: &mut MemoryLine) -> Result<(), Fail> {
+fn assert_untouched(rt: &impl Abort, line: &mut MemoryLine) {
     assert!(rt; line.sent() == [1, 2].as_slice());
     assert!(rt; line.transmit(&[4]).err() == Some(LineFault::Failed));
     let mut piece = [0, 0];
-    assert!(rt; line.listen(&mut piece)? == Came::Bytes(1));
+    assert!(rt; line.listen(&mut piece) == Ok(Came::Bytes(1)));
     assert!(rt; piece == [3, 0]);
-    Ok(())
 }
 
 #[test]
-fn without_jobs_no_line_is_touched(rt: HostRuntime) -> Result<(), Fail> {
+fn without_jobs_no_line_is_touched(rt: HostRuntime) {
     for rank in RANKS {
-        let mut idle = End::new(rt.alloc(), rank, &[])?;
-        assert_nothing_is_due(&rt, &mut idle)?;
+        let mut idle = end_of(&rt, rank, &[]);
+        assert_nothing_is_due(&rt, &mut idle);
         assert!(rt; idle.outcome() == Some(Outcome::Done));
     }
-    Ok(())
 }
 
 /// A station of this rank that took a bid says nothing but its replies.
 fn assert_silent(rt: &(impl Abort + AllocGlobal), rank: Rank) -> Result<(), Fail> {
     let jobs = [job_of(rt, 1, 1)?];
-    let mut receiving = End::new(rt.alloc(), rank, &jobs)?;
+    let mut receiving = end_of(rt, rank, &jobs);
     assert!(rt; receiving.due() == Say::Bid);
-    assert!(rt; receiving.hear(one_piece(rt.alloc(), &ENQ)?)? == Some(Reply::Ack0));
-    assert_nothing_is_due(rt, &mut receiving)?;
-    assert!(rt; receiving.reply()? == Some(Reply::Ack0));
+    assert!(rt; receiving.hear_bytes(rt, &ENQ) == Ok(Some(Reply::Ack0)));
+    assert_nothing_is_due(rt, &mut receiving);
+    assert!(rt; receiving.reply() == Ok(Some(Reply::Ack0)));
     assert!(rt; receiving.sent() == ACK0.as_slice());
-    assert!(rt; receiving.reply()?.is_none());
+    assert!(rt; receiving.reply() == Ok(None));
     Ok(())
 }
 
@@ -374,12 +395,12 @@ fn a_station_that_receives_is_silent(rt: HostRuntime) -> Result<(), Fail> {
 /// A bid of this rank's station is answered by EOT.
 fn assert_ended(rt: &(impl Abort + AllocGlobal), rank: Rank) -> Result<(), Fail> {
     let jobs = [job_of(rt, 1, 1)?];
-    let mut ended = End::new(rt.alloc(), rank, &jobs)?;
-    ended.speak()?;
-    assert!(rt; ended.hear_answer(one_piece(rt.alloc(), &EOT)?)? == Sound::Eot);
+    let mut ended = end_of(rt, rank, &jobs);
+    assert!(rt; ended.speak().is_ok());
+    assert!(rt; ended.answer(rt, &EOT) == Ok(Sound::Eot));
     assert!(rt; ended.outcome() == Some(Outcome::Ended));
-    assert_nothing_is_due(rt, &mut ended)?;
-    assert!(rt; ended.hear(one_piece(rt.alloc(), &ENQ)?)? == Some(Reply::Ack0));
+    assert_nothing_is_due(rt, &mut ended);
+    assert!(rt; ended.hear_bytes(rt, &ENQ) == Ok(Some(Reply::Ack0)));
     Ok(())
 }
 
@@ -395,43 +416,38 @@ fn after_an_eot_for_an_answer_nothing_is_due(rt: HostRuntime) -> Result<(), Fail
 // BIDS OF THE OTHER STATION
 
 /// An ENQ comes that isn't taken: no reply is due, none is sent, and the ENQ is the one event more.
-fn assert_passed_over(rt: &(impl Abort + AllocGlobal), end: &mut End<'_>) -> Result<(), Fail> {
+fn assert_passed_over(rt: &(impl Abort + AllocGlobal), end: &mut End<'_>) {
     let events = end.receiving().len();
     let due = end.due();
-    assert!(rt; end.hear(one_piece(rt.alloc(), &ENQ)?)?.is_none());
+    assert!(rt; end.hear_bytes(rt, &ENQ) == Ok(None));
     end.fail_at(1);
-    assert!(rt; end.reply()?.is_none());
+    assert!(rt; end.reply() == Ok(None));
     end.fail_at(0);
     assert!(rt; end.receiving().len().checked_sub(events) == Some(1));
     assert!(rt; end.receiving().get(events) == Some(Event::Heard(Sound::Enq)));
     assert!(rt; end.due() == due);
-    Ok(())
 }
 
 /// It hears this answer, and then an ENQ that isn't taken.
-fn assert_passed_over_after(
-    rt: &(impl Abort + AllocGlobal),
-    end: &mut End<'_>,
-    answer: &[u8],
-) -> Result<(), Fail> {
-    end.hear_answer(one_piece(rt.alloc(), answer)?)?;
-    assert_passed_over(rt, end)
+fn assert_passed_over_after(rt: &(impl Abort + AllocGlobal), end: &mut End<'_>, answer: &[u8]) {
+    assert!(rt; end.answer(rt, answer).is_ok());
+    assert_passed_over(rt, end);
 }
 
 /// From its bid to its end a station of this rank takes no ENQ, but that of a secondary takes one while it bids.
 fn assert_bid_stands(rt: &(impl Abort + AllocGlobal), rank: Rank) -> Result<(), Fail> {
     let jobs = [job_of(rt, 1, 1)?];
-    let mut end = End::new(rt.alloc(), rank, &jobs)?;
-    end.speak()?;
+    let mut end = end_of(rt, rank, &jobs);
+    assert!(rt; end.speak().is_ok());
     if rank == Rank::Primary {
-        assert_passed_over(rt, &mut end)?;
+        assert_passed_over(rt, &mut end);
     }
-    assert_passed_over_after(rt, &mut end, &ACK0)?;
-    assert!(rt; end.speak()? == Say::Block);
-    assert_passed_over(rt, &mut end)?;
-    assert_passed_over_after(rt, &mut end, &ACK1)?;
-    assert!(rt; end.speak()? == Say::End);
-    assert!(rt; end.hear(one_piece(rt.alloc(), &ENQ)?)? == Some(Reply::Ack0));
+    assert_passed_over_after(rt, &mut end, &ACK0);
+    assert!(rt; end.speak() == Ok(Say::Block));
+    assert_passed_over(rt, &mut end);
+    assert_passed_over_after(rt, &mut end, &ACK1);
+    assert!(rt; end.speak() == Ok(Say::End));
+    assert!(rt; end.hear_bytes(rt, &ENQ) == Ok(Some(Reply::Ack0)));
     Ok(())
 }
 
@@ -444,36 +460,34 @@ fn a_bid_is_not_taken_while_the_own_stands(rt: HostRuntime) -> Result<(), Fail> 
 }
 
 /// After six bids in vain one more is due, and after that the sender gives up.
-fn assert_seventh_bid_gives_up(
-    rt: &(impl Abort + AllocGlobal),
-    end: &mut End<'_>,
-) -> Result<(), Fail> {
+fn assert_seventh_bid_gives_up(rt: &(impl Abort + AllocGlobal), end: &mut End<'_>) {
     assert!(rt; end.due() == Say::Bid);
-    end.bid_in_vain(rt.alloc(), 1)?;
+    assert!(rt; end.bid_in_vain(rt.alloc(), 1).is_ok());
     assert!(rt; end.due() == Say::End);
     assert!(rt; end.outcome() == Some(Outcome::GaveUp));
-    Ok(())
 }
 
 #[test]
 fn a_secondary_gives_way_and_counts_its_bids_anew(rt: HostRuntime) -> Result<(), Fail> {
     let jobs = [job_of(&rt, 1, 1)?];
-    let mut secondary = End::new(rt.alloc(), Rank::Secondary, &jobs)?;
-    secondary.bid_in_vain(rt.alloc(), 6)?;
-    assert!(rt; secondary.hear(one_piece(rt.alloc(), &ENQ)?)? == Some(Reply::Ack0));
+    let mut secondary = end_of(&rt, Rank::Secondary, &jobs);
+    assert!(rt; secondary.bid_in_vain(rt.alloc(), 6).is_ok());
+    assert!(rt; secondary.hear_bytes(&rt, &ENQ) == Ok(Some(Reply::Ack0)));
     assert!(rt; secondary.due() == Say::Nothing);
     secondary.other_ended();
-    secondary.bid_in_vain(rt.alloc(), 6)?;
-    assert_seventh_bid_gives_up(&rt, &mut secondary)
+    assert!(rt; secondary.bid_in_vain(rt.alloc(), 6).is_ok());
+    assert_seventh_bid_gives_up(&rt, &mut secondary);
+    Ok(())
 }
 
 #[test]
 fn a_primary_passes_a_bid_over_and_counts_on(rt: HostRuntime) -> Result<(), Fail> {
     let jobs = [job_of(&rt, 1, 1)?];
-    let mut primary = End::new(rt.alloc(), Rank::Primary, &jobs)?;
-    primary.bid_in_vain(rt.alloc(), 6)?;
-    assert_passed_over(&rt, &mut primary)?;
-    assert_seventh_bid_gives_up(&rt, &mut primary)
+    let mut primary = end_of(&rt, Rank::Primary, &jobs);
+    assert!(rt; primary.bid_in_vain(rt.alloc(), 6).is_ok());
+    assert_passed_over(&rt, &mut primary);
+    assert_seventh_bid_gives_up(&rt, &mut primary);
+    Ok(())
 }
 
 /// A station of this rank refuses a block that can't be read, and takes the next one.
@@ -481,9 +495,10 @@ fn assert_unreadable_block_leaves_the_jobs(
     rt: &(impl Abort + AllocGlobal),
     rank: Rank,
 ) -> Result<(), Fail> {
-    let mut end = End::new(rt.alloc(), rank, &[])?;
-    assert!(rt; end.hear(one_piece(rt.alloc(), &ENQ)?)? == Some(Reply::Ack0));
-    assert!(rt; end.hear(transparent_block(rt, 79)?)? == Some(Reply::Nak));
+    let (short, cards) = (transparent_block(rt, 79)?, transparent_block(rt, 480)?);
+    let mut end = end_of(rt, rank, &[]);
+    assert!(rt; end.hear_bytes(rt, &ENQ) == Ok(Some(Reply::Ack0)));
+    assert!(rt; end.hear(short) == Ok(Some(Reply::Nak)));
     assert!(rt; end.jobs().is_empty());
     let events = [
         Event::Heard(Sound::Enq),
@@ -491,7 +506,7 @@ fn assert_unreadable_block_leaves_the_jobs(
         Event::Refused,
     ];
     assert_events(rt, end.receiving(), &events);
-    assert!(rt; end.hear(transparent_block(rt, 480)?)? == Some(Reply::Ack1));
+    assert!(rt; end.hear(cards) == Ok(Some(Reply::Ack1)));
     let jobs = end.take();
     assert!(rt; jobs.len() == 1);
     assert!(rt; jobs[0].records.len() == 6);
@@ -511,29 +526,25 @@ fn a_block_that_cannot_be_read_leaves_the_jobs_of_either_station(
 // THE END OF THE OTHER STATION
 
 /// The other station's transmission ended: this one no longer hears it, keeps the jobs handed out, and sends its own.
-fn assert_left(
-    rt: &(impl Abort + AllocGlobal),
-    end: &mut End<'_>,
-    handed: usize,
-) -> Result<(), Fail> {
+fn assert_left(rt: &(impl Abort + AllocGlobal), end: &mut End<'_>, handed: usize) {
     let events = end.receiving().len();
     end.other_ended();
     end.other_ended();
     assert!(rt; end.receiving().len().checked_sub(events) == Some(1));
     assert!(rt; end.receiving().get(events) == Some(Event::Over));
-    assert!(rt; end.hear(one_piece(rt.alloc(), &ENQ)?).err() == OVER);
+    assert!(rt; end.hear_bytes(rt, &ENQ).err() == OVER);
     assert!(rt; end.reply().err() == OVER);
     assert!(rt; end.jobs().len() == handed);
-    assert!(rt; end.speak()? == Say::Bid);
-    assert!(rt; end.hear_answer(one_piece(rt.alloc(), &ACK0)?)? == Sound::Ack0);
-    Ok(())
+    assert!(rt; end.speak() == Ok(Say::Bid));
+    assert!(rt; end.answer(rt, &ACK0) == Ok(Sound::Ack0));
 }
 
 /// The other's EOT was lost before its bid came.
 fn assert_not_heard(rt: &(impl Abort + AllocGlobal), rank: Rank) -> Result<(), Fail> {
     let jobs = [job_of(rt, 1, 1)?];
-    let mut end = End::new(rt.alloc(), rank, &jobs)?;
-    assert_left(rt, &mut end, 0)
+    let mut end = end_of(rt, rank, &jobs);
+    assert_left(rt, &mut end, 0);
+    Ok(())
 }
 
 #[test]
@@ -547,10 +558,11 @@ fn once_the_other_ended_a_station_no_longer_hears_it(rt: HostRuntime) -> Result<
 /// The other's EOT was lost after a block.
 fn assert_job_is_kept(rt: &(impl Abort + AllocGlobal), rank: Rank) -> Result<(), Fail> {
     let jobs = [job_of(rt, 1, 1)?];
-    let mut end = End::new(rt.alloc(), rank, &jobs)?;
-    end.hear(one_piece(rt.alloc(), &ENQ)?)?;
-    end.hear(transparent_block(rt, 80)?)?;
-    assert_left(rt, &mut end, 1)?;
+    let card = transparent_block(rt, 80)?;
+    let mut end = end_of(rt, rank, &jobs);
+    assert!(rt; end.hear_bytes(rt, &ENQ).is_ok());
+    assert!(rt; end.hear(card).is_ok());
+    assert_left(rt, &mut end, 1);
     let received = end.take();
     assert!(rt; received.len() == 1);
     assert!(rt; received[0].whole);
