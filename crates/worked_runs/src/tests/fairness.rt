@@ -42,36 +42,42 @@ fn assert_bound(
     assert_fair(rt, places, fair)
 }
 
+static FIVE_LOST: &[Place] = &[
+    LOST, LOST, LOST, LOST, LOST, GOOD, GOOD, LOST, LOST, LOST, LOST, LOST, GOOD, GOOD, LOST, LOST,
+    LOST, LOST, LOST, GOOD, GOOD,
+];
+
+static AFTER_FIVE_LOST: &[Line] = &[
+    BID_LOST, BID_LOST, BID_LOST, BID_LOST, BID_LOST, BID, BLOCK_ACK1, BLOCK_LOST, ASK_LOST,
+    ASK_LOST, ASK_LOST, ASK_LOST, ASK_ACK1, AGAIN_ACK0, END_LOST,
+];
+
 #[test]
 fn five_lost_turns_and_two_good_ones_thrice_are_enough_for_two_blocks(
     rt: HostRuntime,
 ) -> Result<(), Fail> {
     let jobs = [job_of(&rt, 1, 1)?, job_of(&rt, 1, 2)?];
-    let places = [
-        LOST, LOST, LOST, LOST, LOST, GOOD, GOOD, LOST, LOST, LOST, LOST, LOST, GOOD, GOOD, LOST,
-        LOST, LOST, LOST, LOST, GOOD, GOOD,
-    ];
-    assert_bound(&rt, &jobs, &places, 21, true)?;
-    let lines = [
-        BID_LOST, BID_LOST, BID_LOST, BID_LOST, BID_LOST, BID, BLOCK_ACK1, BLOCK_LOST, ASK_LOST,
-        ASK_LOST, ASK_LOST, ASK_LOST, ASK_ACK1, AGAIN_ACK0, END_LOST,
-    ];
-    let report = assert_report(&rt, &jobs, &places, &lines, 2, Some(Outcome::Done))?;
+    assert_bound(&rt, &jobs, FIVE_LOST, 21, true)?;
+    let done = Some(Outcome::Done);
+    let report = assert_report(&rt, &jobs, FIVE_LOST, AFTER_FIVE_LOST, 2, done)?;
     assert_same_jobs(&rt, report.handed.as_slice(), &jobs);
     Ok(())
 }
 
+static SEVEN_LOST: &[Place] = &[
+    LOST, LOST, LOST, LOST, LOST, LOST, LOST, GOOD, GOOD, GOOD, GOOD, GOOD, GOOD, GOOD,
+];
+
+static AFTER_SEVEN_LOST: &[Line] = &[
+    BID_LOST, BID_LOST, BID_LOST, BID_LOST, BID_LOST, BID_LOST, BID_LOST, END,
+];
+
 #[test]
 fn after_seven_lost_turns_the_sender_gives_up(rt: HostRuntime) -> Result<(), Fail> {
     let jobs = [job_of(&rt, 1, 1)?];
-    let places = [
-        LOST, LOST, LOST, LOST, LOST, LOST, LOST, GOOD, GOOD, GOOD, GOOD, GOOD, GOOD, GOOD,
-    ];
-    assert_bound(&rt, &jobs, &places, 14, false)?;
-    let lines = [
-        BID_LOST, BID_LOST, BID_LOST, BID_LOST, BID_LOST, BID_LOST, BID_LOST, END,
-    ];
-    let report = assert_report(&rt, &jobs, &places, &lines, 0, Some(Outcome::GaveUp))?;
+    assert_bound(&rt, &jobs, SEVEN_LOST, 14, false)?;
+    let gave_up = Some(Outcome::GaveUp);
+    let report = assert_report(&rt, &jobs, SEVEN_LOST, AFTER_SEVEN_LOST, 0, gave_up)?;
     assert!(rt; report.handed.is_empty());
     Ok(())
 }
@@ -86,24 +92,25 @@ fn has_good_pair(places: &[Place]) -> bool {
     places.windows(2).any(|pair| pair.iter().all(is_good))
 }
 
+static SIX_LOST: &[Place] = &[
+    GOOD, GOOD, LOST, LOST, LOST, LOST, LOST, LOST, GOOD, GOOD, LOST, LOST, LOST, LOST, LOST, LOST,
+    GOOD, GOOD, LOST, LOST, LOST, LOST, LOST, LOST,
+];
+
+// The seventh turn after the first block is an inquiry, whose answer is that block's acknowledgement again.
+static AFTER_SIX_LOST: &[Line] = &[
+    BID, BLOCK_ACK1, BLOCK_LOST, ASK_LOST, ASK_LOST, ASK_LOST, ASK_LOST, ASK_LOST, ASK_ACK1, END,
+];
+
 #[test]
 fn a_good_pair_in_each_nine_turns_is_not_enough(rt: HostRuntime) -> Result<(), Fail> {
     let jobs = [job_of(&rt, 1, 1)?, job_of(&rt, 1, 2)?];
-    let places = [
-        GOOD, GOOD, LOST, LOST, LOST, LOST, LOST, LOST, GOOD, GOOD, LOST, LOST, LOST, LOST, LOST,
-        LOST, GOOD, GOOD, LOST, LOST, LOST, LOST, LOST, LOST,
-    ];
-    for nine in places.windows(9) {
+    for nine in SIX_LOST.windows(9) {
         assert!(rt; has_good_pair(nine));
     }
-    assert_bound(&rt, &jobs, &places, 21, false)?;
-
-    // The seventh turn after the first block is an inquiry, whose answer is that block's acknowledgement again.
-    let lines = [
-        BID, BLOCK_ACK1, BLOCK_LOST, ASK_LOST, ASK_LOST, ASK_LOST, ASK_LOST, ASK_LOST, ASK_ACK1,
-        END,
-    ];
-    let report = assert_report(&rt, &jobs, &places, &lines, 1, Some(Outcome::GaveUp))?;
+    assert_bound(&rt, &jobs, SIX_LOST, 21, false)?;
+    let gave_up = Some(Outcome::GaveUp);
+    let report = assert_report(&rt, &jobs, SIX_LOST, AFTER_SIX_LOST, 1, gave_up)?;
     assert_same_jobs(&rt, report.handed.as_slice(), &jobs[..1]);
     Ok(())
 }
