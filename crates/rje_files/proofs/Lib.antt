@@ -10,3 +10,4 @@ pub mod OneFault
 pub mod Sent
 pub mod Unsendable
 pub mod Names
+pub mod OneMore

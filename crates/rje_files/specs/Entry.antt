@@ -59,6 +59,10 @@ is_entry e = is_job_name e.name && agrees e.state e.job.whole
 abbrev pub IsEntry : Entry → Type 0
 IsEntry e = (length e.name ≡ 8) × (is_entry e ≡ true)
 
+-- the entry of these three
+abbrev pub entry_with : List ℕ → State → Job → Entry
+entry_with name state job = record { name = name; state = state; job = job }
+
 -- the entry of a job that has no name and no state of its own
 abbrev pub entry_of : Job → Entry
 entry_of job = record { name = blank_name; state = if job.whole then Whole else Cut; job = job }

@@ -4,3 +4,4 @@ pub mod FileFault
 pub mod Unsent
 pub mod Laws
 pub mod Reading
+pub mod Growth

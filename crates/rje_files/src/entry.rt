@@ -1,5 +1,5 @@
 //! A job in a job file: with its name, and how far it is.
-ghost use Rattle.std.specs.Prelude.{◌≡◌, map, IfOk};
+ghost use Rattle.std.specs.Prelude.{◌≡◌, if◌then◌else◌, map, IfOk};
 ghost use Rattle.rje_files.specs.Entry.{entry_of};
 
 use crate::{JobName, NO_NAME};
@@ -34,10 +34,17 @@ impl From<Job> for Entry {
     fn from(job: Job) -> Entry {
         Entry {
             name: NO_NAME,
-            state: if job.whole { State::Whole } else { State::Cut },
+            state: received_state(job.whole),
             job,
         }
     }
+}
+
+/// The state of a received job, which came to its end or didn't.
+pub(crate) fn received_state(whole: bool) -> State
+    ensures { result ≡ (if whole then State.Whole else State.Cut) }
+{
+    if whole { State::Whole } else { State::Cut }
 }
 
 /// The entries of jobs that have no names, and no states but Whole or Cut.

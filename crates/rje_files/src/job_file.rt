@@ -13,7 +13,9 @@
 //!
 //! A job of version 2: its name, 8 bytes: up to eight of A to Z and 0 to 9 in ASCII, and then 20; its state in a byte (0 Waiting, 1 Sent, 2 Whole,
 //! 3 Cut); its selection, its mode, its records as in version 1.
-ghost use Rattle.std.specs.Prelude.{◌≡◌, IfOk, IfErr};
+ghost use Rattle.std.specs.Prelude.{◌≡◌, ◌<◌, ◌-◌, ◌^◌, length, IfOk, IfErr};
+ghost use Rattle.rje_files.specs.Entry.{entry_of};
+ghost use Rattle.rje_files.specs.Growth.{GrowsBy};
 ghost use Rattle.rje_files.specs.JobFile.{IsFileOf, IsEntryFileOf, IsJobFile, IsEntryFile, HasEntries};
 ghost use Rattle.rje_files.specs.FileFault.{IsFileFault, IsEntryFault};
 
@@ -24,14 +26,14 @@ mod reader;
 mod version;
 mod writing;
 
-use crate::Entry;
+use crate::{Entry, Growth};
 use checking::first_fault;
 use collecting::{collect_entries, collect_jobs};
 use name::first_bad;
 use rje_jobs::{FileFault, Job, Jobs};
-use std::alloc::Global;
+use std::alloc::{AllocError, Global};
 use version::FileVersion;
-use writing::{write_all_entries, write_all_jobs};
+use writing::{write_all_entries, write_all_jobs, write_growth};
 
 /// What a job file begins with: its name, and the first byte of its version.
 const HEAD: [u8; 5] = *b"RJ37\x00";
@@ -61,6 +63,19 @@ pub fn write_entries(alloc: Global, entries: &[Entry]) -> Result<Vec<u8>, FileFa
             }
         }
     }
+}
+
+/// How the version 2 file of so many jobs goes on with this received one, which has no name and is whole or cut.
+pub fn growth_of(alloc: Global, count: usize, job: &Job) -> Result<Growth, AllocError>
+    requires { count < 2 ^ 64 - 1 }
+    ensures grows { IfOk result (λ growth.
+        GrowsBy count (entry_of job.now) growth.front.items growth.tail.items) }
+    ensures front { IfOk result (λ growth. length growth.front.items ≡ 14) }
+{
+    let mut front = Vec::new(alloc);
+    let mut tail = Vec::new(alloc);
+    write_growth(count, job, &mut front, &mut tail)?;
+    Ok(Growth { front, tail })
 }
 
 /// The jobs whose version 1 file these bytes are. All bytes are checked before any memory is taken, and none is set aside by the counts in them.

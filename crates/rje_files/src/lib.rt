@@ -2,6 +2,7 @@
 #![tactic(auto)]
 
 mod entry;
+mod growth;
 mod job_file;
 mod laws;
 mod name;
@@ -10,7 +11,8 @@ mod tests;
 mod unsent;
 
 pub use entry::{Entry, State, entries_of};
-pub use job_file::{read_entries, read_jobs, write_entries, write_jobs};
+pub use growth::Growth;
+pub use job_file::{growth_of, read_entries, read_jobs, write_entries, write_jobs};
 pub use laws::{
     entries_are_of_one_list, file_is_of_one_list, names_are_padded, one_entry_fault,
     one_file_fault, read_alike,

@@ -1,13 +1,15 @@
 //! Jobs and entries into the bytes of a job file.
-ghost use Rattle.std.specs.Prelude.{◌≡◌, ◌∷◌, ◌++◌, List, ℕ, None, true, length, map, OnOk};
+ghost use Rattle.std.specs.Prelude.{◌≡◌, ◌<◌, ◌-◌, ◌^◌, ◌∷◌, ◌++◌, [], List, ℕ, None, true, length, map, OnOk};
 ghost use Rattle.std.specs.List.{AllByRecursion};
 ghost use Rattle.byteorder.specs.Endian.{big_bytes};
-ghost use Rattle.rje_files.specs.Entry.{entry_of, is_entry, bad_entry};
+ghost use Rattle.rje_files.specs.Entry.{entry_of, entry_with, is_entry, bad_entry};
+ghost use Rattle.rje_files.specs.Growth.{GrowsBy};
 ghost use Rattle.rje_files.specs.JobFile.{AreForFile, FitsFields, HasRoom, file_of, head, entry_bytes, records_bytes, record_bytes, action_byte, select_byte, mode_byte, state_byte, version_byte};
 
 use super::HEAD;
 use super::version::FileVersion;
-use crate::{Entry, State};
+use crate::entry::received_state;
+use crate::{Entry, JobName, NO_NAME, State};
 use byteorder::{BigEndian, ByteOrder};
 use rje_jobs::Job;
 use rje_text::{Action, Mode, Record, Select};
@@ -70,13 +72,49 @@ fn write_entry(entry: &Entry, out: &mut Vec<u8>) -> Result<(), AllocError>
     ensures fit { OnOk result (is_entry entry.now ≡ true
         → FitsFields FileVersion.Second entry.now) }
 {
-    out.extend_from_slice(&entry.name)?;
+    write_parts(&entry.name, entry.state, &entry.job, out)
+}
+
+/// Appends a received job: without a name, whole or cut.
+fn write_received(job: &Job, out: &mut Vec<u8>) -> Result<(), AllocError>
+    ensures entry { OnOk result (out.new.items
+        ≡ out.old.items ++ entry_bytes FileVersion.Second (entry_of job.now)) }
+    ensures fit { OnOk result (FitsFields FileVersion.Second (entry_of job.now)) }
+{
+    write_parts(&NO_NAME, received_state(job.whole), job, out)
+}
+
+/// Appends the entry of these three.
+fn write_parts(name: &JobName, state: State, job: &Job, out: &mut Vec<u8>) -> Result<(), AllocError>
+    ensures entry { OnOk result (out.new.items
+        ≡ out.old.items ++ entry_bytes FileVersion.Second (entry_with name.now state job.now)) }
+    ensures fit { OnOk result (is_entry (entry_with name.now state job.now) ≡ true
+        → FitsFields FileVersion.Second (entry_with name.now state job.now)) }
+{
+    out.extend_from_slice(name)?;
     out.extend_from_slice(&[
-        byte_of_state(entry.state),
-        byte_of_select(entry.job.select),
-        byte_of_mode(entry.job.mode),
+        byte_of_state(state),
+        byte_of_select(job.select),
+        byte_of_mode(job.mode),
     ])?;
-    write_records(entry.job.records.as_slice(), out)
+    write_records(job.records.as_slice(), out)
+}
+
+/// Appends to `front` and `tail` how the version 2 file of so many entries goes on with this received job.
+pub(super) fn write_growth(
+    count: usize,
+    job: &Job,
+    front: &mut Vec<u8>,
+    tail: &mut Vec<u8>,
+) -> Result<(), AllocError>
+    requires room { count < 2 ^ 64 - 1 }
+    requires new_front { front.old.items ≡ [] }
+    requires new_tail { tail.old.items ≡ [] }
+    ensures grows { OnOk result (GrowsBy count (entry_of job.now) front.new.items tail.new.items) }
+    ensures front { OnOk result (length front.new.items ≡ 14) }
+{
+    write_front(FileVersion::Second, count + 1, front)?;
+    write_received(job, tail)
 }
 
 /// Appends the number of these records, and the records.

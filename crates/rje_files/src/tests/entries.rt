@@ -1,8 +1,8 @@
 //! Job files of version 2, worked out.
 use super::record;
 use crate::{
-    Entry, State, entries_of, first_unsendable, jobs_of, mark_sent, name_of, read_entries,
-    read_jobs, sent_file, unsent_jobs, write_entries, write_jobs,
+    Entry, State, entries_of, first_unsendable, growth_of, jobs_of, mark_sent, name_of,
+    read_entries, read_jobs, sent_file, unsent_jobs, write_entries, write_jobs,
 };
 use rje_jobs::{FileFault, Job};
 use rje_text::{Action, Mode, Records, Select};
@@ -295,4 +295,16 @@ fn a_text_gives_a_name(rt: HostRuntime) {
     for text in ["", "ABCDEFGH9", "a", "A B", "A ", "@", "[", "/", ":"] {
         assert!(rt; name_of(text).is_none(), "{text}");
     }
+}
+
+#[test]
+fn a_file_goes_on_with_one_more_job(rt: HostRuntime) -> Result<(), Fail> {
+    let entry = entry(&rt, *b"PAY2    ", State::Cut, false)?;
+    let growth = growth_of(rt.alloc(), 1, &entry.job)?;
+    assert!(rt;
+        growth.front.as_slice() == b"RJ37\x00\x02\x00\x00\x00\x00\x00\x00\x00\x02".as_slice()
+    );
+    let tail = b"        \x03\x00\x00\x00\x00\x00\x00\x00\x00\x00\x01\x00\x01\xC1";
+    assert!(rt; growth.tail.as_slice() == tail.as_slice());
+    Ok(())
 }

@@ -1,7 +1,7 @@
 //! Calls that take memory, in ample memory and in memory of which a growth is refused: the script refusals/run runs these tests with
 //! each growth refused in turn.
 use super::entries::{FILE, OLD_FILE};
-use crate::{read_entries, read_jobs, sent_file, write_entries, write_jobs};
+use crate::{growth_of, read_entries, read_jobs, sent_file, write_entries, write_jobs};
 use rje_jobs::FileFault;
 use std::process::Abort;
 
@@ -58,5 +58,21 @@ fn what_was_counted_is_marked_or_finds_no_memory(rt: HostRuntime) {
     match sent_file(rt.alloc(), &FILE, 1) {
         Ok(bytes) => assert!(rt; bytes.as_slice() == sent.as_slice()),
         Err(fault) => assert!(rt; fault == FileFault::OutOfMemory),
+    }
+}
+
+#[test]
+fn how_a_file_goes_on_is_told_or_there_is_no_memory(rt: HostRuntime) {
+    let Ok(jobs) = read_jobs(rt.alloc(), &OLD_FILE) else {
+        return;
+    };
+    for job in jobs.as_slice() {
+        if let Ok(growth) = growth_of(rt.alloc(), 255, job) {
+            assert!(rt;
+                growth.front.as_slice()
+                    == b"RJ37\x00\x02\x00\x00\x00\x00\x00\x00\x01\x00".as_slice()
+            );
+            assert!(rt; growth.tail.len() == 22);
+        }
     }
 }
