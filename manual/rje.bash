@@ -3,7 +3,7 @@ _rje() {
     local word=${COMP_WORDS[COMP_CWORD]} before=${COMP_WORDS[COMP_CWORD - 1]} command=${COMP_WORDS[1]}
     local commands='blocks cards show check print try loop send receive help' words=--help
     case $command in
-    cards) words+=' --printer --punch --transparent --name' ;;
+    cards) words+=' --printer --punch --transparent --name --append' ;;
     loop) words+=' --timeout' ;;
     send) words+=' --to --timeout' ;;
     receive) words+=' --listen --timeout' ;;

@@ -1,10 +1,13 @@
 -- What holds of the bytes that were read holds of the file, and of the deck, that they are.
-use Rattle.std.proofs.Common.{◌≡◌, ℕ, List, Option, Some, None, Result, Ok, Err, OnOk, IfErr, inl, inr, sym, subst, ◌∙◌}
+use Rattle.std.proofs.Common.{◌≡◌, ◌≤◌, ℕ, Bool, true, false, List, length, Option, Some, None, Result, Ok, Err, OnOk, IfErr, inl, inr, refl, sym, subst, ◌∙◌}
 use Rattle.std.specs.Prelude.{IfSome, bytes_eq, if◌then◌else◌}
 use Rattle.std.specs.Option.{IsSomeAnd}
 use Rattle.std.specs.Result.{IsErrAnd}
 use Rattle.rje_jobs.specs.declared.job.Job.{Job}
-use Rattle.rje_files.specs.JobFile.{HasJobs}
+use Rattle.rje_jobs.specs.Deck.{deck_fault}
+use Rattle.rje_files.specs.declared.entry.Entry.{Entry}
+use Rattle.rje_files.specs.FileFault.{IsFileFault}
+use Rattle.rje_files.specs.JobFile.{HasJobs, IsEntryFile}
 use Rattle.line_world.specs.declared.turn.Turn.{Turn}
 use Rattle.line_world.specs.declared.world_fault.WorldFault.{WorldFault}
 use Rattle.line_world.specs.Run.{IsRunFault}
@@ -18,8 +21,8 @@ use Rattle.rje_words.specs.Asking.{AsksFor}
 use Rattle.rje_commands.specs.declared.command_fault.CommandFault.{CommandFault}
 use Rattle.rje_commands.specs.declared.command_fault.CommandFault.TheVariants as told
 use Rattle.rje_commands.specs.Command.{LeavesAsAsked}
-use Rattle.rje_commands.specs.Commands.{OfFile, OfFiles, OfDeck, IsFault, IsCardFile, MakesFile, Leaves}
-use Rattle.rje_commands.specs.Inside.{IsCardsFault, IsTryFault}
+use Rattle.rje_commands.specs.Commands.{AreEntriesOf, AreInFront, OfFile, OfFiles, OfDeck, IsFault, MakesFile, Leaves}
+use Rattle.rje_commands.specs.Inside.{IsCardsFault, IsHeld, IsHeldFault, IsMade, IsThere, IsTryFault}
 use Rattle.rje_commands.specs.Store.{FileMap, Discloses, IsSame, Sets}
 
 -- files that stayed the same twice stayed the same
@@ -65,12 +68,53 @@ pub done_as : {T E : Type 0} (result : Result T E) (P Q : Type 0) → OnOk resul
 done_as (Ok x) P Q done go = go done
 done_as (Err e) P Q done go = tt
 
+-- what a name has after a read that left the files as they were, it had before
+there_before : (name : List ℕ) (f g : Option FileMap) (held : Option (List ℕ)) → Discloses f g IsSame → IsThere name g held → IsThere name f held
+there_before name None g held same is = tt
+there_before name (Some f) None held same is = absurd same
+there_before name (Some f) (Some g) held same is = sym (same name) ∙ is
+
+-- a job file that was read
+there_file : (name : List ℕ) (f : Option FileMap) (held : Option (List ℕ)) (P : List ℕ → Type 0) → IsThere name f held → IsSomeAnd held P → OfFile name f P
+there_file name None held P is h = tt
+there_file name (Some f) held P is h = subst (λ (known : Option (List ℕ)). IsSomeAnd known P) (sym is) h
+
+-- the entries of the job file that was read stand in front
+pub in_front : (order : CardsOrder) (f g : Option FileMap) (held : Option (List ℕ)) (front : List Entry) → Discloses f g IsSame → IsHeld order g held
+    → AreEntriesOf held front → AreInFront order f front
+in_front order f g held front same is h = (
+  λ on. go f (there_before order.jobs.now f g held same (is.0 on)),
+  λ off. subst (λ (known : Option (List ℕ)). AreEntriesOf known front) (is.1 off) h,
+)
+  where
+    go : (f : Option FileMap) → IsThere order.jobs.now f held → IfSome f (λ known. AreEntriesOf (known order.jobs.now) front)
+    go None there = tt
+    go (Some known) there = subst (λ (file : Option (List ℕ)). AreEntriesOf file front) (sym there) h
+
+-- a job file that can't be read is a fault of `cards`
+pub held_fault : (order : CardsOrder) (files : Option FileMap) (input : Option (List ℕ)) (fault : CommandFault) → IsHeldFault order fault
+    → IsFault (FileOrder.Cards order) files input fault
+held_fault order files input told.OutOfMemory h = tt
+held_fault order files input (told.CannotRead name) h = inr (h.0, h.1)
+held_fault order files input _ h = absurd h.1
+
 -- the fault of a deck's file is one of `cards`
-pub cards_fault : (order : CardsOrder) (files : Option FileMap) (input : Option (List ℕ)) (deck : List ℕ) (fault : CommandFault)
-    → OfDeck order.deck.now files input (λ read. deck ≡ read) → IsCardsFault deck fault → IsFault (FileOrder.Cards order) files input fault
-cards_fault order files input deck told.OutOfMemory is h = tt
-cards_fault order files input deck (told.Deck fault) is h = of_deck (λ read. IsCardsFault read (told.Deck fault)) deck h order.deck.now files input is
-cards_fault order files input deck _ is h = absurd h
+pub cards_fault : (order : CardsOrder) (f g : Option FileMap) (input : Option (List ℕ)) (deck : List ℕ) (held : Option (List ℕ)) (fault : CommandFault)
+    → OfDeck order.deck.now f input (λ read. deck ≡ read) → Discloses f g IsSame → IsHeld order g held → IsCardsFault deck held fault
+    → IsFault (FileOrder.Cards order) f input fault
+cards_fault order f g input deck held told.OutOfMemory is same kept h = tt
+cards_fault order f g input deck held (told.Deck fault) is same kept h =
+    of_deck (λ read. IsCardsFault read held (told.Deck fault)) deck h order.deck.now f input is
+cards_fault order f g input deck held (told.File fault) is same kept h = go order.append refl
+  where
+    some_none : (o : Option (List ℕ)) → o ≡ None → IsSomeAnd o (λ file. IsFileFault IsEntryFile file fault) → ⊥
+    some_none None e is = is
+    some_none (Some file) e is = cc
+
+    go : (b : Bool) → order.append ≡ b → (order.append ≡ true) × OfFile order.jobs.now f (λ file. IsFileFault IsEntryFile file fault)
+    go true on = (on, there_file order.jobs.now f held _ (there_before order.jobs.now f g held same (kept.0 on)) h)
+    go false off = absurd (some_none held (kept.1 off) h)
+cards_fault order f g input deck held _ is same kept h = absurd h
 
 -- the fault of a run of two files is one of `try`
 module _ (order : TryOrder) (f g : Option FileMap) (a b : List ℕ)
@@ -106,9 +150,16 @@ set_after name bytes (Some f) (Some g) None p q = absurd q
 set_after name bytes (Some f) (Some g) (Some h) p q = λ other.
     subst (λ (had : Option (List ℕ)). h other ≡ (if bytes_eq other name then Some bytes else had)) (p other) (q other)
 
-pub made_file : (order : CardsOrder) (deck bytes : List ℕ) (f g h : Option FileMap) → IsCardFile order.device order.name deck bytes
-    → Discloses f g IsSame → Discloses g h (Sets order.jobs.now bytes) → MakesFile order deck f h
-made_file order deck bytes f g h card same sets = (bytes, card, set_after order.jobs.now bytes f g h same sets)
+pub made_file : (order : CardsOrder) (deck bytes : List ℕ) (held : Option (List ℕ)) (f g h i : Option FileMap) → deck_fault deck ≡ None
+    → IsMade order deck held bytes → length bytes ≤ 16777216 → Discloses f g IsSame → IsHeld order g held → Discloses g h IsSame
+    → Discloses h i (Sets order.jobs.now bytes) → MakesFile order deck f i
+made_file order deck bytes held f g h i good made few same kept still sets = (
+  made.0,
+  bytes,
+  in_front order f g held made.0 same kept made.1,
+  record { good = good; file = made.2; few = few },
+  set_after order.jobs.now bytes f h i (same_twice f g h same still) sets,
+)
 
 -- two things that were done at once
 pub done_both : {T E : Type 0} (result : Result T E) (P Q : Type 0) → OnOk result P → OnOk result Q → OnOk result (P × Q)

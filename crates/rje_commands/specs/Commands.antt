@@ -1,5 +1,5 @@
 -- What the commands over files do, and why they do nothing, by what files, input and output tell (own profile).
-use Rattle.std.specs.Prelude.{◌≡◌, ◌≢◌, ◌≤◌, ◌⊎◌, ℕ, List, [], ◌∷◌, codes, length, Option, None, IfSome, ⊤}
+use Rattle.std.specs.Prelude.{◌≡◌, ◌≢◌, ◌≤◌, ◌⊎◌, ℕ, List, [], ◌∷◌, ◌++◌, codes, length, Option, None, Some, IfSome, true, false, ⊤}
 use Rattle.std.specs.Io.KnownBytes.{Appends}
 use Rattle.std.specs.Option.{IsSomeAnd}
 use Rattle.bsc_link.specs.declared.outcome.Outcome.{Outcome}
@@ -63,15 +63,28 @@ deck_job device deck = job_of (select_of device) (writing device) deck
 abbrev pub deck_entry : Device → (name deck : List ℕ) → Entry
 deck_entry device name deck = record { name = name; state = Waiting; job = deck_job device deck }
 
--- the deck has no fault, and these are the bytes of the version 2 file of its job, which are no more than are read of a file
-pub record IsCardFile (device : Device) (name deck bytes : List ℕ) : Type 0 where
+-- the entries of a file, and none where there is no file
+abbrev pub AreEntriesOf : Option (List ℕ) → List Entry → Type 0
+AreEntriesOf None entries = entries ≡ []
+AreEntriesOf (Some file) entries = HasEntries entries file
+
+-- the entries in front of the deck's: with `--append` those of the file that the order names, where there is one, and else none
+abbrev pub AreInFront : CardsOrder → Option FileMap → List Entry → Type 0
+AreInFront order files entries =
+    (order.append ≡ true → IfSome files (λ known. AreEntriesOf (known order.jobs.now) entries)) × (order.append ≡ false → entries ≡ [])
+
+-- the deck has no fault, and these are the bytes of the version 2 file of these entries and its job behind them, which are no more than are
+-- read of a file
+pub record IsCardFile (device : Device) (name deck : List ℕ) (front : List Entry) (bytes : List ℕ) : Type 0 where
   pub good : deck_fault deck ≡ None
-  pub file : IsEntryFileOf Second (deck_entry device name deck ∷ []) bytes
+  pub file : IsEntryFileOf Second (front ++ deck_entry device name deck ∷ []) bytes
   pub few : length bytes ≤ 16777216
 
--- the file that the order names became that of the deck's job, and no other file changed
+-- the file that the order names became that of the deck's job, behind the entries in front of it, and no other file changed
 abbrev pub MakesFile : CardsOrder → (deck : List ℕ) → (files made : Option FileMap) → Type 0
-MakesFile order deck files made = (bytes : List ℕ) × IsCardFile order.device order.name deck bytes × Discloses files made (Sets order.jobs.now bytes)
+MakesFile order deck files made =
+    (front : List Entry) × (bytes : List ℕ) × AreInFront order files front × IsCardFile order.device order.name deck front bytes
+    × Discloses files made (Sets order.jobs.now bytes)
 
 -- so it did, and just the line of how many cards there are was printed
 abbrev pub MakesCards : CardsOrder → (deck : List ℕ) → (files made : Option FileMap) → (before after : Option (List ℕ)) → Type 0
@@ -128,6 +141,7 @@ OfItsFile (FileOrder.Show jobs) files P = OfFile jobs.now files P
 OfItsFile (FileOrder.Check jobs) files P = OfFile jobs.now files P
 OfItsFile (FileOrder.Print jobs) files P = OfFile jobs.now files P
 OfItsFile (FileOrder.Try order) files P = OfFile order.jobs.now files P
+OfItsFile (FileOrder.Cards order) files P = (order.append ≡ true) × OfFile order.jobs.now files P
 OfItsFile _ files P = ⊥
 
 -- this holds of the job file and the script of `try`
@@ -151,7 +165,7 @@ IsBadJob order files number = OfItsScript order files (IsFaultOfRun (world.BadJo
 -- the order reads what has this name
 abbrev pub Reads : FileOrder → List ℕ → Type 0
 Reads (FileOrder.Blocks deck) name = name ≡ deck.now
-Reads (FileOrder.Cards order) name = name ≡ order.deck.now
+Reads (FileOrder.Cards order) name = (name ≡ order.deck.now) ⊎ ((order.append ≡ true) × (name ≡ order.jobs.now))
 Reads (FileOrder.Show jobs) name = name ≡ jobs.now
 Reads (FileOrder.Check jobs) name = name ≡ jobs.now
 Reads (FileOrder.Print jobs) name = name ≡ jobs.now

@@ -1,12 +1,16 @@
 -- Of what the private functions of the commands tell; no promise rests on it.
-use Rattle.std.specs.Prelude.{◌≡◌, ℕ, List, Option, ⊤}
+use Rattle.std.specs.Prelude.{◌≡◌, ℕ, List, [], ◌∷◌, ◌++◌, Option, None, IfSome, true, false, ⊤}
+use Rattle.std.specs.Option.{IsSomeAnd}
 use Rattle.rje_jobs.specs.Deck.{IsDeckFault}
 use Rattle.rje_files.specs.FileFault.{IsFileFault}
-use Rattle.rje_files.specs.JobFile.{IsEntryFile}
+use Rattle.rje_files.specs.declared.entry.Entry.{Entry}
+use Rattle.rje_files.specs.declared.job_file.version.FileVersion.TheVariants.{Second}
+use Rattle.rje_files.specs.JobFile.{IsEntryFile, IsEntryFileOf}
 use Rattle.line_world.specs.declared.world_fault.WorldFault.TheVariants as world
 use Rattle.rje_print.specs.Script.{IsFirstBadLine}
 use Rattle.rje_commands.specs.declared.command_fault.CommandFault.{CommandFault}
-use Rattle.rje_commands.specs.Commands.{OfFile, IsFaultOfRun}
+use Rattle.rje_words.specs.declared.order.CardsOrder.{CardsOrder}
+use Rattle.rje_commands.specs.Commands.{AreEntriesOf, OfFile, IsFaultOfRun, deck_entry}
 use Rattle.rje_commands.specs.Store.{FileMap}
 
 -- there is no memory for what has this name, or it can't be read
@@ -26,11 +30,29 @@ IsWriteFault name CommandFault.OutOfMemory = ⊤
 IsWriteFault name (CommandFault.CannotWrite named) = named.now ≡ name
 IsWriteFault name _ = ⊥
 
--- there is no memory for the file of this deck, or the deck has this fault
-abbrev pub IsCardsFault : List ℕ → CommandFault → Type 0
-IsCardsFault deck CommandFault.OutOfMemory = ⊤
-IsCardsFault deck (CommandFault.Deck fault) = IsDeckFault deck fault
-IsCardsFault deck _ = ⊥
+-- where the files are told, this is what this name has
+abbrev pub IsThere : List ℕ → Option FileMap → Option (List ℕ) → Type 0
+IsThere name files found = IfSome files (λ known. known name ≡ found)
+
+-- this is the job file to which the job is added, where there is one
+abbrev pub IsHeld : CardsOrder → Option FileMap → Option (List ℕ) → Type 0
+IsHeld order files held = (order.append ≡ true → IsThere order.jobs.now files held) × (order.append ≡ false → held ≡ None)
+
+-- the job file to which the job is added can't be read
+abbrev pub IsHeldFault : CardsOrder → CommandFault → Type 0
+IsHeldFault order fault = (order.append ≡ true) × IsReadFault order.jobs.now fault
+
+-- these are the bytes of the version 2 file of what this file holds and, behind it, of the job of this deck
+abbrev pub IsMade : CardsOrder → (deck : List ℕ) → (held : Option (List ℕ)) → (bytes : List ℕ) → Type 0
+IsMade order deck held bytes =
+    (front : List Entry) × AreEntriesOf held front × IsEntryFileOf Second (front ++ deck_entry order.device order.name deck ∷ []) bytes
+
+-- there is no memory for the file of this deck, the deck has this fault, or the file to which its job is added is no job file
+abbrev pub IsCardsFault : (deck : List ℕ) → (held : Option (List ℕ)) → CommandFault → Type 0
+IsCardsFault deck held CommandFault.OutOfMemory = ⊤
+IsCardsFault deck held (CommandFault.Deck fault) = IsDeckFault deck fault
+IsCardsFault deck held (CommandFault.File fault) = IsSomeAnd held (λ file. IsFileFault IsEntryFile file fault)
+IsCardsFault deck held _ = ⊥
 
 -- there is no memory for the run of this file over this script, one of them isn't read, or the run has this fault
 abbrev pub IsTryFault : (file script : List ℕ) → CommandFault → Type 0

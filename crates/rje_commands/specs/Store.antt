@@ -1,5 +1,6 @@
 -- What a store of files is: names with their bytes, where it tells them.
-use Rattle.std.specs.Prelude.{◌≡◌, ℕ, ◌<◌, List, length, Option, Some, None, IfSome, ⊤, bytes_eq, if◌then◌else◌}
+use Rattle.std.specs.Prelude.{◌≡◌, ℕ, ◌<◌, List, length, Option, Some, None, ⊤, bytes_eq, if◌then◌else◌}
+use Rattle.std.specs.Option.{IsSomeAnd}
 use Rattle.rje_commands.specs.declared.reading.TheConstants.{MAX_INPUT}
 
 -- the files: the bytes of each name that has some
@@ -25,6 +26,11 @@ abbrev pub Has : Option FileMap → List ℕ → List ℕ → Type 0
 Has None name bytes = ⊤
 Has (Some f) name bytes = f name ≡ Some bytes
 
--- there is no such file, or it is too long
-abbrev pub CannotRead : Option (List ℕ) → Type 0
-CannotRead file = IfSome file (λ bytes. MAX_INPUT < length bytes)
+-- where the files are told, this name has none
+abbrev pub Lacks : Option FileMap → List ℕ → Type 0
+Lacks None name = ⊤
+Lacks (Some f) name = f name ≡ None
+
+-- there is such a file, and it is too long to be read
+abbrev pub IsTooLong : Option (List ℕ) → Type 0
+IsTooLong file = IsSomeAnd file (λ bytes. MAX_INPUT < length bytes)

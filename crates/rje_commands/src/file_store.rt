@@ -74,6 +74,7 @@ impl<'a, R: Files> Store for FileStore<'a, R> {
     fn read(&mut self, alloc: Global, name: &str) -> Result<Vec<u8>, StoreFault> {
         match fs::open(self.rt, name) {
             Ok(mut file) => read_all(alloc, &mut file),
+            Err(error) if error.kind() == ErrorKind::NotFound => Err(StoreFault::Missing),
             Err(_) => Err(StoreFault::Failed),
         }
     }

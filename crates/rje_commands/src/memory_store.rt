@@ -1,6 +1,6 @@
 //! Files in memory.
 ghost use Rattle.std.specs.Prelude.{◌≡◌, ◌≤◌, ◌↔◌, ℕ, List, None, Some, length, IfOk, OnOk, OnErr, IsErrOf, IsOkUnless};
-ghost use Rattle.rje_commands.specs.Store.{IsSame, Sets, CannotRead};
+ghost use Rattle.rje_commands.specs.Store.{IsSame, Sets, IsTooLong};
 ghost use Rattle.rje_commands.specs.MemoryStore.{files_of};
 
 use crate::reading::MAX_INPUT;
@@ -33,15 +33,17 @@ impl Store for MemoryStore {
     fn read(&mut self, alloc: Global, name: &str) -> Result<Vec<u8>, StoreFault>
         ensures has { IfOk result (λ bytes. files_of self.old name.now ≡ Some bytes.items) }
         ensures limit { IfOk result (λ bytes. length bytes.items ≤ MAX_INPUT) }
+        ensures missing { IsErrOf result StoreFault.Missing ↔ files_of self.old name.now ≡ None }
         ensures failed { IsErrOf result StoreFault.Failed
-            ↔ CannotRead (files_of self.old name.now) }
+            ↔ IsTooLong (files_of self.old name.now) }
         ensures same { IsSame (files_of self.old) (files_of self.new) }
     {
         match self.files.get(name) {
             Some(bytes) if bytes.len() <= MAX_INPUT => {
                 Vec::from_slice(alloc, bytes.as_slice()).map_err(|_| StoreFault::OutOfMemory)
             }
-            _ => Err(StoreFault::Failed),
+            Some(_) => Err(StoreFault::Failed),
+            None => Err(StoreFault::Missing),
         }
     }
 

@@ -1,6 +1,6 @@
 //! The files that the program reads and writes by name.
-ghost use Rattle.std.specs.Prelude.{ℕ, ◌≤◌, List, Option, length, IfOk, OnOk, OnErr};
-ghost use Rattle.rje_commands.specs.Store.{FileMap, Discloses, IsSame, Sets, Has};
+ghost use Rattle.std.specs.Prelude.{ℕ, ◌≤◌, List, Option, length, IfOk, IsErrOf, OnOk, OnErr};
+ghost use Rattle.rje_commands.specs.Store.{FileMap, Discloses, IsSame, Sets, Has, Lacks};
 
 use crate::reading::MAX_INPUT;
 use std::alloc::Global;
@@ -12,7 +12,10 @@ pub enum StoreFault {
     /// There is no memory for it.
     #[error("out of memory")]
     OutOfMemory,
-    /// It isn't there, it is too long, or the store fails.
+    /// There is no such file to read.
+    #[error("there is no such file")]
+    Missing,
+    /// It is too long, or the store fails.
     #[error("the file can't be read or written")]
     Failed,
 }
@@ -26,6 +29,7 @@ pub trait Store {
     fn read(&mut self, alloc: Global, name: &str) -> Result<Vec<u8>, StoreFault>
         ensures has { IfOk result (λ bytes. Has (files self.old) name.now bytes.items) }
         ensures limit { IfOk result (λ bytes. length bytes.items ≤ MAX_INPUT) }
+        ensures missing { IsErrOf result StoreFault.Missing → Lacks (files self.old) name.now }
         ensures same { Discloses (files self.old) (files self.new) IsSame };
 
     /// Makes these bytes the file of this name, in place of what it had. A store may fail at any time.

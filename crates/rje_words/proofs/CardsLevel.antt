@@ -16,7 +16,7 @@ use Rattle.clap.proofs.OnLiterals.{clap_on_literals}
 use Rattle.rje_words.specs.Asking.{is_on, word_in}
 use Rattle.clap.specs.Walk.{option as waits_for}
 use Rattle.std.specs.List.{flat_map}
-use Rattle.rje_words.specs.CardsWords.{CardsWord, DeviceOption, file, named, option, option_text, printer, punch, transparent, words_typed}
+use Rattle.rje_words.specs.CardsWords.{CardsWord, CardsOption, append, file, named, option, option_text, printer, punch, transparent, words_typed}
 use Rattle.rje_words.specs.CommandLine.{is_file, names_file, rje_app}
 
 -- THE ROW OF AN ID
@@ -153,10 +153,11 @@ deck_rule = rule_at 0
 abbrev jobs_rule : Rule
 jobs_rule = rule_at 1
 
-abbrev option_rule : DeviceOption → Rule
+abbrev option_rule : CardsOption → Rule
 option_rule printer = rule_at 2
 option_rule punch = rule_at 3
 option_rule transparent = rule_at 4
+option_rule append = rule_at 6
 
 abbrev named_rule : Rule
 named_rule = rule_at 5
@@ -165,11 +166,12 @@ named_rule = rule_at 5
 abbrev at : Held → ℕ → Walk
 at h position = record { held = h; waiting = idle; position = position; is_trailing = false; stopped = None }
 
-option_walked : (o : DeviceOption) (h : Held) (position : ℕ) → walked rules [] (at h position) (option_text o) ≡ at (reacted rules (option_rule o) [] h) position
+option_walked : (o : CardsOption) (h : Held) (position : ℕ) → walked rules [] (at h position) (option_text o) ≡ at (reacted rules (option_rule o) [] h) position
 unfolding clap_on_literals
 option_walked printer h position = refl
 option_walked punch h position = refl
 option_walked transparent h position = refl
+option_walked append h position = refl
 
 deck_walked : (c : ℕ) (cs : List ℕ) (h : Held) → (c == 45) ≡ false → walked rules [] (at h 1) (c ∷ cs) ≡ at (positional_held rules deck_rule (c ∷ cs) h) 2
 unfolding clap_on_literals
@@ -214,17 +216,20 @@ pub record Seen : Type 0 where
   pub printer : Bool
   pub punch : Bool
   pub transparent : Bool
+  pub append : Bool
   pub name : Option Text
 
-abbrev pub is_seen : DeviceOption → Seen → Bool
+abbrev pub is_seen : CardsOption → Seen → Bool
 is_seen printer seen = seen.printer
 is_seen punch seen = seen.punch
 is_seen transparent seen = seen.transparent
+is_seen append seen = seen.append
 
-abbrev pub with_option : DeviceOption → Seen → Seen
+abbrev pub with_option : CardsOption → Seen → Seen
 with_option printer seen = record seen { printer = true }
 with_option punch seen = record seen { punch = true }
 with_option transparent seen = record seen { transparent = true }
+with_option append seen = record seen { append = true }
 
 abbrev pub with_file : Option Text → Text → Seen → Seen
 with_file None name seen = record seen { deck = Some name }
@@ -269,13 +274,13 @@ deck_row name = value_row (codes "DECK") (reading_by deck_rule) CommandLine (nam
 abbrev jobs_row : Text → Row
 jobs_row name = value_row (codes "JOBS") (reading_by jobs_rule) CommandLine (name ∷ [])
 
-abbrev given_row : DeviceOption → Row
+abbrev given_row : CardsOption → Row
 given_row o = value_row (option_rule o).id (reading_by (option_rule o)) CommandLine (codes "true" ∷ [])
 
 abbrev name_row : Text → Row
 name_row name = value_row (codes "name") (reading_by named_rule) CommandLine (name ∷ [])
 
-abbrev if_given : DeviceOption → Bool → Option Row
+abbrev if_given : CardsOption → Bool → Option Row
 if_given o true = Some (given_row o)
 if_given o false = None
 
@@ -286,6 +291,7 @@ record Holds (rows : List Row) (seen : Seen) : Type 0 where
   for_printer : look (codes "printer") rows ≡ if_given printer seen.printer
   for_punch : look (codes "punch") rows ≡ if_given punch seen.punch
   for_transparent : look (codes "transparent") rows ≡ if_given transparent seen.transparent
+  for_append : look (codes "append") rows ≡ if_given append seen.append
   for_name : look (codes "name") rows ≡ option_map name_row seen.name
 
 -- what is held is what was seen
@@ -303,20 +309,22 @@ and_false false = refl
 
 -- OPTIONS
 
-option_row : (o : DeviceOption) (rows : List Row) (seen : Seen) → Holds rows seen → look (option_rule o).id rows ≡ if_given o (is_seen o seen)
+option_row : (o : CardsOption) (rows : List Row) (seen : Seen) → Holds rows seen → look (option_rule o).id rows ≡ if_given o (is_seen o seen)
 option_row printer rows seen h = h.for_printer
 option_row punch rows seen h = h.for_punch
 option_row transparent rows seen h = h.for_transparent
+option_row append rows seen h = h.for_append
 
-option_none : (o : DeviceOption) (rows : List Row) (seen : Seen) → Holds rows seen → is_seen o seen ≡ false → look (option_rule o).id rows ≡ None
+option_none : (o : CardsOption) (rows : List Row) (seen : Seen) → Holds rows seen → is_seen o seen ≡ false → look (option_rule o).id rows ≡ None
 option_none o rows seen h e = option_row o rows seen h ∙ ap (if_given o) e
 
-option_used : (o : DeviceOption) (rows : List Row) → look (option_rule o).id rows ≡ None → used (option_rule o) [] rows ≡ rows ++ given_row o ∷ []
+option_used : (o : CardsOption) (rows : List Row) → look (option_rule o).id rows ≡ None → used (option_rule o) [] rows ≡ rows ++ given_row o ∷ []
 option_used printer rows none = row_used (codes "printer") (reading_by (option_rule printer)) (codes "true" ∷ []) rows none
 option_used punch rows none = row_used (codes "punch") (reading_by (option_rule punch)) (codes "true" ∷ []) rows none
 option_used transparent rows none = row_used (codes "transparent") (reading_by (option_rule transparent)) (codes "true" ∷ []) rows none
+option_used append rows none = row_used (codes "append") (reading_by (option_rule append)) (codes "true" ∷ []) rows none
 
-option_holds : (o : DeviceOption) (rows : List Row) (seen : Seen) → Holds rows seen → look (option_rule o).id rows ≡ None
+option_holds : (o : CardsOption) (rows : List Row) (seen : Seen) → Holds rows seen → look (option_rule o).id rows ≡ None
     → Holds (rows ++ given_row o ∷ []) (with_option o seen)
 option_holds printer rows seen h none = record {
   deck = look_other (codes "DECK") rows (given_row printer) refl ∙ h.deck;
@@ -324,6 +332,7 @@ option_holds printer rows seen h none = record {
   for_printer = look_new (codes "printer") rows (given_row printer) none refl;
   for_punch = look_other (codes "punch") rows (given_row printer) refl ∙ h.for_punch;
   for_transparent = look_other (codes "transparent") rows (given_row printer) refl ∙ h.for_transparent;
+  for_append = look_other (codes "append") rows (given_row printer) refl ∙ h.for_append;
   for_name = look_other (codes "name") rows (given_row printer) refl ∙ h.for_name;
 }
 option_holds punch rows seen h none = record {
@@ -332,6 +341,7 @@ option_holds punch rows seen h none = record {
   for_printer = look_other (codes "printer") rows (given_row punch) refl ∙ h.for_printer;
   for_punch = look_new (codes "punch") rows (given_row punch) none refl;
   for_transparent = look_other (codes "transparent") rows (given_row punch) refl ∙ h.for_transparent;
+  for_append = look_other (codes "append") rows (given_row punch) refl ∙ h.for_append;
   for_name = look_other (codes "name") rows (given_row punch) refl ∙ h.for_name;
 }
 option_holds transparent rows seen h none = record {
@@ -340,42 +350,55 @@ option_holds transparent rows seen h none = record {
   for_printer = look_other (codes "printer") rows (given_row transparent) refl ∙ h.for_printer;
   for_punch = look_other (codes "punch") rows (given_row transparent) refl ∙ h.for_punch;
   for_transparent = look_new (codes "transparent") rows (given_row transparent) none refl;
+  for_append = look_other (codes "append") rows (given_row transparent) refl ∙ h.for_append;
   for_name = look_other (codes "name") rows (given_row transparent) refl ∙ h.for_name;
 }
+option_holds append rows seen h none = record {
+  deck = look_other (codes "DECK") rows (given_row append) refl ∙ h.deck;
+  jobs = look_other (codes "JOBS") rows (given_row append) refl ∙ h.jobs;
+  for_printer = look_other (codes "printer") rows (given_row append) refl ∙ h.for_printer;
+  for_punch = look_other (codes "punch") rows (given_row append) refl ∙ h.for_punch;
+  for_transparent = look_other (codes "transparent") rows (given_row append) refl ∙ h.for_transparent;
+  for_append = look_new (codes "append") rows (given_row append) none refl;
+  for_name = look_other (codes "name") rows (given_row append) refl ∙ h.for_name;
+}
 
-option_turn : (o : DeviceOption) (h : Held) (position : ℕ) → turn_fault cards [] (at h position) (option_text o) ≡ or_else (react_fault rules false (option_rule o) [] h) []
+option_turn : (o : CardsOption) (h : Held) (position : ℕ) → turn_fault cards [] (at h position) (option_text o) ≡ or_else (react_fault rules false (option_rule o) [] h) []
 unfolding clap_on_literals
 option_turn printer h position = refl
 option_turn punch h position = refl
 option_turn transparent h position = refl
+option_turn append h position = refl
 
 abbrev conflict : Bool → Kinds
 conflict true = ArgumentConflict ∷ []
 conflict false = []
 
-option_fault : (o : DeviceOption) (rows : List Row) (b : Bool) → has_row (option_rule o).id rows ≡ b → use_fault false (option_rule o) [] rows ≡ conflict b
+option_fault : (o : CardsOption) (rows : List Row) (b : Bool) → has_row (option_rule o).id rows ≡ b → use_fault false (option_rule o) [] rows ≡ conflict b
 option_fault printer rows true e = rw e refl
 option_fault printer rows false e = rw e refl
 option_fault punch rows true e = rw e refl
 option_fault punch rows false e = rw e refl
 option_fault transparent rows true e = rw e refl
 option_fault transparent rows false e = rw e refl
+option_fault append rows true e = rw e refl
+option_fault append rows false e = rw e refl
 
-option_has : (o : DeviceOption) (rows : List Row) (seen : Seen) → Holds rows seen → has_row (option_rule o).id rows ≡ is_seen o seen
+option_has : (o : CardsOption) (rows : List Row) (seen : Seen) → Holds rows seen → has_row (option_rule o).id rows ≡ is_seen o seen
 option_has o rows seen h = has_look (option_rule o).id rows ∙ ap is_some (option_row o rows seen h) ∙ go (is_seen o seen)
   where
     go : (b : Bool) → is_some (if_given o b) ≡ b
     go true = refl
     go false = refl
 
-option_told : (o : DeviceOption) (h : Held) (position : ℕ) (seen : Seen) → Stands h seen
+option_told : (o : CardsOption) (h : Held) (position : ℕ) (seen : Seen) → Stands h seen
     → turn_fault cards [] (at h position) (option_text o) ≡ conflict (is_seen o seen)
 option_told o h position seen st =
     option_turn o h position ∙ or_else-right (react_fault rules false (option_rule o) [] h)
     ∙ ap (λ ks. or_else ks (use_fault false (option_rule o) [] (settled rules h).rows)) st.quiet
     ∙ option_fault o (settled rules h).rows (is_seen o seen) (option_has o (settled rules h).rows seen st.rows)
 
-option_stands : (o : DeviceOption) (h : Held) (seen : Seen) → Stands h seen → is_seen o seen ≡ false → Stands (reacted rules (option_rule o) [] h) (with_option o seen)
+option_stands : (o : CardsOption) (h : Held) (seen : Seen) → Stands h seen → is_seen o seen ≡ false → Stands (reacted rules (option_rule o) [] h) (with_option o seen)
 option_stands o h seen st e =
     let none = option_none o (settled rules h).rows seen st.rows e in
     record {
@@ -449,6 +472,7 @@ deck_holds name rows seen h none = record {
   for_printer = look_other (codes "printer") rows (deck_row name) refl ∙ h.for_printer;
   for_punch = look_other (codes "punch") rows (deck_row name) refl ∙ h.for_punch;
   for_transparent = look_other (codes "transparent") rows (deck_row name) refl ∙ h.for_transparent;
+  for_append = look_other (codes "append") rows (deck_row name) refl ∙ h.for_append;
   for_name = look_other (codes "name") rows (deck_row name) refl ∙ h.for_name;
 }
 
@@ -460,6 +484,7 @@ jobs_holds name rows seen h none = record {
   for_printer = look_other (codes "printer") rows (jobs_row name) refl ∙ h.for_printer;
   for_punch = look_other (codes "punch") rows (jobs_row name) refl ∙ h.for_punch;
   for_transparent = look_other (codes "transparent") rows (jobs_row name) refl ∙ h.for_transparent;
+  for_append = look_other (codes "append") rows (jobs_row name) refl ∙ h.for_append;
   for_name = look_other (codes "name") rows (jobs_row name) refl ∙ h.for_name;
 }
 
@@ -506,6 +531,7 @@ name_holds name rows seen h none = record {
   for_printer = look_other (codes "printer") rows (name_row name) refl ∙ h.for_printer;
   for_punch = look_other (codes "punch") rows (name_row name) refl ∙ h.for_punch;
   for_transparent = look_other (codes "transparent") rows (name_row name) refl ∙ h.for_transparent;
+  for_append = look_other (codes "append") rows (name_row name) refl ∙ h.for_append;
   for_name = look_new (codes "name") rows (name_row name) none refl;
 }
 
@@ -532,7 +558,7 @@ leads w v text none is ts = (ap₂ or_else none (ap (λ x. walk_fault cards [] x
 abbrev Steps : CardsWord → Held → Seen → Type 0
 Steps w h seen = (after : Held) × Stands after (with_word w seen) × Leads (at h (position seen)) (words_typed w) (at after (position (with_word w seen)))
 
-option_steps : (o : DeviceOption) (h : Held) (seen : Seen) → Stands h seen → is_seen o seen ≡ false → Steps (option o) h seen
+option_steps : (o : CardsOption) (h : Held) (seen : Seen) → Stands h seen → is_seen o seen ≡ false → Steps (option o) h seen
 option_steps o h seen st e = (
   reacted rules (option_rule o) [] h,
   option_stands o h seen st e,
@@ -541,10 +567,11 @@ option_steps o h seen st e = (
       (option_walked o h (position seen) ∙ ap (at (reacted rules (option_rule o) [] h)) (same o)),
 )
   where
-    same : (o : DeviceOption) → position seen ≡ position (with_option o seen)
+    same : (o : CardsOption) → position seen ≡ position (with_option o seen)
     same printer = refl
     same punch = refl
     same transparent = refl
+    same append = refl
 
 file_steps : (name : Text) (h : Held) (seen : Seen) → Stands h seen → (deck jobs : Option Text) → seen.deck ≡ deck → seen.jobs ≡ jobs → FileFits deck jobs name
     → (turn_fault cards [] (at h (position_after deck jobs)) name ≡ []) × (after : Held)
@@ -598,10 +625,10 @@ walks (w ∷ ws) h seen st fit =
 
 -- THE END OF THE WORDS
 
-abbrev default_row : DeviceOption → Row
+abbrev default_row : CardsOption → Row
 default_row o = value_row (option_rule o).id (reading_by (option_rule o)) DefaultValue (codes "false" ∷ [])
 
-abbrev end_row : DeviceOption → Bool → Row
+abbrev end_row : CardsOption → Bool → Row
 end_row o true = given_row o
 end_row o false = default_row o
 
@@ -621,12 +648,16 @@ default_end before after a rows d none others is same =
     defaults_kept after (with_default (fold with_default rows before) a) a.id _
     (default_new a (fold with_default rows before) d (others_kept before rows a.id others ∙ none) is same)
 
-option_end : (o : DeviceOption) (rows : List Row) (b : Bool) → look (option_rule o).id rows ≡ if_given o b → look (option_rule o).id (fold with_default rows rules) ≡ Some (end_row o b)
+option_end : (o : CardsOption) (rows : List Row) (b : Bool) → look (option_rule o).id rows ≡ if_given o b → look (option_rule o).id (fold with_default rows rules) ≡ Some (end_row o b)
 option_end o rows true e = defaults_kept rules rows (option_rule o).id (given_row o) e
-option_end printer rows false e = default_end (rule_at 0 ∷ rule_at 1 ∷ []) (rule_at 3 ∷ rule_at 4 ∷ rule_at 5 ∷ rule_at 6 ∷ []) (rule_at 2) rows (codes "false") e (refl, (refl, tt)) refl refl
-option_end punch rows false e = default_end (rule_at 0 ∷ rule_at 1 ∷ rule_at 2 ∷ []) (rule_at 4 ∷ rule_at 5 ∷ rule_at 6 ∷ []) (rule_at 3) rows (codes "false") e (refl, (refl, (refl, tt))) refl refl
+option_end printer rows false e =
+    default_end (rule_at 0 ∷ rule_at 1 ∷ []) (rule_at 3 ∷ rule_at 4 ∷ rule_at 5 ∷ rule_at 6 ∷ rule_at 7 ∷ []) (rule_at 2) rows (codes "false") e (refl, (refl, tt)) refl refl
+option_end punch rows false e =
+    default_end (rule_at 0 ∷ rule_at 1 ∷ rule_at 2 ∷ []) (rule_at 4 ∷ rule_at 5 ∷ rule_at 6 ∷ rule_at 7 ∷ []) (rule_at 3) rows (codes "false") e (refl, (refl, (refl, tt))) refl refl
 option_end transparent rows false e =
-    default_end (rule_at 0 ∷ rule_at 1 ∷ rule_at 2 ∷ rule_at 3 ∷ []) (rule_at 5 ∷ rule_at 6 ∷ []) (rule_at 4) rows (codes "false") e (refl, (refl, (refl, (refl, tt)))) refl refl
+    default_end (rule_at 0 ∷ rule_at 1 ∷ rule_at 2 ∷ rule_at 3 ∷ []) (rule_at 5 ∷ rule_at 6 ∷ rule_at 7 ∷ []) (rule_at 4) rows (codes "false") e (refl, (refl, (refl, (refl, tt)))) refl refl
+option_end append rows false e =
+    default_end (rule_at 0 ∷ rule_at 1 ∷ rule_at 2 ∷ rule_at 3 ∷ rule_at 4 ∷ rule_at 5 ∷ []) (rule_at 7 ∷ []) (rule_at 6) rows (codes "false") e (refl, (refl, (refl, (refl, (refl, (refl, tt)))))) refl refl
 
 -- a name has no default
 name_end : (rows : List Row) (given : Option Text) → look (codes "name") rows ≡ option_map name_row given
@@ -635,7 +666,7 @@ name_end rows (Some name) e = defaults_kept rules rows (codes "name") (name_row 
 name_end rows None e =
     let before : List Rule = rule_at 0 ∷ rule_at 1 ∷ rule_at 2 ∷ rule_at 3 ∷ rule_at 4 ∷ [] in
     let there : List Row = fold with_default rows before in
-    others_kept (rule_at 6 ∷ []) (with_default there named_rule) (codes "name") (refl, tt)
+    others_kept (rule_at 6 ∷ rule_at 7 ∷ []) (with_default there named_rule) (codes "name") (refl, (refl, tt))
     ∙ ap (look (codes "name")) (no_default named_rule there refl)
     ∙ others_kept before rows (codes "name") (refl, (refl, (refl, (refl, (refl, tt))))) ∙ e
 
@@ -650,6 +681,7 @@ pub record Reads (rows : List Row) (deck jobs : Text) (seen : Seen) : Type 0 whe
   pub for_printer : is_on (codes "printer") rows ≡ seen.printer
   pub for_punch : is_on (codes "punch") rows ≡ seen.punch
   pub for_transparent : is_on (codes "transparent") rows ≡ seen.transparent
+  pub for_append : is_on (codes "append") rows ≡ seen.append
   pub for_name : first_of (codes "name") rows ≡ seen.name
 
 file_read : (id name : Text) (how : Reading) (rows : List Row) → look id rows ≡ Some (value_row id how CommandLine (name ∷ [])) → word_in id rows ≡ name
@@ -659,13 +691,15 @@ name_read : (rows : List Row) (given : Option Text) → look (codes "name") rows
 name_read rows None e = rw e refl
 name_read rows (Some name) e = rw e refl
 
-option_read : (o : DeviceOption) (rows : List Row) (b : Bool) → look (option_rule o).id rows ≡ Some (end_row o b) → is_on (option_rule o).id rows ≡ b
+option_read : (o : CardsOption) (rows : List Row) (b : Bool) → look (option_rule o).id rows ≡ Some (end_row o b) → is_on (option_rule o).id rows ≡ b
 option_read printer rows true e = rw e refl
 option_read printer rows false e = rw e refl
 option_read punch rows true e = rw e refl
 option_read punch rows false e = rw e refl
 option_read transparent rows true e = rw e refl
+option_read append rows true e = rw e refl
 option_read transparent rows false e = rw e refl
+option_read append rows false e = rw e refl
 
 module _ (ws : List CardsWord) (deck jobs : Text) (seen : Seen) (deck_is : seen.deck ≡ Some deck) (jobs_is : seen.jobs ≡ Some jobs) where
   ends : (h : Held) → Stands h seen → Reads (finished rules h) deck jobs seen × (check_fault cards (finished rules h) false ≡ [])
@@ -679,17 +713,18 @@ module _ (ws : List CardsWord) (deck jobs : Text) (seen : Seen) (deck_is : seen.
           for_printer = option_read printer (finished rules h) seen.printer (option_end printer rows seen.printer st.rows.for_printer);
           for_punch = option_read punch (finished rules h) seen.punch (option_end punch rows seen.punch st.rows.for_punch);
           for_transparent = option_read transparent (finished rules h) seen.transparent (option_end transparent rows seen.transparent st.rows.for_transparent);
+          for_append = option_read append (finished rules h) seen.append (option_end append rows seen.append st.rows.for_append);
           for_name = name_read (finished rules h) seen.name (name_end rows seen.name st.rows.for_name);
         },
         check_passes (finished rules h) deck jobs found_deck found_jobs,
       )
 
 abbrev pub nothing_seen : Seen
-nothing_seen = record { deck = None; jobs = None; printer = false; punch = false; transparent = false; name = None }
+nothing_seen = record { deck = None; jobs = None; printer = false; punch = false; transparent = false; append = false; name = None }
 
 nothing_stands : Stands nothing_held nothing_seen
 nothing_stands = record {
-  rows = record { deck = refl; jobs = refl; for_printer = refl; for_punch = refl; for_transparent = refl; for_name = refl };
+  rows = record { deck = refl; jobs = refl; for_printer = refl; for_punch = refl; for_transparent = refl; for_append = refl; for_name = refl };
   quiet = refl;
 }
 
@@ -701,7 +736,7 @@ level_passes ws deck jobs fit deck_is jobs_is =
     let on = walks ws nothing_held nothing_seen nothing_stands fit in
     let h : Held = (walk rules [] nothing_held (flat_map words_typed ws)).held in
     let end = ends ws deck jobs (with_words ws nothing_seen) deck_is jobs_is h on.1 in (
-      ap₂ or_else on.0 (ap₂ or_else on.1.quiet (ap₂ or_else (good_defaults rules (settled rules h).rows (refl, (refl, (refl, (refl, (refl, (refl, (refl, tt)))))))) end.1)),
+      ap₂ or_else on.0 (ap₂ or_else on.1.quiet (ap₂ or_else (good_defaults rules (settled rules h).rows (refl, (refl, (refl, (refl, (refl, (refl, (refl, (refl, tt))))))))) end.1)),
       end.0,
     )
 

@@ -12,9 +12,9 @@ use Rattle.rje_words.specs.declared.order.Order.TheVariants.{Files, Sockets}
 use Rattle.rje_words.specs.declared.order.FileOrder.TheVariants.{Cards}
 use Rattle.rje_words.specs.declared.words_fault.WordsFault.{WordsFault}
 use Rattle.rje_words.specs.declared.words_fault.WordsFault.TheVariants.{Refused, TwoDevices, BadName, BadAddress}
-use Rattle.rje_words.specs.Asking.{IsFaultOf, IsGivenName, IsOrderOf, IsWordsFault, device_in}
+use Rattle.rje_words.specs.Asking.{IsFaultOf, IsGivenName, IsOrderOf, IsWordsFault, device_in, is_on}
 use Rattle.rje_words.specs.Canonical.{BadNameTold, CardsAsked, RepeatedRefused, TwoDevicesTold}
-use Rattle.rje_words.specs.CardsWords.{CardsWord, DeviceOption, HaveFiles, HaveName, device_among, file, files_in, has_each_once, is_among, is_same, named, names_in, option, printer, punch, transparent, words_typed}
+use Rattle.rje_words.specs.CardsWords.{CardsWord, CardsOption, HaveFiles, HaveName, adds_among, append, device_among, file, files_in, has_each_once, is_among, is_same, named, names_in, option, printer, punch, transparent, words_typed}
 use Rattle.rje_words.specs.CommandLine.{is_file, names_file, rje_app}
 use Rattle.rje_words.specs.Device.{chosen}
 use Rattle.rje_words.specs.Orders.{IsCards}
@@ -37,43 +37,53 @@ or_over true b c = refl
 or_over false b c = refl
 
 -- whether the word is this option
-abbrev is_option : DeviceOption → CardsWord → Bool
+abbrev is_option : CardsOption → CardsWord → Bool
 is_option o (file name) = false
 is_option o (option given) = is_same given o
 is_option o (named name) = false
 
-file_unseen : (o : DeviceOption) (deck : Option Text) (name : Text) (seen : Seen) → is_seen o (with_file deck name seen) ≡ is_seen o seen
+file_unseen : (o : CardsOption) (deck : Option Text) (name : Text) (seen : Seen) → is_seen o (with_file deck name seen) ≡ is_seen o seen
 file_unseen printer None name seen = refl
 file_unseen printer (Some d) name seen = refl
 file_unseen punch None name seen = refl
 file_unseen punch (Some d) name seen = refl
 file_unseen transparent None name seen = refl
+file_unseen append None name seen = refl
 file_unseen transparent (Some d) name seen = refl
+file_unseen append (Some d) name seen = refl
 
-option_seen : (o given : DeviceOption) (seen : Seen) → is_seen o (with_option given seen) ≡ (is_seen o seen || is_same given o)
+option_seen : (o given : CardsOption) (seen : Seen) → is_seen o (with_option given seen) ≡ (is_seen o seen || is_same given o)
 option_seen printer printer seen = or_true seen.printer
 option_seen printer punch seen = or_false seen.printer
 option_seen printer transparent seen = or_false seen.printer
+option_seen printer append seen = or_false seen.printer
 option_seen punch printer seen = or_false seen.punch
 option_seen punch punch seen = or_true seen.punch
 option_seen punch transparent seen = or_false seen.punch
+option_seen punch append seen = or_false seen.punch
 option_seen transparent printer seen = or_false seen.transparent
 option_seen transparent punch seen = or_false seen.transparent
 option_seen transparent transparent seen = or_true seen.transparent
+option_seen transparent append seen = or_false seen.transparent
+option_seen append printer seen = or_false seen.append
+option_seen append punch seen = or_false seen.append
+option_seen append transparent seen = or_false seen.append
+option_seen append append seen = or_true seen.append
 
-word_seen : (o : DeviceOption) (w : CardsWord) (seen : Seen) → is_seen o (with_word w seen) ≡ (is_seen o seen || is_option o w)
+word_seen : (o : CardsOption) (w : CardsWord) (seen : Seen) → is_seen o (with_word w seen) ≡ (is_seen o seen || is_option o w)
 word_seen o (file name) seen = file_unseen o seen.deck name seen ∙ or_false (is_seen o seen)
 word_seen o (option given) seen = option_seen o given seen
 word_seen printer (named name) seen = or_false seen.printer
 word_seen punch (named name) seen = or_false seen.punch
 word_seen transparent (named name) seen = or_false seen.transparent
+word_seen append (named name) seen = or_false seen.append
 
-among_first : (o : DeviceOption) (w : CardsWord) (ws : List CardsWord) → is_among o (w ∷ ws) ≡ (is_option o w || is_among o ws)
+among_first : (o : CardsOption) (w : CardsWord) (ws : List CardsWord) → is_among o (w ∷ ws) ≡ (is_option o w || is_among o ws)
 among_first o (file name) ws = refl
 among_first o (option given) ws = refl
 among_first o (named name) ws = refl
 
-words_seen : (o : DeviceOption) (ws : List CardsWord) (seen : Seen) → is_seen o (with_words ws seen) ≡ (is_seen o seen || is_among o ws)
+words_seen : (o : CardsOption) (ws : List CardsWord) (seen : Seen) → is_seen o (with_words ws seen) ≡ (is_seen o seen || is_among o ws)
 words_seen o [] seen = or_false (is_seen o seen)
 words_seen o (w ∷ ws) seen =
     words_seen o ws (with_word w seen) ∙ ap (λ b. b || is_among o ws) (word_seen o w seen) ∙ or_over (is_seen o seen) (is_option o w) (is_among o ws)
@@ -103,6 +113,7 @@ files_seen (file name ∷ ws) seen = files_seen ws (with_file seen.deck name see
 files_seen (option printer ∷ ws) seen = files_seen ws (with_option printer seen)
 files_seen (option punch ∷ ws) seen = files_seen ws (with_option punch seen)
 files_seen (option transparent ∷ ws) seen = files_seen ws (with_option transparent seen)
+files_seen (option append ∷ ws) seen = files_seen ws (with_option append seen)
 files_seen (named name ∷ ws) seen = files_seen ws (with_word (named name) seen)
 
 file_fits : (deck jobs : Option Text) (name : Text) (names : List Text) (seen : Seen) → seen.deck ≡ deck → seen.jobs ≡ jobs → FilesFit deck jobs (name ∷ names)
@@ -131,10 +142,11 @@ file_unnamed : (deck : Option Text) (name : Text) (seen : Seen) → (with_file d
 file_unnamed None name seen = refl
 file_unnamed (Some d) name seen = refl
 
-option_unnamed : (o : DeviceOption) (seen : Seen) → (with_option o seen).name ≡ seen.name
+option_unnamed : (o : CardsOption) (seen : Seen) → (with_option o seen).name ≡ seen.name
 option_unnamed printer seen = refl
 option_unnamed punch seen = refl
 option_unnamed transparent seen = refl
+option_unnamed append seen = refl
 
 name_seen : (ws : List CardsWord) (seen : Seen) → (with_words ws seen).name ≡ name_after seen.name (names_in ws)
 name_seen [] seen = refl
@@ -158,7 +170,7 @@ names_fit ws (Some name) h = (subst (NamesFit None) (sym h.0) h.1, ap (name_afte
 
 -- no option that was seen is among the words
 abbrev NoneAgain : List CardsWord → Seen → Type 0
-NoneAgain ws seen = (o : DeviceOption) → (is_seen o seen && is_among o ws) ≡ false
+NoneAgain ws seen = (o : CardsOption) → (is_seen o seen && is_among o ws) ≡ false
 
 both_true : (a b : Bool) → (a && b) ≡ true → (a ≡ true) × (b ≡ true)
 both_true true b e = (refl, e)
@@ -179,21 +191,29 @@ later_fresh true false m e h = e
 later_fresh false true m e h = h refl
 later_fresh false false m e h = refl
 
-same_option : (o : DeviceOption) → is_same o o ≡ true
+same_option : (o : CardsOption) → is_same o o ≡ true
 same_option printer = refl
 same_option punch = refl
 same_option transparent = refl
+same_option append = refl
 
-same_among : (given o : DeviceOption) (ws : List CardsWord) → is_among given ws ≡ false → is_same given o ≡ true → is_among o ws ≡ false
+same_among : (given o : CardsOption) (ws : List CardsWord) → is_among given ws ≡ false → is_same given o ≡ true → is_among o ws ≡ false
 same_among printer printer ws e is = e
 same_among printer punch ws e is = cc
 same_among printer transparent ws e is = cc
+same_among printer append ws e is = cc
 same_among punch printer ws e is = cc
 same_among punch punch ws e is = e
 same_among punch transparent ws e is = cc
+same_among punch append ws e is = cc
 same_among transparent printer ws e is = cc
 same_among transparent punch ws e is = cc
 same_among transparent transparent ws e is = e
+same_among transparent append ws e is = cc
+same_among append printer ws e is = cc
+same_among append punch ws e is = cc
+same_among append transparent ws e is = cc
+same_among append append ws e is = e
 
 all_fit : (ws : List CardsWord) (seen : Seen) → FilesFit seen.deck seen.jobs (files_in ws) → NamesFit seen.name (names_in ws) → has_each_once ws ≡ true
     → NoneAgain ws seen → AllFit ws seen
@@ -205,10 +225,11 @@ all_fit (named name ∷ ws) seen files names once none =
     let fits = name_fits seen.name name (names_in ws) names in
     ((fits.0, fits.1), all_fit ws (with_word (named name) seen) files fits.2 once (λ o. ap (λ b. b && is_among o ws) (still o) ∙ none o))
   where
-    still : (o : DeviceOption) → is_seen o (with_word (named name) seen) ≡ is_seen o seen
+    still : (o : CardsOption) → is_seen o (with_word (named name) seen) ≡ is_seen o seen
     still printer = refl
     still punch = refl
     still transparent = refl
+    still append = refl
 all_fit (option given ∷ ws) seen files names once none =
     let parts = both_true (not (is_among given ws)) (has_each_once ws) once in (
       fresh (is_seen given seen) (is_same given given) (is_among given ws) (none given) (same_option given),
@@ -216,10 +237,11 @@ all_fit (option given ∷ ws) seen files names once none =
           ∙ later_fresh (is_seen o seen) (is_same given o) (is_among o ws) (none o) (same_among given o ws (not_true (is_among given ws) parts.0))),
     )
   where
-    same_files : (o : DeviceOption) → FilesFit (with_option o seen).deck (with_option o seen).jobs (files_in ws)
+    same_files : (o : CardsOption) → FilesFit (with_option o seen).deck (with_option o seen).jobs (files_in ws)
     same_files printer = files
     same_files punch = files
     same_files transparent = files
+    same_files append = files
 
 -- WHAT THE WORDS ASK FOR
 
@@ -247,10 +269,11 @@ module _ (ws : List CardsWord) (deck jobs : Text) (given : Option Text) (have : 
   fit : AllFit ws nothing_seen
   fit = all_fit ws nothing_seen (subst (FilesFit None None) (sym have.both) (have.is_deck, have.is_job_file)) (names_fit ws given has_name).0 once (λ o. unseen o)
     where
-      unseen : (o : DeviceOption) → (is_seen o nothing_seen && is_among o ws) ≡ false
+      unseen : (o : CardsOption) → (is_seen o nothing_seen && is_among o ws) ≡ false
       unseen printer = refl
       unseen punch = refl
       unseen transparent = refl
+      unseen append = refl
 
   files_are : ◌≡◌ {A = Option Text × Option Text} ((with_words ws nothing_seen).deck, (with_words ws nothing_seen).jobs) (Some deck, Some jobs)
   files_are = files_seen ws nothing_seen ∙ ap (files_after None None) have.both
@@ -264,6 +287,9 @@ module _ (ws : List CardsWord) (deck jobs : Text) (given : Option Text) (have : 
   device_is : device_in rows ≡ device_among ws
   device_is = same_choice _ _ _ _ _ _ (level.1.for_printer ∙ words_seen printer ws nothing_seen) (level.1.for_punch ∙ words_seen punch ws nothing_seen)
       (level.1.for_transparent ∙ words_seen transparent ws nothing_seen)
+
+  append_is : is_on (codes "append") rows ≡ adds_among ws
+  append_is = level.1.for_append ∙ words_seen append ws nothing_seen
 
   name_is : first_of (codes "name") rows ≡ given
   name_is = level.1.for_name ∙ name_seen ws nothing_seen ∙ (names_fit ws given has_name).1
@@ -296,12 +322,13 @@ module _ (ws : List CardsWord) (deck jobs : Text) (given : Option Text) (have : 
   bad_or_memory device one BadAddress h = absurd (no_address (codes "cards") rows refl refl (of_rows (λ name rs. IsFaultOf name rs BadAddress) h.1))
 
   order_read : (device : Device) (name : Text) (order : Order) → IsOrderOf (codes "cards") rows order → device_among ws ≡ Some device
-      → IsGivenName given (Some name) → IsCards deck jobs device name order
+      → IsGivenName given (Some name) → IsCards deck jobs device name (adds_among ws) order
   order_read device name (Files (Cards order)) h is named_is = (
     h.1.deck ∙ level.1.of_deck,
     h.1.jobs ∙ level.1.of_jobs,
     some_is (sym h.1.device ∙ device_is ∙ is),
     same_name given order.name name (subst (λ o. IsGivenName o (Some order.name)) name_is h.1.name) named_is,
+    h.1.append ∙ append_is,
   )
     where
       some_is : {X : Type 0} {a b : X} → Some a ≡ Some b → a ≡ b
@@ -357,6 +384,7 @@ all_files_fit (file name ∷ ws) seen files names =
 all_files_fit (option printer ∷ ws) seen files names = all_files_fit ws (with_option printer seen) files names
 all_files_fit (option punch ∷ ws) seen files names = all_files_fit ws (with_option punch seen) files names
 all_files_fit (option transparent ∷ ws) seen files names = all_files_fit ws (with_option transparent seen) files names
+all_files_fit (option append ∷ ws) seen files names = all_files_fit ws (with_option append seen) files names
 all_files_fit (named name ∷ ws) seen files names =
     let fits = name_fits seen.name name (names_in ws) names in
     ((fits.0, fits.1), all_files_fit ws (with_word (named name) seen) files fits.2)
@@ -365,21 +393,29 @@ by_cases : {X : Type 0} (b : Bool) → (b ≡ true → X) → (b ≡ false → X
 by_cases true here there = here refl
 by_cases false here there = there refl
 
-seen_now : (o : DeviceOption) (seen : Seen) → is_seen o (with_option o seen) ≡ true
+seen_now : (o : CardsOption) (seen : Seen) → is_seen o (with_option o seen) ≡ true
 seen_now printer seen = refl
 seen_now punch seen = refl
 seen_now transparent seen = refl
+seen_now append seen = refl
 
-same_seen : (given o : DeviceOption) (seen : Seen) → is_same given o ≡ true → is_seen o seen ≡ true → is_seen given seen ≡ true
+same_seen : (given o : CardsOption) (seen : Seen) → is_same given o ≡ true → is_seen o seen ≡ true → is_seen given seen ≡ true
 same_seen printer printer seen is e = e
 same_seen printer punch seen is e = cc
 same_seen printer transparent seen is e = cc
+same_seen printer append seen is e = cc
 same_seen punch printer seen is e = cc
 same_seen punch punch seen is e = e
 same_seen punch transparent seen is e = cc
+same_seen punch append seen is e = cc
 same_seen transparent printer seen is e = cc
 same_seen transparent punch seen is e = cc
 same_seen transparent transparent seen is e = e
+same_seen transparent append seen is e = cc
+same_seen append printer seen is e = cc
+same_seen append punch seen is e = cc
+same_seen append transparent seen is e = cc
+same_seen append append seen is e = e
 
 or_rest : (q m : Bool) → (q || m) ≡ true → q ≡ false → m ≡ true
 or_rest true m e f = cc
@@ -393,12 +429,13 @@ not_both : (b : Bool) → b ≡ true → b ≡ false → ⊥
 not_both true t f = cc
 not_both false t f = cc
 
-unnamed : (name : Text) (o : DeviceOption) (seen : Seen) → is_seen o (with_word (named name) seen) ≡ is_seen o seen
+unnamed : (name : Text) (o : CardsOption) (seen : Seen) → is_seen o (with_word (named name) seen) ≡ is_seen o seen
 unnamed name printer seen = refl
 unnamed name punch seen = refl
 unnamed name transparent seen = refl
+unnamed name append seen = refl
 
-among_repeats : (ws : List CardsWord) (seen : Seen) (o : DeviceOption) → is_seen o seen ≡ true → is_among o ws ≡ true → Repeats ws seen
+among_repeats : (ws : List CardsWord) (seen : Seen) (o : CardsOption) → is_seen o seen ≡ true → is_among o ws ≡ true → Repeats ws seen
 among_repeats [] seen o s e = cc
 among_repeats (file name ∷ ws) seen o s e = among_repeats ws (with_file seen.deck name seen) o (file_unseen o seen.deck name seen ∙ s) e
 among_repeats (named name ∷ ws) seen o s e = among_repeats ws (with_word (named name) seen) o (unnamed name o seen ∙ s) e

@@ -38,12 +38,13 @@ abbrev pub IsGivenName : Option Text → Option Text → Type 0
 IsGivenName None name = name ≡ Some blank_name
 IsGivenName (Some text) name = IsNameOf text name
 
--- the order has the deck, the job file, the device and the name that were found
+-- the order has the deck, the job file, the device and the name that were found, and adds to the file where that option was
 pub record IsCardsOrderOf (rows : List Row) (order : CardsOrder) : Type 0 where
   pub deck : order.deck.now ≡ word_in (codes "DECK") rows
   pub jobs : order.jobs.now ≡ word_in (codes "JOBS") rows
   pub device : device_in rows ≡ Some order.device
   pub name : IsGivenName (first_of (codes "name") rows) (Some order.name)
+  pub append : order.append ≡ is_on (codes "append") rows
 
 -- the options that were found choose two devices, or they choose one and the name is none
 abbrev pub IsCardsFaultOf : List Row → WordsFault → Type 0

@@ -9,7 +9,7 @@ use Rattle.rje_words.specs.declared.order.Order.{Order}
 use Rattle.rje_words.specs.declared.words_fault.WordsFault.{WordsFault}
 use Rattle.rje_words.specs.declared.words_fault.WordsFault.TheVariants.{TwoDevices, BadName}
 use Rattle.rje_words.specs.Asking.{AsksFor, IsGivenName, IsWordsFault}
-use Rattle.rje_words.specs.CardsWords.{CardsWord, HaveFiles, HaveName, device_among, has_each_once, words_typed}
+use Rattle.rje_words.specs.CardsWords.{CardsWord, HaveFiles, HaveName, adds_among, device_among, has_each_once, words_typed}
 use Rattle.rje_words.specs.CommandLine.{is_file, names_file}
 use Rattle.rje_words.specs.Orders.{IsBlocks, IsCards, IsShow, IsCheck, IsPrint, IsTry}
 use Rattle.rje_words.specs.WordsFault.{IsRefusedFor, IsWantOfMemory}
@@ -40,13 +40,13 @@ abbrev pub TryAsked : Type 0
 TryAsked =
     (jobs script : Text) → names_file jobs ≡ true → names_file script ≡ true → AskOnlyFor (codes "try" ∷ jobs ∷ script ∷ []) (IsTry jobs script)
 
--- `cards` with a deck, a job file, options for a device and a name among them, each at most once, asks for a job file of this deck for the
--- device that the options choose, with this name
+-- `cards` with a deck, a job file, options and a name among them, each at most once, asks for a job file of this deck for the device that
+-- the options choose, with this name; with `--append` its job is added to those of the file
 abbrev pub CardsAsked : Type 0
 CardsAsked =
     (words : List CardsWord) (deck jobs : Text) (given : Option Text) (device : Device) (name : Text) → HaveFiles words deck jobs → HaveName words given
     → has_each_once words ≡ true → device_among words ≡ Some device → IsGivenName given (Some name)
-    → AskOnlyFor (codes "cards" ∷ flat_map words_typed words) (IsCards deck jobs device name)
+    → AskOnlyFor (codes "cards" ∷ flat_map words_typed words) (IsCards deck jobs device name (adds_among words))
 
 -- the words ask for no order, and nothing is told of them but such a fault, or want of memory
 pub record TellOnly (words : List Text) (IsOne : WordsFault → Type 0) : Type 0 where
@@ -66,7 +66,7 @@ BadNameTold =
     → has_each_once words ≡ true → device_among words ≡ Some device → IsNameOf given None
     → TellOnly (codes "cards" ∷ flat_map words_typed words) (λ fault. fault ≡ BadName)
 
--- where an option for a device stands twice, clap refuses the words
+-- where an option for a device, or `--append`, stands twice, clap refuses the words
 abbrev pub RepeatedRefused : Type 0
 RepeatedRefused =
     (words : List CardsWord) (deck jobs : Text) (given : Option Text) → HaveFiles words deck jobs → HaveName words given → has_each_once words ≡ false

@@ -1,27 +1,29 @@
--- The words behind `cards`: two files, options for a device and a name, in any order (own profile).
+-- The words behind `cards`: two files, options and a name, in any order (own profile).
 use Rattle.std.specs.Prelude.{◌≡◌, Bool, false, true, not, ◌||◌, ◌&&◌, List, [], ◌∷◌, Option, None, Some, codes}
 use Rattle.clap.specs.Words.{Text}
 use Rattle.rje_words.specs.declared.device.Device.{Device}
 use Rattle.rje_words.specs.CommandLine.{is_file, names_file}
 use Rattle.rje_words.specs.Device.{chosen}
 
--- an option for a device
-pub data DeviceOption : Type 0 where
-  printer : DeviceOption
-  punch : DeviceOption
-  transparent : DeviceOption
+-- an option that takes no value: for a device, or to add the job to those of the file
+pub data CardsOption : Type 0 where
+  printer : CardsOption
+  punch : CardsOption
+  transparent : CardsOption
+  append : CardsOption
 
 -- a word behind `cards`, or the two that give a name
 pub data CardsWord : Type 0 where
   file : Text → CardsWord
-  option : DeviceOption → CardsWord
+  option : CardsOption → CardsWord
   named : Text → CardsWord
 
 -- the option as it is written
-abbrev pub option_text : DeviceOption → Text
+abbrev pub option_text : CardsOption → Text
 option_text printer = codes "--printer"
 option_text punch = codes "--punch"
 option_text transparent = codes "--transparent"
+option_text append = codes "--append"
 
 -- the word, or the two, as they are written
 abbrev pub words_typed : CardsWord → List Text
@@ -44,14 +46,15 @@ names_in (option o ∷ words) = names_in words
 names_in (named name ∷ words) = name ∷ names_in words
 
 -- whether two options are the same
-abbrev pub is_same : DeviceOption → DeviceOption → Bool
+abbrev pub is_same : CardsOption → CardsOption → Bool
 is_same printer printer = true
 is_same punch punch = true
 is_same transparent transparent = true
+is_same append append = true
 is_same _ _ = false
 
 -- whether the option is among the words
-abbrev pub is_among : DeviceOption → List CardsWord → Bool
+abbrev pub is_among : CardsOption → List CardsWord → Bool
 is_among o [] = false
 is_among o (file name ∷ words) = is_among o words
 is_among o (option given ∷ words) = is_same given o || is_among o words
@@ -67,6 +70,10 @@ has_each_once (named name ∷ words) = has_each_once words
 -- the device that the options among the words choose: none where there is more than one
 abbrev pub device_among : List CardsWord → Option Device
 device_among words = chosen (is_among printer words) (is_among punch words) (is_among transparent words)
+
+-- whether the words ask that the job is added to those of the file
+abbrev pub adds_among : List CardsWord → Bool
+adds_among words = is_among append words
 
 -- the files among the words are these two, in this order
 pub record HaveFiles (words : List CardsWord) (deck jobs : Text) : Type 0 where

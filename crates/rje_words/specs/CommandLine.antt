@@ -51,11 +51,11 @@ file_app name id = with_rule (new_app name) (file_rule id)
 abbrev pub blocks_app : App
 blocks_app = file_app (codes "blocks") (codes "DECK")
 
--- `cards DECK JOBS`, with the options for the device and the job's name
+-- `cards DECK JOBS`, with the options for the device and the job's name, and the one to add the job to those of the file
 abbrev pub cards_app : App
 cards_app =
-    with_rule (with_rule (with_rule (with_rule (with_rule (file_app (codes "cards") (codes "DECK"))
-    (file_rule (codes "JOBS"))) (flag_rule (codes "printer"))) (flag_rule (codes "punch"))) (flag_rule (codes "transparent"))) name_rule
+    with_rule (with_rule (with_rule (with_rule (with_rule (with_rule (file_app (codes "cards") (codes "DECK"))
+    (file_rule (codes "JOBS"))) (flag_rule (codes "printer"))) (flag_rule (codes "punch"))) (flag_rule (codes "transparent"))) name_rule) (flag_rule (codes "append"))
 
 -- the program: its words hold no name of the program, and a command is required
 abbrev pub rje_top : App

@@ -1,5 +1,5 @@
 -- What an order is for.
-use Rattle.std.specs.Prelude.{◌≡◌}
+use Rattle.std.specs.Prelude.{◌≡◌, Bool}
 use Rattle.clap.specs.Words.{Text}
 use Rattle.rje_words.specs.declared.device.Device.{Device}
 use Rattle.rje_words.specs.declared.order.Order.{Order}
@@ -11,11 +11,12 @@ abbrev pub IsBlocks : Text → Order → Type 0
 IsBlocks deck (Files (Blocks named)) = named.now ≡ deck
 IsBlocks deck _ = ⊥
 
--- the order is for a file of this name, of the job of this deck for this device, with this name
-abbrev pub IsCards : Text → Text → Device → Text → Order → Type 0
-IsCards deck jobs device name (Files (Cards order)) =
-    (order.deck.now ≡ deck) × (order.jobs.now ≡ jobs) × (order.device ≡ device) × (order.name ≡ name)
-IsCards deck jobs device name _ = ⊥
+-- the order is for a file of this name, of the job of this deck for this device, with this name; it says whether the job is added to those
+-- of the file
+abbrev pub IsCards : Text → Text → Device → Text → Bool → Order → Type 0
+IsCards deck jobs device name adds (Files (Cards order)) =
+    (order.deck.now ≡ deck) × (order.jobs.now ≡ jobs) × (order.device ≡ device) × (order.name ≡ name) × (order.append ≡ adds)
+IsCards deck jobs device name adds _ = ⊥
 
 -- the order is to show the jobs of this file
 abbrev pub IsShow : Text → Order → Type 0

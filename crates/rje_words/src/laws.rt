@@ -15,8 +15,8 @@ pub fn words_ask_for_orders()
 
 /// `cards` with a deck, a job file and options among them, in any order and each option at most
 /// once, asks for a job file of the deck for the device that the options choose, with the name that
-/// is given. Where they choose more than one device, that is told, and else where the name is none;
-/// an option for a device that stands twice is refused.
+/// is given, and with `--append` behind the jobs that the file holds. Where they choose more than one
+/// device, that is told, and else where the name is none; an option that stands twice is refused.
 pub fn options_choose_the_device()
     ensures cards { CardsAsked }
     ensures two_devices { TwoDevicesTold }

@@ -51,6 +51,8 @@ pub struct CardsOrder<'a> {
     pub device: Device,
     /// The name of the deck's job: blanks where it has none.
     pub name: JobName,
+    /// Whether the job is added to those that the job file holds.
+    pub append: bool,
 }
 
 /// What `try` is asked for.

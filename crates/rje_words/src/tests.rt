@@ -20,6 +20,7 @@ fn assert_cards(rt: &(impl Abort + AllocGlobal), words: &[&str], device: Device)
         jobs: "jobs.rje",
         device,
         name: *b"        ",
+        append: false,
     };
     assert_order(rt, words, Order::Files(FileOrder::Cards(order)));
 }
@@ -197,5 +198,32 @@ fn a_name_stands_among_the_other_words(rt: HostRuntime) {
         &rt,
         &["cards", "deck", "jobs", "--name"],
         ErrorKind::InvalidValue,
+    );
+}
+
+/// Whether `cards` is asked to add to the file, where it is asked for.
+fn adds<'a>(rt: &impl AllocGlobal, words: &'a [&'a str]) -> Option<bool> {
+    match parse(rt.alloc(), words) {
+        Ok(Order::Files(FileOrder::Cards(order))) => Some(order.append),
+        _ => None,
+    }
+}
+
+#[test]
+fn append_stands_among_the_other_words(rt: HostRuntime) {
+    assert!(rt; adds(&rt, &["cards", "deck", "jobs"]) == Some(false));
+    assert!(rt; adds(&rt, &["cards", "--printer", "deck", "jobs", "--name", "A"]) == Some(false));
+    assert!(rt; adds(&rt, &["cards", "deck", "jobs", "--append"]) == Some(true));
+    assert!(rt; adds(&rt, &["cards", "--append", "deck", "--name", "A", "jobs"]) == Some(true));
+    assert!(rt; adds(&rt, &["cards", "deck", "--punch", "--append", "jobs"]) == Some(true));
+    assert_refused(
+        &rt,
+        &["cards", "--append", "deck", "jobs", "--append"],
+        ErrorKind::ArgumentConflict,
+    );
+    assert_refused(
+        &rt,
+        &["show", "jobs", "--append"],
+        ErrorKind::UnknownArgument,
     );
 }

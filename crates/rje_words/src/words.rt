@@ -70,12 +70,14 @@ fn cards_order<'a>(matches: &ArgMatches<'a>) -> Result<CardsOrder<'a>, WordsFaul
     let Some(device) = Device::chosen(printer, punch, transparent) else {
         return Err(WordsFault::TwoDevices);
     };
+    let append = is_given(matches, "append");
     match name_in(matches) {
         Some(name) => Ok(CardsOrder {
             deck,
             jobs,
             device,
             name,
+            append,
         }),
         None => Err(WordsFault::BadName),
     }

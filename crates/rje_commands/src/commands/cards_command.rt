@@ -1,26 +1,28 @@
-//! `cards`: a job file of a deck's job.
-ghost use Rattle.std.specs.Prelude.{◌≡◌, ◌≢◌, [], ◌∷◌, None, length, IfErr, IfOk, OnOk};
+//! `cards`: a job file of a deck's job, or one to which the job is added.
+ghost use Rattle.std.specs.Prelude.{◌≡◌, ◌≢◌, None, length, option_map, IfErr, IfOk, OnOk};
+ghost use Rattle.std.specs.Option.{IsSomeAnd};
 ghost use Rattle.rje_jobs.specs.Deck.{deck_fault};
-ghost use Rattle.rje_files.specs.JobFile.{IsEntryFileOf};
-ghost use Rattle.rje_files.specs.declared.job_file.version.FileVersion.TheVariants.{Second};
+ghost use Rattle.rje_files.specs.FileFault.{IsFileFault};
+ghost use Rattle.rje_files.specs.JobFile.{IsEntryFile};
 ghost use Rattle.rje_words.specs.declared.order.FileOrder.{FileOrder};
 ghost use Rattle.rje_commands.specs.Commands.{Does, IsFault, Leaves, OfDeck, MakesFile};
-ghost use Rattle.rje_commands.specs.Commands.{deck_entry, deck_job};
-ghost use Rattle.rje_commands.specs.Inside.{IsCardsFault};
+ghost use Rattle.rje_commands.specs.Commands.{AreEntriesOf, deck_job};
+ghost use Rattle.rje_commands.specs.Inside.{IsCardsFault, IsHeld, IsHeldFault, IsMade};
 ghost use Rattle.rje_commands.specs.Store.{Discloses, IsSame};
 
 use crate::command_fault::CommandFault;
-use crate::commands::inputs::read_deck;
+use crate::commands::inputs::{read_deck, read_if_there};
 use crate::commands::output::{put, write_file};
 use crate::store::Store;
-use rje_files::{Entry, JobName, State, write_entries};
-use rje_jobs::job_of_deck;
+use rje_files::{Entry, State, read_entries, write_entries};
+use rje_jobs::{FileFault, job_of_deck};
 use rje_print::cards_text;
-use rje_words::{CardsOrder, Device};
+use rje_words::CardsOrder;
 use std::alloc::Global;
 use std::io::{Read, Write};
 
-/// Writes a job file of a deck's job, and prints how many cards it has. Nothing is written before the file is made;
+/// Writes a job file of a deck's job, behind the jobs that the file holds where the order adds to them, and prints how many cards the job
+/// has. Nothing is written before the file is made;
 /// a fault but that of the output, which comes behind the file, leaves all files as they were.
 pub fn cards<'a, S: Store, I: Read, O: Write>(
     alloc: Global,
@@ -44,7 +46,8 @@ pub fn cards<'a, S: Store, I: Read, O: Write>(
     ensures silent { IfErr result (λ fault. fault ≢ CommandFault.Output → out.new ≡ out.old) }
 {
     let deck = read_deck(alloc, order.deck, store, input)?;
-    let made = card_file(alloc, deck.as_slice(), order.device, order.name)?;
+    let held = held_file(alloc, order, store)?;
+    let made = card_file(alloc, deck.as_slice(), held, order)?;
     write_file(order.jobs, made.bytes.as_slice(), store)?;
     put(cards_text(made.count).as_slice(), out)
 }
@@ -56,29 +59,64 @@ struct CardFile {
     count: usize,
 }
 
-/// The job file of this deck for this device, whose job waits to be sent and has this name.
+/// The job file to which the job is added: none where it is to be a new file.
+fn held_file<'a, S: Store>(
+    alloc: Global,
+    order: CardsOrder<'a>,
+    store: &mut S,
+) -> Result<Option<Vec<u8>>, CommandFault<'a>>
+    ensures held { IfOk result (λ held.
+        IsHeld order.entry (S.files store.old) (option_map (λ bytes. bytes.items) held)) }
+    ensures fault { IfErr result (IsHeldFault order.entry) }
+    ensures same { Discloses (S.files store.old) (S.files store.new) IsSame }
+{
+    if !order.append {
+        return Ok(None);
+    }
+    read_if_there(alloc, order.jobs, store)
+}
+
+/// The job file of what is held and, behind it, this deck's job, which waits to be sent.
 fn card_file<'a>(
     alloc: Global,
     deck: &[u8],
-    device: Device,
-    name: JobName,
+    held: Option<Vec<u8>>,
+    order: CardsOrder<'a>,
 ) -> Result<CardFile, CommandFault<'a>>
     ensures good { IfOk result (λ made. deck_fault deck.now ≡ None) }
     ensures file { IfOk result (λ made.
-        IsEntryFileOf Second (deck_entry device name deck.now ∷ []) made.bytes.items) }
-    ensures count { IfOk result (λ made. made.count ≡ length (deck_job device deck.now).records) }
-    ensures fault { IfErr result (IsCardsFault deck.now) }
+        IsMade order.entry deck.now (option_map (λ bytes. bytes.items) held) made.bytes.items) }
+    ensures count { IfOk result (λ made.
+        made.count ≡ length (deck_job order.entry.device deck.now).records) }
+    ensures fault { IfErr result (IsCardsFault deck.now (option_map (λ bytes. bytes.items) held)) }
 {
-    let job = job_of_deck(alloc, deck, device.select(), device.mode())?;
+    let job = job_of_deck(alloc, deck, order.device.select(), order.device.mode())?;
     let count = job.records.len();
+    let mut entries = held_entries(alloc, held)?;
     let entry = Entry {
-        name,
+        name: order.name,
         state: State::Waiting,
         job,
     };
+    if entries.push(entry).is_err() {
+        return Err(CommandFault::OutOfMemory);
+    }
     // Only memory can be missing for the file.
-    match write_entries(alloc, &[entry]) {
+    match write_entries(alloc, entries.as_slice()) {
         Ok(bytes) => Ok(CardFile { bytes, count }),
         Err(_) => Err(CommandFault::OutOfMemory),
+    }
+}
+
+/// The entries of the job file that is held.
+fn held_entries(alloc: Global, held: Option<Vec<u8>>) -> Result<Vec<Entry>, FileFault>
+    ensures entries { IfOk result (λ entries.
+        AreEntriesOf (option_map (λ bytes. bytes.items) held) entries.items) }
+    ensures fault { IfErr result (λ fault. IsSomeAnd (option_map (λ bytes. bytes.items) held)
+        (λ file. IsFileFault IsEntryFile file fault)) }
+{
+    match held {
+        Some(bytes) => read_entries(alloc, bytes.as_slice()),
+        None => Ok(Vec::new(alloc)),
     }
 }

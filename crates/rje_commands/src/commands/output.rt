@@ -72,6 +72,6 @@ fn not_written(name: &str, fault: StoreFault) -> CommandFault<'_>
 {
     match fault {
         StoreFault::OutOfMemory => CommandFault::OutOfMemory,
-        StoreFault::Failed => CommandFault::CannotWrite(name),
+        StoreFault::Missing | StoreFault::Failed => CommandFault::CannotWrite(name),
     }
 }

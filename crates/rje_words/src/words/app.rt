@@ -125,7 +125,13 @@ fn cards<'a>(alloc: Global) -> Result<Command<'a>, AllocError>
         "The job is for the punch, its cards filled to 80 bytes and sent as they are",
     );
     let command = with_arg(command, transparent)?;
-    with_arg(command, name(alloc))
+    let command = with_arg(command, name(alloc))?;
+    let append = flag(
+        alloc,
+        "append",
+        "Add the job to those that JOBS holds, where there is such a file",
+    );
+    with_arg(command, append)
 }
 
 /// A command over a job file.

@@ -236,7 +236,8 @@ fn files_are_read_back(rt: HostRuntime) -> Result<(), Fail> {
     files.write(name.as_str(), b"A\n")?;
     assert!(rt; files.read(rt.alloc(), name.as_str())?.as_slice() == b"A\n".as_slice());
     fs::remove_file(&rt, name.as_str())?;
-    assert!(rt; files.read(rt.alloc(), name.as_str()).err() == Some(StoreFault::Failed));
+    assert!(rt; files.read(rt.alloc(), "/tmp").err() == Some(StoreFault::Failed));
+    assert!(rt; files.read(rt.alloc(), name.as_str()).err() == Some(StoreFault::Missing));
     Ok(())
 }
 
@@ -248,6 +249,6 @@ fn files_in_memory_are_read_back(rt: HostRuntime) -> Result<(), Fail> {
     files.write("a", b"three")?;
     assert!(rt; files.read(rt.alloc(), "a")?.as_slice() == b"three".as_slice());
     assert!(rt; files.read(rt.alloc(), "b")?.as_slice() == b"two".as_slice());
-    assert!(rt; files.read(rt.alloc(), "c").err() == Some(StoreFault::Failed));
+    assert!(rt; files.read(rt.alloc(), "c").err() == Some(StoreFault::Missing));
     Ok(())
 }

@@ -174,6 +174,78 @@ fn a_job_has_a_name(rt: HostRuntime) -> Result<(), Fail> {
     Ok(())
 }
 
+/// What stands in a version 2 file of one job, default device, normal, of one record `A`, behind its state.
+const REST: &[u8] = b"\x00\x00\x00\x00\x00\x00\x00\x00\x00\x01\x00\x01\xC1";
+
+#[test]
+fn a_job_is_added_behind_those_of_the_file(rt: HostRuntime) -> Result<(), Fail> {
+    let mut store = MemoryStore::new(rt.alloc());
+    store.write("deck", b"A\n")?;
+    let words = ["cards", "deck", "jobs", "--append", "--name", "PAY1"];
+    assert_prints(&rt, &words, &mut store, b"1 cards\n");
+    assert!(rt; store.read(rt.alloc(), "jobs")?.as_slice() == waiting(&rt, b"PAY1    ").as_slice());
+    let two = b"RJ37\x00\x02\x00\x00\x00\x00\x00\x00\x00\x02";
+    store.write(
+        "jobs",
+        text_of(&rt, &[two, b"PAY1    \x01", REST, b"        \x03", REST]).as_slice(),
+    )?;
+    let words = ["cards", "--append", "deck", "jobs"];
+    assert_prints(&rt, &words, &mut store, b"1 cards\n");
+    let three = text_of(
+        &rt,
+        &[
+            b"RJ37\x00\x02\x00\x00\x00\x00\x00\x00\x00\x03PAY1    \x01",
+            REST,
+            b"        \x03",
+            REST,
+            b"        \x00",
+            REST,
+        ],
+    );
+    assert!(rt; store.read(rt.alloc(), "jobs")?.as_slice() == three.as_slice());
+    assert_prints(&rt, &["cards", "deck", "jobs"], &mut store, b"1 cards\n");
+    assert!(rt; store.read(rt.alloc(), "jobs")?.as_slice() == waiting(&rt, b"        ").as_slice());
+    Ok(())
+}
+
+#[test]
+fn an_older_file_that_is_added_to_becomes_version_2(rt: HostRuntime) -> Result<(), Fail> {
+    let mut store = store_of(&rt, FILE)?;
+    store.write("deck", b"A\n")?;
+    let words = ["cards", "deck", "--append", "jobs", "--name", "B2"];
+    assert_prints(&rt, &words, &mut store, b"1 cards\n");
+    let two = text_of(
+        &rt,
+        &[
+            b"RJ37\x00\x02\x00\x00\x00\x00\x00\x00\x00\x02        \x02",
+            REST,
+            b"B2      \x00",
+            REST,
+        ],
+    );
+    assert!(rt; store.read(rt.alloc(), "jobs")?.as_slice() == two.as_slice());
+    Ok(())
+}
+
+#[test]
+fn nothing_is_added_to_what_is_no_job_file(rt: HostRuntime) -> Result<(), Fail> {
+    let mut store = store_of(&rt, b"RJ36")?;
+    store.write("deck", b"A\n")?;
+    store.write("bad", b"A\tB\n")?;
+    let words = ["cards", "deck", "jobs", "--append"];
+    assert_fails(&rt, &words, &mut store, 1, b"rje: not a job file\n");
+    assert_fails(
+        &rt,
+        &["cards", "bad", "jobs", "--append"],
+        &mut store,
+        1,
+        b"rje: deck line 1 column 2: no EBCDIC character\n",
+    );
+    assert!(rt; store.read(rt.alloc(), "jobs")?.as_slice() == b"RJ36".as_slice());
+    assert_prints(&rt, &["cards", "deck", "jobs"], &mut store, b"1 cards\n");
+    Ok(())
+}
+
 #[test]
 fn another_name_is_refused_behind_two_devices(rt: HostRuntime) {
     let mut store = MemoryStore::new(rt.alloc());
@@ -285,6 +357,9 @@ fn what_cannot_be_read_or_written_is_named(rt: HostRuntime) {
         3,
         b"rje: can't write jobs\n",
     );
+    let mut store = MemoryStore::new(rt.alloc());
+    let words = ["cards", "nope", "neither", "--append"];
+    assert_fails(&rt, &words, &mut store, 3, b"rje: can't read nope\n");
 }
 
 #[test]

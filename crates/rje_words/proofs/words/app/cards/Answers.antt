@@ -13,4 +13,5 @@ returns c =
     let printer = c.in_ok-command-3.ensures _ (flag_rule (codes "printer")) jobs c.flag-printer.ensures in
     let punch = c.in_ok-command-4.ensures _ (flag_rule (codes "punch")) printer c.flag-punch.ensures in
     let transparent = c.in_ok-command-5.ensures _ (flag_rule (codes "transparent")) punch c.flag-transparent.ensures in
-    c.with_arg-6.ensures _ name_rule transparent c.name.ensures
+    let named_job = c.in_ok-command-6.ensures _ name_rule transparent c.name.ensures in
+    c.with_arg-7.ensures _ (flag_rule (codes "append")) named_job c.flag-append.ensures
