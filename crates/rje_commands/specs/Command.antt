@@ -11,11 +11,11 @@ use Rattle.rje_commands.specs.CommandFault.{status_of, IsHelp}
 use Rattle.rje_commands.specs.Commands.{Does, IsFault, MakesFile, OfDeck}
 use Rattle.rje_commands.specs.Store.{FileMap, Discloses, IsSame}
 
--- the words ask for help
+-- the words ask for help, or for the version
 abbrev pub AsksForHelp : List (List ℕ) → Type 0
 AsksForHelp words = (fault : WordsFault) × IsWordsFault words fault × IsHelp fault
 
--- the words ask for a command over files, and this is what it does; or they ask for help
+-- the words ask for a command over files, and this is what it does; or they ask for help or the version
 abbrev pub DoesAsAsked : List (List ℕ) → (files made : Option FileMap) (input before after : Option (List ℕ)) → Type 0
 DoesAsAsked words files made input before after =
     ((order : FileOrder) × AsksFor words (Files order) × Does order files made input before after) ⊎ AsksForHelp words

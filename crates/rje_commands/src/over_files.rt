@@ -15,7 +15,7 @@ use std::alloc::Global;
 use std::io::{Read, Write};
 
 /// Runs the command over files that these words ask for, which are those behind the program's name, and answers its exit status: 0 where
-/// it did what it is for (or gave help), 1 where what it reads is refused, 2 where the words ask for no command over files, 3 where the
+/// it did what it is for (or gave help or the version), 1 where what it reads is refused, 2 where the words ask for no command over files, 3 where the
 /// store, the reader or a writer failed, 5 where there was no memory. What the command gives goes to `out`, and why it fails to `err`.
 pub fn command<S: Store, I: Read, O: Write, E: Write>(
     alloc: Global,

@@ -19,7 +19,7 @@ pub fn tell<E: Write>(fault: &CommandFault, err: &mut E) -> u8
     fault.status()
 }
 
-/// Gives the help that was asked for, or tells why the words ask for nothing that can be done. Answers the exit status.
+/// Gives the help or the version that was asked for, or tells why the words ask for nothing that can be done. Answers the exit status.
 pub fn tell_words<O: Write, E: Write>(fault: &WordsFault, out: &mut O, err: &mut E) -> u8
     ensures help { result ≡ 0 → IsHelp fault.now }
     ensures status { (result ≡ 0) ⊎ ((result ≡ 2) ⊎ ((result ≡ 3) ⊎ (result ≡ 5))) }

@@ -57,9 +57,9 @@ cards_app =
     with_rule (with_rule (with_rule (with_rule (with_rule (with_rule (file_app (codes "cards") (codes "DECK"))
     (file_rule (codes "JOBS"))) (flag_rule (codes "printer"))) (flag_rule (codes "punch"))) (flag_rule (codes "transparent"))) name_rule) (flag_rule (codes "append"))
 
--- the program: its words hold no name of the program, and a command is required
+-- the program: its words hold no name of the program, a command is required, and it has a version
 abbrev pub rje_top : App
-rje_top = on_top (λ s. record s { no_binary_name = true; subcommand_required = true }) (new_app (codes "rje"))
+rje_top = on_top (λ s. record s { no_binary_name = true; subcommand_required = true; has_version = true }) (new_app (codes "rje"))
 
 -- `try JOBS SCRIPT`
 abbrev pub try_app : App

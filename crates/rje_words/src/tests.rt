@@ -169,6 +169,9 @@ fn other_words_are_refused(rt: HostRuntime) {
     );
     assert_refused(&rt, &["--help"], ErrorKind::DisplayHelp);
     assert_refused(&rt, &["help", "cards"], ErrorKind::DisplayHelp);
+    assert_refused(&rt, &["--version"], ErrorKind::DisplayVersion);
+    assert_refused(&rt, &["-V"], ErrorKind::DisplayVersion);
+    assert_refused(&rt, &["show", "--version"], ErrorKind::UnknownArgument);
 }
 
 /// The name of the job that `cards` is asked for, where it is asked for one.

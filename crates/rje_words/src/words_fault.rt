@@ -9,7 +9,7 @@ use thiserror::Error;
 /// Why the words ask for nothing that can be done.
 #[derive(Debug, Drop, Error)]
 pub enum WordsFault {
-    /// clap's: no command of this form, want of memory, or help that was asked for.
+    /// clap's: no command of this form, want of memory, or help or the version that was asked for.
     #[error("{0}")]
     Refused(clap::Error),
     /// More than one device for a deck's job.

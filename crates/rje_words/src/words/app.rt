@@ -8,29 +8,60 @@ ghost use Rattle.rje_words.specs.CommandLine.{try_app, loop_app, send_app, recei
 use clap::{Arg, ArgAction, Command, value_parser};
 use std::alloc::{AllocError, Global};
 
+/// The program's version.
+const VERSION: &str = "1.0.0";
+
+/// What stands behind the commands where help is given.
+const AFTER_HELP: &str = "\
+No words do what `rje blocks -` does: they read a deck from standard input.
+`rje COMMAND --help` tells the words of a command.
+
+Exit status:
+  0    done; help or the version was asked for
+  1    an input was refused
+  2    the command line is wrong
+  3    a file, a read, a line or an output failed
+  4    a transmission ended, but not by done
+  5    there was no memory";
+
+/// The help of a deck's word.
+const DECK_HELP: &str = "A text file with a card a line; - is standard input";
+
+/// The help of the word of a job file that is read.
+const JOBS_HELP: &str = "A job file";
+
 /// The program's command line.
 pub fn program<'a>(alloc: Global) -> Result<Command<'a>, AllocError>
     ensures { IfOk result (IsApp rje_app) }
 {
     let top = Command::new(alloc, "rje")
         .about("Jobs of cards and lines over a Binary Synchronous line.")
+        .version(VERSION)
+        .after_help(AFTER_HELP)
         .no_binary_name(true)
         .subcommand_required(true)
         .bin_name("rje")?;
     let top = with_command(top, cards(alloc)?)?;
     let top = with_command(top, blocks(alloc)?)?;
-    let show = of_jobs(alloc, "show", "Print a line for each job of a job file")?;
+    let show = of_jobs(
+        alloc,
+        "show",
+        "Print a line for each job of a job file",
+        JOBS_HELP,
+    )?;
     let top = with_command(top, show)?;
     let check = of_jobs(
         alloc,
         "check",
         "Tell whether the jobs of a job file can be sent",
+        JOBS_HELP,
     )?;
     let top = with_command(top, check)?;
     let print = of_jobs(
         alloc,
         "print",
         "Print the listings and punched cards of a job file",
+        JOBS_HELP,
     )?;
     let top = with_command(top, print)?;
     let top = with_command(top, attempt(alloc)?)?;
@@ -46,6 +77,7 @@ fn attempt<'a>(alloc: Global) -> Result<Command<'a>, AllocError>
         alloc,
         "try",
         "Print what happens to the jobs of a job file on a line that loses and damages",
+        JOBS_HELP,
     )?;
     with_arg(
         command,
@@ -60,6 +92,7 @@ fn loopback<'a>(alloc: Global) -> Result<Command<'a>, AllocError>
         alloc,
         "loop",
         "Send the jobs of a job file over a connection on this machine, both ends in one process",
+        JOBS_HELP,
     )?;
     with_arg(command, timeout(alloc))
 }
@@ -71,6 +104,7 @@ fn send<'a>(alloc: Global) -> Result<Command<'a>, AllocError>
         alloc,
         "send",
         "Send the jobs of a job file to a receiver that listens",
+        "A job file; the jobs that are counted are marked in it as sent",
     )?;
     let to = address(alloc, "to", "Where the receiver listens, as 192.0.2.1:3780");
     let command = with_arg(command, to)?;
@@ -84,6 +118,7 @@ fn receive<'a>(alloc: Global) -> Result<Command<'a>, AllocError>
         alloc,
         "receive",
         "Take one transmission from whoever connects, into a job file",
+        "The job file to write, in place of one that is there",
     )?;
     let listen = address(alloc, "listen", "Where to listen, as 0.0.0.0:3780");
     let command = with_arg(command, listen)?;
@@ -94,27 +129,20 @@ fn blocks<'a>(alloc: Global) -> Result<Command<'a>, AllocError>
     ensures { IfOk result (IsApp blocks_app) }
 {
     let command = Command::new(alloc, "blocks").about("Print the blocks of a deck's job");
-    with_arg(
-        command,
-        file(
-            alloc,
-            "DECK",
-            "A text file with a card a line; - is standard input",
-        ),
-    )
+    with_arg(command, file(alloc, "DECK", DECK_HELP))
 }
 
 fn cards<'a>(alloc: Global) -> Result<Command<'a>, AllocError>
     ensures { IfOk result (IsApp cards_app) }
 {
     let command = Command::new(alloc, "cards").about("Make a job file of a deck");
-    let deck = file(
+    let command = with_arg(command, file(alloc, "DECK", DECK_HELP))?;
+    let jobs = file(
         alloc,
-        "DECK",
-        "A text file with a card a line; - is standard input",
+        "JOBS",
+        "The job file to write, in place of one that is there",
     );
-    let command = with_arg(command, deck)?;
-    let command = with_arg(command, file(alloc, "JOBS", "The job file to write"))?;
+    let command = with_arg(command, jobs)?;
     let printer = flag(alloc, "printer", "The job is for the printer");
     let command = with_arg(command, printer)?;
     let punch = flag(alloc, "punch", "The job is for the punch");
@@ -129,17 +157,22 @@ fn cards<'a>(alloc: Global) -> Result<Command<'a>, AllocError>
     let append = flag(
         alloc,
         "append",
-        "Add the job to those that JOBS holds, where there is such a file",
+        "Keep the jobs that JOBS holds, where there is such a file, and add the job behind them",
     );
     with_arg(command, append)
 }
 
-/// A command over a job file.
-fn of_jobs<'a>(alloc: Global, name: &'a str, about: &'a str) -> Result<Command<'a>, AllocError>
+/// A command over a job file, of which this help tells what becomes of it.
+fn of_jobs<'a>(
+    alloc: Global,
+    name: &'a str,
+    about: &'a str,
+    jobs: &'a str,
+) -> Result<Command<'a>, AllocError>
     ensures { IfOk result (IsApp (file_app name.entry.now (codes "JOBS"))) }
 {
     let command = Command::new(alloc, name).about(about);
-    with_arg(command, file(alloc, "JOBS", "A job file"))
+    with_arg(command, file(alloc, "JOBS", jobs))
 }
 
 fn file<'a>(alloc: Global, id: &'a str, help: &'a str) -> Arg<'a>
@@ -185,7 +218,7 @@ fn timeout<'a>(alloc: Global) -> Arg<'a>
         .action(ArgAction::Set)
         .value_parser(value_parser!(u16).range(1..=60000))
         .default_value("3000")
-        .help("How long a hearing waits for more bytes, in milliseconds")
+        .help("How long a hearing waits for more bytes, 1 to 60000 milliseconds")
 }
 
 fn with_arg<'a>(command: Command<'a>, arg: Arg<'a>) -> Result<Command<'a>, AllocError>

@@ -157,6 +157,27 @@ fn help_is_printed(rt: HostRuntime) {
     assert!(rt; told.is_empty());
 }
 
+#[test]
+fn the_version_is_printed(rt: HostRuntime) {
+    for word in ["--version", "-V"] {
+        let mut store = MemoryStore::new(rt.alloc());
+        let mut input: &[u8] = b"";
+        let mut written = Written::new();
+        let mut told = Written::new();
+        let ended = command(
+            rt.alloc(),
+            &[word],
+            &mut store,
+            &mut input,
+            &mut written,
+            &mut told,
+        );
+        assert!(rt; ended == 0);
+        assert!(rt; written.as_slice() == b"rje 1.0.0\n".as_slice());
+        assert!(rt; told.is_empty());
+    }
+}
+
 /// A reader that gives so many bytes, and then fails.
 #[derive(Drop)]
 struct Failing {

@@ -5,9 +5,9 @@ use Rattle.rje_words.proofs.words.app.program.Goals as goal
 
 pub returns : goal.returns
 returns c =
-    let set = rw (c.subcommand_required.ensures, c.no_binary_name.ensures, c.about.ensures) at c.in_ok-top.ensures.0 in
+    let set = rw (c.subcommand_required.ensures, c.no_binary_name.ensures, c.after_help.ensures, c.version.ensures, c.about.ensures) at c.in_ok-top.ensures.0 in
     let top : IsApp rje_top c.in_ok-top.top = (
-      ap app_of_fields set ∙ ap (on_top (λ s. record s { no_binary_name = true; subcommand_required = true })) c.new.ensures.app,
+      ap app_of_fields set ∙ ap (on_top (λ s. record s { no_binary_name = true; subcommand_required = true; has_version = true })) c.new.ensures.app,
       ap (λ f. f.has_globals) set ∙ c.new.ensures.local,
     ) in
     let cards = c.in_ok-top-2.ensures rje_top cards_app top c.in_ok-cards.ensures in
