@@ -31,7 +31,7 @@ AsksForNoFiles words = ((fault : WordsFault) × IsWordsFault words fault) ⊎ ((
 
 -- the exit statuses of a command over files
 abbrev pub IsStatus : ℕ → Type 0
-IsStatus status = (status ≡ 0) ⊎ ((status ≡ 1) ⊎ ((status ≡ 2) ⊎ ((status ≡ 3) ⊎ (status ≡ 5))))
+IsStatus status = (status ≡ 0) ⊎ ((status ≡ 1) ⊎ ((status ≡ 2) ⊎ ((status ≡ 3) ⊎ ((status ≡ 5) ⊎ (status ≡ 141)))))
 
 -- all files are as they were, or the words ask for `cards` and just the file that it makes was made
 abbrev pub LeavesAsAsked : List (List ℕ) → (files made : Option FileMap) (input : Option (List ℕ)) → Type 0

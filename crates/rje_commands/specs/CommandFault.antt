@@ -1,5 +1,7 @@
 -- The exit status that a fault ends the program with (own profile).
-use Rattle.std.specs.Prelude.{◌≡◌, ◌⊎◌, ℕ}
+use Rattle.std.specs.Prelude.{◌≡◌, ◌⊎◌, ℕ, Bool, true, false}
+use Rattle.std.specs.declared.io.ErrorKind.{ErrorKind}
+use Rattle.std.specs.declared.io.ErrorKind.TheVariants.{BrokenPipe}
 use Rattle.clap.specs.Words.{kind_of}
 use Rattle.clap.specs.declared.error.Error.{Error}
 use Rattle.clap.specs.declared.error.kind.ErrorKind.TheVariants.{DisplayHelp, DisplayVersion}
@@ -10,7 +12,7 @@ use Rattle.rje_station.specs.declared.station_fault.StationFault.{StationFault}
 use Rattle.line_world.specs.declared.world_fault.WorldFault.{WorldFault}
 use Rattle.rje_words.specs.declared.words_fault.WordsFault.{WordsFault}
 use Rattle.rje_commands.specs.declared.command_fault.CommandFault.{CommandFault}
-use Rattle.rje_commands.specs.declared.command_fault.CommandFault.TheVariants.{OutOfMemory, Deck, File, BadJob, Script, NotDamage, BadCut, NoCommand, LineFailed, Babble, CannotRead, CannotWrite, Output}
+use Rattle.rje_commands.specs.declared.command_fault.CommandFault.TheVariants.{OutOfMemory, Deck, File, BadJob, Script, NotDamage, BadCut, NoCommand, LineFailed, Babble, CannotRead, CannotWrite, Output, Closed}
 
 -- an input that is refused has status 1, want of memory 5
 abbrev pub deck_status : DeckFault → ℕ
@@ -22,7 +24,8 @@ abbrev pub file_status : FileFault → ℕ
 file_status FileFault.OutOfMemory = 5
 file_status _ = 1
 
--- words that name no command over files or none over sockets have status 2, a file, a line or an output that fails 3
+-- words that name no command over files or none over sockets have status 2, a file, a line or an output that fails 3, an output that nobody
+-- reads any more 141, which is that of a program that SIGPIPE ended
 abbrev pub status_of : CommandFault → ℕ
 status_of OutOfMemory = 5
 status_of (Deck fault) = deck_status fault
@@ -37,6 +40,18 @@ status_of Babble = 3
 status_of (CannotRead name) = 3
 status_of (CannotWrite name) = 3
 status_of Output = 3
+status_of Closed = 141
+
+-- the fault of standard output, by the kind of its error: a pipe that nobody reads any more, or a failure
+abbrev pub of_output : ErrorKind → CommandFault
+of_output BrokenPipe = Closed
+of_output _ = Output
+
+-- standard output failed, or nobody reads it any more
+abbrev pub is_of_output : CommandFault → Bool
+is_of_output Output = true
+is_of_output Closed = true
+is_of_output _ = false
 
 -- what the faults of the layers below are told as
 abbrev pub of_script : ScriptFault → CommandFault

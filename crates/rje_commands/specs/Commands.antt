@@ -180,6 +180,7 @@ Writes _ name = ⊥
 abbrev pub IsFault : FileOrder → Option FileMap → (input : Option (List ℕ)) → CommandFault → Type 0
 IsFault order files input CommandFault.OutOfMemory = ⊤
 IsFault order files input CommandFault.Output = ⊤
+IsFault order files input CommandFault.Closed = ⊤
 IsFault order files input (CommandFault.CannotRead name) = Reads order name.now
 IsFault order files input (CommandFault.CannotWrite name) = Writes order name.now
 IsFault order files input (CommandFault.Deck fault) = OfItsDeck order files input (λ deck. IsDeckFault deck fault)

@@ -8,6 +8,7 @@ use rje_jobs::{DeckFault, FileFault};
 use rje_print::ScriptFault;
 use rje_station::StationFault;
 use std::alloc::AllocError;
+use std::io::{self, ErrorKind};
 use thiserror::Error;
 
 /// Why a command ends with another status than 0.
@@ -52,13 +53,29 @@ pub enum CommandFault<'a> {
     /// Standard output can't be written.
     #[error("can't write standard output")]
     Output,
+    /// Standard output is a pipe that nobody reads any more.
+    #[error("standard output is closed")]
+    Closed,
 }
 
 impl CommandFault<'_> {
-    ghost use Rattle.rje_commands.specs.CommandFault.{status_of};
+    ghost use Rattle.std.specs.Prelude.{true};
+    ghost use Rattle.std.specs.IoError.{error_kind};
+    ghost use Rattle.rje_commands.specs.CommandFault.{is_of_output, of_output, status_of};
+
+    /// Why standard output isn't written.
+    pub fn of_output(error: &io::Error) -> Self
+        ensures kind { result ≡ of_output (error_kind error.now) }
+        ensures output { is_of_output result ≡ true }
+    {
+        match error.kind() {
+            ErrorKind::BrokenPipe => CommandFault::Closed,
+            _ => CommandFault::Output,
+        }
+    }
 
     /// The exit status: 1 for an input that is refused, 2 for words that ask for a command that isn't served here,
-    /// 3 for a file, a line or an output that fails, 5 for want of memory.
+    /// 3 for a file, a line or an output that fails, 5 for want of memory, 141 for an output that nobody reads any more.
     pub fn status(&self) -> u8
         ensures { result ≡ status_of self.now }
     {
@@ -78,6 +95,7 @@ impl CommandFault<'_> {
             | CommandFault::CannotRead(_)
             | CommandFault::CannotWrite(_)
             | CommandFault::Output => 3,
+            CommandFault::Closed => 141,
         }
     }
 }

@@ -1,9 +1,10 @@
 //! One run of the program over files, a reader and two writers.
-ghost use Rattle.std.specs.Prelude.{◌≡◌, ◌≢◌, ◌⊎◌, map, IfErr, OnOk};
+ghost use Rattle.std.specs.Prelude.{◌≡◌, ◌≢◌, ◌⊎◌, map, IfErr, OnOk, false};
 ghost use Rattle.rje_words.specs.declared.order.FileOrder.{FileOrder as Asked};
 ghost use Rattle.rje_words.specs.Asking.{AsksFor, IsWordsFault};
 ghost use Rattle.rje_commands.specs.Commands.{Does, IsFault, Leaves};
 ghost use Rattle.rje_commands.specs.Command.{DoesAsAsked, IsRefused, LeavesAsAsked, AsksForNoFiles, IsStatus};
+ghost use Rattle.rje_commands.specs.CommandFault.{is_of_output};
 ghost use Rattle.rje_commands.specs.Store.{Discloses, IsSame};
 
 use crate::command_fault::CommandFault;
@@ -16,7 +17,7 @@ use std::io::{Read, Write};
 
 /// Runs the command over files that these words ask for, which are those behind the program's name, and answers its exit status: 0 where
 /// it did what it is for (or gave help or the version), 1 where what it reads is refused, 2 where the words ask for no command over files, 3 where the
-/// store, the reader or a writer failed, 5 where there was no memory. What the command gives goes to `out`, and why it fails to `err`.
+/// store, the reader or a writer failed, 5 where there was no memory, 141 where nobody reads `out` any more. What the command gives goes to `out`, and why it fails to `err`: nothing with 141.
 pub fn command<S: Store, I: Read, O: Write, E: Write>(
     alloc: Global,
     words: &[&str],
@@ -34,9 +35,10 @@ pub fn command<S: Store, I: Read, O: Write, E: Write>(
     ensures status { IsStatus result }
     ensures files { LeavesAsAsked (map (λ word. word.now) words.now)
         (S.files store.old) (S.files store.new) (I.remaining input.old) }
-    ensures files_kept { result ≢ 0 → result ≢ 3
+    ensures files_kept { result ≢ 0 → result ≢ 3 → result ≢ 141
         → Discloses (S.files store.old) (S.files store.new) IsSame }
-    ensures silent { result ≢ 0 → result ≢ 3 → out.new ≡ out.old }
+    ensures silent { result ≢ 0 → result ≢ 3 → result ≢ 141 → out.new ≡ out.old }
+    ensures quiet { result ≡ 141 → err.new ≡ err.old }
 {
     let order = match parse(alloc, words) {
         Ok(Order::Files(order)) => order,
@@ -62,9 +64,9 @@ pub fn carry_out<'a, S: Store, I: Read, O: Write>(
     ensures fault { IfErr result (IsFault order.entry (S.files store.old) (I.remaining input.old)) }
     ensures files { Leaves order.entry
         (S.files store.old) (S.files store.new) (I.remaining input.old) }
-    ensures kept { IfErr result (λ fault. fault ≢ CommandFault.Output
+    ensures kept { IfErr result (λ fault. is_of_output fault ≡ false
         → Discloses (S.files store.old) (S.files store.new) IsSame) }
-    ensures silent { IfErr result (λ fault. fault ≢ CommandFault.Output → out.new ≡ out.old) }
+    ensures silent { IfErr result (λ fault. is_of_output fault ≡ false → out.new ≡ out.old) }
 {
     match order {
         FileOrder::Blocks(deck) => blocks(alloc, deck, store, input, out),

@@ -8,11 +8,16 @@ use clap::error::ErrorKind;
 use rje_words::WordsFault;
 use std::io::Write;
 
-/// Tells why the command fails, and answers its status, or 3 where that can't be told.
+/// Tells why the command fails, and answers its status, or 3 where that can't be told. Of an output that nobody reads any more it tells
+/// nothing.
 pub fn tell<E: Write>(fault: &CommandFault, err: &mut E) -> u8
     ensures failed { result ≢ 0 }
     ensures status { (result ≡ 3) ⊎ (result ≡ status_of fault.now) }
+    ensures quiet { result ≡ 141 → err.new ≡ err.old }
 {
+    if matches!(fault, CommandFault::Closed) {
+        return fault.status();
+    }
     if writeln!(err, "rje: {fault}").is_err() {
         return CommandFault::Output.status();
     }
@@ -22,8 +27,10 @@ pub fn tell<E: Write>(fault: &CommandFault, err: &mut E) -> u8
 /// Gives the help or the version that was asked for, or tells why the words ask for nothing that can be done. Answers the exit status.
 pub fn tell_words<O: Write, E: Write>(fault: &WordsFault, out: &mut O, err: &mut E) -> u8
     ensures help { result ≡ 0 → IsHelp fault.now }
-    ensures status { (result ≡ 0) ⊎ ((result ≡ 2) ⊎ ((result ≡ 3) ⊎ (result ≡ 5))) }
-    ensures silent { result ≢ 0 → result ≢ 3 → out.new ≡ out.old }
+    ensures status { (result ≡ 0) ⊎ ((result ≡ 2) ⊎ ((result ≡ 3)
+        ⊎ ((result ≡ 5) ⊎ (result ≡ 141)))) }
+    ensures silent { result ≢ 0 → result ≢ 3 → result ≢ 141 → out.new ≡ out.old }
+    ensures quiet { result ≡ 141 → err.new ≡ err.old }
 {
     match fault {
         WordsFault::Refused(error) => tell_error(error, out, err),
@@ -39,8 +46,10 @@ pub fn tell_words<O: Write, E: Write>(fault: &WordsFault, out: &mut O, err: &mut
 /// Gives help, or tells why the words aren't taken.
 fn tell_error<O: Write, E: Write>(error: &Error, out: &mut O, err: &mut E) -> u8
     ensures help { result ≡ 0 → IsHelpError error.now }
-    ensures status { (result ≡ 0) ⊎ ((result ≡ 2) ⊎ ((result ≡ 3) ⊎ (result ≡ 5))) }
-    ensures silent { result ≢ 0 → result ≢ 3 → out.new ≡ out.old }
+    ensures status { (result ≡ 0) ⊎ ((result ≡ 2) ⊎ ((result ≡ 3)
+        ⊎ ((result ≡ 5) ⊎ (result ≡ 141)))) }
+    ensures silent { result ≢ 0 → result ≢ 3 → result ≢ 141 → out.new ≡ out.old }
+    ensures quiet { result ≡ 141 → err.new ≡ err.old }
 {
     if error.kind() == ErrorKind::OutOfMemory {
         return tell(&CommandFault::OutOfMemory, err);
@@ -53,6 +62,6 @@ fn tell_error<O: Write, E: Write>(error: &Error, out: &mut O, err: &mut E) -> u8
     }
     match write!(out, "{error}") {
         Ok(()) => 0,
-        Err(_) => CommandFault::Output.status(),
+        Err(error) => CommandFault::of_output(&error).status(),
     }
 }

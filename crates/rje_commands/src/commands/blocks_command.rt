@@ -1,7 +1,8 @@
 //! `blocks`: the blocks of a deck's job, and how many records come back.
-ghost use Rattle.std.specs.Prelude.{◌≡◌, ◌≢◌, IfErr, OnOk};
+ghost use Rattle.std.specs.Prelude.{◌≡◌, IfErr, OnOk, false};
 ghost use Rattle.rje_words.specs.declared.order.FileOrder.{FileOrder};
 ghost use Rattle.rje_commands.specs.Commands.{Does, IsFault};
+ghost use Rattle.rje_commands.specs.CommandFault.{is_of_output};
 ghost use Rattle.rje_commands.specs.Store.{Discloses, IsSame};
 
 use crate::command_fault::CommandFault;
@@ -26,7 +27,7 @@ pub fn blocks<'a, S: Store, I: Read, O: Write>(
     ensures fault { IfErr result (IsFault (FileOrder.Blocks name.entry)
         (S.files store.old) (I.remaining input.old)) }
     ensures same { Discloses (S.files store.old) (S.files store.new) IsSame }
-    ensures silent { IfErr result (λ fault. fault ≢ CommandFault.Output → out.new ≡ out.old) }
+    ensures silent { IfErr result (λ fault. is_of_output fault ≡ false → out.new ≡ out.old) }
 {
     let deck = read_deck(alloc, name, store, input)?;
     let listing = block_listing(alloc, deck.as_slice())?;

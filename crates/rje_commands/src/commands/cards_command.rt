@@ -1,5 +1,5 @@
 //! `cards`: a job file of a deck's job, or one to which the job is added.
-ghost use Rattle.std.specs.Prelude.{◌≡◌, ◌≢◌, None, length, option_map, IfErr, IfOk, OnOk};
+ghost use Rattle.std.specs.Prelude.{◌≡◌, None, length, option_map, IfErr, IfOk, OnOk, true, false};
 ghost use Rattle.std.specs.Option.{IsSomeAnd};
 ghost use Rattle.rje_jobs.specs.Deck.{deck_fault};
 ghost use Rattle.rje_files.specs.FileFault.{IsFileFault};
@@ -8,6 +8,7 @@ ghost use Rattle.rje_words.specs.declared.order.FileOrder.{FileOrder};
 ghost use Rattle.rje_commands.specs.Commands.{Does, IsFault, Leaves, OfDeck, MakesFile};
 ghost use Rattle.rje_commands.specs.Commands.{AreEntriesOf, deck_job};
 ghost use Rattle.rje_commands.specs.Inside.{IsCardsFault, IsHeld, IsHeldFault, IsMade};
+ghost use Rattle.rje_commands.specs.CommandFault.{is_of_output};
 ghost use Rattle.rje_commands.specs.Store.{Discloses, IsSame};
 
 use crate::command_fault::CommandFault;
@@ -38,12 +39,12 @@ pub fn cards<'a, S: Store, I: Read, O: Write>(
         (S.files store.old) (I.remaining input.old)) }
     ensures files { Leaves (FileOrder.Cards order.entry)
         (S.files store.old) (S.files store.new) (I.remaining input.old) }
-    ensures kept { IfErr result (λ fault. fault ≢ CommandFault.Output
+    ensures kept { IfErr result (λ fault. is_of_output fault ≡ false
         → Discloses (S.files store.old) (S.files store.new) IsSame) }
-    ensures made { IfErr result (λ fault. fault ≡ CommandFault.Output
+    ensures made { IfErr result (λ fault. is_of_output fault ≡ true
         → OfDeck order.entry.deck.now (S.files store.old) (I.remaining input.old) (λ deck.
         MakesFile order.entry deck (S.files store.old) (S.files store.new))) }
-    ensures silent { IfErr result (λ fault. fault ≢ CommandFault.Output → out.new ≡ out.old) }
+    ensures silent { IfErr result (λ fault. is_of_output fault ≡ false → out.new ≡ out.old) }
 {
     let deck = read_deck(alloc, order.deck, store, input)?;
     let held = held_file(alloc, order, store)?;

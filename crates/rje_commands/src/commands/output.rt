@@ -1,7 +1,8 @@
 //! What a command gives: to its output, and to a file.
-ghost use Rattle.std.specs.Prelude.{◌≡◌, ◌≤◌, length, OnOk, OnErr, IfErr};
+ghost use Rattle.std.specs.Prelude.{◌≡◌, ◌≤◌, length, OnOk, OnErr, IfErr, true};
 ghost use Rattle.std.specs.List.{flat_map};
 ghost use Rattle.rje_commands.specs.Inside.{IsWriteFault};
+ghost use Rattle.rje_commands.specs.CommandFault.{is_of_output};
 ghost use Rattle.rje_commands.specs.Store.{Discloses, IsSame, Sets};
 ghost use Rattle.std.specs.Io.KnownBytes.{Appends};
 
@@ -14,11 +15,11 @@ use std::io::Write;
 /// Prints a text in one piece.
 pub fn put<'a, O: Write>(text: &[u8], out: &mut O) -> Result<(), CommandFault<'a>>
     ensures text { OnOk result (Appends (O.contents out.old) (O.contents out.new) text.now) }
-    ensures fault { IfErr result (λ fault. fault ≡ CommandFault.Output) }
+    ensures fault { IfErr result (λ fault. is_of_output fault ≡ true) }
 {
     match out.write_all(text) {
         Ok(()) => Ok(()),
-        Err(_) => Err(CommandFault::Output),
+        Err(error) => Err(CommandFault::of_output(&error)),
     }
 }
 
@@ -26,7 +27,7 @@ pub fn put<'a, O: Write>(text: &[u8], out: &mut O) -> Result<(), CommandFault<'a
 pub fn put_lines<'a, O: Write>(lines: &[PrintedLine], out: &mut O) -> Result<(), CommandFault<'a>>
     ensures text { OnOk result (Appends (O.contents out.old) (O.contents out.new)
         (flat_map (λ line. line.items) lines.now)) }
-    ensures fault { IfErr result (λ fault. fault ≡ CommandFault.Output) }
+    ensures fault { IfErr result (λ fault. is_of_output fault ≡ true) }
 {
     for line in lines {
         put(line.as_slice(), out)?;

@@ -1,7 +1,8 @@
 //! `show`: a line for each job of a job file.
-ghost use Rattle.std.specs.Prelude.{◌≡◌, ◌≢◌, IfErr, OnOk, None};
+ghost use Rattle.std.specs.Prelude.{◌≡◌, IfErr, OnOk, None, false};
 ghost use Rattle.rje_words.specs.declared.order.FileOrder.{FileOrder};
 ghost use Rattle.rje_commands.specs.Commands.{Does, IsFault};
+ghost use Rattle.rje_commands.specs.CommandFault.{is_of_output};
 ghost use Rattle.rje_commands.specs.Store.{Discloses, IsSame};
 
 use crate::command_fault::CommandFault;
@@ -24,7 +25,7 @@ pub fn show<'a, S: Store, O: Write>(
         None (O.contents out.old) (O.contents out.new)) }
     ensures fault { IfErr result (IsFault (FileOrder.Show name.entry) (S.files store.old) None) }
     ensures same { Discloses (S.files store.old) (S.files store.new) IsSame }
-    ensures silent { IfErr result (λ fault. fault ≢ CommandFault.Output → out.new ≡ out.old) }
+    ensures silent { IfErr result (λ fault. is_of_output fault ≡ false → out.new ≡ out.old) }
 {
     let entries = read_entry_file(alloc, name, store)?;
     match entries_text(alloc, entries.as_slice()) {

@@ -1,8 +1,9 @@
 //! `try`: the run of a job file's jobs over a script of losses and damage.
-ghost use Rattle.std.specs.Prelude.{◌≡◌, ◌≢◌, IfErr, IfOk, OnOk, None};
+ghost use Rattle.std.specs.Prelude.{◌≡◌, IfErr, IfOk, OnOk, None, false};
 ghost use Rattle.rje_words.specs.declared.order.FileOrder.{FileOrder};
 ghost use Rattle.rje_commands.specs.Commands.{Does, IsFault, IsRunText};
 ghost use Rattle.rje_commands.specs.Inside.{IsTryFault};
+ghost use Rattle.rje_commands.specs.CommandFault.{is_of_output};
 ghost use Rattle.rje_commands.specs.Store.{Discloses, IsSame};
 
 use crate::command_fault::CommandFault;
@@ -28,7 +29,7 @@ pub fn trial<'a, S: Store, O: Write>(
         None (O.contents out.old) (O.contents out.new)) }
     ensures fault { IfErr result (IsFault (FileOrder.Try order.entry) (S.files store.old) None) }
     ensures same { Discloses (S.files store.old) (S.files store.new) IsSame }
-    ensures silent { IfErr result (λ fault. fault ≢ CommandFault.Output → out.new ≡ out.old) }
+    ensures silent { IfErr result (λ fault. is_of_output fault ≡ false → out.new ≡ out.old) }
 {
     let file = read_file(alloc, order.jobs, store)?;
     let script = read_file(alloc, order.script, store)?;

@@ -22,7 +22,8 @@ Exit status:
   2    the command line is wrong
   3    a file, a read, a line or an output failed
   4    a transmission ended, but not by done
-  5    there was no memory";
+  5    there was no memory
+  141  nobody reads the output any more";
 
 /// The help of a deck's word.
 const DECK_HELP: &str = "A text file with a card a line; - is standard input";

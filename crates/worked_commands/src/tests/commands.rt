@@ -210,6 +210,39 @@ impl Write for Full {
     }
 }
 
+/// A writer that nobody reads any more.
+#[derive(Drop)]
+struct Unread;
+
+impl Write for Unread {
+    fn write(&mut self, _buf: &[u8]) -> io::Result<usize> {
+        Err(io::Error::from(ErrorKind::BrokenPipe))
+    }
+
+    fn flush(&mut self) -> io::Result<()> {
+        Ok(())
+    }
+}
+
+#[test]
+fn an_output_that_nobody_reads_ends_with_status_141(rt: HostRuntime) {
+    for words in [["blocks", "-"].as_slice(), ["--help"].as_slice()] {
+        let mut store = MemoryStore::new(rt.alloc());
+        let mut input: &[u8] = b"A\n";
+        let mut told = Written::new();
+        let ended = command(
+            rt.alloc(),
+            words,
+            &mut store,
+            &mut input,
+            &mut Unread,
+            &mut told,
+        );
+        assert!(rt; ended == 141);
+        assert!(rt; told.is_empty());
+    }
+}
+
 #[test]
 fn an_input_that_fails_or_is_too_long_cannot_be_read(rt: HostRuntime) {
     for left in [10, MAX_INPUT + 1] {
