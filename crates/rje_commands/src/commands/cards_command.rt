@@ -53,7 +53,7 @@ pub fn cards<'a, S: Store, I: Read, O: Write>(
     put(cards_text(made.count).as_slice(), out)
 }
 
-/// A deck's job file, and how many cards it has.
+/// The job file that is made, and how many cards the deck has.
 #[derive(Drop)]
 struct CardFile {
     bytes: Vec<u8>,
