@@ -1,9 +1,11 @@
-/* Loaded before the C library (LD_PRELOAD): ends the process (KILL) at the call on a file of this number, counted from 1, that END_AT names. */
+/* Loaded before the C library (LD_PRELOAD): ends the process (KILL) at the call on a file or a connection of this number, counted from 1, that END_AT names. */
 #define _GNU_SOURCE
 #include <dlfcn.h>
 #include <signal.h>
 #include <stdlib.h>
+#include <sys/socket.h>
 #include <sys/types.h>
+#include <unistd.h>
 
 static void end_where_named(void)
 {
@@ -34,5 +36,9 @@ CALL(int, fchmod, (int file, mode_t mode), (file, mode))
 CALL(int, fsync, (int file), (file))
 CALL(int, ftruncate, (int file, off_t length), (file, length))
 CALL(int, close, (int file), (file))
+CALL(int, link, (const char *from, const char *to), (from, to))
+CALL(off_t, lseek, (int file, off_t offset, int whence), (file, offset, whence))
+CALL(ssize_t, recv, (int file, void *bytes, size_t length, int flags), (file, bytes, length, flags))
+CALL(ssize_t, send, (int file, const void *bytes, size_t length, int flags), (file, bytes, length, flags))
 CALL(int, rename, (const char *from, const char *to), (from, to))
 CALL(int, unlink, (const char *path), (path))

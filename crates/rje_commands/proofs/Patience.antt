@@ -1,13 +1,14 @@
 -- A receiving station that goes on as long as its patience lasts.
 use Rattle.std.proofs.Common.{◌≡◌, inl, inr, ℕ, ◌+◌, ◌<◌, Bool, true, false, [], ◌∷◌, length, Some, if◌then◌else◌, refl, ap, sym, ◌∙◌, arith}
 use Rattle.bsc_link.specs.declared.sound.Sound.{Sound}
-use Rattle.rje_station.specs.declared.station_fault.StationFault.{StationFault}
 use Rattle.rje_station.specs.Receiving.{Receiving}
 use Rattle.bsc_history.specs.declared.spoken_turn.SpokenTurn.{SpokenTurn}
 use Rattle.bsc_history.specs.History.{History}
-use Rattle.line_world.specs.AnyLines.{ReceiverTakes, ReceiverTook, ReceiverFails, ReceivesToFault}
+use Rattle.line_world.specs.AnyLines.{ReceiverTakes, ReceiverTook}
 use Rattle.line_world.proofs.TurnsOverLines.{arrival_is}
+use Rattle.rje_commands.specs.declared.broken_off.BrokenOff.{BrokenOff}
 use Rattle.rje_commands.specs.declared.exchange.Left.{Left}
+use Rattle.rje_commands.specs.Keeping.{BreaksOff, BreaksOffNow}
 use Rattle.rje_commands.specs.Patience.{was_quiet, quiet_turns, WentOn, HearsOut}
 
 quiet_on : (sound : Sound) (n : ℕ) → elim sound [ Sound.Quiet ↦ n + 1 | _ ↦ 0 ] ≡ (if (elim sound [ Sound.Quiet ↦ true | _ ↦ false ]) then n + 1 else 0)
@@ -63,5 +64,5 @@ hears_quiet r far r' n quiet now p takes is forty = let q = one_more r far r' n 
 pub hears_long : (r r' : Receiving) (n quiet : ℕ) → HearsSoFar r n quiet r' → n ≡ 1000000000 → HearsOut Left.Abandoned r r'
 hears_long r r' n quiet p e = (p.history, p.went_on, inr (p.long ∙ e), p.took)
 
-pub hears_fault : (r far r' : Receiving) (n quiet : ℕ) (fault : StationFault) → HearsSoFar r n quiet far → ReceiverFails far r' fault → ReceivesToFault r r' fault
-hears_fault r far r' n quiet fault p fails = (p.history, far, p.took, fails)
+pub hears_fault : (r far r' : Receiving) (n quiet : ℕ) (broken : BrokenOff) → HearsSoFar r n quiet far → BreaksOffNow far r' broken → BreaksOff r r' broken
+hears_fault r far r' n quiet broken p breaks = (p.history, far, p.took, breaks)

@@ -1,4 +1,5 @@
 pub mod Store
+pub mod Keeping
 pub mod MemoryStore
 pub mod Commands
 pub mod CommandFault

@@ -1,6 +1,7 @@
 -- What a store of files is: names with their bytes, where it tells them.
 use Rattle.std.specs.Prelude.{◌≡◌, ℕ, ◌<◌, List, length, Option, Some, None, ⊤, bytes_eq, if◌then◌else◌}
 use Rattle.std.specs.Option.{IsSomeAnd}
+use Rattle.rje_files.specs.Growth.{grown}
 use Rattle.rje_commands.specs.declared.reading.TheConstants.{MAX_INPUT}
 
 -- the files: the bytes of each name that has some
@@ -20,6 +21,11 @@ IsSame f g = (name : List ℕ) → g name ≡ f name
 -- this name has these bytes, and each other name what it had
 abbrev pub Sets : List ℕ → List ℕ → FileMap → FileMap → Type 0
 Sets name bytes f g = (other : List ℕ) → g other ≡ (if bytes_eq other name then Some bytes else f other)
+
+-- the file of this name was there; now it has one piece in front, in place of as many bytes, and another behind, and each other name what it
+-- had
+abbrev pub Extends : List ℕ → (front tail : List ℕ) → FileMap → FileMap → Type 0
+Extends name front tail f g = (bytes : List ℕ) × (f name ≡ Some bytes) × Sets name (grown front tail bytes) f g
 
 -- where the files are told, this name has these bytes
 abbrev pub Has : Option FileMap → List ℕ → List ℕ → Type 0

@@ -1,9 +1,13 @@
 //! Stations that take turns over a line, until the transmission ends.
 ghost use Rattle.std.specs.Prelude.{◌≡◌, ◌<◌, ◌+◌, true, false, if◌then◌else◌, IfOk, OnOk, IfErr};
 ghost use Rattle.bsc_history.specs.declared.spoken_turn.SpokenTurn.{SpokenTurn};
+ghost use Rattle.rje_commands.specs.Keeping.{BreaksOff, BreaksOffNow, GoesOnKeeping, IsOfFile};
 ghost use Rattle.rje_commands.specs.Patience.{LeavesSo, HearsOut, was_quiet};
-ghost use Rattle.line_world.specs.AnyLines.{SenderTakes, SenderFails, SendsToEnd, SendsToFault, ReceiverTakes, ReceiverFails, ReceivesToFault, BothTake, BothFail, BothToEnd, BothToFault};
+ghost use Rattle.line_world.specs.AnyLines.{SenderTakes, SenderFails, SendsToEnd, SendsToFault, ReceiverTakes, BothTake, BothFail, BothToEnd, BothToFault};
 
+use crate::broken_off::BrokenOff;
+use crate::keeper::Keeper;
+use crate::store::Store;
 use bsc_link::{Say, Sound, Wish};
 use line_world::Spoken;
 use rje_station::{Arrival, Line, ReceivingStation, SendingStation, StationFault};
@@ -55,15 +59,20 @@ fn speak_and_hear<L: Line>(station: &mut SendingStation, line: &mut L) -> Result
     }
 }
 
-/// Receives what comes, until the sender ends the transmission or stays quiet for long.
-pub fn receive_all<L: Line>(
+/// Receives what comes, until the sender ends the transmission or stays quiet for long. Each job is kept before its last block is
+/// answered; where it can't be, the station leaves.
+pub fn receive_all<'a, L: Line, S: Store>(
     station: &mut ReceivingStation,
     line: &mut L,
-) -> Result<Left, StationFault>
+    keeper: &mut Keeper<'a>,
+    store: &mut S,
+) -> Result<Left, BrokenOff<'a>>
     ensures left { IfOk result (λ left. LeavesSo left station.old station.new) }
-    ensures fault { IfErr result (ReceivesToFault station.old station.new) }
+    ensures fault { IfErr result (BreaksOff station.old station.new) }
+    ensures kept { OnOk result (GoesOnKeeping keeper.old keeper.new station.old.jobs
+        station.new.jobs (S.files store.old) (S.files store.new)) }
 {
-    let left = hear_out(station, line)?;
+    let left = hear_out(station, line, keeper, store)?;
     if left == Left::Abandoned {
         station.abandon();
     }
@@ -71,13 +80,20 @@ pub fn receive_all<L: Line>(
 }
 
 /// Receives until the sender ends the transmission, or there is no more hope of it.
-fn hear_out<L: Line>(station: &mut ReceivingStation, line: &mut L) -> Result<Left, StationFault>
+fn hear_out<'a, L: Line, S: Store>(
+    station: &mut ReceivingStation,
+    line: &mut L,
+    keeper: &mut Keeper<'a>,
+    store: &mut S,
+) -> Result<Left, BrokenOff<'a>>
     ensures heard { IfOk result (λ left. HearsOut left station.old station.new) }
-    ensures fault { IfErr result (ReceivesToFault station.old station.new) }
+    ensures fault { IfErr result (BreaksOff station.old station.new) }
+    ensures kept { OnOk result (GoesOnKeeping keeper.old keeper.new station.old.jobs
+        station.new.jobs (S.files store.old) (S.files store.new)) }
 {
     let mut quiet = 0;
     for _ in 0..MAX_HEARINGS {
-        if !hear_and_speak(station, line)? {
+        if !hear_keep_and_speak(station, line, keeper, store)? {
             return Ok(Left::Ended);
         }
         quiet = quiet_after(quiet, station);
@@ -104,20 +120,31 @@ fn quiet_after(quiet: u32, station: &ReceivingStation) -> u32
     }
 }
 
-/// One turn of a receiving station: it listens, and it replies where the transmission isn't over, which is answered.
-fn hear_and_speak<L: Line>(
+/// One turn of a receiving station: it listens, it keeps the job that has come to its end, and it replies where the transmission isn't
+/// over, which is answered. Where the job can't be kept, it leaves and doesn't reply.
+fn hear_keep_and_speak<'a, L: Line, S: Store>(
     station: &mut ReceivingStation,
     line: &mut L,
-) -> Result<bool, StationFault>
+    keeper: &mut Keeper<'a>,
+    store: &mut S,
+) -> Result<bool, BrokenOff<'a>>
     ensures takes { OnOk result ((t : SpokenTurn) × ReceiverTakes station.old station.new t) }
     ensures over { IfOk result (λ goes_on. goes_on ≡ false → station.new.over ≡ true) }
-    ensures fault { IfErr result (ReceiverFails station.old station.new) }
+    ensures fault { IfErr result (BreaksOffNow station.old station.new) }
+    ensures kept { OnOk result (GoesOnKeeping keeper.old keeper.new station.old.jobs
+        station.new.jobs (S.files store.old) (S.files store.new)) }
+    ensures silent { IfErr result (λ broken. IsOfFile broken
+        → L.transmissions line.new ≡ L.transmissions line.old) }
 {
     station.hear(line, Wish::Go)?;
+    if let Err(fault) = keeper.keep(station.jobs(), store) {
+        station.abandon();
+        return Err(BrokenOff::File(fault));
+    }
     match station.speak(line) {
         Ok(_) => Ok(true),
         Err(StationFault::Over) => Ok(false),
-        Err(fault) => Err(fault),
+        Err(fault) => Err(BrokenOff::Line(fault)),
     }
 }
 

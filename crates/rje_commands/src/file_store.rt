@@ -2,10 +2,12 @@
 ghost use Rattle.std.specs.Prelude.{None};
 
 mod beside;
+mod growing;
 
 use crate::reading::read_all;
-use crate::store::{Store, StoreFault};
+use crate::store::{Place, Store, StoreFault};
 use beside::{replace, resolved, try_beside};
+use growing::Growing;
 use std::alloc::Global;
 use std::fs::{self, OpenOptions, Permissions};
 use std::io::{self, ErrorKind};
@@ -17,6 +19,7 @@ use std::rt::Files;
 pub struct FileStore<'a, R: Files> {
     rt: &'a R,
     alloc: Global,
+    growing: Option<Growing<R::File>>,
 }
 
 /// What stands under a name that can be written.
@@ -33,7 +36,11 @@ enum Target {
 impl<'a, R: Files> FileStore<'a, R> {
     /// The files that the runtime reaches.
     pub fn new(rt: &'a R, alloc: Global) -> Self {
-        FileStore { rt, alloc }
+        FileStore {
+            rt,
+            alloc,
+            growing: None,
+        }
     }
 
     /// What stands under this path, where it can be written.
@@ -59,12 +66,29 @@ impl<'a, R: Files> FileStore<'a, R> {
         }
     }
 
-    fn try_target(&self, name: &str) -> io::Result<()> {
+    fn place(&self, name: &str) -> io::Result<Place> {
         let path = resolved(self.rt, self.alloc, name)?;
         match self.target(path.as_str())? {
-            Target::Device => Ok(()),
-            Target::New | Target::File(_) => try_beside(self.rt, self.alloc, path.as_str()),
+            Target::Device => Ok(Place::Once),
+            Target::New | Target::File(_) => {
+                try_beside(self.rt, self.alloc, path.as_str())?;
+                Ok(Place::Growing)
+            }
         }
+    }
+
+    fn grow(&mut self, name: &str, front: &[u8], tail: &[u8]) -> io::Result<()> {
+        let growing = match self.growing.take() {
+            Some(growing) if growing.is_of(name) => growing,
+            other => {
+                if let Some(other) = other {
+                    other.settle(self.rt);
+                }
+                Growing::open(self.rt, self.alloc, name)?
+            }
+        };
+        self.growing = Some(growing.extended(self.rt, self.alloc, front, tail)?);
+        Ok(())
     }
 }
 
@@ -80,11 +104,29 @@ impl<'a, R: Files> Store for FileStore<'a, R> {
     }
 
     fn write(&mut self, name: &str, bytes: &[u8]) -> Result<(), StoreFault> {
+        self.settle();
         self.put(name, bytes).map_err(|error| fault_of(&error))
     }
 
-    fn look(&mut self, name: &str) -> Result<(), StoreFault> {
-        self.try_target(name).map_err(|error| fault_of(&error))
+    fn look(&mut self, name: &str) -> Result<Place, StoreFault> {
+        self.place(name).map_err(|error| fault_of(&error))
+    }
+
+    fn extend(
+        &mut self,
+        _alloc: Global,
+        name: &str,
+        front: &[u8],
+        tail: &[u8],
+    ) -> Result<(), StoreFault> {
+        self.grow(name, front, tail)
+            .map_err(|error| fault_of(&error))
+    }
+
+    fn settle(&mut self) {
+        if let Some(growing) = self.growing.take() {
+            growing.settle(self.rt);
+        }
     }
 }
 

@@ -1,10 +1,12 @@
 //! What the program does: each command over a store of files, a reader and two writers, and over sockets.
 #![tactic(auto)]
 
+mod broken_off;
 mod command_fault;
 mod commands;
 mod exchange;
 mod file_store;
+mod keeper;
 mod memory_store;
 mod over_files;
 mod over_sockets;
@@ -22,4 +24,4 @@ pub use over_sockets::{is_for_sockets, socket_command};
 pub use reading::{MAX_INPUT, read_all};
 pub use socket_commands::{receive_over, send_over};
 pub use socket_line::SocketLine;
-pub use store::{Store, StoreFault};
+pub use store::{Place, Store, StoreFault};

@@ -1,6 +1,7 @@
 //! The files that the program reads and writes by name.
-ghost use Rattle.std.specs.Prelude.{ℕ, ◌≤◌, List, Option, length, IfOk, IsErrOf, OnOk, OnErr};
-ghost use Rattle.rje_commands.specs.Store.{FileMap, Discloses, IsSame, Sets, Has, Lacks};
+ghost use Rattle.std.specs.Prelude.{◌≡◌, ℕ, ◌≤◌, ◌++◌, List, Option, length, IfOk, IfSome, IsErrOf, OnOk, OnErr};
+ghost use Rattle.rje_files.specs.Growth.{grown};
+ghost use Rattle.rje_commands.specs.Store.{FileMap, Discloses, IsSame, Sets, Extends, Has, Lacks};
 
 use crate::reading::MAX_INPUT;
 use std::alloc::Global;
@@ -18,6 +19,15 @@ pub enum StoreFault {
     /// It is too long, or the store fails.
     #[error("the file can't be read or written")]
     Failed,
+}
+
+/// How a file can be written.
+#[derive(Clone, Copy, Debug, PartialEq, Eq)]
+pub enum Place {
+    /// It can grow, and is whole at every moment.
+    Growing,
+    /// It is written once, as a device or a pipe is.
+    Once,
 }
 
 /// Files by name. A store that tells its files is known to keep them; one that tells none may answer anything.
@@ -38,10 +48,64 @@ pub trait Store {
             (Sets name.now bytes.now)) }
         ensures same { OnErr result (Discloses (files self.old) (files self.new) IsSame) };
 
-    /// Looks whether a file of this name can be written, and changes none. A store may fail at any time.
-    fn look(&mut self, _name: &str) -> Result<(), StoreFault>
+    /// Looks how a file of this name can be written, if it can, and changes none. A store that tells its files lets them grow. A store
+    /// may fail at any time.
+    fn look(&mut self, _name: &str) -> Result<Place, StoreFault>
+        ensures grows { IfSome (files self.old) (λ _. IfOk result (λ place.
+            place ≡ Place.Growing)) }
         ensures same { Discloses (files self.old) (files self.new) IsSame }
     {
-        Ok(())
+        Ok(Place::Growing)
+    }
+
+    /// Makes the file of this name begin with one piece, in place of as many bytes, and go on behind its end with another: all of it or
+    /// nothing. A store may fail at any time, and does where there is no such file.
+    fn extend(
+        &mut self,
+        alloc: Global,
+        name: &str,
+        front: &[u8],
+        tail: &[u8],
+    ) -> Result<(), StoreFault>
+        ensures extends { OnOk result (Discloses (files self.old) (files self.new)
+            (Extends name.now front.now tail.now)) }
+        ensures same { OnErr result (Discloses (files self.old) (files self.new) IsSame) }
+    {
+        let bytes = self.read(alloc, name)?;
+        let longer = grown_bytes(alloc, bytes.as_slice(), front, tail)?;
+        self.write(name, longer.as_slice())
+    }
+
+    /// Gives up what the store holds for the growth of a file. The file stays.
+    fn settle(&mut self)
+        ensures same { Discloses (files self.old) (files self.new) IsSame }
+    {}
+}
+
+/// These bytes with one piece in front, in place of as many, and another behind.
+fn grown_bytes(
+    alloc: Global,
+    bytes: &[u8],
+    front: &[u8],
+    tail: &[u8],
+) -> Result<Vec<u8>, StoreFault>
+    ensures grown { IfOk result (λ longer. longer.items ≡ grown front.now tail.now bytes.now) }
+{
+    let Some((_, rest)) = bytes.split_at_checked(front.len()) else {
+        return Err(StoreFault::Failed);
+    };
+    let mut longer = Vec::new(alloc);
+    append(front, &mut longer)?;
+    append(rest, &mut longer)?;
+    append(tail, &mut longer)?;
+    Ok(longer)
+}
+
+fn append(piece: &[u8], bytes: &mut Vec<u8>) -> Result<(), StoreFault>
+    ensures { OnOk result (bytes.new.items ≡ bytes.old.items ++ piece.now) }
+{
+    match bytes.extend_from_slice(piece) {
+        Ok(()) => Ok(()),
+        Err(_) => Err(StoreFault::OutOfMemory),
     }
 }

@@ -1,15 +1,17 @@
 //! What a command gives: to its output, and to a file.
-ghost use Rattle.std.specs.Prelude.{◌≡◌, ◌≤◌, length, OnOk, OnErr, IfErr, true};
+ghost use Rattle.std.specs.Prelude.{◌≡◌, ◌≤◌, ◌+◌, length, IfOk, IfSome, OnOk, OnErr, IfErr, true};
 ghost use Rattle.std.specs.List.{flat_map};
 ghost use Rattle.rje_commands.specs.Inside.{IsWriteFault};
 ghost use Rattle.rje_commands.specs.CommandFault.{is_of_output};
-ghost use Rattle.rje_commands.specs.Store.{Discloses, IsSame, Sets};
+ghost use Rattle.rje_commands.specs.Store.{Discloses, Extends, IsSame, Sets};
 ghost use Rattle.std.specs.Io.KnownBytes.{Appends};
 
 use crate::command_fault::CommandFault;
 use crate::reading::MAX_INPUT;
-use crate::store::{Store, StoreFault};
+use crate::store::{Place, Store, StoreFault};
+use rje_files::Growth;
 use rje_print::PrintedLine;
+use std::alloc::Global;
 use std::io::Write;
 
 /// Prints a text in one piece.
@@ -56,13 +58,42 @@ pub fn write_file<'a, S: Store>(
     }
 }
 
-/// Looks whether a file of this name can be written, before there is anything to write.
-pub fn look_at_file<'a, S: Store>(name: &'a str, store: &mut S) -> Result<(), CommandFault<'a>>
+/// Looks how a file of this name can be written, before there is anything to write.
+pub fn look_at_file<'a, S: Store>(name: &'a str, store: &mut S) -> Result<Place, CommandFault<'a>>
+    ensures grows { IfSome (S.files store.old) (λ _. IfOk result (λ place.
+        place ≡ Place.Growing)) }
     ensures fault { IfErr result (IsWriteFault name.entry.now) }
     ensures same { Discloses (S.files store.old) (S.files store.new) IsSame }
 {
     match store.look(name) {
-        Ok(()) => Ok(()),
+        Ok(place) => Ok(place),
+        Err(fault) => Err(not_written(name, fault)),
+    }
+}
+
+/// Makes the file of this name go on, where it has so many bytes, and no more come of it than are read of a file.
+/// Answers how many it has then.
+pub fn extend_file<'a, S: Store>(
+    alloc: Global,
+    name: &'a str,
+    long: usize,
+    growth: &Growth,
+    store: &mut S,
+) -> Result<usize, CommandFault<'a>>
+    ensures extends { OnOk result (Discloses (S.files store.old) (S.files store.new)
+        (Extends name.entry.now growth.now.front.items growth.now.tail.items)) }
+    ensures length { IfOk result (λ longer.
+        (longer ≡ long + length growth.now.tail.items) × (longer ≤ MAX_INPUT)) }
+    ensures fault { IfErr result (IsWriteFault name.entry.now) }
+    ensures same { OnErr result (Discloses (S.files store.old) (S.files store.new) IsSame) }
+{
+    let tail = growth.tail.as_slice();
+    let longer = match long.checked_add(tail.len()) {
+        Some(longer) if longer <= MAX_INPUT => longer,
+        _ => return Err(CommandFault::CannotWrite(name)),
+    };
+    match store.extend(alloc, name, growth.front.as_slice(), tail) {
+        Ok(()) => Ok(longer),
         Err(fault) => Err(not_written(name, fault)),
     }
 }

@@ -9,9 +9,9 @@ const MAX_NAMES: u32 = 1000;
 
 /// A file beside another: open and empty, under a name of its own.
 #[derive(Drop)]
-struct Beside<F: Drop> {
-    file: F,
-    path: String,
+pub(super) struct Beside<F: Drop> {
+    pub(super) file: F,
+    pub(super) path: String,
 }
 
 /// The path of the file that a symbolic link leads to, where it leads to one; else the name itself.
@@ -66,15 +66,33 @@ pub(super) fn replace<R: Files>(
 }
 
 /// A new file beside this one.
-fn create_beside<R: Files>(rt: &R, alloc: Global, path: &str) -> io::Result<Beside<R::File>> {
+pub(super) fn create_beside<R: Files>(
+    rt: &R,
+    alloc: Global,
+    path: &str,
+) -> io::Result<Beside<R::File>> {
     for number in 0..MAX_NAMES {
         let beside = format!(in alloc; "{path}.rje-{number}")?;
         match OpenOptions::new()
+            .read(true)
             .write(true)
             .create_new(true)
             .open(rt, beside.as_str())
         {
             Ok(file) => return Ok(Beside { file, path: beside }),
+            Err(error) if error.kind() == ErrorKind::AlreadyExists => {}
+            Err(error) => return Err(error),
+        }
+    }
+    Err(io::Error::from(ErrorKind::AlreadyExists))
+}
+
+/// A second name, beside the first, for the file that is there.
+pub(super) fn link_beside<R: Files>(rt: &R, alloc: Global, path: &str) -> io::Result<String> {
+    for number in 0..MAX_NAMES {
+        let beside = format!(in alloc; "{path}.rje-{number}")?;
+        match rt.hard_link(path, beside.as_str()) {
+            Ok(()) => return Ok(beside),
             Err(error) if error.kind() == ErrorKind::AlreadyExists => {}
             Err(error) => return Err(error),
         }
@@ -96,7 +114,7 @@ fn fill<F: Write + OpenFile>(
 }
 
 /// Has the names in the folder of this file on disk.
-fn sync_folder<R: Files>(rt: &R, path: &str) -> io::Result<()> {
+pub(super) fn sync_folder<R: Files>(rt: &R, path: &str) -> io::Result<()> {
     let folder = match path.rsplit_once('/') {
         Some(("", _)) => "/",
         Some((folder, _)) => folder,

@@ -1,16 +1,19 @@
 //! `receive`: one transmission from whoever connects, into a job file.
-ghost use Rattle.std.specs.Prelude.{◌≡◌, ◌⊎◌, IfOk, OnOk};
+ghost use Rattle.std.specs.Prelude.{◌≡◌, ◌⊎◌, Option, IfOk, OnOk};
 ghost use Rattle.rje_commands.specs.Ending.{MakesJobFile, Receives, EndsReceiving};
+ghost use Rattle.rje_commands.specs.Keeping.{KeepsJobs};
+ghost use Rattle.rje_commands.specs.Store.{FileMap};
 
+use crate::broken_off::BrokenOff;
 use crate::command_fault::CommandFault;
-use crate::commands::{look_at_file, put, write_file};
+use crate::commands::{look_at_file, put};
 use crate::exchange::{Left, receive_all};
+use crate::keeper::Keeper;
 use crate::socket_commands::Ending;
 use crate::socket_line::SocketLine;
 use crate::store::Store;
 use crate::telling::tell;
-use rje_files::{entries_of, write_entries};
-use rje_jobs::Jobs;
+use rje_jobs::Job;
 use rje_print::handed_text;
 use rje_station::{Line, ReceivingStation};
 use rje_words::PeerOrder;
@@ -47,8 +50,8 @@ fn accepted<R: Net>(
     SocketLine::new(stream, timeout)
 }
 
-/// Receives one transmission over a line, writes its jobs into the job file of this name, also after a fault of the line, and prints
-/// how many there are. Answers the exit status, and tells why it isn't 0.
+/// Receives one transmission over a line into the job file of this name, also where the line fails, and prints how many jobs there are.
+/// Each job is in the file before its last block is answered. Answers the exit status, and tells why it isn't 0.
 pub fn receive_over<L: Line, S: Store, O: Write, E: Write>(
     alloc: Global,
     line: &mut L,
@@ -77,9 +80,10 @@ fn received<'a, L: Line, S: Store, O: Write>(
         (S.files store.old) (S.files store.new) (O.contents out.old) (O.contents out.new)) }
 {
     let mut station = ReceivingStation::new(alloc)?;
-    let left = receive_all(&mut station, line);
+    let mut keeper = Keeper::new(alloc, name, store)?;
+    let left = receive_all(&mut station, line, &mut keeper, store);
     let handed = handed_text(station.jobs());
-    let written = write_job_file(alloc, Jobs::from(station.take()), name, store);
+    let written = keep_rest(&left, &mut keeper, station.take(), store);
     let printed = put(handed.as_slice(), out);
     let left = left?;
     written?;
@@ -90,17 +94,21 @@ fn received<'a, L: Line, S: Store, O: Write>(
     }
 }
 
-/// Makes the version 2 file of these jobs the file of this name.
-fn write_job_file<'a, S: Store>(
-    alloc: Global,
-    jobs: Jobs,
-    name: &'a str,
+/// Keeps what is left of the jobs, where none of them was refused by the file before.
+fn keep_rest<'a, S: Store>(
+    left: &Result<Left, BrokenOff<'a>>,
+    keeper: &mut Keeper<'a>,
+    jobs: Vec<Job>,
     store: &mut S,
 ) -> Result<(), CommandFault<'a>>
-    ensures file { OnOk result
-        (MakesJobFile jobs name.entry.now (S.files store.old) (S.files store.new)) }
+    ensures file { IfOk left.now (λ _. OnOk result ((files : Option FileMap)
+        → KeepsJobs keeper.old jobs.items files (S.files store.old)
+        → MakesJobFile jobs.items keeper.old.name.now files (S.files store.new))) }
 {
-    let entries = entries_of(alloc, jobs)?;
-    let file = write_entries(alloc, entries.as_slice())?;
-    write_file(name, file.as_slice(), store)
+    let written = match left {
+        Err(BrokenOff::File(_)) => Ok(()),
+        _ => keeper.finish(jobs, store),
+    };
+    store.settle();
+    written
 }

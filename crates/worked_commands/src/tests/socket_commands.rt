@@ -208,7 +208,7 @@ fn a_job_file_that_cannot_be_written_is_told_behind_the_lines(rt: HostRuntime) -
     assert!(rt; out.as_slice() == b"handed 1 jobs, 1 whole\n".as_slice());
     assert!(rt; err.as_slice() == b"rje: can't write got\n".as_slice());
     let mut line = line_of(rt.alloc(), &TRANSMISSION[..2])?;
-    line.fail_at(5);
+    line.fail_at(3);
     let mut err = Written::new();
     let ended = receive_over(
         rt.alloc(),
@@ -220,6 +220,71 @@ fn a_job_file_that_cannot_be_written_is_told_behind_the_lines(rt: HostRuntime) -
     );
     assert!(rt; ended == 3);
     assert!(rt; err.as_slice() == b"rje: line failed\n".as_slice());
+    Ok(())
+}
+
+/// A bid, the blocks of two jobs of the record `A`, and the end.
+const TWO_JOBS: [&[u8]; 4] = [
+    b"\x32\x32\x2D",
+    b"\x32\x32\x02\xC1\x1E\x03\x18\x5D\xFF",
+    b"\x32\x32\x02\xC1\x1E\x03\x18\x5D\xFF",
+    b"\x32\x32\x37",
+];
+
+/// Files in memory of which some can be written, and then no more.
+#[derive(Drop)]
+struct FillingStore {
+    files: MemoryStore,
+    room: u32,
+}
+
+impl Store for FillingStore {
+    ghost files = { λ _. None };
+
+    fn read(&mut self, alloc: Global, name: &str) -> Result<Vec<u8>, StoreFault> {
+        self.files.read(alloc, name)
+    }
+
+    fn write(&mut self, name: &str, bytes: &[u8]) -> Result<(), StoreFault> {
+        if self.room == 0 {
+            return Err(StoreFault::Failed);
+        }
+        self.room -= 1;
+        self.files.write(name, bytes)
+    }
+}
+
+#[test]
+fn a_job_that_cannot_be_kept_is_not_acknowledged(rt: HostRuntime) -> Result<(), Fail> {
+    let answers: [&[u8]; 3] = [
+        b"\x32\x32\x10\x70\xFF",
+        b"\x32\x32\x10\x61\xFF",
+        b"\x32\x32\x10\x70\xFF",
+    ];
+    for room in 0..3 {
+        let mut line = line_of(rt.alloc(), &TWO_JOBS)?;
+        let mut store = FillingStore {
+            files: MemoryStore::new(rt.alloc()),
+            room,
+        };
+        let mut out = Written::new();
+        let mut err = Written::new();
+        let ended = receive_over(rt.alloc(), &mut line, "got", &mut store, &mut out, &mut err);
+        assert!(rt; line.sent() == answers[room as usize]);
+        let kept = store.read(rt.alloc(), "got");
+        match room {
+            0 => assert!(rt; kept == Err(StoreFault::Missing)),
+            1 => assert!(rt; kept?.as_slice() == RECEIVED),
+            _ => assert!(rt; kept?.len() == RECEIVED.len() + RECEIVED.len() - 14),
+        }
+        if room < 2 {
+            assert!(rt; ended == 3);
+            assert!(rt; err.as_slice() == b"rje: can't write got\n".as_slice());
+        } else {
+            assert!(rt; ended == 0);
+            assert!(rt; err.is_empty());
+        }
+    }
     Ok(())
 }
 

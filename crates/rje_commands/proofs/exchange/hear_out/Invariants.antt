@@ -1,5 +1,8 @@
+use Rattle.rje_commands.specs.Keeping.{GoesOnKeeping}
 use Rattle.rje_commands.proofs.Patience.{HearsSoFar}
 use Rattle.rje_commands.proofs.exchange.hear_out.Given as goal
 
 abbrev pub invariant-loop : goal.invariant-loop
-invariant-loop g l = HearsSoFar l.initial.station l.counter l.quiet l.station
+invariant-loop g l =
+    HearsSoFar l.initial.station l.counter l.quiet l.station
+    × GoesOnKeeping l.initial.keeper l.keeper l.initial.station.jobs l.station.jobs (g.S.Store.files l.initial.store) (g.S.Store.files l.store)

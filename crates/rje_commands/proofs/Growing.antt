@@ -1,0 +1,134 @@
+-- The files of a receiver that go on with one more job.
+use Rattle.std.proofs.Common.{◌≡◌, ℕ, ◌+◌, ◌<◌, ◌≤◌, ◌^◌, ◌-◌, List, [], ◌∷◌, ◌++◌, length, map, drop, take, get_or, Bool, true, false, Option, Some, None, Result, Ok, Err, IfOk, OnOk, if◌then◌else◌, refl, ap, sym, ◌∙◌, subst, arith}
+use Rattle.std.proofs.lemmas.List.{append-nil, length-append, length-drop, length-map, map-append, take_all, take_more}
+use Rattle.std.proofs.lemmas.Slice.Eq.{bytes_eq-Decides}
+use Rattle.std.specs.Prelude.{bytes_eq}
+use Rattle.rje_jobs.specs.declared.job.Job.{Job}
+use Rattle.rje_files.specs.declared.job_file.version.FileVersion.TheVariants.{Second}
+use Rattle.rje_files.specs.Entry.{entry_of}
+use Rattle.rje_files.specs.Growth.{GrowsBy, grown}
+use Rattle.rje_files.specs.JobFile.{IsEntryFileOf, file_of}
+use Rattle.rje_commands.specs.declared.store.Place.{Place}
+use Rattle.rje_commands.specs.declared.store.Place.TheVariants.{Growing, Once}
+use Rattle.rje_commands.specs.Ending.{MakesJobFile}
+use Rattle.rje_commands.specs.declared.keeper.Keeper.{Keeper}
+use Rattle.rje_commands.specs.Keeping.{AreKept, GoesOnKeeping, KeepsJobs}
+use Rattle.rje_commands.specs.Store.{FileMap, Discloses, Extends, IsSame, Sets}
+use Rattle.rje_commands.proofs.Inputs.{set_after}
+
+-- a name that was set has the bytes
+set_there : (f g : FileMap) (name bytes : List ℕ) → Sets name bytes f g → g name ≡ Some bytes
+set_there f g name bytes sets = sets name ∙ rw ((bytes_eq-Decides name name).1 refl) refl
+
+-- a name that is set twice has the last bytes
+set_again : (name first bytes : List ℕ) (f g h : FileMap) → Sets name first f g → Sets name bytes g h → Sets name bytes f h
+set_again name first bytes f g h one two other = two other ∙ go (bytes_eq other name) (one other) where
+  go : (b : Bool) → g other ≡ (if b then Some first else f other) → (if b then Some bytes else g other) ≡ (if b then Some bytes else f other)
+  go true e = refl
+  go false e = e
+
+pub set_over : (name first bytes : List ℕ) (f g h : Option FileMap) → Discloses f g (Sets name first) → Discloses g h (Sets name bytes) → Discloses f h (Sets name bytes)
+set_over name first bytes None g h p q = tt
+set_over name first bytes (Some f) None h p q = absurd p
+set_over name first bytes (Some f) (Some g) None p q = absurd q
+set_over name first bytes (Some f) (Some g) (Some h) p q = set_again name first bytes f g h p q
+
+-- a file that was set, and extended
+set_longer : (name bytes front tail : List ℕ) (f g h : Option FileMap) → Discloses f g (Sets name bytes) → Discloses g h (Extends name front tail)
+    → Discloses f h (Sets name (grown front tail bytes))
+set_longer name bytes front tail None g h p q = tt
+set_longer name bytes front tail (Some f) None h p q = absurd p
+set_longer name bytes front tail (Some f) (Some g) None p q = absurd q
+set_longer name bytes front tail (Some f) (Some g) (Some h) p (had, there, sets) =
+    set_again name bytes (grown front tail bytes) f g h p
+    (subst (λ (bs : List ℕ). Sets name (grown front tail bs) g h) (same (sym there ∙ set_there f g name bytes p)) sets) where
+      same : Some had ≡ Some bytes → had ≡ bytes
+      same e = ap (λ (o : Option (List ℕ)). elim o [ Some bs ↦ bs | None ↦ [] ]) e
+
+-- a file has its front
+has_front : (es : List _) (bytes : List ℕ) → IsEntryFileOf Second es bytes → 14 ≤ length bytes
+has_front es bytes (are, file) = omega (arith, ap length (sym file))
+
+grown_long : (front tail bytes : List ℕ) → length front ≡ 14 → 14 ≤ length bytes → length (grown front tail bytes) ≡ length bytes + length tail
+grown_long front tail bytes f l =
+    omega (arith, f, l, length-append front (drop (length front) bytes ++ tail), length-append (drop (length front) bytes) tail, length-drop (length front) bytes)
+
+-- the first job's file
+pub first_kept : (jobs : List Job) (name front tail : List ℕ) (job : Job) (count long longer : ℕ) (files f g : Option FileMap) → length jobs ≡ 0 → count ≡ 0
+    → GrowsBy count (entry_of job) front tail → length front ≡ 14
+    → AreKept jobs long name files f → Discloses f g (Sets name (front ++ tail)) → longer ≡ length (front ++ tail) → longer ≤ 16777216
+    → AreKept (jobs ++ job ∷ []) longer name files g
+first_kept (j ∷ js) name front tail job count long longer files f g n z grows f14 kept sets is few = absurd (omega (arith, n))
+first_kept [] name front tail job count long longer files f g n z grows f14 same sets is few =
+    let none : IsEntryFileOf Second [] (file_of Second []) = ((omega arith, tt), refl) in
+    let whole : grown front tail (file_of Second []) ≡ front ++ tail = ap (λ (n : ℕ). front ++ (drop n (file_of Second []) ++ tail)) f14 in
+    (front ++ tail, subst (IsEntryFileOf Second (entry_of job ∷ [])) whole (grows [] (file_of Second []) (sym z) none), sym is, few, set_after name (front ++ tail) files f g same sets)
+
+-- the next job's
+pub next_kept : (jobs : List Job) (name front tail : List ℕ) (job : Job) (count long longer : ℕ) (files f g : Option FileMap) → length jobs ≡ count → (count ≡ 0 → ⊥)
+    → GrowsBy count (entry_of job) front tail → length front ≡ 14
+    → AreKept jobs long name files f → Discloses f g (Extends name front tail) → longer ≡ long + length tail → longer ≤ 16777216
+    → AreKept (jobs ++ job ∷ []) longer name files g
+next_kept [] name front tail job count long longer files f g n some grows f14 kept extends is few = absurd (some (sym n))
+next_kept (j ∷ js) name front tail job count long longer files f g n some grows f14 (bytes, file, l, limit, sets) extends is few =
+    let more = grows (map entry_of (j ∷ js)) bytes (length-map (j ∷ js) entry_of ∙ n) file in (
+      grown front tail bytes,
+      subst (λ (es : List _). IsEntryFileOf Second es (grown front tail bytes)) (sym (map-append entry_of (j ∷ js) (job ∷ []))) more,
+      grown_long front tail bytes f14 (has_front (map entry_of (j ∷ js)) bytes file) ∙ ap (λ (k : ℕ). k + length tail) l ∙ sym is,
+      few,
+      set_longer name bytes front tail files f g sets extends,
+    )
+
+-- THE END
+
+-- a file that is written in place of what was kept
+pub made_after : (kept jobs : List Job) (long : ℕ) (name : List ℕ) (files f g : Option FileMap) → AreKept kept long name files f → MakesJobFile jobs name f g → MakesJobFile jobs name files g
+made_after [] jobs long name files f g same (bytes, file, few, sets) = (bytes, file, few, set_after name bytes files f g same sets)
+made_after (j ∷ js) jobs long name files f g kept (bytes, file, few, sets) = (bytes, file, few, set_over name kept.0 bytes files f g kept.4 sets)
+
+-- what was kept is the file
+pub made_of : (kept jobs : List Job) (long : ℕ) (name : List ℕ) (files f : Option FileMap) → kept ≡ jobs → (length jobs ≡ 0 → ⊥) → AreKept kept long name files f → MakesJobFile jobs name files f
+made_of [] jobs long name files f is some kept = absurd (some (ap length (sym is)))
+made_of (j ∷ js) jobs long name files f is some (bytes, file, l, few, sets) =
+    subst (λ (all : List Job). MakesJobFile all name files f) is (bytes, file, omega (arith, l, few), sets)
+
+-- all jobs but one are kept, and then this one
+pub one_left : (jobs : List Job) (kept : ℕ) (job : Job) → kept < length jobs → length jobs ≤ kept + 1 → get_or jobs kept job ≡ job → take kept jobs ++ job ∷ [] ≡ jobs
+one_left jobs kept job less most there =
+    ap (λ (x : Job). take kept jobs ++ x ∷ []) (sym there) ∙ sym (take_more jobs kept job less) ∙ take_all (kept + 1) jobs most
+
+-- all jobs are kept
+pub none_left : (jobs : List Job) (kept : ℕ) → (kept < length jobs → ⊥) → take kept jobs ≡ jobs
+none_left jobs kept all = take_all kept jobs (omega (arith, all))
+
+pub grows_not_once : (place : Place) → (place ≡ Once → ⊥) → place ≡ Growing
+grows_not_once Growing other = refl
+grows_not_once Once other = absurd (other refl)
+
+-- A WHOLE TRANSMISSION
+
+same_after : (name bytes : List ℕ) (f g h : Option FileMap) → Discloses f g (Sets name bytes) → Discloses g h IsSame → Discloses f h (Sets name bytes)
+same_after name bytes None g h p q = tt
+same_after name bytes (Some f) None h p q = absurd p
+same_after name bytes (Some f) (Some g) None p q = absurd q
+same_after name bytes (Some f) (Some g) (Some h) p q = λ other. q other ∙ p other
+
+-- the file stays where no file changes
+pub made_still : (jobs : List Job) (name : List ℕ) (f g h : Option FileMap) → MakesJobFile jobs name f g → Discloses g h IsSame → MakesJobFile jobs name f h
+made_still jobs name f g h (bytes, file, few, sets) same = (bytes, file, few, same_after name bytes f g h sets same)
+
+-- a keeper that has kept nothing
+none_kept : (keeper : Keeper) (f g : Option FileMap) → keeper.kept ≡ 0 → Discloses f g IsSame → KeepsJobs keeper [] f g
+none_kept keeper f g none same = record {
+  few = omega (arith, none);
+  all = λ grows. none;
+  cut = omega arith;
+  file = subst (λ (n : ℕ). AreKept (take n []) keeper.long keeper.name.now f g) (sym none) same;
+}
+
+-- from the look at the file to its last job
+pub received_jobs : (first last : Keeper) (jobs : List Job) (name : List ℕ) (f looked kept made : Option FileMap) → first.name.now ≡ name → first.kept ≡ 0
+    → Discloses f looked IsSame → GoesOnKeeping first last [] jobs looked kept
+    → ((files : Option FileMap) → KeepsJobs last jobs files kept → MakesJobFile jobs last.name.now files made) → MakesJobFile jobs name f made
+received_jobs first last jobs name f looked kept made is none same (one, place, on) done =
+    subst (λ (n : List ℕ). MakesJobFile jobs n f made) (ap (λ (n : _). n.now) one ∙ is) (done f (on f (none_kept first f looked none same)))

@@ -1,0 +1,192 @@
+//! A file that grows, and is whole at every moment.
+//!
+//! There are two copies of it, which take turns. One stands under the file's name. The other, beside it, is older by one growth: it is
+//! brought up to date from the first, changed and extended, put on disk, and renamed to the file's name, and the first stays as the older
+//! one, by a second name that it was given before. So a growth costs as much as its bytes and the last one's, whatever the file's length,
+//! and no bytes under the file's name are ever changed.
+use super::beside::{Beside, create_beside, link_beside, resolved, sync_folder};
+use std::alloc::Global;
+use std::fs::{self, OpenFile};
+use std::io::{self, ErrorKind, Read, Seek, SeekFrom, Write};
+use std::rt::Files;
+
+/// A file that grows.
+#[derive(Drop)]
+pub(super) struct Growing<F: Drop> {
+    name: String,
+    path: String,
+    newest: F,
+    len: u64,
+    // Made here, so that nobody else has a name for it.
+    own: bool,
+    older: Option<Older<F>>,
+}
+
+/// A copy that is older by a growth.
+#[derive(Drop)]
+struct Older<F: Drop> {
+    file: F,
+    path: String,
+    len: u64,
+}
+
+impl<F: Read + Write + Seek + OpenFile + Drop> Growing<F> {
+    /// The file of this name as it is.
+    pub(super) fn open<R: Files<File = F>>(
+        rt: &R,
+        alloc: Global,
+        name: &str,
+    ) -> io::Result<Growing<F>> {
+        let path = resolved(rt, alloc, name)?;
+        let newest = fs::open(rt, path.as_str())?;
+        let found = newest.metadata()?;
+        if !found.is_file() {
+            return Err(io::Error::from(ErrorKind::InvalidInput));
+        }
+        Ok(Growing {
+            name: String::from_str(alloc, name)?,
+            path,
+            newest,
+            len: found.len(),
+            own: false,
+            older: None,
+        })
+    }
+
+    /// Whether this is the file of this name.
+    pub(super) fn is_of(&self, name: &str) -> bool {
+        self.name.as_str() == name
+    }
+
+    /// Removes what stands beside the file.
+    pub(super) fn settle<R: Files>(self, rt: &R) {
+        let Growing {
+            name: _,
+            path: _,
+            newest: _,
+            len: _,
+            own: _,
+            older,
+        } = self;
+        if let Some(
+            Older {
+                file: _,
+                path,
+                len: _,
+            },
+        ) = older
+        {
+            let _ = rt.remove_file(path.as_str());
+        }
+    }
+
+    /// The file with one piece in front, in place of as many bytes, and another behind. Where that fails, the file is as it was.
+    pub(super) fn extended<R: Files<File = F>>(
+        self,
+        rt: &R,
+        alloc: Global,
+        front: &[u8],
+        tail: &[u8],
+    ) -> io::Result<Growing<F>> {
+        let Growing {
+            name,
+            path,
+            mut newest,
+            len,
+            own,
+            older,
+        } = self;
+        let Older {
+            mut file,
+            path: beside,
+            len: older_len,
+        } = match older {
+            Some(older) => older,
+            None => first_copy(rt, alloc, path.as_str())?,
+        };
+        let second = match grown(&mut newest, len, &mut file, older_len, front, tail) {
+            Ok(()) => put_in_place(rt, alloc, path.as_str(), beside.as_str(), own),
+            Err(error) => Err(error),
+        };
+        match second {
+            Ok(second) => Ok(Growing {
+                name,
+                path,
+                newest: file,
+                len: len.saturating_add(tail.len() as u64),
+                own: true,
+                older: match second {
+                    Some(path) => Some(Older {
+                        file: newest,
+                        path,
+                        len,
+                    }),
+                    None => None,
+                },
+            }),
+            Err(error) => {
+                let _ = rt.remove_file(beside.as_str());
+                Err(error)
+            }
+        }
+    }
+}
+
+/// An empty copy.
+fn first_copy<R: Files>(rt: &R, alloc: Global, path: &str) -> io::Result<Older<R::File>> {
+    let Beside { file, path } = create_beside(rt, alloc, path)?;
+    Ok(Older { file, path, len: 0 })
+}
+
+/// Gives the copy beside the file its name, on disk. The file, where it is our own, stays by a second name, which is answered; where it
+/// gets none, the next growth copies it whole.
+fn put_in_place<R: Files>(
+    rt: &R,
+    alloc: Global,
+    path: &str,
+    beside: &str,
+    own: bool,
+) -> io::Result<Option<String>> {
+    let second = if own {
+        link_beside(rt, alloc, path).ok()
+    } else {
+        None
+    };
+    let turned = match rt.rename(beside, path) {
+        Ok(()) => sync_folder(rt, path),
+        Err(error) => Err(error),
+    };
+    match turned {
+        Ok(()) => Ok(second),
+        Err(error) => {
+            if let Some(second) = second {
+                let _ = rt.remove_file(second.as_str());
+            }
+            Err(error)
+        }
+    }
+}
+
+/// Makes the older copy the newest one's extension, on disk.
+fn grown<F: Read + Write + Seek + OpenFile>(
+    newest: &mut F,
+    len: u64,
+    older: &mut F,
+    older_len: u64,
+    front: &[u8],
+    tail: &[u8],
+) -> io::Result<()> {
+    if len < front.len() as u64 {
+        return Err(io::Error::from(ErrorKind::InvalidInput));
+    }
+    if older_len == 0 {
+        older.set_permissions(newest.metadata()?.permissions())?;
+    }
+    newest.seek(SeekFrom::Start(older_len))?;
+    older.seek(SeekFrom::Start(older_len))?;
+    io::copy(newest, older)?;
+    older.write_all(tail)?;
+    older.seek(SeekFrom::Start(0))?;
+    older.write_all(front)?;
+    older.sync_all()
+}
