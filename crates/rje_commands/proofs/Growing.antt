@@ -14,7 +14,7 @@ use Rattle.rje_commands.specs.Ending.{MakesJobFile}
 use Rattle.rje_commands.specs.declared.keeper.Keeper.{Keeper}
 use Rattle.rje_commands.specs.Keeping.{AreKept, GoesOnKeeping, KeepsJobs}
 use Rattle.rje_commands.specs.Store.{FileMap, Discloses, Extends, IsSame, Sets}
-use Rattle.rje_commands.proofs.Inputs.{set_after}
+use Rattle.rje_commands.proofs.Inputs.{same_twice, set_after}
 
 -- a name that was set has the bytes
 set_there : (f g : FileMap) (name bytes : List ℕ) → Sets name bytes f g → g name ≡ Some bytes
@@ -118,7 +118,7 @@ pub made_still : (jobs : List Job) (name : List ℕ) (f g h : Option FileMap) �
 made_still jobs name f g h (bytes, file, few, sets) same = (bytes, file, few, same_after name bytes f g h sets same)
 
 -- a keeper that has kept nothing
-none_kept : (keeper : Keeper) (f g : Option FileMap) → keeper.kept ≡ 0 → Discloses f g IsSame → KeepsJobs keeper [] f g
+pub none_kept : (keeper : Keeper) (f g : Option FileMap) → keeper.kept ≡ 0 → Discloses f g IsSame → KeepsJobs keeper [] f g
 none_kept keeper f g none same = record {
   few = omega (arith, none);
   all = λ grows. none;
@@ -126,9 +126,20 @@ none_kept keeper f g none same = record {
   file = subst (λ (n : ℕ). AreKept (take n []) keeper.long keeper.name.now f g) (sym none) same;
 }
 
--- from the look at the file to its last job
-pub received_jobs : (first last : Keeper) (jobs : List Job) (name : List ℕ) (f looked kept made : Option FileMap) → first.name.now ≡ name → first.kept ≡ 0
-    → Discloses f looked IsSame → GoesOnKeeping first last [] jobs looked kept
-    → ((files : Option FileMap) → KeepsJobs last jobs files kept → MakesJobFile jobs last.name.now files made) → MakesJobFile jobs name f made
-received_jobs first last jobs name f looked kept made is none same (one, place, on) done =
-    subst (λ (n : List ℕ). MakesJobFile jobs n f made) (ap (λ (n : _). n.now) one ∙ is) (done f (on f (none_kept first f looked none same)))
+-- WHERE NO FILE CHANGES
+
+pub kept_still : (jobs : List Job) (long : ℕ) (name : List ℕ) (files f g : Option FileMap) → AreKept jobs long name files f → Discloses f g IsSame → AreKept jobs long name files g
+kept_still [] long name files f g same still = same_twice files f g same still
+kept_still (j ∷ js) long name files f g (bytes, file, l, few, sets) still = (bytes, file, l, few, same_after name bytes files f g sets still)
+
+pub goes_still : (keeper keeper' : Keeper) (jobs : List Job) (f g : Option FileMap) → keeper' ≡ keeper → Discloses f g IsSame → GoesOnKeeping keeper keeper' jobs jobs f g
+goes_still keeper keeper' jobs f g is still = subst (λ (k : Keeper). GoesOnKeeping keeper k jobs jobs f g) (sym is) (
+  refl,
+  refl,
+  λ files k. record {
+    few = k.few;
+    all = k.all;
+    cut = k.cut;
+    file = kept_still (take keeper.kept jobs) keeper.long keeper.name.now files f g k.file still;
+  },
+)

@@ -4,3 +4,6 @@ pub mod Sending
 pub mod Patience
 pub mod Keeping
 pub mod Growing
+pub mod Answering
+pub mod Received
+pub mod Failing

@@ -84,3 +84,7 @@ IsHelpError error = (kind_of error ≡ DisplayHelp) ⊎ (kind_of error ≡ Displ
 abbrev pub IsHelp : WordsFault → Type 0
 IsHelp (WordsFault.Refused error) = IsHelpError error
 IsHelp _ = ⊥
+
+-- the statuses of a transmission that fails, whatever its fault: of a file, a line or an output, of memory, of an output that nobody reads
+abbrev pub IsFailing : ℕ → Type 0
+IsFailing status = (status ≡ 3) ⊎ ((status ≡ 5) ⊎ (status ≡ 141))

@@ -1,5 +1,6 @@
 pub mod Store
 pub mod Keeping
+pub mod Answering
 pub mod MemoryStore
 pub mod Commands
 pub mod CommandFault

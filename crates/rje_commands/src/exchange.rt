@@ -1,6 +1,8 @@
 //! Stations that take turns over a line, until the transmission ends.
 ghost use Rattle.std.specs.Prelude.{◌≡◌, ◌<◌, ◌+◌, true, false, if◌then◌else◌, IfOk, OnOk, IfErr};
 ghost use Rattle.bsc_history.specs.declared.spoken_turn.SpokenTurn.{SpokenTurn};
+ghost use Rattle.rje_commands.specs.Answering.{BreaksKeeping, KeepsToBreak, KeepsToEnd, after_answer};
+ghost use Rattle.rje_commands.specs.CommandFault.{IsFailing, of_broken_off, status_of};
 ghost use Rattle.rje_commands.specs.Keeping.{BreaksOff, BreaksOffNow, GoesOnKeeping, IsOfFile};
 ghost use Rattle.rje_commands.specs.Patience.{LeavesSo, HearsOut, was_quiet};
 ghost use Rattle.line_world.specs.AnyLines.{SenderTakes, SenderFails, SendsToEnd, SendsToFault, ReceiverTakes, BothTake, BothFail, BothToEnd, BothToFault};
@@ -69,8 +71,13 @@ pub fn receive_all<'a, L: Line, S: Store>(
 ) -> Result<Left, BrokenOff<'a>>
     ensures left { IfOk result (λ left. LeavesSo left station.old station.new) }
     ensures fault { IfErr result (BreaksOff station.old station.new) }
-    ensures kept { OnOk result (GoesOnKeeping keeper.old keeper.new station.old.jobs
-        station.new.jobs (S.files store.old) (S.files store.new)) }
+    ensures status { IfErr result (λ broken. IsFailing (status_of (of_broken_off broken))) }
+    ensures kept { OnOk result (KeepsToEnd keeper.old keeper.new station.old station.new
+        (L.transmissions line.old) (L.transmissions line.new)
+        (S.files store.old) (S.files store.new)) }
+    ensures broken { IfErr result (KeepsToBreak keeper.old keeper.new station.old station.new
+        (L.transmissions line.old) (L.transmissions line.new)
+        (S.files store.old) (S.files store.new)) }
 {
     let left = hear_out(station, line, keeper, store)?;
     if left == Left::Abandoned {
@@ -88,8 +95,13 @@ fn hear_out<'a, L: Line, S: Store>(
 ) -> Result<Left, BrokenOff<'a>>
     ensures heard { IfOk result (λ left. HearsOut left station.old station.new) }
     ensures fault { IfErr result (BreaksOff station.old station.new) }
-    ensures kept { OnOk result (GoesOnKeeping keeper.old keeper.new station.old.jobs
-        station.new.jobs (S.files store.old) (S.files store.new)) }
+    ensures status { IfErr result (λ broken. IsFailing (status_of (of_broken_off broken))) }
+    ensures kept { OnOk result (KeepsToEnd keeper.old keeper.new station.old station.new
+        (L.transmissions line.old) (L.transmissions line.new)
+        (S.files store.old) (S.files store.new)) }
+    ensures broken { IfErr result (KeepsToBreak keeper.old keeper.new station.old station.new
+        (L.transmissions line.old) (L.transmissions line.new)
+        (S.files store.old) (S.files store.new)) }
 {
     let mut quiet = 0;
     for _ in 0..MAX_HEARINGS {
@@ -128,13 +140,18 @@ fn hear_keep_and_speak<'a, L: Line, S: Store>(
     keeper: &mut Keeper<'a>,
     store: &mut S,
 ) -> Result<bool, BrokenOff<'a>>
-    ensures takes { OnOk result ((t : SpokenTurn) × ReceiverTakes station.old station.new t) }
+    ensures takes { OnOk result ((t : SpokenTurn) × ReceiverTakes station.old station.new t
+        × (L.transmissions line.new ≡ after_answer t (L.transmissions line.old))) }
     ensures over { IfOk result (λ goes_on. goes_on ≡ false → station.new.over ≡ true) }
     ensures fault { IfErr result (BreaksOffNow station.old station.new) }
     ensures kept { OnOk result (GoesOnKeeping keeper.old keeper.new station.old.jobs
         station.new.jobs (S.files store.old) (S.files store.new)) }
+    ensures status { IfErr result (λ broken. IsFailing (status_of (of_broken_off broken))) }
     ensures silent { IfErr result (λ broken. IsOfFile broken
         → L.transmissions line.new ≡ L.transmissions line.old) }
+    ensures broken { IfErr result (BreaksKeeping keeper.old keeper.new station.old station.new
+        (L.transmissions line.old) (L.transmissions line.new)
+        (S.files store.old) (S.files store.new)) }
 {
     station.hear(line, Wish::Go)?;
     if let Err(fault) = keeper.keep(station.jobs(), store) {

@@ -1,5 +1,6 @@
 //! Keeps the jobs of a transmission in a file while they come.
 ghost use Rattle.std.specs.Prelude.{◌≡◌, ◌+◌, ◌-◌, ◌^◌, ◌<◌, ◌≤◌, ◌++◌, ◌∷◌, [], List, Option, length, take, IfOk, IfSome, OnOk, OnErr, IfErr};
+ghost use Rattle.rje_commands.specs.CommandFault.{IsFailing, status_of};
 ghost use Rattle.rje_commands.specs.Ending.{MakesJobFile};
 ghost use Rattle.rje_commands.specs.Inside.{IsWriteFault};
 ghost use Rattle.rje_commands.specs.Keeping.{AreKept, KeepsJobs, kept_after};
@@ -38,6 +39,7 @@ impl<'a> Keeper<'a> {
         ensures none { IfOk result (λ keeper. keeper.kept ≡ 0) }
         ensures grows { IfSome (S.files store.old) (λ _. IfOk result (λ keeper.
             keeper.place ≡ Place.Growing)) }
+        ensures fault { IfErr result (IsWriteFault name.entry.now) }
         ensures same { Discloses (S.files store.old) (S.files store.new) IsSame }
     {
         let place = look_at_file(name, store)?;
@@ -61,6 +63,8 @@ impl<'a> Keeper<'a> {
             (S.files store.old)
             → AreKept (take self.new.kept jobs.now) self.new.long self.old.name.now files
             (S.files store.new)) }
+        ensures fault { IfErr result (IsWriteFault self.old.name.now) }
+        ensures unchanged { OnErr result (self.new ≡ self.old) }
         ensures same { OnErr result (Discloses (S.files store.old) (S.files store.new) IsSame) }
     {
         if self.place == Place::Once {
@@ -82,6 +86,8 @@ impl<'a> Keeper<'a> {
         ensures file { OnOk result ((files : Option FileMap)
             → KeepsJobs self.old jobs.items files (S.files store.old)
             → MakesJobFile jobs.items self.old.name.now files (S.files store.new)) }
+        ensures status { IfErr result (λ fault. IsFailing (status_of fault)) }
+        ensures same { OnErr result (Discloses (S.files store.old) (S.files store.new) IsSame) }
     {
         if self.place == Place::Once || jobs.is_empty() {
             return write_job_file(self.alloc, Jobs::from(jobs), self.name, store);
@@ -103,6 +109,8 @@ impl<'a> Keeper<'a> {
             → AreKept jobs self.old.long self.old.name.now files (S.files store.old)
             → AreKept (jobs ++ job.now ∷ []) self.new.long self.old.name.now files
             (S.files store.new)) }
+        ensures fault { IfErr result (IsWriteFault self.old.name.now) }
+        ensures unchanged { OnErr result (self.new ≡ self.old) }
         ensures same { OnErr result (Discloses (S.files store.old) (S.files store.new) IsSame) }
     {
         let growth = growth_of(self.alloc, self.kept, job)?;
@@ -126,6 +134,7 @@ fn write_first<'a, S: Store>(
         (Sets name.entry.now (growth.front.items ++ growth.tail.items))) }
     ensures length { IfOk result (λ long.
         (long ≡ length (growth.front.items ++ growth.tail.items)) × (long ≤ MAX_INPUT)) }
+    ensures fault { IfErr result (IsWriteFault name.entry.now) }
     ensures same { OnErr result (Discloses (S.files store.old) (S.files store.new) IsSame) }
 {
     let Growth {
@@ -146,6 +155,8 @@ fn write_job_file<'a, S: Store>(
 ) -> Result<(), CommandFault<'a>>
     ensures file { OnOk result
         (MakesJobFile jobs name.entry.now (S.files store.old) (S.files store.new)) }
+    ensures status { IfErr result (λ fault. IsFailing (status_of fault)) }
+    ensures same { OnErr result (Discloses (S.files store.old) (S.files store.new) IsSame) }
 {
     let entries = entries_of(alloc, jobs)?;
     let file = write_entries(alloc, entries.as_slice())?;

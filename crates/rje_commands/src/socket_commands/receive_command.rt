@@ -1,8 +1,11 @@
 //! `receive`: one transmission from whoever connects, into a job file.
-ghost use Rattle.std.specs.Prelude.{◌≡◌, ◌⊎◌, Option, IfOk, OnOk};
-ghost use Rattle.rje_commands.specs.Ending.{MakesJobFile, Receives, EndsReceiving};
-ghost use Rattle.rje_commands.specs.Keeping.{KeepsJobs};
-ghost use Rattle.rje_commands.specs.Store.{FileMap};
+ghost use Rattle.std.specs.Prelude.{◌≡◌, ◌⊎◌, Option, IfErr, IfOk, IfSome, IsOk, OnErr, OnOk};
+ghost use Rattle.std.specs.Result.{IsOkAnd};
+ghost use Rattle.rje_commands.specs.Answering.{KeepsAnswered};
+ghost use Rattle.rje_commands.specs.CommandFault.{IsFailing, of_broken_off, status_of};
+ghost use Rattle.rje_commands.specs.Ending.{ending_of_left, MakesJobFile, Receives, EndsReceiving};
+ghost use Rattle.rje_commands.specs.Keeping.{IsOfFile, KeepsJobs};
+ghost use Rattle.rje_commands.specs.Store.{FileMap, Discloses, IsSame};
 
 use crate::broken_off::BrokenOff;
 use crate::command_fault::CommandFault;
@@ -62,6 +65,10 @@ pub fn receive_over<L: Line, S: Store, O: Write, E: Write>(
 ) -> u8
     ensures received { (result ≡ 0) ⊎ (result ≡ 4) → EndsReceiving result name.now
         (S.files store.old) (S.files store.new) (O.contents out.old) (O.contents out.new) }
+    ensures status { (result ≡ 0) ⊎ ((result ≡ 4) ⊎ IsFailing result) }
+    ensures kept { IfSome (S.files store.old) (λ _. KeepsAnswered name.now
+        (S.files store.old) (S.files store.new)
+        (L.transmissions line.old) (L.transmissions line.new)) }
 {
     match received(alloc, line, name, store, out) {
         Ok(ending) => ending.status(),
@@ -78,6 +85,10 @@ fn received<'a, L: Line, S: Store, O: Write>(
 ) -> Result<Ending, CommandFault<'a>>
     ensures received { IfOk result (λ ending. Receives ending name.entry.now
         (S.files store.old) (S.files store.new) (O.contents out.old) (O.contents out.new)) }
+    ensures status { IfErr result (λ fault. IsFailing (status_of fault)) }
+    ensures kept { IfSome (S.files store.old) (λ _. KeepsAnswered name.entry.now
+        (S.files store.old) (S.files store.new)
+        (L.transmissions line.old) (L.transmissions line.new)) }
 {
     let mut station = ReceivingStation::new(alloc)?;
     let mut keeper = Keeper::new(alloc, name, store)?;
@@ -85,13 +96,7 @@ fn received<'a, L: Line, S: Store, O: Write>(
     let handed = handed_text(station.jobs());
     let written = keep_rest(&left, &mut keeper, station.take(), store);
     let printed = put(handed.as_slice(), out);
-    let left = left?;
-    written?;
-    printed?;
-    match left {
-        Left::Ended => Ok(Ending::Done),
-        Left::Abandoned => Ok(Ending::Other),
-    }
+    ending_after(left, written, printed)
 }
 
 /// Keeps what is left of the jobs, where none of them was refused by the file before.
@@ -101,9 +106,13 @@ fn keep_rest<'a, S: Store>(
     jobs: Vec<Job>,
     store: &mut S,
 ) -> Result<(), CommandFault<'a>>
-    ensures file { IfOk left.now (λ _. OnOk result ((files : Option FileMap)
+    ensures file { OnOk result ((files : Option FileMap) → IfErr left.now (λ broken. IsOfFile broken → ⊥)
         → KeepsJobs keeper.old jobs.items files (S.files store.old)
-        → MakesJobFile jobs.items keeper.old.name.now files (S.files store.new))) }
+        → MakesJobFile jobs.items keeper.old.name.now files (S.files store.new)) }
+    ensures refused { IfErr left.now (λ broken. IsOfFile broken
+        → Discloses (S.files store.old) (S.files store.new) IsSame) }
+    ensures status { IfErr result (λ fault. IsFailing (status_of fault)) }
+    ensures same { OnErr result (Discloses (S.files store.old) (S.files store.new) IsSame) }
 {
     let written = match left {
         Err(BrokenOff::File(_)) => Ok(()),
@@ -111,4 +120,27 @@ fn keep_rest<'a, S: Store>(
     };
     store.settle();
     written
+}
+
+/// How the transmission ends, where nothing failed of it, of its file and of its line on the output; else the first of their faults.
+fn ending_after<'a>(
+    left: Result<Left, BrokenOff<'a>>,
+    written: Result<(), CommandFault<'a>>,
+    printed: Result<(), CommandFault<'a>>,
+) -> Result<Ending, CommandFault<'a>>
+    ensures ending { IfOk result (λ ending.
+        IsOkAnd left.entry (λ left. ending ≡ ending_of_left left)
+        × IsOk written.entry × IsOk printed.entry) }
+    ensures status { IfErr left.entry (λ broken. IsFailing (status_of (of_broken_off broken)))
+        → IfErr written.entry (λ fault. IsFailing (status_of fault))
+        → IfErr printed.entry (λ fault. IsFailing (status_of fault))
+        → IfErr result (λ fault. IsFailing (status_of fault)) }
+{
+    let left = left?;
+    written?;
+    printed?;
+    match left {
+        Left::Ended => Ok(Ending::Done),
+        Left::Abandoned => Ok(Ending::Other),
+    }
 }

@@ -1,3 +1,4 @@
+use Rattle.rje_commands.specs.Answering.{Answered}
 use Rattle.rje_commands.specs.Keeping.{GoesOnKeeping}
 use Rattle.rje_commands.proofs.Patience.{HearsSoFar}
 use Rattle.rje_commands.proofs.exchange.hear_out.Given as goal
@@ -5,4 +6,5 @@ use Rattle.rje_commands.proofs.exchange.hear_out.Given as goal
 abbrev pub invariant-loop : goal.invariant-loop
 invariant-loop g l =
     HearsSoFar l.initial.station l.counter l.quiet l.station
+    × Answered l.initial.station l.station (g.L.Line.transmissions l.initial.line) (g.L.Line.transmissions l.line)
     × GoesOnKeeping l.initial.keeper l.keeper l.initial.station.jobs l.station.jobs (g.S.Store.files l.initial.store) (g.S.Store.files l.store)

@@ -1,52 +1,49 @@
-use Rattle.std.proofs.Common.{rules, ◌≡◌, List, [], Option, refl, ap, sym, ◌∙◌, subst}
-use Rattle.rje_jobs.specs.declared.job.Job.{Job}
-use Rattle.rje_commands.specs.declared.exchange.Left.{Left}
-use Rattle.rje_commands.specs.Ending.{MakesJobFile}
-use Rattle.rje_commands.specs.Keeping.{GoesOnKeeping, KeepsJobs}
-use Rattle.rje_commands.specs.Store.{FileMap}
-use Rattle.rje_commands.proofs.Growing.{received_jobs}
+use Rattle.std.proofs.Common.{rules, ◌≡◌, OnOk, IfOk, IfErr, refl, ap, sym, ◌∙◌, subst}
+use Rattle.rje_station.specs.Receiving.{Receiving, first_receiving}
+use Rattle.rje_commands.specs.Answering.{KeepsToBreak, KeepsToEnd}
+use Rattle.rje_commands.specs.Patience.{LeavesSo}
+use Rattle.rje_commands.proofs.Received.{made_at_end, nothing_kept, received_kept, receives, same_itself}
 use Rattle.rje_commands.proofs.socket_commands.receive_command.received.Goals as goal
 
-pub returns-in-Ended : goal.returns-in-Ended
-returns-in-Ended g c =
-    let looked = g.S.Store.files c.new-2.new.store in
-    let kept = g.S.Store.files c.receive_all-left.new.store in
-    let made = g.S.Store.files c.keep_rest-written.new.store in
-    let last = c.receive_all-left.new.keeper in
-    let jobs : List Job = c.receive_all-left.new.station.jobs in
-    let goes_on : GoesOnKeeping c.in_ok-keeper.keeper last [] jobs looked kept = search rules in
-    let rest : (files : Option FileMap) → KeepsJobs last jobs files kept → MakesJobFile jobs last.name.now files made = search rules in
-    record {
-      received = record {
-        left = Left.Ended;
-        station = c.receive_all-left.new.station;
-        leaves = search rules;
-        ending_is = refl;
-        writes = (
-          received_jobs c.in_ok-keeper.keeper last jobs c.args.name.now (g.S.Store.files c.args.store.now) looked kept made c.in_ok-keeper.ensures.name c.in_ok-keeper.ensures.none c.in_ok-keeper.ensures.same goes_on rest,
-          search rules,
-        );
-      };
-    }
+pub returns-in_err-station-clause-kept : goal.returns-in_err-station-clause-kept
+returns-in_err-station-clause-kept g c =
+    nothing_kept c.args.name.now (g.S.Store.files c.args.store.now) (g.S.Store.files c.args.store.now) (g.L.Line.transmissions c.args.line.now) (g.L.Line.transmissions c.args.line.now)
+    (same_itself (g.S.Store.files c.args.store.now)) refl
 
-pub returns-in-Abandoned : goal.returns-in-Abandoned
-returns-in-Abandoned g c =
-    let looked = g.S.Store.files c.new-2.new.store in
-    let kept = g.S.Store.files c.receive_all-left.new.store in
+pub returns-in_err-keeper-clause-kept : goal.returns-in_err-keeper-clause-kept
+returns-in_err-keeper-clause-kept g c =
+    nothing_kept c.args.name.now (g.S.Store.files c.args.store.now) (g.S.Store.files c.new-2.new.store) (g.L.Line.transmissions c.args.line.now) (g.L.Line.transmissions c.args.line.now)
+    c.new-2.ensures.same refl
+
+pub returns-clause-received : goal.returns-clause-received
+returns-clause-received g c =
+    let station = c.receive_all-left.new.station in
+    let left = c.receive_all-left.result in
+    let written = c.keep_rest-written.result in
+    let files = g.S.Store.files c.args.store.now in
     let made = g.S.Store.files c.keep_rest-written.new.store in
-    let last = c.receive_all-left.new.keeper in
-    let jobs : List Job = c.receive_all-left.new.station.jobs in
-    let goes_on : GoesOnKeeping c.in_ok-keeper.keeper last [] jobs looked kept = search rules in
-    let rest : (files : Option FileMap) → KeepsJobs last jobs files kept → MakesJobFile jobs last.name.now files made = search rules in
-    record {
-      received = record {
-        left = Left.Abandoned;
-        station = c.receive_all-left.new.station;
-        leaves = search rules;
-        ending_is = refl;
-        writes = (
-          received_jobs c.in_ok-keeper.keeper last jobs c.args.name.now (g.S.Store.files c.args.store.now) looked kept made c.in_ok-keeper.ensures.name c.in_ok-keeper.ensures.none c.in_ok-keeper.ensures.same goes_on rest,
-          search rules,
-        );
-      };
-    }
+    let start = c.in_ok-station.ensures.ready in
+    receives c.ending_after.result left written c.put-printed.result c.args.name.now files made
+    (g.O.Write.contents c.args.out.now) (g.O.Write.contents c.put-printed.new.out) station c.ending_after.ensures.ending (search rules)
+    (made_at_end written c.in_ok-keeper.keeper c.receive_all-left.new.keeper station c.args.name.now files (g.S.Store.files c.new-2.new.store)
+    (g.S.Store.files c.receive_all-left.new.store) made (g.L.Line.transmissions c.args.line.now) (g.L.Line.transmissions c.receive_all-left.new.line) left
+    c.in_ok-keeper.ensures.name c.in_ok-keeper.ensures.none c.in_ok-keeper.ensures.same
+    (subst (λ (s : Receiving). OnOk left (KeepsToEnd c.in_ok-keeper.keeper c.receive_all-left.new.keeper s station (g.L.Line.transmissions c.args.line.now)
+    (g.L.Line.transmissions c.receive_all-left.new.line) (g.S.Store.files c.new-2.new.store) (g.S.Store.files c.receive_all-left.new.store))) start c.receive_all-left.ensures.kept) (search rules))
+    (search rules)
+
+pub returns-clause-kept : goal.returns-clause-kept
+returns-clause-kept g c =
+    let station = c.receive_all-left.new.station in
+    let left = c.receive_all-left.result in
+    let written = c.keep_rest-written.result in
+    let files = g.S.Store.files c.args.store.now in
+    let made = g.S.Store.files c.keep_rest-written.new.store in
+    let start = c.in_ok-station.ensures.ready in
+    received_kept written c.in_ok-keeper.keeper c.receive_all-left.new.keeper station c.args.name.now files (g.S.Store.files c.new-2.new.store)
+    (g.S.Store.files c.receive_all-left.new.store) made (g.L.Line.transmissions c.args.line.now) (g.L.Line.transmissions c.receive_all-left.new.line) left
+    c.in_ok-keeper.ensures.name c.in_ok-keeper.ensures.none c.in_ok-keeper.ensures.grows c.in_ok-keeper.ensures.same
+    (subst (λ (s : Receiving). OnOk left (KeepsToEnd c.in_ok-keeper.keeper c.receive_all-left.new.keeper s station (g.L.Line.transmissions c.args.line.now)
+    (g.L.Line.transmissions c.receive_all-left.new.line) (g.S.Store.files c.new-2.new.store) (g.S.Store.files c.receive_all-left.new.store))) start c.receive_all-left.ensures.kept)
+    (subst (λ (s : Receiving). IfErr left (KeepsToBreak c.in_ok-keeper.keeper c.receive_all-left.new.keeper s station (g.L.Line.transmissions c.args.line.now)
+    (g.L.Line.transmissions c.receive_all-left.new.line) (g.S.Store.files c.new-2.new.store) (g.S.Store.files c.receive_all-left.new.store))) start c.receive_all-left.ensures.broken) (search rules) (search rules) (search rules)
