@@ -11,3 +11,4 @@ pub mod Sent
 pub mod Unsendable
 pub mod Names
 pub mod OneMore
+pub mod Marking

@@ -5,15 +5,15 @@ use Rattle.rje_files.specs.declared.entry.State.TheVariants.{Sent}
 use Rattle.rje_files.specs.declared.entry.Entry.{Entry}
 use Rattle.rje_files.specs.Unsent.{is_sent, with_sent}
 
-none_left : (es : List Entry) → with_sent 0 es ≡ es
+pub none_left : (es : List Entry) → with_sent 0 es ≡ es
 none_left [] = refl
 none_left (e ∷ es) = refl
 
-kept : (n : ℕ) (e : Entry) (es : List Entry) → is_sent e.state ≡ true → with_sent n (e ∷ es) ≡ e ∷ with_sent n es
+pub kept : (n : ℕ) (e : Entry) (es : List Entry) → is_sent e.state ≡ true → with_sent n (e ∷ es) ≡ e ∷ with_sent n es
 kept zero e es s = ap (λ (xs : List Entry). e ∷ xs) (sym (none_left es))
 kept (suc n) e es s = rw s refl
 
-made : (n : ℕ) (e : Entry) (es : List Entry) → is_sent e.state ≡ false → with_sent (suc n) (e ∷ es) ≡ record e { state = Sent } ∷ with_sent n es
+pub made : (n : ℕ) (e : Entry) (es : List Entry) → is_sent e.state ≡ false → with_sent (suc n) (e ∷ es) ≡ record e { state = Sent } ∷ with_sent n es
 made n e es s = rw s refl
 
 passed : (xs all : List Entry) (i n : ℕ) (d : Entry) → i < length xs → with_sent n (get_or xs i d ∷ drop (i + 1) xs) ≡ get_or xs i d ∷ with_sent n (drop (i + 1) xs)

@@ -5,3 +5,4 @@ pub mod Unsent
 pub mod Laws
 pub mod Reading
 pub mod Growth
+pub mod Marks

@@ -5,6 +5,7 @@ mod entry;
 mod growth;
 mod job_file;
 mod laws;
+mod marks;
 mod name;
 #[cfg(test)]
 mod tests;
@@ -17,5 +18,6 @@ pub use laws::{
     entries_are_of_one_list, file_is_of_one_list, names_are_padded, one_entry_fault,
     one_file_fault, read_alike,
 };
+pub use marks::{MARK, mark_places};
 pub use name::{JobName, NO_NAME, name_of};
 pub use unsent::{first_unsendable, jobs_of, mark_sent, sent_file, unsent_jobs};

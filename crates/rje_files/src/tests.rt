@@ -1,6 +1,7 @@
 //! What no clause says: worked files of jobs, and of jobs with their names and states.
 mod entries;
 mod files;
+mod marks;
 mod refusals;
 
 use arrayvec::ArrayVec;

@@ -73,7 +73,8 @@ fn can_pass(entry: &Entry) -> bool
     was_sent(entry.state) || job_fits(&entry.job)
 }
 
-fn was_sent(state: State) -> bool
+/// Whether this is the state of a job that was counted as sent.
+pub(crate) fn was_sent(state: State) -> bool
     ensures { result ≡ is_sent state }
 {
     match state {
