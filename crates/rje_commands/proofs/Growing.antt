@@ -17,11 +17,11 @@ use Rattle.rje_commands.specs.Store.{FileMap, Discloses, Extends, IsSame, Sets}
 use Rattle.rje_commands.proofs.Inputs.{same_twice, set_after}
 
 -- a name that was set has the bytes
-set_there : (f g : FileMap) (name bytes : List ℕ) → Sets name bytes f g → g name ≡ Some bytes
+pub set_there : (f g : FileMap) (name bytes : List ℕ) → Sets name bytes f g → g name ≡ Some bytes
 set_there f g name bytes sets = sets name ∙ rw ((bytes_eq-Decides name name).1 refl) refl
 
 -- a name that is set twice has the last bytes
-set_again : (name first bytes : List ℕ) (f g h : FileMap) → Sets name first f g → Sets name bytes g h → Sets name bytes f h
+pub set_again : (name first bytes : List ℕ) (f g h : FileMap) → Sets name first f g → Sets name bytes g h → Sets name bytes f h
 set_again name first bytes f g h one two other = two other ∙ go (bytes_eq other name) (one other) where
   go : (b : Bool) → g other ≡ (if b then Some first else f other) → (if b then Some bytes else g other) ≡ (if b then Some bytes else f other)
   go true e = refl
@@ -107,7 +107,7 @@ grows_not_once Once other = absurd (other refl)
 
 -- A WHOLE TRANSMISSION
 
-same_after : (name bytes : List ℕ) (f g h : Option FileMap) → Discloses f g (Sets name bytes) → Discloses g h IsSame → Discloses f h (Sets name bytes)
+pub same_after : (name bytes : List ℕ) (f g h : Option FileMap) → Discloses f g (Sets name bytes) → Discloses g h IsSame → Discloses f h (Sets name bytes)
 same_after name bytes None g h p q = tt
 same_after name bytes (Some f) None h p q = absurd p
 same_after name bytes (Some f) (Some g) None p q = absurd q

@@ -7,3 +7,4 @@ pub mod Growing
 pub mod Answering
 pub mod Received
 pub mod Failing
+pub mod Marked

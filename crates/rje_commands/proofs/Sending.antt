@@ -14,7 +14,7 @@ use Rattle.rje_commands.specs.Store.{FileMap, IsSame, Discloses}
 use Rattle.rje_commands.proofs.Inputs.{of_file, set_after}
 
 -- what is marked after a read that left the files as they were
-marked_after : (file name : List ℕ) (counted : ℕ) (f g h : Option FileMap) → Discloses f g IsSame → MarksSent file counted name g h → MarksSent file counted name f h
+pub marked_after : (file name : List ℕ) (counted : ℕ) (f g h : Option FileMap) → Discloses f g IsSame → MarksSent file counted name g h → MarksSent file counted name f h
 marked_after file name counted f g h same m = (m.0, m.1, m.2, set_after name m.0 f g h same m.3)
 
 pub sends_left : (r : Result Ending CommandFault) (name file : List ℕ) (jobs : List Job) (station : Sending)

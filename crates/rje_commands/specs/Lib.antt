@@ -8,3 +8,4 @@ pub mod Inside
 pub mod Command
 pub mod Ending
 pub mod Patience
+pub mod Marking

@@ -1,5 +1,5 @@
 -- What a store of files is: names with their bytes, where it tells them.
-use Rattle.std.specs.Prelude.{◌≡◌, ℕ, ◌<◌, List, length, Option, Some, None, ⊤, bytes_eq, if◌then◌else◌}
+use Rattle.std.specs.Prelude.{◌≡◌, ℕ, ◌<◌, List, length, set, Option, Some, None, ⊤, bytes_eq, if◌then◌else◌}
 use Rattle.std.specs.Option.{IsSomeAnd}
 use Rattle.rje_files.specs.Growth.{grown}
 use Rattle.rje_commands.specs.declared.reading.TheConstants.{MAX_INPUT}
@@ -26,6 +26,11 @@ Sets name bytes f g = (other : List ℕ) → g other ≡ (if bytes_eq other name
 -- had
 abbrev pub Extends : List ℕ → (front tail : List ℕ) → FileMap → FileMap → Type 0
 Extends name front tail f g = (bytes : List ℕ) × (f name ≡ Some bytes) × Sets name (grown front tail bytes) f g
+
+-- the file of this name was there and is longer than this place; now it has this byte there and else what it had, and each other name what it
+-- had
+abbrev pub SetsByte : List ℕ → (place byte : ℕ) → FileMap → FileMap → Type 0
+SetsByte name place byte f g = (bytes : List ℕ) × (f name ≡ Some bytes) × (place < length bytes) × Sets name (set bytes place byte) f g
 
 -- where the files are told, this name has these bytes
 abbrev pub Has : Option FileMap → List ℕ → List ℕ → Type 0

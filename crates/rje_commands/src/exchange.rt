@@ -4,11 +4,14 @@ ghost use Rattle.bsc_history.specs.declared.spoken_turn.SpokenTurn.{SpokenTurn};
 ghost use Rattle.rje_commands.specs.Answering.{BreaksKeeping, KeepsToBreak, KeepsToEnd, after_answer};
 ghost use Rattle.rje_commands.specs.CommandFault.{IsFailing, of_broken_off, status_of};
 ghost use Rattle.rje_commands.specs.Keeping.{BreaksOff, BreaksOffNow, GoesOnKeeping, IsOfFile};
+ghost use Rattle.rje_commands.specs.Marking.{GoesOnMarking};
 ghost use Rattle.rje_commands.specs.Patience.{LeavesSo, HearsOut, was_quiet};
+ghost use Rattle.rje_commands.specs.Store.{Discloses, IsSame};
 ghost use Rattle.line_world.specs.AnyLines.{SenderTakes, SenderFails, SendsToEnd, SendsToFault, ReceiverTakes, BothTake, BothFail, BothToEnd, BothToFault};
 
 use crate::broken_off::BrokenOff;
 use crate::keeper::Keeper;
+use crate::marker::Marker;
 use crate::store::Store;
 use bsc_link::{Say, Sound, Wish};
 use line_world::Spoken;
@@ -29,17 +32,47 @@ pub enum Left {
     Abandoned,
 }
 
-/// Sends what the station has, to the end of its transmission.
-pub fn send_all<L: Line>(station: &mut SendingStation, line: &mut L) -> Result<(), StationFault>
+/// Sends what the station has, to the end of its transmission. Each job is marked in its file as soon as it is counted; where that fails, no
+/// more are, and the transmission goes on.
+pub fn send_all<'a, L: Line, S: Store>(
+    station: &mut SendingStation,
+    line: &mut L,
+    marker: &mut Marker<'a>,
+    store: &mut S,
+) -> Result<(), StationFault>
     ensures took { OnOk result (SendsToEnd station.old station.new) }
     ensures fault { IfErr result (SendsToFault station.old station.new) }
+    ensures marked { OnOk result (GoesOnMarking marker.old marker.new station.old.counted
+        station.new.counted (S.files store.old) (S.files store.new)) }
 {
     for _ in 0..u64::MAX {
-        if !speak_and_hear(station, line)? {
+        if !speak_hear_and_mark(station, line, marker, store)? {
             return Ok(());
         }
     }
     Ok(())
+}
+
+/// One turn of a sending station, and whether there is one; then as many jobs are marked as it has counted.
+fn speak_hear_and_mark<'a, L: Line, S: Store>(
+    station: &mut SendingStation,
+    line: &mut L,
+    marker: &mut Marker<'a>,
+    store: &mut S,
+) -> Result<bool, StationFault>
+    ensures takes { IfOk result (λ is_turn. is_turn ≡ true → (t : SpokenTurn)
+        × SenderTakes station.old station.new t) }
+    ensures over { IfOk result (λ is_turn. is_turn ≡ false → (station.old.over ≡ true)
+        × (station.new ≡ station.old)) }
+    ensures fault { IfErr result (SenderFails station.old station.new) }
+    ensures marked { OnOk result (GoesOnMarking marker.old marker.new station.old.counted
+        station.new.counted (S.files store.old) (S.files store.new)) }
+    ensures still { marker.new.marked ≡ marker.old.marked
+        → Discloses (S.files store.old) (S.files store.new) IsSame }
+{
+    let is_turn = speak_and_hear(station, line)?;
+    marker.mark(station.counted(), store);
+    Ok(is_turn)
 }
 
 /// One turn of a sending station, and whether there is one: it says what is due, and but for EOT it listens.

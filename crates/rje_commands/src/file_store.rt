@@ -9,8 +9,8 @@ use crate::store::{Place, Store, StoreFault};
 use beside::{replace, resolved, try_beside};
 use growing::Growing;
 use std::alloc::Global;
-use std::fs::{self, OpenOptions, Permissions};
-use std::io::{self, ErrorKind};
+use std::fs::{self, OpenFile, OpenOptions, Permissions};
+use std::io::{self, ErrorKind, Seek, SeekFrom, Write};
 use std::rt::Files;
 
 /// The system's files. It tells none of them. A file on disk is replaced whole or not at all, by way of a file beside it; a device or a
@@ -64,6 +64,19 @@ impl<'a, R: Files> FileStore<'a, R> {
             Target::New => replace(self.rt, self.alloc, path.as_str(), None, bytes),
             Target::File(mode) => replace(self.rt, self.alloc, path.as_str(), Some(mode), bytes),
         }
+    }
+
+    /// Changes a byte where the file is, on disk.
+    fn put_byte(&self, name: &str, place: usize, byte: u8) -> io::Result<()> {
+        let path = resolved(self.rt, self.alloc, name)?;
+        let mut file = OpenOptions::new().write(true).open(self.rt, path.as_str())?;
+        let found = file.metadata()?;
+        if !found.is_file() || found.len() <= place as u64 {
+            return Err(io::Error::from(ErrorKind::InvalidInput));
+        }
+        file.seek(SeekFrom::Start(place as u64))?;
+        file.write_all(&[byte])?;
+        file.sync_data()
     }
 
     fn place(&self, name: &str) -> io::Result<Place> {
@@ -120,6 +133,18 @@ impl<'a, R: Files> Store for FileStore<'a, R> {
         tail: &[u8],
     ) -> Result<(), StoreFault> {
         self.grow(name, front, tail)
+            .map_err(|error| fault_of(&error))
+    }
+
+    fn set_byte(
+        &mut self,
+        _alloc: Global,
+        name: &str,
+        place: usize,
+        byte: u8,
+    ) -> Result<(), StoreFault> {
+        self.settle();
+        self.put_byte(name, place, byte)
             .map_err(|error| fault_of(&error))
     }
 

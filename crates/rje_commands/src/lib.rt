@@ -7,6 +7,7 @@ mod commands;
 mod exchange;
 mod file_store;
 mod keeper;
+mod marker;
 mod memory_store;
 mod over_files;
 mod over_sockets;

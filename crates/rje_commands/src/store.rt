@@ -1,7 +1,7 @@
 //! The files that the program reads and writes by name.
 ghost use Rattle.std.specs.Prelude.{◌≡◌, ℕ, ◌≤◌, ◌++◌, List, Option, length, IfOk, IfSome, IsErrOf, OnOk, OnErr};
 ghost use Rattle.rje_files.specs.Growth.{grown};
-ghost use Rattle.rje_commands.specs.Store.{FileMap, Discloses, IsSame, Sets, Extends, Has, Lacks};
+ghost use Rattle.rje_commands.specs.Store.{FileMap, Discloses, IsSame, Sets, SetsByte, Extends, Has, Lacks};
 
 use crate::reading::MAX_INPUT;
 use std::alloc::Global;
@@ -74,6 +74,27 @@ pub trait Store {
         let bytes = self.read(alloc, name)?;
         let longer = grown_bytes(alloc, bytes.as_slice(), front, tail)?;
         self.write(name, longer.as_slice())
+    }
+
+    /// Makes the byte at this place of the file of this name this one, and leaves all else of it: or it changes nothing. A store may fail at
+    /// any time, and does where there is no such byte.
+    fn set_byte(
+        &mut self,
+        alloc: Global,
+        name: &str,
+        place: usize,
+        byte: u8,
+    ) -> Result<(), StoreFault>
+        ensures sets { OnOk result (Discloses (files self.old) (files self.new)
+            (SetsByte name.now place byte)) }
+        ensures same { OnErr result (Discloses (files self.old) (files self.new) IsSame) }
+    {
+        let mut bytes = self.read(alloc, name)?;
+        if bytes.len() <= place {
+            return Err(StoreFault::Failed);
+        }
+        bytes[place] = byte;
+        self.write(name, bytes.as_slice())
     }
 
     /// Gives up what the store holds for the growth of a file. The file stays.

@@ -3,7 +3,7 @@ ghost use Rattle.std.specs.Prelude.{◌≡◌, ◌≤◌, ◌+◌, length, IfOk,
 ghost use Rattle.std.specs.List.{flat_map};
 ghost use Rattle.rje_commands.specs.Inside.{IsWriteFault};
 ghost use Rattle.rje_commands.specs.CommandFault.{is_of_output};
-ghost use Rattle.rje_commands.specs.Store.{Discloses, Extends, IsSame, Sets};
+ghost use Rattle.rje_commands.specs.Store.{Discloses, Extends, IsSame, Sets, SetsByte};
 ghost use Rattle.std.specs.Io.KnownBytes.{Appends};
 
 use crate::command_fault::CommandFault;
@@ -94,6 +94,25 @@ pub fn extend_file<'a, S: Store>(
     };
     match store.extend(alloc, name, growth.front.as_slice(), tail) {
         Ok(()) => Ok(longer),
+        Err(fault) => Err(not_written(name, fault)),
+    }
+}
+
+/// Makes one byte of the file of this name this one.
+pub fn set_byte_of_file<'a, S: Store>(
+    alloc: Global,
+    name: &'a str,
+    place: usize,
+    byte: u8,
+    store: &mut S,
+) -> Result<(), CommandFault<'a>>
+    ensures sets { OnOk result (Discloses (S.files store.old) (S.files store.new)
+        (SetsByte name.entry.now place byte)) }
+    ensures fault { IfErr result (IsWriteFault name.entry.now) }
+    ensures same { OnErr result (Discloses (S.files store.old) (S.files store.new) IsSame) }
+{
+    match store.set_byte(alloc, name, place, byte) {
+        Ok(()) => Ok(()),
         Err(fault) => Err(not_written(name, fault)),
     }
 }

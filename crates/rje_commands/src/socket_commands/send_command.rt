@@ -1,21 +1,24 @@
 //! `send`: one transmission of what is left of a job file to a listening receiver.
-ghost use Rattle.std.specs.Prelude.{◌≡◌, ◌⊎◌, length, IfOk, OnOk};
+ghost use Rattle.std.specs.Prelude.{◌≡◌, ◌⊎◌, Option, length, IfOk, OnOk};
 ghost use Rattle.std.specs.Io.KnownBytes.{Appends};
+ghost use Rattle.rje_files.specs.Marks.{AreMarks};
 ghost use Rattle.rje_files.specs.Unsent.{IsLeft};
 ghost use Rattle.rje_station.specs.Sending.{outcome_of};
 ghost use Rattle.line_world.specs.AnyLines.{SendsToEnd};
 ghost use Rattle.rje_commands.specs.Commands.{OfFile};
 ghost use Rattle.rje_commands.specs.Ending.{ending_of, sent_text, MarksSent, SendsLeft, EndsSending};
-ghost use Rattle.rje_commands.specs.Store.{Discloses, IsSame};
+ghost use Rattle.rje_commands.specs.Marking.{Marks};
+ghost use Rattle.rje_commands.specs.Store.{FileMap, Discloses, IsSame};
 
 use crate::command_fault::CommandFault;
-use crate::commands::{put_lines, read_file, write_file};
+use crate::commands::{put_lines, read_file};
 use crate::exchange::send_all;
+use crate::marker::Marker;
 use crate::socket_commands::Ending;
 use crate::socket_line::SocketLine;
 use crate::store::Store;
 use crate::telling::tell;
-use rje_files::{first_unsendable, read_entries, sent_file, unsent_jobs};
+use rje_files::{first_unsendable, mark_places, read_entries, unsent_jobs};
 use rje_jobs::Jobs;
 use rje_print::{counted_text, outcome_text};
 use rje_station::{Line, SendingStation};
@@ -35,10 +38,11 @@ pub fn send<'a, R: Net, S: Store, O: Write>(
     out: &mut O,
 ) -> Result<Ending, CommandFault<'a>> {
     let file = job_file(alloc, order.jobs, store)?;
-    let jobs = jobs_left(alloc, file.bytes.as_slice())?;
+    let Left { jobs, places } = left_of(alloc, file.bytes.as_slice())?;
     let mut station = SendingStation::new(alloc, jobs.as_slice())?;
+    let mut marker = Marker::new(alloc, file.name, file.bytes, places);
     match connected(rt, order.address, order.timeout) {
-        Ok(mut line) => transmit(alloc, &mut station, &file, &mut line, store, out),
+        Ok(mut line) => transmit(&mut station, &mut marker, &mut line, store, out),
         Err(_) => Err(CommandFault::LineFailed),
     }
 }
@@ -75,9 +79,10 @@ fn sent<'a, L: Line, S: Store, O: Write>(
         (O.contents out.old) (O.contents out.new))) }
 {
     let file = job_file(alloc, name, store)?;
-    let jobs = jobs_left(alloc, file.bytes.as_slice())?;
+    let Left { jobs, places } = left_of(alloc, file.bytes.as_slice())?;
     let mut station = SendingStation::new(alloc, jobs.as_slice())?;
-    transmit(alloc, &mut station, &file, line, store, out)
+    let mut marker = Marker::new(alloc, file.name, file.bytes, places);
+    transmit(&mut station, &mut marker, line, store, out)
 }
 
 /// A job file as it was read.
@@ -101,15 +106,25 @@ fn job_file<'a, S: Store>(
     Ok(JobFile { name, bytes })
 }
 
-/// The jobs of a job file that were not sent, where all of them can be.
-fn jobs_left<'a>(alloc: Global, file: &[u8]) -> Result<Jobs, CommandFault<'a>>
-    ensures left { IfOk result (λ jobs. IsLeft file.now jobs) }
+/// What is left to send of a job file: its jobs that were not sent, and where they are marked.
+#[derive(Drop)]
+struct Left {
+    jobs: Jobs,
+    places: Vec<usize>,
+}
+
+/// What is left to send of a job file, where all of it can be sent.
+fn left_of<'a>(alloc: Global, file: &[u8]) -> Result<Left, CommandFault<'a>>
+    ensures left { IfOk result (λ left. IsLeft file.now left.jobs) }
+    ensures marks { IfOk result (λ left. AreMarks file.now left.places.items) }
 {
     let entries = read_entries(alloc, file)?;
-    match first_unsendable(entries.as_slice()) {
-        Some(number) => Err(CommandFault::BadJob(number)),
-        None => Ok(unsent_jobs(alloc, entries)?),
+    if let Some(number) = first_unsendable(entries.as_slice()) {
+        return Err(CommandFault::BadJob(number));
     }
+    let places = mark_places(alloc, entries.as_slice())?;
+    let jobs = unsent_jobs(alloc, entries)?;
+    Ok(Left { jobs, places })
 }
 
 fn connected<R: Net>(
@@ -121,11 +136,10 @@ fn connected<R: Net>(
     SocketLine::new(TcpStream::connect_timeout(rt, &address, time)?, timeout)
 }
 
-/// Sends what the station has over a line, marks what was counted, and prints the lines of it.
+/// Sends what the station has over a line, marks what is counted, at the end in the whole file, and prints the lines of it.
 fn transmit<'a, L: Line, S: Store, O: Write>(
-    alloc: Global,
     station: &mut SendingStation,
-    file: &JobFile<'a>,
+    marker: &mut Marker<'a>,
     line: &mut L,
     store: &mut S,
     out: &mut O,
@@ -134,13 +148,15 @@ fn transmit<'a, L: Line, S: Store, O: Write>(
     ensures ended { IfOk result (λ ending. ending ≡ ending_of (outcome_of station.new)) }
     ensures printed { OnOk result (Appends (O.contents out.old) (O.contents out.new)
         (sent_text station.new.counted (length station.old.jobs) (outcome_of station.new))) }
-    ensures marked { OnOk result (MarksSent file.now.bytes.items station.new.counted
-        file.now.name.now (S.files store.old) (S.files store.new)) }
+    ensures marked { OnOk result ((files : Option FileMap)
+        → Marks marker.old station.old.counted files (S.files store.old)
+        → MarksSent marker.old.file.items station.new.counted marker.old.name.now files
+        (S.files store.new)) }
 {
     let given = station.jobs().len();
-    let sent = send_all(station, line);
+    let sent = send_all(station, line, marker, store);
     let counted = station.counted();
-    let marked = mark_counted(alloc, file.bytes.as_slice(), counted, file.name, store);
+    let marked = marker.write(counted, store);
     let lines = [
         counted_text(counted, given),
         outcome_text(station.outcome()),
@@ -150,19 +166,4 @@ fn transmit<'a, L: Line, S: Store, O: Write>(
     marked?;
     printed?;
     Ok(Ending::from(station.outcome()))
-}
-
-/// Makes the file of this name that of the same entries as this file's, the first `counted` of those that were not Sent now Sent.
-fn mark_counted<'a, S: Store>(
-    alloc: Global,
-    file: &[u8],
-    counted: usize,
-    name: &'a str,
-    store: &mut S,
-) -> Result<(), CommandFault<'a>>
-    ensures marked { OnOk result (MarksSent file.now counted name.entry.now
-        (S.files store.old) (S.files store.new)) }
-{
-    let bytes = sent_file(alloc, file, counted)?;
-    write_file(name, bytes.as_slice(), store)
 }

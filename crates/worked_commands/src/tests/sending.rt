@@ -3,7 +3,7 @@ ghost use Rattle.std.specs.Prelude.{None};
 
 use arrayvec::ArrayVec;
 use line_world::MemoryLine;
-use rje_commands::{MemoryStore, Store, StoreFault, command, receive_over, send_over};
+use rje_commands::{MemoryStore, Place, Store, StoreFault, command, receive_over, send_over};
 use std::alloc::Global;
 use std::process::Abort;
 use std::test::Fail;
@@ -200,6 +200,133 @@ fn a_file_that_cannot_be_written_back_is_told_behind_the_lines(
     let text = b"counted 0 of 1 jobs\noutcome open\n";
     assert_sends(&rt, &mut line, &mut store, 3, text, b"rje: line failed\n");
     Ok(())
+}
+
+/// One file, in memory, with what was asked of it.
+#[derive(Drop)]
+struct Watched {
+    file: Written,
+    /// So many files were written whole.
+    written: u32,
+    /// So many bytes were set.
+    set: u32,
+    /// No byte can be set.
+    is_stiff: bool,
+    /// How it can be written.
+    place: Place,
+}
+
+impl Watched {
+    fn new(file: Written) -> Watched {
+        Watched {
+            file,
+            written: 0,
+            set: 0,
+            is_stiff: false,
+            place: Place::Growing,
+        }
+    }
+}
+
+impl Store for Watched {
+    ghost files = { λ _. None };
+
+    fn read(&mut self, alloc: Global, _name: &str) -> Result<Vec<u8>, StoreFault> {
+        match Vec::from_slice(alloc, self.file.as_slice()) {
+            Ok(bytes) => Ok(bytes),
+            Err(_) => Err(StoreFault::OutOfMemory),
+        }
+    }
+
+    fn write(&mut self, _name: &str, bytes: &[u8]) -> Result<(), StoreFault> {
+        self.written = self.written.saturating_add(1);
+        self.file.clear();
+        match self.file.try_extend_from_slice(bytes) {
+            Ok(()) => Ok(()),
+            Err(_) => Err(StoreFault::Failed),
+        }
+    }
+
+    fn look(&mut self, _name: &str) -> Result<Place, StoreFault> {
+        Ok(self.place)
+    }
+
+    fn set_byte(
+        &mut self,
+        _alloc: Global,
+        _name: &str,
+        place: usize,
+        byte: u8,
+    ) -> Result<(), StoreFault> {
+        self.set = self.set.saturating_add(1);
+        if self.is_stiff || self.file.len() <= place {
+            return Err(StoreFault::Failed);
+        }
+        self.file.as_mut_slice()[place] = byte;
+        Ok(())
+    }
+}
+
+/// Three jobs are sent of a store like this, over a line that ends after so many answers. Answers what became of it.
+fn sent_in(
+    rt: &(impl Abort + AllocGlobal),
+    mut store: Watched,
+    answers: &[&[u8]],
+    status: u8,
+    text: &[u8],
+) -> Result<Watched, Fail> {
+    let mut line = line_of(rt.alloc(), answers)?;
+    assert_sends(rt, &mut line, &mut store, status, text, b"");
+    Ok(store)
+}
+
+#[test]
+fn each_job_is_marked_as_it_is_counted(rt: HostRuntime) -> Result<(), Fail> {
+    // The first by a whole file, the second and the third by a byte, and at the end the whole file again.
+    let store = Watched::new(three_jobs(&rt, [0, 0, 0]));
+    let text = b"counted 3 of 3 jobs\noutcome done\n";
+    let store = sent_in(&rt, store, &[ACK0, ACK1, ACK0, ACK1], 0, text)?;
+    assert!(rt; store.written == 2);
+    assert!(rt; store.set == 2);
+    assert!(rt; store.file.as_slice() == three_jobs(&rt, [1, 1, 1]).as_slice());
+
+    // Where nothing is counted, the whole file is written at the end alone.
+    let store = Watched::new(three_jobs(&rt, [0, 0, 0]));
+    let text = b"counted 0 of 3 jobs\noutcome gave up\n";
+    let store = sent_in(&rt, store, &[], 4, text)?;
+    assert!(rt; store.written == 1);
+    assert!(rt; store.set == 0);
+    Ok(())
+}
+
+#[test]
+fn marks_that_fail_are_made_at_the_end(rt: HostRuntime) -> Result<(), Fail> {
+    let text = b"counted 3 of 3 jobs\noutcome done\n";
+    let mut store = Watched::new(three_jobs(&rt, [0, 0, 0]));
+    store.is_stiff = true;
+    let store = sent_in(&rt, store, &[ACK0, ACK1, ACK0, ACK1], 0, text)?;
+    assert!(rt; store.written == 2);
+    assert!(rt; store.set == 1);
+    assert!(rt; store.file.as_slice() == three_jobs(&rt, [1, 1, 1]).as_slice());
+
+    // A device is written once.
+    let mut store = Watched::new(three_jobs(&rt, [0, 0, 0]));
+    store.place = Place::Once;
+    let store = sent_in(&rt, store, &[ACK0, ACK1, ACK0, ACK1], 0, text)?;
+    assert!(rt; store.written == 1);
+    assert!(rt; store.set == 0);
+    assert!(rt; store.file.as_slice() == three_jobs(&rt, [1, 1, 1]).as_slice());
+    Ok(())
+}
+
+#[test]
+fn a_byte_is_set_where_there_is_one(rt: HostRuntime) -> Result<(), Fail> {
+    let mut store = MemoryStore::new(rt.alloc());
+    assert!(rt; store.set_byte(rt.alloc(), "jobs", 0, 1) == Err(StoreFault::Missing));
+    store.write("jobs", &[7, 8, 9])?;
+    assert!(rt; store.set_byte(rt.alloc(), "jobs", 1, 1) == Ok(()));
+    assert!(rt; store.set_byte(rt.alloc(), "jobs", 3, 1) == Err(StoreFault::Failed));
+    assert_file(&rt, &mut store, &[7, 1, 9])
 }
 
 #[test]

@@ -1,5 +1,9 @@
 use Rattle.line_world.proofs.TurnsOverLines.{SendsSoFar}
+use Rattle.rje_commands.specs.Marking.{GoesOnMarking}
 use Rattle.rje_commands.proofs.exchange.send_all.Given as goal
 
 abbrev pub invariant-loop : goal.invariant-loop
-invariant-loop g l = SendsSoFar l.initial.station l.counter l.station
+invariant-loop g l = record {
+  turns : SendsSoFar l.initial.station l.counter l.station;
+  marked : GoesOnMarking l.initial.marker l.marker l.initial.station.counted l.station.counted (g.S.Store.files l.initial.store) (g.S.Store.files l.store);
+}

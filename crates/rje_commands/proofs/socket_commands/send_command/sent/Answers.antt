@@ -1,9 +1,11 @@
 use Rattle.std.proofs.Common.{ap, ◌≡◌, length, ◌∙◌, OnOk, subst}
 use Rattle.std.specs.Io.KnownBytes.{Appends}
+use Rattle.rje_files.specs.Marks.{AreMarks}
 use Rattle.rje_files.specs.Unsent.{IsLeft}
 use Rattle.rje_station.specs.Sending.{first_sending, outcome_of}
 use Rattle.line_world.specs.AnyLines.{SendsToEnd}
 use Rattle.rje_commands.specs.Ending.{MarksSent, sent_text}
+use Rattle.rje_commands.proofs.Marked.{begun}
 use Rattle.rje_commands.proofs.Sending.{sends_left}
 use Rattle.rje_commands.proofs.socket_commands.send_command.sent.Goals as goal
 
@@ -16,14 +18,21 @@ returns g c =
     let after = g.O.Write.contents c.transmit.new.out in
     let station = c.transmit.new.station in
     let file = c.in_ok-file.file in
+    let found = c.in_ok-jobs.field-0 in
     let jobs = c.in_ok-jobs.jobs in
-    let left : IsLeft file.bytes.items jobs = rw c.as_slice.ensures.value at c.in_ok-jobs.ensures.left in
-    let first : c.in_ok-station.station ≡ first_sending jobs = c.in_ok-station.ensures.ready ∙ ap first_sending c.as_slice-2.ensures.slice in
-    let given = ap (λ s. length s.jobs) c.in_ok-station.ensures.ready ∙ ap length c.as_slice-2.ensures.slice in
+    let left : IsLeft file.bytes.items jobs = rw (← c.in_ok-jobs.jobs-is) (rw c.as_slice.ensures.value at c.in_ok-jobs.ensures.left) in
+    let marks : AreMarks file.bytes.items found.places.items = rw c.as_slice.ensures.value at c.in_ok-jobs.ensures.marks in
+    let same = c.in_ok-jobs.jobs-is in
+    let first : c.in_ok-station.station ≡ first_sending jobs = c.in_ok-station.ensures.ready ∙ ap first_sending (c.as_slice-2.ensures.slice ∙ same) in
+    let given = ap (λ s. length s.jobs) c.in_ok-station.ensures.ready ∙ ap length (c.as_slice-2.ensures.slice ∙ same) in
+    let marker = c.new-marker.result in
+    let new : c.in_ok-station.station.counted ≡ 0 = ap (λ s. s.counted) first in
+    let marked = begun c.transmit.result marker file.bytes.items found.places.items c.args.name.now c.in_ok-station.station.counted station.counted read made
+    (ap (λ v. v.items) c.new-marker.ensures.file) (ap (λ v. v.items) c.new-marker.ensures.places)
+    (c.new-marker.ensures.name ∙ c.in_ok-file.ensures.name) c.new-marker.ensures.none new marks c.transmit.ensures.marked in
     record {
       sent = sends_left c.transmit.result c.args.name.now file.bytes.items jobs station f read made before after
           c.in_ok-file.ensures.bytes c.in_ok-file.ensures.same left
           (subst (λ s. OnOk c.transmit.result (SendsToEnd s station)) first c.transmit.ensures.took) c.transmit.ensures.ended
-          (subst (λ n. OnOk c.transmit.result (Appends before after (sent_text station.counted n (outcome_of station)))) given c.transmit.ensures.printed)
-          (subst (λ n. OnOk c.transmit.result (MarksSent file.bytes.items station.counted n read made)) c.in_ok-file.ensures.name c.transmit.ensures.marked);
+          (subst (λ n. OnOk c.transmit.result (Appends before after (sent_text station.counted n (outcome_of station)))) given c.transmit.ensures.printed) marked;
     }

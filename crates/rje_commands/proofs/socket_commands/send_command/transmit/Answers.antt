@@ -1,4 +1,17 @@
+use Rattle.std.proofs.Common.{rules, ◌≡◌, subst}
+use Rattle.rje_commands.specs.Marking.{GoesOnMarking}
+use Rattle.rje_commands.specs.Ending.{MarksSent}
+use Rattle.rje_commands.proofs.Marked.{all_marked}
 use Rattle.rje_commands.proofs.socket_commands.send_command.transmit.Goals as goal
 
 pub returns-clause-marked : goal.returns-clause-marked
-returns-clause-marked g c = rw (c.as_slice.ensures.value, c.counted-counted.ensures) at c.in_ok-marked.ensures.marked
+returns-clause-marked g c =
+    let f = g.S.Store.files c.args.store.now in
+    let mid = g.S.Store.files c.send_all-sent.new.store in
+    let made = g.S.Store.files c.write-marked.new.store in
+    let old = c.args.marker.now in
+    let new = c.send_all-sent.new.marker in
+    let station = c.send_all-sent.new.station in
+    let on : GoesOnMarking old new c.args.station.now.counted station.counted f mid = search rules in
+    let sets : MarksSent new.file.items station.counted new.name.now mid made = rw c.counted-counted.ensures at c.in_ok-marked.ensures.marked in
+    all_marked old new c.args.station.now.counted station.counted f mid made on sets
