@@ -1,4 +1,4 @@
-use Rattle.std.proofs.Common.{◌≡◌, subst}
+use Rattle.std.proofs.Common.{subst}
 use Rattle.rje_commands.specs.Marking.{GoesOnMarking}
 use Rattle.rje_commands.proofs.exchange.speak_hear_and_mark.Goals as goal
 

@@ -1,4 +1,3 @@
-use Rattle.std.proofs.Common.{rules}
 use Rattle.rje_commands.proofs.Marked.{gives_up}
 use Rattle.rje_commands.proofs.marker.Marker.mark.Goals as goal
 

@@ -1,4 +1,3 @@
-use Rattle.std.proofs.Common.{rules}
 use Rattle.rje_commands.proofs.Marked.{next_marked, whole_marked}
 use Rattle.rje_commands.proofs.marker.Marker.put.Goals as goal
 

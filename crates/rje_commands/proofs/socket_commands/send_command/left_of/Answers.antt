@@ -1,4 +1,4 @@
-use Rattle.std.proofs.Common.{rules, ◌≡◌}
+use Rattle.std.proofs.Common.{rules}
 use Rattle.std.specs.List.{All}
 use Rattle.rje_files.specs.JobFile.{HasEntries}
 use Rattle.rje_files.specs.Unsent.{CanPass}

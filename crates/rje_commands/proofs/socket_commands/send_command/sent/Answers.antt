@@ -4,7 +4,7 @@ use Rattle.rje_files.specs.Marks.{AreMarks}
 use Rattle.rje_files.specs.Unsent.{IsLeft}
 use Rattle.rje_station.specs.Sending.{first_sending, outcome_of}
 use Rattle.line_world.specs.AnyLines.{SendsToEnd}
-use Rattle.rje_commands.specs.Ending.{MarksSent, sent_text}
+use Rattle.rje_commands.specs.Ending.{sent_text}
 use Rattle.rje_commands.proofs.Marked.{begun}
 use Rattle.rje_commands.proofs.Sending.{sends_left}
 use Rattle.rje_commands.proofs.socket_commands.send_command.sent.Goals as goal

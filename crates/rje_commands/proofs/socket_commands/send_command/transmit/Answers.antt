@@ -1,4 +1,4 @@
-use Rattle.std.proofs.Common.{rules, ◌≡◌, subst}
+use Rattle.std.proofs.Common.{rules}
 use Rattle.rje_commands.specs.Marking.{GoesOnMarking}
 use Rattle.rje_commands.specs.Ending.{MarksSent}
 use Rattle.rje_commands.proofs.Marked.{all_marked}
