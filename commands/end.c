@@ -34,6 +34,7 @@ CALL(ssize_t, read, (int file, void *bytes, size_t length), (file, bytes, length
 CALL(ssize_t, write, (int file, const void *bytes, size_t length), (file, bytes, length))
 CALL(int, fchmod, (int file, mode_t mode), (file, mode))
 CALL(int, fsync, (int file), (file))
+CALL(int, fdatasync, (int file), (file))
 CALL(int, ftruncate, (int file, off_t length), (file, length))
 CALL(int, close, (int file), (file))
 CALL(int, link, (const char *from, const char *to), (from, to))
