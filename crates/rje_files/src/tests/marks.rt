@@ -6,11 +6,11 @@ use rje_text::{Action, Mode, Records, Select};
 use std::process::Abort;
 use std::test::Fail;
 
-/// A job in this state, of records with so many bytes of data.
-fn entry(rt: &(impl Abort + AllocGlobal), state: State, sizes: &[usize]) -> Result<Entry, Fail> {
+/// A job in this state, of records with these data.
+fn entry(rt: &(impl Abort + AllocGlobal), state: State, data: &[&[u8]]) -> Result<Entry, Fail> {
     let mut records = Records::new(rt.alloc());
-    for size in sizes {
-        records.push(record(rt, Action::Plain, &[0xC1; 144][..*size]))?;
+    for bytes in data {
+        records.push(record(rt, Action::Plain, bytes))?;
     }
     Ok(Entry {
         name: NO_NAME,
@@ -27,10 +27,10 @@ fn entry(rt: &(impl Abort + AllocGlobal), state: State, sizes: &[usize]) -> Resu
 /// Four jobs, of which the second was sent.
 fn four_jobs(rt: &(impl Abort + AllocGlobal)) -> Result<Vec<Entry>, Fail> {
     let mut entries = Vec::new(rt.alloc());
-    entries.push(entry(rt, State::Waiting, &[1])?)?;
-    entries.push(entry(rt, State::Sent, &[144, 0])?)?;
+    entries.push(entry(rt, State::Waiting, &[b"A"])?)?;
+    entries.push(entry(rt, State::Sent, &[&[0xC1; 144], b""])?)?;
     entries.push(entry(rt, State::Whole, &[])?)?;
-    entries.push(entry(rt, State::Waiting, &[80, 80])?)?;
+    entries.push(entry(rt, State::Waiting, &[&[0xC1; 80], &[0xC1; 80]])?)?;
     Ok(entries)
 }
 
