@@ -1,11 +1,10 @@
 //! Marks the jobs of a transmission in their file while they are counted.
-ghost use Rattle.std.specs.Prelude.{◌≡◌, ◌+◌, ◌<◌, Option, Some, true, false, IfOk, IfSome, OnOk, OnErr};
+ghost use Rattle.std.specs.Prelude.{◌≡◌, ◌+◌, ◌<◌, ℕ, Option, Some, true, false, IfOk, IfSome, OnOk, OnErr};
 ghost use Rattle.std.specs.List.{slice_get};
 ghost use Rattle.rje_files.specs.Marks.{AreMarks};
 ghost use Rattle.rje_commands.specs.Ending.{MarksSent};
 ghost use Rattle.rje_commands.specs.Marking.{AreMarked, GoesOnMarking};
 ghost use Rattle.rje_commands.specs.Store.{FileMap, Discloses, IsSame};
-ghost use Rattle.std.specs.Prelude.{ℕ};
 
 use crate::command_fault::CommandFault;
 use crate::commands::{look_at_file, set_byte_of_file, write_file};
@@ -35,6 +34,7 @@ impl<'a> Marker<'a> {
         ensures file { result.file ≡ file }
         ensures places { result.places ≡ places }
         ensures none { result.marked ≡ 0 }
+        ensures marking { result.gave_up ≡ false }
     {
         Marker {
             alloc,

@@ -38,7 +38,7 @@ pub fn send<'a, R: Net, S: Store, O: Write>(
     out: &mut O,
 ) -> Result<Ending, CommandFault<'a>> {
     let file = job_file(alloc, order.jobs, store)?;
-    let Left { jobs, places } = left_of(alloc, file.bytes.as_slice())?;
+    let Unsent { jobs, places } = unsent_of(alloc, file.bytes.as_slice())?;
     let mut station = SendingStation::new(alloc, jobs.as_slice())?;
     let mut marker = Marker::new(alloc, file.name, file.bytes, places);
     match connected(rt, order.address, order.timeout) {
@@ -79,7 +79,7 @@ fn sent<'a, L: Line, S: Store, O: Write>(
         (O.contents out.old) (O.contents out.new))) }
 {
     let file = job_file(alloc, name, store)?;
-    let Left { jobs, places } = left_of(alloc, file.bytes.as_slice())?;
+    let Unsent { jobs, places } = unsent_of(alloc, file.bytes.as_slice())?;
     let mut station = SendingStation::new(alloc, jobs.as_slice())?;
     let mut marker = Marker::new(alloc, file.name, file.bytes, places);
     transmit(&mut station, &mut marker, line, store, out)
@@ -108,13 +108,13 @@ fn job_file<'a, S: Store>(
 
 /// What is left to send of a job file: its jobs that were not sent, and where they are marked.
 #[derive(Drop)]
-struct Left {
+struct Unsent {
     jobs: Jobs,
     places: Vec<usize>,
 }
 
 /// What is left to send of a job file, where all of it can be sent.
-fn left_of<'a>(alloc: Global, file: &[u8]) -> Result<Left, CommandFault<'a>>
+fn unsent_of<'a>(alloc: Global, file: &[u8]) -> Result<Unsent, CommandFault<'a>>
     ensures left { IfOk result (λ left. IsLeft file.now left.jobs) }
     ensures marks { IfOk result (λ left. AreMarks file.now left.places.items) }
 {
@@ -124,7 +124,7 @@ fn left_of<'a>(alloc: Global, file: &[u8]) -> Result<Left, CommandFault<'a>>
     }
     let places = mark_places(alloc, entries.as_slice())?;
     let jobs = unsent_jobs(alloc, entries)?;
-    Ok(Left { jobs, places })
+    Ok(Unsent { jobs, places })
 }
 
 fn connected<R: Net>(

@@ -2,7 +2,7 @@ use Rattle.std.proofs.Common.{rules}
 use Rattle.std.specs.List.{All}
 use Rattle.rje_files.specs.JobFile.{HasEntries}
 use Rattle.rje_files.specs.Unsent.{CanPass}
-use Rattle.rje_commands.proofs.socket_commands.send_command.left_of.Goals as goal
+use Rattle.rje_commands.proofs.socket_commands.send_command.unsent_of.Goals as goal
 
 pub returns-clause-marks : goal.returns-clause-marks
 returns-clause-marks c =
