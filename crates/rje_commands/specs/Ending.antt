@@ -6,14 +6,17 @@ use Rattle.rje_jobs.specs.declared.job.Job.{Job}
 use Rattle.rje_files.specs.declared.entry.Entry.{Entry}
 use Rattle.rje_files.specs.declared.job_file.version.FileVersion.TheVariants.{Second}
 use Rattle.rje_files.specs.Entry.{entry_of, jobs_in}
-use Rattle.rje_files.specs.JobFile.{HasEntries, IsEntryFileOf}
-use Rattle.rje_files.specs.Unsent.{IsSentFile, unsent}
+use Rattle.rje_files.specs.FileFault.{IsFileFault}
+use Rattle.rje_files.specs.JobFile.{HasEntries, IsEntryFile, IsEntryFileOf}
+use Rattle.rje_files.specs.Unsent.{IsFirstUnsendable, IsSentFile, unsent}
 use Rattle.rje_station.specs.Receiving.{Receiving, first_receiving}
 use Rattle.rje_station.specs.Sending.{Sending, first_sending, outcome_of}
 use Rattle.line_world.specs.AnyLines.{SendsToEnd}
 use Rattle.rje_print.specs.ReportTexts.{counted_line, handed_line, outcome_line, whole_jobs}
 use Rattle.rje_commands.specs.declared.socket_commands.ending.Ending.{Ending}
 use Rattle.rje_commands.specs.declared.exchange.Left.{Left}
+use Rattle.rje_commands.specs.declared.command_fault.CommandFault.{CommandFault}
+use Rattle.rje_commands.specs.CommandFault.{status_of}
 use Rattle.rje_commands.specs.Commands.{OfFile}
 use Rattle.rje_commands.specs.Patience.{LeavesSo}
 use Rattle.rje_commands.specs.Store.{FileMap, Discloses, Sets}
@@ -73,6 +76,17 @@ EndsReceiving status name files made before after =
 abbrev pub MarksSent : (file : List ℕ) → (counted : ℕ) → (name : List ℕ) → (files made : Option FileMap) → Type 0
 MarksSent file counted name files made =
     (bytes : List ℕ) × IsSentFile file counted bytes × (length bytes ≤ 16777216) × Discloses files made (Sets name bytes)
+
+-- Why what is left of this file isn't sent: it is no job file, or the job of this number is the first of those that were not sent that
+-- can't be.
+abbrev pub IsUnsentFault : (file : List ℕ) → CommandFault → Type 0
+IsUnsentFault file (CommandFault.File fault) = IsFileFault IsEntryFile file fault
+IsUnsentFault file (CommandFault.BadJob number) = (entries : List Entry) × HasEntries entries file × IsFirstUnsendable entries number
+IsUnsentFault file _ = ⊥
+
+-- what is left of this file isn't sent, and it isn't for want of memory
+abbrev pub IsRefusedFile : (file : List ℕ) → Type 0
+IsRefusedFile file = (fault : CommandFault) × IsUnsentFault file fault × (status_of fault ≡ 1)
 
 -- what was left of the job file of this name was sent: a new station for these jobs took some turns to the end of its transmission; the
 -- jobs that it counted are Sent in the file now, it ended so, and just the lines of it were printed

@@ -1,5 +1,5 @@
 -- Of what the private functions of the commands tell; no promise rests on it.
-use Rattle.std.specs.Prelude.{◌≡◌, ℕ, List, [], ◌∷◌, ◌++◌, Option, None, IfSome, true, false, ⊤}
+use Rattle.std.specs.Prelude.{◌≡◌, ◌⊎◌, ℕ, List, [], ◌∷◌, ◌++◌, Option, None, IfSome, true, false, ⊤}
 use Rattle.std.specs.Option.{IsSomeAnd}
 use Rattle.rje_jobs.specs.Deck.{IsDeckFault}
 use Rattle.rje_files.specs.FileFault.{IsFileFault}
@@ -10,7 +10,9 @@ use Rattle.line_world.specs.declared.world_fault.WorldFault.TheVariants as world
 use Rattle.rje_print.specs.Script.{IsFirstBadLine}
 use Rattle.rje_commands.specs.declared.command_fault.CommandFault.{CommandFault}
 use Rattle.rje_words.specs.declared.order.CardsOrder.{CardsOrder}
+use Rattle.rje_commands.specs.CommandFault.{IsFailing, status_of}
 use Rattle.rje_commands.specs.Commands.{AreEntriesOf, OfFile, IsFaultOfRun, deck_entry}
+use Rattle.rje_commands.specs.Ending.{IsUnsentFault}
 use Rattle.rje_commands.specs.Store.{FileMap}
 
 -- there is no memory for what has this name, or it can't be read
@@ -29,6 +31,11 @@ abbrev pub IsWriteFault : List ℕ → CommandFault → Type 0
 IsWriteFault name CommandFault.OutOfMemory = ⊤
 IsWriteFault name (CommandFault.CannotWrite named) = named.now ≡ name
 IsWriteFault name _ = ⊥
+
+-- this is the fault of a file, a line or an output, or of memory; or it is why what is left of the file of this name isn't sent
+abbrev pub IsSendFault : List ℕ → Option FileMap → CommandFault → Type 0
+IsSendFault name files fault =
+    IsFailing (status_of fault) ⊎ ((file : List ℕ) × IsUnsentFault file fault × OfFile name files (λ read. file ≡ read))
 
 -- where the files are told, this is what this name has
 abbrev pub IsThere : List ℕ → Option FileMap → Option (List ℕ) → Type 0

@@ -2,7 +2,7 @@
 ghost use Rattle.std.specs.Prelude.{◌≡◌, ◌<◌, ◌+◌, true, false, if◌then◌else◌, IfOk, OnOk, IfErr};
 ghost use Rattle.bsc_history.specs.declared.spoken_turn.SpokenTurn.{SpokenTurn};
 ghost use Rattle.rje_commands.specs.Answering.{BreaksKeeping, KeepsToBreak, KeepsToEnd, after_answer};
-ghost use Rattle.rje_commands.specs.CommandFault.{IsFailing, of_broken_off, status_of};
+ghost use Rattle.rje_commands.specs.CommandFault.{IsFailing, of_broken_off, of_station, status_of};
 ghost use Rattle.rje_commands.specs.Keeping.{BreaksOff, BreaksOffNow, GoesOnKeeping, IsOfFile};
 ghost use Rattle.rje_commands.specs.Marking.{GoesOnMarking};
 ghost use Rattle.rje_commands.specs.Patience.{LeavesSo, HearsOut, was_quiet};
@@ -42,6 +42,7 @@ pub fn send_all<'a, L: Line, S: Store>(
 ) -> Result<(), StationFault>
     ensures took { OnOk result (SendsToEnd station.old station.new) }
     ensures fault { IfErr result (SendsToFault station.old station.new) }
+    ensures status { IfErr result (λ fault. IsFailing (status_of (of_station fault))) }
     ensures marked { OnOk result (GoesOnMarking marker.old marker.new station.old.counted
         station.new.counted (S.files store.old) (S.files store.new)) }
 {
@@ -65,6 +66,7 @@ fn speak_hear_and_mark<'a, L: Line, S: Store>(
     ensures over { IfOk result (λ is_turn. is_turn ≡ false → (station.old.over ≡ true)
         × (station.new ≡ station.old)) }
     ensures fault { IfErr result (SenderFails station.old station.new) }
+    ensures status { IfErr result (λ fault. IsFailing (status_of (of_station fault))) }
     ensures marked { OnOk result (GoesOnMarking marker.old marker.new station.old.counted
         station.new.counted (S.files store.old) (S.files store.new)) }
     ensures still { marker.new.marked ≡ marker.old.marked
@@ -82,6 +84,7 @@ fn speak_and_hear<L: Line>(station: &mut SendingStation, line: &mut L) -> Result
     ensures over { IfOk result (λ is_turn. is_turn ≡ false → (station.old.over ≡ true)
         × (station.new ≡ station.old)) }
     ensures fault { IfErr result (SenderFails station.old station.new) }
+    ensures status { IfErr result (λ fault. IsFailing (status_of (of_station fault))) }
 {
     match station.speak(line) {
         Ok(Say::End) => Ok(true),

@@ -1,7 +1,10 @@
 //! Marks the jobs of a transmission in their file while they are counted.
-ghost use Rattle.std.specs.Prelude.{◌≡◌, ◌+◌, ◌<◌, ℕ, Option, Some, true, false, IfOk, IfSome, OnOk, OnErr};
+ghost use Rattle.std.specs.Prelude.{◌≡◌, ◌+◌, ◌<◌, ℕ, List, Option, Some, true, false, IfErr, IfOk, IfSome, OnOk, OnErr};
 ghost use Rattle.std.specs.List.{slice_get};
+ghost use Rattle.rje_jobs.specs.declared.job.Job.{Job};
 ghost use Rattle.rje_files.specs.Marks.{AreMarks};
+ghost use Rattle.rje_files.specs.Unsent.{IsLeft};
+ghost use Rattle.rje_commands.specs.CommandFault.{IsFailing, status_of};
 ghost use Rattle.rje_commands.specs.Ending.{MarksSent};
 ghost use Rattle.rje_commands.specs.Marking.{AreMarked, GoesOnMarking};
 ghost use Rattle.rje_commands.specs.Store.{FileMap, Discloses, IsSame};
@@ -66,6 +69,8 @@ impl<'a> Marker<'a> {
     pub fn write<S: Store>(&self, counted: usize, store: &mut S) -> Result<(), CommandFault<'a>>
         ensures marked { OnOk result (MarksSent self.now.file.items counted self.now.name.now
             (S.files store.old) (S.files store.new)) }
+        ensures status { IfErr result (λ fault. (jobs : List Job)
+            → IsLeft self.now.file.items jobs → IsFailing (status_of fault)) }
         ensures same { OnErr result (Discloses (S.files store.old) (S.files store.new) IsSame) }
     {
         let bytes = sent_file(self.alloc, self.file.as_slice(), counted)?;

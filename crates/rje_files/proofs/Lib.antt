@@ -12,3 +12,4 @@ pub mod Unsendable
 pub mod Names
 pub mod OneMore
 pub mod Marking
+pub mod GoodEntries

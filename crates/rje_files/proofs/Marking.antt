@@ -126,7 +126,7 @@ marks (suc n) place front (e ∷ es) names at = elim (cases_Bool (is_sent e.stat
 
 -- THE FILE
 
-many : (n : ℕ) (es : List Entry) → length (with_sent n es) ≡ length es
+pub many : (n : ℕ) (es : List Entry) → length (with_sent n es) ≡ length es
 many n [] = refl
 many zero (e ∷ es) = refl
 many (suc n) (e ∷ es) = go (is_sent e.state) (many (suc n) es) (many n es) where

@@ -1,7 +1,8 @@
 //! What is left to send of a job file.
-ghost use Rattle.std.specs.Prelude.{◌≡◌, ◌↔◌, MatchOption, IfOk, IfErr, IsTrue};
+ghost use Rattle.std.specs.Prelude.{◌≡◌, ◌↔◌, List, MatchOption, IfOk, IfErr, IsTrue};
 ghost use Rattle.std.specs.List.{All};
-ghost use Rattle.rje_files.specs.Unsent.{is_sent, with_sent, unsent, CanPass, IsFirstUnsendable, IsSentFile, IsSentFault};
+ghost use Rattle.rje_jobs.specs.declared.job.Job.{Job as Item};
+ghost use Rattle.rje_files.specs.Unsent.{is_sent, with_sent, unsent, CanPass, IsFirstUnsendable, IsLeft, IsSentFile, IsSentFault};
 ghost use Rattle.rje_files.specs.Entry.{jobs_in};
 
 use crate::{Entry, State, read_entries, write_entries};
@@ -56,10 +57,12 @@ pub fn mark_sent(entries: &mut [Entry], count: usize)
 }
 
 /// The version 2 file of the same entries as this job file's, in which the first `count` of those that
-/// were not Sent are Sent.
+/// were not Sent are Sent. Where all of those can be sent, nothing but memory can be wanting.
 pub fn sent_file(alloc: Global, file: &[u8], count: usize) -> Result<Vec<u8>, FileFault>
     ensures file { IfOk result (λ bytes. IsSentFile file.now count bytes.items) }
     ensures told { IfErr result (λ fault. IsSentFault file.now count fault) }
+    ensures left { IfErr result (λ fault. (jobs : List Item) → IsLeft file.now jobs
+        → fault ≡ FileFault.OutOfMemory) }
 {
     let mut entries = read_entries(alloc, file)?;
     mark_sent(entries.as_mut_slice(), count);

@@ -1,12 +1,15 @@
 //! `send`: one transmission of what is left of a job file to a listening receiver.
-ghost use Rattle.std.specs.Prelude.{◌≡◌, ◌⊎◌, Option, length, IfOk, OnOk};
+ghost use Rattle.std.specs.Prelude.{◌≡◌, ◌⊎◌, List, Option, length, IfErr, IfOk, OnOk};
 ghost use Rattle.std.specs.Io.KnownBytes.{Appends};
+ghost use Rattle.rje_jobs.specs.declared.job.Job.{Job};
 ghost use Rattle.rje_files.specs.Marks.{AreMarks};
 ghost use Rattle.rje_files.specs.Unsent.{IsLeft};
 ghost use Rattle.rje_station.specs.Sending.{outcome_of};
 ghost use Rattle.line_world.specs.AnyLines.{SendsToEnd};
 ghost use Rattle.rje_commands.specs.Commands.{OfFile};
-ghost use Rattle.rje_commands.specs.Ending.{ending_of, sent_text, MarksSent, SendsLeft, EndsSending};
+ghost use Rattle.rje_commands.specs.CommandFault.{IsFailing, status_of};
+ghost use Rattle.rje_commands.specs.Ending.{ending_of, sent_text, IsRefusedFile, IsUnsentFault, MarksSent, SendsLeft, EndsSending};
+ghost use Rattle.rje_commands.specs.Inside.{IsSendFault};
 ghost use Rattle.rje_commands.specs.Marking.{Marks};
 ghost use Rattle.rje_commands.specs.Store.{FileMap, Discloses, IsSame};
 
@@ -60,6 +63,10 @@ pub fn send_over<L: Line, S: Store, O: Write, E: Write>(
 ) -> u8
     ensures sent { (result ≡ 0) ⊎ (result ≡ 4) → EndsSending result name.now
         (S.files store.old) (S.files store.new) (O.contents out.old) (O.contents out.new) }
+    ensures status { (result ≡ 0) ⊎ ((result ≡ 4) ⊎ ((result ≡ 1) ⊎ IsFailing result)) }
+    ensures refused { result ≡ 1 → OfFile name.now (S.files store.old) IsRefusedFile }
+    ensures files_kept { result ≡ 1 → Discloses (S.files store.old) (S.files store.new) IsSame }
+    ensures silent { result ≡ 1 → (line.new ≡ line.old) × (out.new ≡ out.old) }
 {
     match sent(alloc, line, name, store, out) {
         Ok(ending) => ending.status(),
@@ -77,6 +84,11 @@ fn sent<'a, L: Line, S: Store, O: Write>(
     ensures sent { IfOk result (λ ending. OfFile name.entry.now (S.files store.old) (λ file.
         SendsLeft ending name.entry.now file (S.files store.old) (S.files store.new)
         (O.contents out.old) (O.contents out.new))) }
+    ensures fault { IfErr result (IsSendFault name.entry.now (S.files store.old)) }
+    ensures files_kept { IfErr result (λ fault. status_of fault ≡ 1
+        → Discloses (S.files store.old) (S.files store.new) IsSame) }
+    ensures silent { IfErr result (λ fault. status_of fault ≡ 1
+        → (line.new ≡ line.old) × (out.new ≡ out.old)) }
 {
     let file = job_file(alloc, name, store)?;
     let Unsent { jobs, places } = unsent_of(alloc, file.bytes.as_slice())?;
@@ -100,6 +112,7 @@ fn job_file<'a, S: Store>(
     ensures name { IfOk result (λ file. file.name.now ≡ name.entry.now) }
     ensures bytes { IfOk result (λ file. OfFile name.entry.now (S.files store.old)
         (λ read. file.bytes.items ≡ read)) }
+    ensures status { IfErr result (λ fault. IsFailing (status_of fault)) }
     ensures same { Discloses (S.files store.old) (S.files store.new) IsSame }
 {
     let bytes = read_file(alloc, name, store)?;
@@ -117,6 +130,8 @@ struct Unsent {
 fn unsent_of<'a>(alloc: Global, file: &[u8]) -> Result<Unsent, CommandFault<'a>>
     ensures left { IfOk result (λ left. IsLeft file.now left.jobs) }
     ensures marks { IfOk result (λ left. AreMarks file.now left.places.items) }
+    ensures fault { IfErr result (λ fault. IsFailing (status_of fault)
+        ⊎ IsUnsentFault file.now fault) }
 {
     let entries = read_entries(alloc, file)?;
     if let Some(number) = first_unsendable(entries.as_slice()) {
@@ -152,6 +167,8 @@ fn transmit<'a, L: Line, S: Store, O: Write>(
         → Marks marker.old station.old.counted files (S.files store.old)
         → MarksSent marker.old.file.items station.new.counted marker.old.name.now files
         (S.files store.new)) }
+    ensures status { IfErr result (λ fault. (jobs : List Job)
+        → IsLeft marker.old.file.items jobs → IsFailing (status_of fault)) }
 {
     let given = station.jobs().len();
     let sent = send_all(station, line, marker, store);

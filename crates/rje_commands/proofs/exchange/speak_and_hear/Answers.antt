@@ -10,4 +10,5 @@ returns-in_ok-hear-in-Ok g c = record {
   takes = λ is. turn_taken c.args.station.now c.speak.new.self c.hear.new.self c.in_ok-hear-in-Ok.field-0 (search rules) (search rules) (search rules) (search rules);
   over = λ is. absurd cc;
   fault = tt;
+  status = tt;
 }

@@ -1,4 +1,5 @@
-use Rattle.std.proofs.Common.{rules}
+use Rattle.std.proofs.Common.{rules, ◌≡◌, Err, subst, sym}
+use Rattle.rje_files.specs.Unsent.{IsLeft}
 use Rattle.rje_commands.specs.Marking.{GoesOnMarking}
 use Rattle.rje_commands.specs.Ending.{MarksSent}
 use Rattle.rje_commands.proofs.Marked.{all_marked}
@@ -15,3 +16,13 @@ returns-clause-marked g c =
     let on : GoesOnMarking old new c.args.station.now.counted station.counted f mid = search rules in
     let sets : MarksSent new.file.items station.counted new.name.now mid made = rw c.counted-counted.ensures at c.in_ok-marked.ensures.marked in
     all_marked old new c.args.station.now.counted station.counted f mid made on sets
+
+pub returns-in_err-marked-clause-status : goal.returns-in_err-marked-clause-status
+returns-in_err-marked-clause-status g c =
+    let f = g.S.Store.files c.args.store.now in
+    let mid = g.S.Store.files c.send_all-sent.new.store in
+    let old = c.args.marker.now in
+    let new = c.send_all-sent.new.marker in
+    let on : GoesOnMarking old new c.args.station.now.counted c.send_all-sent.new.station.counted f mid = search rules in
+    let is : c.from_residual-in_err-marked.result ≡ Err c.in_err-marked.field-0.0 = search rules in
+    rw is (λ jobs left. c.in_err-marked.ensures.status jobs (subst (λ file. IsLeft file.items jobs) (sym on.1) left))
