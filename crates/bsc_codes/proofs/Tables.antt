@@ -4,23 +4,14 @@ use Rattle.std.specs.List.{find, list_all, slice_get, range_with_len}
 use Rattle.std.specs.Option.{option_map}
 use Rattle.std.specs.Prelude.{nat_lt, if◌then◌else◌}
 use Rattle.std.proofs.lemmas.Bool.{le-ltb, lt-ltb}
-use Rattle.std.proofs.lemmas.Option.{slice_get-get_or}
+use Rattle.std.proofs.lemmas.Option.{slice_get-get_or, none-some}
 use Rattle.std.proofs.lemmas.List.FromFn.{get_or-map-range_with_len}
 use Rattle.std.proofs.lemmas.Bool.Decides.{nat_tests}
 use Rattle.bsc_codes.specs.declared.code_page.TheConstants.{PRINTABLE}
 use Rattle.bsc_codes.specs.CodePage.{Entry, ebcdic_of, ascii_of, page_037}
+use Rattle.bsc_codes.proofs.Both.{both}
 
 -- ---- What is found in a list passes the test, and what every entry passes.
-
-both : (a b : Bool) → (a && b) ≡ true → (a ≡ true) × (b ≡ true)
-both true b h = (refl, h)
-both false b h = absurd (no h)
-  where
-    no : false ≡ true → ⊥
-    no e = cc
-
-none_some : {X : Type 0} (x : X) → ◌≡◌ {A = Option X} None (Some x) → ⊥
-none_some x q = cc
 
 some_same : {X : Type 0} (x y : X) → ◌≡◌ {A = Option X} (Some x) (Some y) → x ≡ y
 some_same x y q = cc
@@ -30,14 +21,14 @@ first_or true x y o h = inl (refl, some_same x y h)
 first_or false x y o h = inr h
 
 found_passes : (test every : Entry → Bool) (page : List Entry) (e : Entry) → list_all every page ≡ true → find test page ≡ Some e → (test e ≡ true) × (every e ≡ true)
-found_passes test every [] e h f = absurd (none_some e f)
+found_passes test every [] e h f = absurd (none-some e f)
 found_passes test every (x ∷ xs) e h f =
     ⊎_elim (λ (w : (test x ≡ true) × (x ≡ e)). subst (λ y. (test y ≡ true) × (every y ≡ true)) w.1 (w.0, (both _ _ h).0))
     (λ (w : find test xs ≡ Some e). found_passes test every xs e (both _ _ h).1 w)
     (first_or (test x) x e (find test xs) f)
 
 mapped : {X Y : Type 0} (f : X → Y) (o : Option X) (y : Y) → option_map f o ≡ Some y → (x : X) × (o ≡ Some x) × (f x ≡ y)
-mapped f None y h = absurd (none_some y h)
+mapped f None y h = absurd (none-some y h)
 mapped f (Some x) y h = (x, refl, some_same (f x) y h)
 
 -- ---- Each entry's character has its code, each entry's code its character, and no other.

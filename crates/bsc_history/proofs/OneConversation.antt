@@ -80,7 +80,7 @@ no-longer plan places h t c blocks s = elim c.whole [
 ]
 
 -- with blocks or without
-cases-plan : (plan : Plan) → (plan ≡ []) ⊎ (plan ≡ [] → ⊥)
+pub cases-plan : (plan : Plan) → (plan ≡ []) ⊎ (plan ≡ [] → ⊥)
 cases-plan [] = inl refl
 cases-plan (b ∷ plan) = inr (λ e. cc)
 

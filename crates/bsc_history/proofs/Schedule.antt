@@ -14,7 +14,7 @@ use Rattle.bsc_history.specs.Pair.{sound_counted, as_counted}
 use Rattle.bsc_history.proofs.Line.{lost-after}
 use Rattle.bsc_history.specs.Conversation.{Follows, IsAt, IsSpokenOver, is_block}
 
-is_block-sound : (b : Bool) (arrived : Sound) → (b && is_block arrived) ≡ true → arrived ≡ Sound.Block
+pub is_block-sound : (b : Bool) (arrived : Sound) → (b && is_block arrived) ≡ true → arrived ≡ Sound.Block
 is_block-sound b Sound.Block e = refl
 is_block-sound true _ e = absurd (false≢true e)
 is_block-sound false _ e = absurd (false≢true e)

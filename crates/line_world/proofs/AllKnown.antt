@@ -21,14 +21,11 @@ use Rattle.line_world.specs.Run.{IsRun}
 use Rattle.line_world.proofs.Headline.{first_jobs}
 use Rattle.line_world.proofs.JobsAgain.{ended_all}
 use Rattle.line_world.proofs.Numbered.{plan_length}
-
-cases_plan : (plan : Plan) → (plan ≡ []) ⊎ (plan ≡ [] → ⊥)
-cases_plan [] = inl refl
-cases_plan (b ∷ plan) = inr (λ e. cc)
+use Rattle.bsc_history.proofs.ForRuns.{cases-plan}
 
 -- with no blocks there is nothing to know
 pub known_if_some : (plan : Plan) (places : List SoundTurn) (h : History) → IsConversationOver plan places h → ((plan ≡ [] → ⊥) → known h ≡ length plan) → known h ≡ length plan
-known_if_some plan places h c known_is = elim (cases_plan plan) [ inl none ↦ rw (c.empty none, none) refl | inr some ↦ known_is some ]
+known_if_some plan places h c known_is = elim (cases-plan plan) [ inl none ↦ rw (c.empty none, none) refl | inr some ↦ known_is some ]
 
 -- ---- All of them.
 

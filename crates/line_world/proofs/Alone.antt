@@ -40,7 +40,7 @@ use Rattle.line_world.specs.Run.{TellsTurn, FitsReply}
 use Rattle.bsc_history.specs.SayingRule.{saying}
 use Rattle.line_world.specs.Turns.{StandsReceiving, ReceivingTurns, after_turn}
 use Rattle.line_world.proofs.Comings.{Told, tell, said_told, reply_told, reply_fits, block_carried, first_left}
-use Rattle.bsc_history.proofs.ForRuns.{counted-brought, comes, no-answer, receiver_core_replies}
+use Rattle.bsc_history.proofs.ForRuns.{counted-brought, comes, no-answer, receiver_core_replies, is_block-sound}
 use Rattle.line_world.proofs.ReceivingTurns.{taken_is, refused_block}
 use Rattle.line_world.proofs.RunTurns.{turn_of}
 use Rattle.line_world.proofs.SendingTurns.{turn_ends, turn_hears, cases_end}
@@ -92,11 +92,6 @@ passing_like : (r : Receiving) (refused : Bool) (wish : Wish) → r.over ≡ fal
 passing_like r refused wish live =
     let news = quiet_news r.core wish r.core.place refl in
     record { jobs = refl; core = sym (quiet_place r.core wish r.core.place refl); due = sym news.0; over = live ∙ sym news.1 }
-
-block_sound : (refused : Bool) (sound : Sound) → (refused && is_block sound) ≡ true → sound ≡ Sound.Block
-block_sound refused Sound.Block e = refl
-block_sound true _ e = absurd (false≢true e)
-block_sound false _ e = absurd (false≢true e)
 
 pub other_than_enq : (c : ContenderState) (sound : Sound) (bid_out : Bool) → takes_enq c ≡ not bid_out → lets_in c sound ≡ true → (if bid_out then without_enq sound else sound) ≡ sound
 other_than_enq c sound false takes e = refl
@@ -180,7 +175,7 @@ module _ (laws : Laws) (jobs : List Job) (own : History) (g : Bool) (bid_out : B
   refused_is = refused_block across.what _ t.refused across.may ∙ ap (λ x. t.refused && is_block x) (sym across.arrived_is)
 
   refusal : t.refused ≡ true → v.arrived ≡ Sound.Block
-  refusal e = block_sound t.refused v.arrived (ap (λ x. t.refused && is_block x) arrived_is ∙ sym (refused_block what _ t.refused may_refuse) ∙ e)
+  refusal e = is_block-sound t.refused v.arrived (ap (λ x. t.refused && is_block x) arrived_is ∙ sym (refused_block what _ t.refused may_refuse) ∙ e)
 
   pub follows : MayBeHeardAs (sound_of_reply t.reply) t.heard → Follows plan g own v
   follows down = record { goes_on = goes; said = said; arrived = counted-brought bid_out (sound_of t.said) t.arrived brought; refusal = refusal; replied = replied; heard = down }
@@ -237,7 +232,7 @@ end_failed : (say : Say) (x : Contending) → (after_end_of say x).failed ≡ x.
 end_failed Say.End x = refl
 end_failed _ x = refl
 
-end_jobs : (say : Say) (x : Contending) → (after_end_of say x).receiver.jobs ≡ x.receiver.jobs
+pub end_jobs : (say : Say) (x : Contending) → (after_end_of say x).receiver.jobs ≡ x.receiver.jobs
 end_jobs Say.End x = kept_jobs x.receiver.over x.receiver
 end_jobs _ x = refl
 

@@ -10,12 +10,9 @@ use Rattle.rje_text.specs.NextBlock.{blocks_after, cut_from, IsEnd, IsNextBlock}
 use Rattle.rje_jobs.specs.declared.job.Job.{Job}
 use Rattle.rje_jobs.specs.Blocks.{blocks, blocks_of_job}
 use Rattle.rje_jobs.specs.Fitting.{JobFits}
+use Rattle.rje_station.proofs.Uncounted.{cut_is}
 
 -- ---- The blocks of one job.
-
-cut_is : (j : Job) → blocks_of_job j ≡ cut_from j.select j.mode j.records 0
-unfolding cut
-cut_is j = refl
 
 -- so many blocks end before this record: all of them at the job's end, and else all but those from there on
 pub record AreCounted (j : Job) (count place : ℕ) : Type 0 where

@@ -23,6 +23,7 @@ use Rattle.line_world.specs.Damage.{AreHeardAs, Tells}
 use Rattle.line_world.specs.Driving.{IsCarried, IsReplyCarried}
 use Rattle.bsc_history.specs.Fate.{is_damage_of, sound_of, sound_of_reply, after_fate}
 use Rattle.line_world.specs.Run.{FitsReply}
+use Rattle.bsc_history.proofs.ForRuns.{lost-after}
 
 -- ---- Nothing is heard of no bytes.
 
@@ -52,13 +53,9 @@ empty_quiet = (no_frame, no_text, tt)
 
 -- ---- What fates of sounds do.
 
-after_arrives : (said : Sound) → after_fate SoundFate.Arrives said ≡ Some said
+pub after_arrives : (said : Sound) → after_fate SoundFate.Arrives said ≡ Some said
 after_arrives Sound.Quiet = refl
 after_arrives _ = refl
-
-after_lost : (said : Sound) → after_fate SoundFate.Lost said ≡ Some Sound.Quiet
-after_lost Sound.Quiet = refl
-after_lost _ = refl
 
 after_damaged : (said x : Sound) → said ≢ Sound.Quiet → is_damage_of said x ≡ true → after_fate (SoundFate.Damaged x) said ≡ Some x
 after_damaged Sound.Quiet x n may = absurd (n refl)
@@ -134,7 +131,7 @@ module _ (one : OneHearing) (transmits : WrittenIsTransmission) where
       record { told = SoundFate.Arrives; tells = refl; after = after_arrives (sound_of_frame f) ∙ ap (λ x. Some (sound_heard x)) (sym is) }
   carried_told Fate.Lost f sent what w c =
       let is : what ≡ heard.Quiet = one [] what heard.Quiet c.heard empty_quiet in
-      record { told = SoundFate.Lost; tells = refl; after = after_lost (sound_of_frame f) ∙ ap (λ x. Some (sound_heard x)) (sym is) }
+      record { told = SoundFate.Lost; tells = refl; after = lost-after (sound_of_frame f) ∙ ap (λ x. Some (sound_heard x)) (sym is) }
   carried_told (Fate.Damaged bytes) f sent what w c = record {
     told = SoundFate.Damaged (sound_heard what);
     tells = (sound_heard what, record { what = what; heard = c.heard; sound_is = refl }, refl);

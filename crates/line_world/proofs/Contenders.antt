@@ -16,7 +16,7 @@ use Rattle.bsc_history.specs.ReplyRule.{was_bid}
 use Rattle.bsc_history.specs.SayingRule.{saying}
 use Rattle.bsc_history.specs.Fate.{sound_of, sound_of_reply, MayBeHeardAs}
 use Rattle.bsc_history.specs.Conversation.{Follows}
-use Rattle.bsc_history.proofs.ForRuns.{ComesAs, comes, turn, and-false, saying-speaks, ungranted-from_bid, granted-from_said}
+use Rattle.bsc_history.proofs.ForRuns.{ComesAs, comes, turn, and-false, saying-speaks, ungranted-from_bid, granted-from_said, eot-said}
 use Rattle.bsc_history.specs.Pair.{has_bid, is_bid_out, is_open, without_enq, as_counted}
 use Rattle.line_world.specs.Contending.{own_turn, other_heard, other_turn, is_sending, place_of}
 
@@ -58,22 +58,8 @@ end-no_enq-at arrived (inr (inr e)) = λ f. cc
 pub end-no_enq : (arrived : Sound) → MayBeHeardAs Sound.Eot arrived → arrived ≢ Sound.Enq
 end-no_enq arrived may = end-no_enq-at arrived (comes Sound.Eot arrived may)
 
--- an EOT comes of one alone
-eot-end-at : (said : Say) → ComesAs (sound_of said) Sound.Eot → said ≡ Say.End
-eot-end-at Say.End may = refl
-eot-end-at Say.Block may = absurd (may refl)
-eot-end-at Say.Again may = absurd (may refl)
-eot-end-at Say.Delay may = absurd (may.1 refl)
-eot-end-at Say.Nothing may = cc
-eot-end-at Say.Bid (inl e) = cc
-eot-end-at Say.Bid (inr (inl e)) = cc
-eot-end-at Say.Bid (inr (inr e)) = cc
-eot-end-at Say.Ask (inl e) = cc
-eot-end-at Say.Ask (inr (inl e)) = cc
-eot-end-at Say.Ask (inr (inr e)) = cc
-
 pub eot-end : (said : Say) (arrived : Sound) → MayBeHeardAs (sound_of said) arrived → said ≢ Say.End → arrived ≢ Sound.Eot
-eot-end said arrived may n = λ e. n (eot-end-at said (rw e at (comes (sound_of said) arrived may)))
+eot-end said arrived may n = λ e. n (eot-said said (rw e at (comes (sound_of said) arrived may)))
 
 -- a grant answers a bid
 granted-bid-at : (said : Say) (past : History) (t : SpokenTurn) → t.said ≡ said → has_grant (t ∷ past) ≡ true → (has_grant past ≡ true → has_bid past ≡ true) → has_bid (t ∷ past) ≡ true

@@ -16,6 +16,7 @@ use Rattle.bsc_history.specs.Fate.{sound_of, sound_of_reply, after_fate}
 use Rattle.line_world.specs.GoodTurn.{AllArrives, IsGood}
 use Rattle.line_world.specs.Run.{TellsTurn, TellsSchedule, spoken_of, spoken_turns}
 use Rattle.bsc_history.proofs.ForRuns.{IsClean, same-sound}
+use Rattle.line_world.proofs.Comings.{after_arrives}
 
 -- ---- A good turn is clean.
 
@@ -24,12 +25,8 @@ told_arrives (Fate.Arrives cuts) told a t = t
 told_arrives Fate.Lost told a t = absurd a
 told_arrives (Fate.Damaged bytes) told a t = absurd a
 
-after_all : (said : Sound) → after_fate SoundFate.Arrives said ≡ Some said
-after_all Sound.Quiet = refl
-after_all _ = refl
-
 heard_all : (told : SoundFate) (said heard : Sound) → told ≡ SoundFate.Arrives → after_fate told said ≡ Some heard → heard ≡ said
-heard_all told said heard e after = same-sound _ _ (sym after ∙ ap (λ f. after_fate f said) e ∙ after_all said)
+heard_all told said heard e after = same-sound _ _ (sym after ∙ ap (λ f. after_fate f said) e ∙ after_arrives said)
 
 pub clean_turn : (turn : Turn) (place : SoundTurn) (t : SpokenTurn) → IsGood turn → TellsTurn turn place → IsAt place t → t.refused ≡ false → IsClean t
 clean_turn turn place t good told at unrefused = record {

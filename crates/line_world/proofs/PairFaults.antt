@@ -43,6 +43,7 @@ use Rattle.bsc_history.proofs.ForRuns.{and-left}
 use Rattle.line_world.proofs.PairRuns.{StandsPairRun, due_open, due_saying, due_goes, may, up_speaks, down_speaks}
 use Rattle.line_world.proofs.PairTelling.{pairs_append, pairs_any, pairs_longer}
 use Rattle.line_world.proofs.Sends.{SendsBy}
+use Rattle.line_world.proofs.RunLoop.{drop_one}
 
 -- ---- One direction.
 
@@ -94,12 +95,6 @@ module _ (laws : Laws) (Breaks : Fate → Sound → List ℕ → Type 0) (jobs :
   breaks_part b = elim b.breaks [ inl h ↦ breaks_up b h | inr d ↦ breaks_back b d ]
 
 -- ---- The schedule.
-
-drop_one : {X : Type 0} (n : ℕ) (xs : List X) (x : X) → slice_get xs n ≡ Some x → drop n xs ≡ x ∷ drop (suc n) xs
-drop_one zero [] x e = absurd cc
-drop_one (suc n) [] x e = absurd cc
-drop_one zero (y ∷ xs) x e = let same : y ≡ x = cc in ap (λ z. z ∷ xs) same
-drop_one (suc n) (y ∷ xs) x e = drop_one n xs x e
 
 module _ (laws : Laws) (Breaks : Fate → Sound → List ℕ → Type 0) (ups downs : List Job) (turns : List PairTurn) (h : PairHistory) (a b : Contending) (turn : PairTurn) (t : PairSpoken)
     (p : StandsPairRun ups downs turns h a b) (here : slice_get turns (length h) ≡ Some turn) where

@@ -25,9 +25,10 @@ use Rattle.line_world.specs.PairDrive.{SendsAfter, ReceivesAfter, StandPair, IsP
 use Rattle.line_world.specs.PairRun.{TellsPairs, pair_of, spoken_pairs}
 use Rattle.line_world.proofs.Alone.{Laws, Listens}
 use Rattle.line_world.proofs.Contends.{contends_first}
-use Rattle.line_world.proofs.PairRuns.{StandsPairRun, plan_some, cases_jobs, due_goes, primary_more, secondary_more, both_more, nothing_due}
+use Rattle.line_world.proofs.PairRuns.{StandsPairRun, cases_jobs, due_goes, primary_more, secondary_more, both_more, nothing_due}
 use Rattle.line_world.proofs.PairTelling.{pairs_append, pairs_any, pairs_length, pairs_longer}
 use Rattle.line_world.proofs.Sends.{SendsBy, sends_first, none_not}
+use Rattle.line_world.proofs.RunLoop.{plan_some, some_jobs}
 
 pub record PairRunning (ups downs : List Job) (turns : List PairTurn) (n : ℕ) (spoken : List PairSpoken) (a b : Contending) : Type 0 where
   pub history : PairHistory
@@ -87,10 +88,6 @@ pair_more laws ups downs turns n spoken spoken' a b a' b' turn t p here took mor
     ]
 
 -- ---- The end.
-
-some_jobs : (jobs : List Job) → 0 < length jobs → (length jobs == 0) ≡ false
-some_jobs [] l = absurd (omega (arith, l))
-some_jobs (j ∷ js) l = none_not j js
 
 outcome_some : (plan : Plan) (h : History) → (plan ≡ [] → ⊥) → outcome plan h ≡ outcome_by plan (gave_up_before h) (gives_up_now h) h
 outcome_some [] h n = absurd (n refl)

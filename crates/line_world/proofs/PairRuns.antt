@@ -24,7 +24,7 @@ use Rattle.line_world.specs.Turns.{after_turn}
 use Rattle.line_world.proofs.Comings.{tell}
 use Rattle.line_world.specs.Plan.{plan_of}
 use Rattle.bsc_history.specs.SayingRule.{saying}
-use Rattle.line_world.proofs.Planned.{blocks_begun}
+use Rattle.rje_station.proofs.Uncounted.{blocks_begun}
 use Rattle.line_world.proofs.RunTurns.{turn_of}
 use Rattle.line_world.proofs.Telling.{get_seam, take_one}
 use Rattle.bsc_history.specs.declared.bids.Bids.{Bids}
@@ -43,7 +43,8 @@ use Rattle.line_world.proofs.PairVain.{vainly, vain_follows, vain_listens, end_c
 use Rattle.line_world.proofs.Contends.{Contends, due-closed, closed-ungranted, primary_takes, secondary_takes, primary_alone, secondary_alone, both_speak}
 use Rattle.bsc_history.proofs.ForRuns.{and-left, counted-quiet, silent-says, lost-after, directions_may_be_spoken, pair_conversations_may_be_spoken}
 use Rattle.line_world.proofs.PairTelling.{pairs_append, pairs_longer}
-use Rattle.line_world.proofs.Sends.{SendsBy, sends_turn, sends_yielded, again, none_not}
+use Rattle.line_world.proofs.Sends.{SendsBy, sends_turn, sends_yielded, again, none_not, some_jobs}
+use Rattle.line_world.proofs.RunLoop.{plan_some}
 
 -- the turns so far were spoken over what the schedule tells of them, and both stations stand where they left them
 pub record StandsPairRun (ups downs : List Job) (turns : List PairTurn) (h : PairHistory) (a b : Contending) : Type 0 where
@@ -76,17 +77,9 @@ free_place : (sending : Bool) → is_receiving (place_of false sending) ≡ fals
 free_place true = refl
 free_place false = refl
 
--- a job has a block
-pub plan_some : (jobs : List Job) → 0 < length jobs → plan_of (blocks jobs) ≡ [] → ⊥
-plan_some jobs l e = let b = blocks_begun jobs l in let f : plan_of (b.first ∷ b.more) ≡ [] = ap plan_of (sym b.is) ∙ e in absurd cc
-
 pub cases_jobs : (jobs : List Job) → (jobs ≡ []) ⊎ (0 < length jobs)
 cases_jobs [] = inl refl
 cases_jobs (j ∷ js) = inr (omega arith)
-
-some_over : (jobs : List Job) (over : Bool) → 0 < length jobs → ((length jobs == 0) || over) ≡ over
-some_over [] over l = absurd (omega (arith, l))
-some_over (j ∷ js) over l = rw (none_not j js) refl
 
 module _ (jobs : List Job) (own other : History) (gb : Bool) (m n : ℕ) (s : Contending) (live : s.failed ≡ false) (place : s.contender.place ≡ place_of (is_open other) (is_sending own)) (p : SendsBy jobs own gb m n s.sender) where
   abbrev plan : Plan
@@ -112,7 +105,7 @@ module _ (jobs : List Job) (own other : History) (gb : Bool) (m n : ℕ) (s : Co
 
   some_is : 0 < length jobs → due_at s ≡ due plan g own other
   some_is l =
-      let over : s.sender.over ≡ is_over own = p.over ∙ some_over jobs (is_over own) l in
+      let over : s.sender.over ≡ is_over own = p.over ∙ some_jobs jobs (is_over own) l in
       elim (cases_Bool (is_open other)) [
         | inl o ↦ receives o ∙ sym (due_some plan g own other (plan_some jobs l) ∙ rw o refl)
         | inr o ↦

@@ -7,6 +7,7 @@ use Rattle.bsc_history.specs.History.{Plan}
 use Rattle.bsc_history.specs.Pair.{PairHistory}
 use Rattle.bsc_history.specs.PairSchedule.{PairPlace, ArePairsAt, IsPairSpokenOver}
 use Rattle.line_world.specs.PairRun.{TellsPairs}
+use Rattle.line_world.proofs.Telling.{get_append}
 
 pub pairs_length : (turns : List PairTurn) (places : List PairPlace) → TellsPairs turns places → length turns ≡ length places
 pairs_length [] [] t = refl
@@ -30,12 +31,6 @@ pairs_any every (x ∷ xs) =
       record { bids = x.bids; place = record { up = up.0; down = down.0; refused = false; wish = x.turn.wish; pause = x.turn.pause } } ∷ rest.0,
       (record { bids = refl; tells = record { up = up.1; down = down.1; wish = refl; pause = refl } }, rest.1),
     )
-
-get_append : {X : Type 0} (xs ys : List X) (k : ℕ) (x : X) → slice_get xs k ≡ Some x → slice_get (xs ++ ys) k ≡ Some x
-get_append [] ys zero x e = absurd cc
-get_append [] ys (suc k) x e = absurd cc
-get_append (z ∷ xs) ys zero x e = e
-get_append (z ∷ xs) ys (suc k) x e = get_append xs ys k x e
 
 -- what is at its place stays there in a longer schedule
 pub pairs_at_more : (places more : List PairPlace) (h : PairHistory) → ArePairsAt places h → ArePairsAt (places ++ more) h

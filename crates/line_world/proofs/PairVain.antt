@@ -26,7 +26,7 @@ use Rattle.line_world.proofs.SendingTurns.{turn_ends, turn_hears, cases_end}
 use Rattle.line_world.specs.Contending.{own_turn, other_turn}
 use Rattle.bsc_history.specs.Pair.{as_counted}
 use Rattle.line_world.specs.PairDriving.{SpeaksInVain, HearsNothing, after_end_of}
-use Rattle.line_world.proofs.Alone.{Laws, Listens, quiet_place, own_more, end_more, kept_jobs}
+use Rattle.line_world.proofs.Alone.{Laws, Listens, quiet_place, own_more, end_more, kept_jobs, end_jobs}
 use Rattle.bsc_history.proofs.ForRuns.{same-sound, vain-follows}
 use Rattle.line_world.proofs.PairCarried.{spoken_of_due, answered_of_due, due_kept}
 
@@ -95,10 +95,6 @@ taken_quiet own u e = rw e (quiet_place (receiver_after own) u.wish (receiver_af
 
 got_quiet : (own : History) (u : SpokenTurn) → u.arrived ≡ Sound.Quiet → got (u ∷ own) ≡ got own
 got_quiet own u e = rw e refl
-
-end_jobs : (say : Say) (x : Contending) → (after_end_of say x).receiver.jobs ≡ x.receiver.jobs
-end_jobs Say.End x = kept_jobs x.receiver.over x.receiver
-end_jobs _ x = refl
 
 pub vain_listens : (blocks : List Block) (own : History) (u : SpokenTurn) (x : Contending) → u.arrived ≡ Sound.Quiet → is_over own ≡ false → Listens blocks own x.receiver → Listens blocks (u ∷ own) (after_end_of u.said x).receiver
 vain_listens blocks own u x e goes p =

@@ -13,6 +13,7 @@ use Rattle.rje_jobs.specs.Joined.{ends_job}
 use Rattle.rje_station.specs.Sending.{next_in, next_after}
 use Rattle.bsc_history.specs.History.{what_follows, BeginsWithJob}
 use Rattle.line_world.specs.Plan.{plan_behind, plan_of, NextIsPlanned}
+use Rattle.rje_station.proofs.Uncounted.{blocks_begun}
 
 -- ---- What follows.
 
@@ -34,33 +35,5 @@ next_is_planned bs n =
 
 -- ---- Jobs have blocks.
 
-pub record Begun (bs : List Block) : Type 0 where
-  pub first : Block
-  pub more : List Block
-  pub is : bs ≡ first ∷ more
-
-begun_if : (c : Bool) (a b : List Block) → Begun a → Begun b → Begun (if c then a else b)
-begun_if true a b h k = h
-begun_if false a b h k = k
-
-cut_begun : (mode : Mode) (text : List ℕ) (rs : List Record) → Begun (cut_behind mode text rs)
-cut_begun mode text [] = record { first = _; more = []; is = refl }
-cut_begun mode text (r ∷ rs) =
-    begun_if (leb (length (text ++ spelling mode r)) 510) _ _ (cut_begun mode (text ++ spelling mode r) rs) (record { first = _; more = cut_behind mode (spelling mode r) rs; is = refl })
-
-job_begun : (j : Job) → Begun (blocks_of_job j)
-unfolding cut
-job_begun j = cut_begun j.mode _ j.records
-
-begun_append : (a b : List Block) → Begun a → Begun (a ++ b)
-begun_append a b h = record { first = h.first; more = h.more ++ b; is = ap (λ x. x ++ b) h.is }
-
-pub blocks_begun : (jobs : List Job) → 0 < length jobs → Begun (blocks jobs)
-blocks_begun [] h = absurd (omega (arith, h))
-blocks_begun (j ∷ js) h = begun_append (blocks_of_job j) (blocks js) (job_begun j)
-
 pub begins : (jobs : List Job) → 0 < length jobs → BeginsWithJob (plan_of (blocks jobs))
 begins jobs h = rw (blocks_begun jobs h).is refl
-
-pub blocks_some : (jobs : List Job) → 0 < length jobs → blocks jobs ≡ [] → ⊥
-blocks_some jobs h e = let b = blocks_begun jobs h in let c = sym b.is ∙ e in absurd cc

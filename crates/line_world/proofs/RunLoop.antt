@@ -29,13 +29,14 @@ use Rattle.bsc_history.specs.ReplyRule.{replying}
 use Rattle.bsc_history.specs.SayingRule.{saying}
 use Rattle.line_world.specs.Run.{TellsTurn, TellsSchedule, BreaksTurn, BreaksFirst, IsDriveFault, as_it_is, spoken_of, spoken_turns}
 use Rattle.line_world.proofs.Comings.{Told, tell, said_told}
-use Rattle.line_world.proofs.Planned.{begins, blocks_begun, blocks_some}
+use Rattle.rje_station.proofs.Uncounted.{blocks_begun, blocks_some}
+use Rattle.line_world.proofs.Planned.{begins}
 use Rattle.bsc_history.proofs.ForRuns.{conversations_are_spoken, sender_core_says}
 use Rattle.line_world.proofs.ReceivingTurns.{refused_block}
 use Rattle.line_world.proofs.RunTurns.{Laws, StandsRun, turn_of, turn_more, due_is, sent_is, goes_on, answer_is}
 use Rattle.line_world.proofs.Telling.{told_length, told_append, told_any, get_seam, spoken_longer}
 
-plan_some : (jobs : List Job) → 0 < length jobs → plan_of (blocks jobs) ≡ [] → ⊥
+pub plan_some : (jobs : List Job) → 0 < length jobs → plan_of (blocks jobs) ≡ [] → ⊥
 plan_some jobs l e = let b = blocks_begun jobs l in let f : plan_of (b.first ∷ b.more) ≡ [] = ap plan_of (sym b.is) ∙ e in absurd cc
 
 -- ---- The end.
@@ -102,7 +103,7 @@ empty_run laws turns =
 
 -- ---- A broken rule.
 
-drop_one : {X : Type 0} (n : ℕ) (xs : List X) (x : X) → slice_get xs n ≡ Some x → drop n xs ≡ x ∷ drop (suc n) xs
+pub drop_one : {X : Type 0} (n : ℕ) (xs : List X) (x : X) → slice_get xs n ≡ Some x → drop n xs ≡ x ∷ drop (suc n) xs
 drop_one zero [] x e = absurd cc
 drop_one (suc n) [] x e = absurd cc
 drop_one zero (y ∷ xs) x e = let same : y ≡ x = cc in ap (λ z. z ∷ xs) same

@@ -46,7 +46,7 @@ sends_first (j ∷ jobs) = record {
 
 -- ---- One turn.
 
-some_jobs : (jobs : List Job) (over : Bool) → 0 < length jobs → ((length jobs == 0) || over) ≡ over
+pub some_jobs : (jobs : List Job) (over : Bool) → 0 < length jobs → ((length jobs == 0) || over) ≡ over
 some_jobs [] over l = absurd (omega arith)
 some_jobs (j ∷ js) over l = rw (none_not j js) refl
 

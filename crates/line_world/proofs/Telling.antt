@@ -29,7 +29,7 @@ told_any every (x ∷ xs) =
     let rest = told_any every xs in
     (record { up = up.0; down = down.0; refused = false; wish = x.wish; pause = x.pause } ∷ rest.0, (record { up = up.1; down = down.1; wish = refl; pause = refl }, rest.1))
 
-get_append : {X : Type 0} (xs ys : List X) (k : ℕ) (x : X) → slice_get xs k ≡ Some x → slice_get (xs ++ ys) k ≡ Some x
+pub get_append : {X : Type 0} (xs ys : List X) (k : ℕ) (x : X) → slice_get xs k ≡ Some x → slice_get (xs ++ ys) k ≡ Some x
 get_append [] ys zero x e = absurd cc
 get_append [] ys (suc k) x e = absurd cc
 get_append (z ∷ xs) ys zero x e = e

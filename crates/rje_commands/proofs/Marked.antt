@@ -11,6 +11,7 @@ use Rattle.rje_commands.specs.Store.{FileMap, Discloses, IsSame, Sets, SetsByte}
 use Rattle.rje_commands.proofs.Growing.{same_after, set_again, set_over, set_there}
 use Rattle.rje_commands.proofs.Inputs.{same_twice, set_after}
 use Rattle.rje_commands.proofs.Sending.{marked_after}
+use Rattle.rje_commands.proofs.Received.{same_itself}
 
 -- a file that was set, and then a byte of it
 byte_set : (name bytes : List ℕ) (place byte : ℕ) (f g h : Option FileMap) → Discloses f g (Sets name bytes) → Discloses g h (SetsByte name place byte)
@@ -80,10 +81,6 @@ marks_on first old new start counted more f g h p q = (q.0 ∙ p.0, q.1 ∙ p.1,
 
 -- THE END
 
-same_still : (f : Option FileMap) → Discloses f f IsSame
-same_still None = tt
-same_still (Some f) = λ name. refl
-
 pub all_marked : (old new : Marker) (start counted : ℕ) (f g h : Option FileMap) → GoesOnMarking old new start counted f g
     → MarksSent new.file.items counted new.name.now g h
     → (files : Option FileMap) → Marks old start files f → MarksSent old.file.items counted old.name.now files h
@@ -102,5 +99,5 @@ begun (Ok x) marker file places name start counted f h same at of none zero are 
     subst (λ (bytes : List ℕ). MarksSent bytes counted name f h) same (subst (λ (n : List ℕ). MarksSent marker.file.items counted n f h) of (on f (record {
       places = subst (λ (bytes : List ℕ). AreMarks bytes marker.places.items) (sym same) (subst (AreMarks file) (sym at) are);
       all = λ goes_on. none ∙ sym zero;
-      file = inl (none, same_still f);
+      file = inl (none, same_itself f);
     })))

@@ -19,6 +19,7 @@ use Rattle.rje_files.specs.Unsent.{CanPass, IsLeft, IsSentFault, is_sent, with_s
 use Rattle.rje_files.proofs.OneFault.{one_fault, one_refusal}
 use Rattle.rje_files.proofs.OneFile.{one_file}
 use Rattle.rje_files.proofs.Sent.{kept, made}
+use Rattle.rje_text.proofs.Both.{both}
 
 abbrev pub IsGoodEntry : Entry → Type 0
 IsGoodEntry e = is_entry e ≡ true
@@ -51,13 +52,8 @@ all_of_version : (v : FileVersion) (es : List Entry) → AllByRecursion (FitsFie
 all_of_version v [] fit = tt
 all_of_version v (e ∷ es) fit = (of_version v e fit.0.2, all_of_version v es fit.1)
 
--- one that is made Sent
-named : (a b : Bool) → (a && b) ≡ true → a ≡ true
-named true b e = refl
-named false b e = cc
-
 good_sent : (e : Entry) → IsGoodEntry e → e.job.whole ≡ true → IsGoodEntry (record e { state = Sent })
-good_sent e good whole = rw (named (is_job_name e.name) (agrees e.state e.job.whole) good, whole) refl
+good_sent e good whole = rw ((both (is_job_name e.name) (agrees e.state e.job.whole) good).0, whole) refl
 
 all_sent : (n : ℕ) (es : List Entry) → AllByRecursion CanPass es → AreGood es → AreGood (with_sent n es)
 all_sent n [] pass good = tt

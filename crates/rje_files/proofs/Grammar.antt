@@ -19,6 +19,7 @@ use Rattle.rje_files.specs.JobFile.{record_bytes, records_bytes, select_byte, mo
 use Rattle.rje_files.specs.Reading.Grammar.{Number, AnyBytes, Records, Name, FromState, Fields, Counted, Entries, AfterVersion, version_read, File}
 use Rattle.rje_files.proofs.ActionBytes.{action_good, action_back}
 use Rattle.rje_files.proofs.Numbers.{number_there, number_back, below_all, none_above}
+use Rattle.rje_text.proofs.Both.{both, together}
 
 select_good : (s : Select) → select_byte s < 3
 select_good Unset = omega arith
@@ -48,13 +49,6 @@ state_good Waiting = omega arith
 state_good Sent = omega arith
 state_good Whole = omega arith
 state_good Cut = omega arith
-
-pub both : (p q : Bool) → (p && q) ≡ true → (p ≡ true) × (q ≡ true)
-both true q e = (refl, e)
-both false q e = cc
-
-pub one_and : (p q : Bool) → p ≡ true → q ≡ true → (p && q) ≡ true
-one_and p q e f = rw (e, f) refl
 
 name_there : (cs zs : List ℕ) (ended : Bool) (Rest : List ℕ → Type 0) → is_name_from ended cs ≡ true → Rest zs → Name (length cs) ended Rest (cs ++ zs)
 name_there [] zs ended Rest n h = h
@@ -185,7 +179,7 @@ name_back (suc n) ended Rest (x ∷ xs) h =
       taken = x ∷ more.taken;
       rest = more.rest;
       many = omega (arith, more.many);
-      good = one_and (may_stand ended x) (is_name_from (x == 0x20) more.taken) h.0 more.good;
+      good = together (may_stand ended x) (is_name_from (x == 0x20) more.taken) h.0 more.good;
       bytes = ap (λ (ys : List ℕ). x ∷ ys) more.bytes;
       then = more.then;
     }
@@ -218,7 +212,7 @@ behind_name Rest xs name (t ∷ s ∷ m ∷ ys) e h =
       entry = entry;
       rest = ys;
       kept = λ rs. refl;
-      fit = λ rs. (name.many, one_and (is_name_from false name.taken) (agrees state.0 (whole_of state.0)) name.good (agreed state.0));
+      fit = λ rs. (name.many, together (is_name_from false name.taken) (agrees state.0 (whole_of state.0)) name.good (agreed state.0));
       bytes = λ rs.
           rw (state.1, select.1, mode.1) (name.bytes ∙ ap (λ (zs : List ℕ). name.taken ++ zs) e ∙ sym (append_assoc name.taken (t ∷ s ∷ m ∷ []) ys));
       then = h.1.1.1;

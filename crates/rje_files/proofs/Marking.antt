@@ -16,6 +16,7 @@ use Rattle.rje_files.specs.Unsent.{CanPass, IsSentFile, is_sent, unsent, with_se
 use Rattle.rje_files.specs.Marks.{AreMarks}
 use Rattle.rje_files.proofs.OneFile.{one_file}
 use Rattle.rje_files.proofs.Sent.{none_left, kept, made}
+use Rattle.rje_text.proofs.Both.{both}
 
 -- the places of the state bytes of the entries that were not sent, where the first entry stands here
 abbrev pub marks_from : ℕ → List Entry → List ℕ
@@ -135,13 +136,9 @@ many (suc n) (e ∷ es) = go (is_sent e.state) (many (suc n) es) (many n es) whe
   go true all rest = ap suc all
   go false all rest = ap suc rest
 
-named : (a b : Bool) → (a && b) ≡ true → a ≡ true
-named true b e = refl
-named false b e = cc
-
 fits_marked : (e : Entry) → FitsFields Second e → e.job.whole ≡ true → FitsFields Second (marked e)
 fits_marked e (few, room, is) whole =
-    (few, room, (is.0, rw (named (is_job_name e.name) (agrees e.state e.job.whole) is.1, whole) refl))
+    (few, room, (is.0, rw ((both (is_job_name e.name) (agrees e.state e.job.whole) is.1).0, whole) refl))
 
 abbrev Fit : List Entry → Type 0
 Fit es = AllByRecursion (FitsFields Second) es

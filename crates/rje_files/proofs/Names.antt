@@ -3,14 +3,7 @@ use Rattle.std.proofs.Common.{◌≡◌, ℕ, zero, suc, ◌+◌, ◌-◌, ◌==
 use Rattle.std.proofs.lemmas.Bool.Decides.{nat_tests}
 use Rattle.rje_files.specs.Entry.{is_name_character, is_name_from, is_job_name, is_name_text}
 use Rattle.rje_files.specs.Laws.{NamesArePadded}
-
-both : (a b : Bool) → (a && b) ≡ true → (a ≡ true) × (b ≡ true)
-both true true e = (refl, refl)
-both true false e = cc
-both false b e = cc
-
-joined : (a b : Bool) → a ≡ true → b ≡ true → (a && b) ≡ true
-joined a b e f = rw (e, f) refl
+use Rattle.rje_text.proofs.Both.{both, together}
 
 -- behind a blank there are blanks alone
 blanks : (cs : List ℕ) → is_name_from true cs ≡ true → cs ≡ replicate (length cs) 0x20
@@ -43,7 +36,7 @@ parts (c ∷ cs) e = go (c == 0x20) refl (parts cs) e
         record {
           text = c ∷ rest.text;
           blanks = rest.blanks;
-          characters = joined (is_name_character c) (is_name_text rest.text) two.0 rest.characters;
+          characters = together (is_name_character c) (is_name_text rest.text) two.0 rest.characters;
           whole = ap (λ xs. c ∷ xs) rest.whole;
         }
 

@@ -7,12 +7,7 @@ use Rattle.rje_jobs.specs.declared.file_fault.FileFault.TheVariants.{OutOfMemory
 use Rattle.rje_files.specs.declared.entry.Entry.{Entry}
 use Rattle.rje_files.specs.Entry.{bad_entry}
 use Rattle.rje_files.specs.FileFault.{Begins, IsLongest, IsFaultAt, IsFileFault, IsEntryFault}
-
-take_take : (p q : ℕ) (xs : List ℕ) → p ≤ q → take p (take q xs) ≡ take p xs
-take_take zero q xs l = refl
-take_take (suc p) zero xs l = absurd (omega (arith, l))
-take_take (suc p) (suc q) [] l = refl
-take_take (suc p) (suc q) (x ∷ xs) l = ap (λ (ys : List ℕ). x ∷ ys) (take_take p q xs (omega (arith, l)))
+use Rattle.rje_text.proofs.Prefixes.{take_take}
 
 module _ (IsFile : List ℕ → Type 0) (bytes : List ℕ) where
   -- what begins a file begins one when it is cut

@@ -20,7 +20,7 @@ use Rattle.rje_files.specs.declared.job_file.version.FileVersion.TheVariants.{Fi
 use Rattle.rje_files.specs.Entry.{is_job_name, agrees, entry_of, whole_of as state_whole}
 use Rattle.rje_files.specs.JobFile.{record_bytes, records_bytes, select_byte, mode_byte, whole_byte, state_byte, version_byte, fields, entry_bytes, file_of, IsOfVersion, FitsFields, AreForFile, IsEntryFileOf}
 use Rattle.rje_files.proofs.ActionBytes.{same_action}
-use Rattle.rje_files.proofs.Grammar.{both}
+use Rattle.rje_text.proofs.Both.{both}
 
 abbrev select_of : ℕ → Select
 select_of zero = Unset

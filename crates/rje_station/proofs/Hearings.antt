@@ -11,6 +11,7 @@ use Rattle.bsc_frame.specs.Heard.{IsHeard}
 use Rattle.rje_station.specs.declared.came.Came.TheVariants.{Bytes, Quiet}
 use Rattle.rje_station.specs.Line.{Talk, Passes, Hears}
 use Rattle.rje_station.specs.Hearing.{Hearing, Babbling, Ends}
+use Rattle.rje_text.proofs.Prefixes.{take_take}
 
 pub record FedSo (listener : HeardSoFar) (room : ℕ) (t u : Talk) : Type 0 where
   pub fed : List ℕ
@@ -25,13 +26,6 @@ passes-on None b c P Q R f p q = tt
 passes-on (Some t) None c P Q R f p q = absurd p
 passes-on (Some t) (Some u) None P Q R f p q = absurd q
 passes-on (Some t) (Some u) (Some v) P Q R f p q = f t u v p q
-
--- the front of a front
-take-front_of : (k n : ℕ) (xs : List ℕ) → k ≤ n → take k (take n xs) ≡ take k xs
-take-front_of zero n xs h = refl
-take-front_of (suc k) zero xs h = absurd (omega (arith, h))
-take-front_of (suc k) (suc n) [] h = refl
-take-front_of (suc k) (suc n) (x ∷ xs) h = ap (λ ys. x ∷ ys) (take-front_of k n xs (omega (arith, h)))
 
 -- a front that passes a list
 take-past : (m : ℕ) (xs ys : List ℕ) → length xs ≤ m → take m (xs ++ ys) ≡ xs ++ take (m - length xs) ys
@@ -49,7 +43,7 @@ frame_heard p room n k used piece cut f t u v s h e kn kr told =
     let w = take n piece in
     let front = s.fed ++ take used cut in
     let rest = drop used cut ++ drop k w in
-    let cut_is : cut ≡ take k w = e ∙ sym (take-front_of k n piece kn) in
+    let cut_is : cut ≡ take k w = e ∙ sym (take_take k n piece kn) in
     let w_is : w ≡ take used cut ++ rest =
     sym (take-append-drop k w) ∙ ap (λ x. x ++ drop k w) (sym cut_is) ∙ ap (λ x. x ++ drop k w) (sym (take-append-drop used cut)) ∙ append_assoc (take used cut) (drop used cut) (drop k w) in
     let given_is : s.fed ++ w ≡ front ++ rest = ap (λ x. s.fed ++ x) w_is ∙ sym (append_assoc s.fed (take used cut) rest) in
@@ -100,7 +94,7 @@ pub babbled : (p : HeardSoFar) (room n k : ℕ) (piece cut : List ℕ) (t u v : 
     → ((bytes : List ℕ) → HasTaken p bytes → HasNoFrame (bytes ++ cut)) → Babbling t v
 babbled p room n k piece cut t u v s h e kr over within told =
     let w = take n piece in
-    let cut_is : cut ≡ take k w = e ∙ sym (take-front_of k n piece (omega (arith, kr))) in
+    let cut_is : cut ≡ take k w = e ∙ sym (take_take k n piece (omega (arith, kr))) in
     let left_is : 8192 - length s.fed ≡ k = omega (arith, s.counted, kr) in
     let first : take 8192 (s.fed ++ w) ≡ s.fed ++ cut =
     take-past 8192 s.fed w (omega (arith, s.counted)) ∙ ap (λ m. s.fed ++ take m w) left_is ∙ ap (λ x. s.fed ++ x) (sym cut_is) in

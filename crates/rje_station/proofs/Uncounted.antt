@@ -19,28 +19,29 @@ use Rattle.rje_station.specs.Uncounted.{more_in, IsPlace}
 
 -- ---- Cuts are never empty.
 
-record Begun (bs : List Block) : Type 0 where
-  first : Block
-  more : List Block
-  is : bs ≡ first ∷ more
+-- there is a first block
+pub record Begun (bs : List Block) : Type 0 where
+  pub first : Block
+  pub more : List Block
+  pub is : bs ≡ first ∷ more
 
-begun_if : (c : Bool) (a b : List Block) → Begun a → Begun b → Begun (if c then a else b)
+pub begun_if : (c : Bool) (a b : List Block) → Begun a → Begun b → Begun (if c then a else b)
 begun_if true a b h k = h
 begun_if false a b h k = k
 
-begun_append : (a b : List Block) → Begun a → Begun (a ++ b)
+pub begun_append : (a b : List Block) → Begun a → Begun (a ++ b)
 begun_append a b h = record { first = h.first; more = h.more ++ b; is = ap (λ x. x ++ b) h.is }
 
-cut_begun : (mode : Mode) (text : List ℕ) (rs : List Record) → Begun (cut_behind mode text rs)
+pub cut_begun : (mode : Mode) (text : List ℕ) (rs : List Record) → Begun (cut_behind mode text rs)
 cut_begun mode text [] = record { first = _; more = []; is = refl }
 cut_begun mode text (r ∷ rs) =
     begun_if (leb (length (text ++ spelling mode r)) 510) _ _ (cut_begun mode (text ++ spelling mode r) rs) (record { first = _; more = cut_behind mode (spelling mode r) rs; is = refl })
 
-cut_is : (j : Job) → blocks_of_job j ≡ cut_from j.select j.mode j.records 0
+pub cut_is : (j : Job) → blocks_of_job j ≡ cut_from j.select j.mode j.records 0
 unfolding cut
 cut_is j = refl
 
-blocks_begun : (jobs : List Job) → 0 < length jobs → Begun (blocks jobs)
+pub blocks_begun : (jobs : List Job) → 0 < length jobs → Begun (blocks jobs)
 blocks_begun [] h = absurd (omega (arith, h))
 blocks_begun (j ∷ js) h = begun_append (blocks_of_job j) (blocks js) (subst Begun (sym (cut_is j)) (cut_begun j.mode _ j.records))
 

@@ -6,23 +6,18 @@ use Rattle.std.proofs.lemmas.Bool.Decides.{nat_tests}
 use Rattle.rje_text.specs.declared.action.Action.{Action}
 use Rattle.rje_text.specs.declared.action.Action.TheVariants.{Plain, Single, Double, Triple, Suppress, Ch1, Ch2, Ch3, Ch4, Ch5, Ch6, Ch7, Ch8, Ch9, Ch10, Ch11, Ch12}
 use Rattle.rje_text.specs.Action.{code_of, has_code, coded_actions, action_of}
-
-some_same : {X : Type 0} (x y : X) → Some x ≡ Some y → x ≡ y
-some_same x y e = cc
-
-none_some : {X : Type 0} (x : X) → None ≡ Some x → ⊥
-none_some x e = cc
+use Rattle.std.proofs.lemmas.Option.{none-some, same_Some}
 
 true_false : false ≡ true → ⊥
 true_false e = cc
 
 find_step : {X : Type 0} (p : X → Bool) (y : X) (ys : List X) (x : X) (b : Bool) → p y ≡ b → (find p ys ≡ Some x → p x ≡ true) → cond b (Some y) (find p ys) ≡ Some x → p x ≡ true
-find_step p y ys x true t rest e = subst (λ z. p z ≡ true) (some_same y x e) t
+find_step p y ys x true t rest e = subst (λ z. p z ≡ true) (same_Some y x e) t
 find_step p y ys x false t rest e = rest e
 
 -- what find gives passes the test
 find_passes : {X : Type 0} (p : X → Bool) (xs : List X) (x : X) → find p xs ≡ Some x → p x ≡ true
-find_passes p [] x e = absurd (none_some x e)
+find_passes p [] x e = absurd (none-some x e)
 find_passes p (y ∷ ys) x e = find_step p y ys x (p y) refl (find_passes p ys x) e
 
 from_code : (a : Action) → option_map_or (λ c. action_of c) (code_of a) (Some a) ≡ Some a

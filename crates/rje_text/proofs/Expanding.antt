@@ -2,7 +2,7 @@
 use Rattle.std.proofs.Common.{◌≡◌, ◌≢◌, ℕ, zero, suc, ◌+◌, ◌-◌, ◌<◌, ◌≤◌, Bool, true, false, leb, eqb, List, [], ◌∷◌, ◌++◌, length, take, drop, replicate, get_or, Option, Some, None, refl, ap, sym, ◌∙◌, subst, arith, IsSome, is_some, cond, ap₂, ⊎_elim, inl, inr, ◌⊎◌}
 use Rattle.std.specs.Option.{option_map, option_and_then}
 use Rattle.std.proofs.lemmas.List.{append_assoc, length-append, append-nil, take_more, length-replicate, drop-append-le, length-take-le, take_all, drop_all, drop_more, get_or-drop, drop-drop, length-drop}
-use Rattle.std.proofs.lemmas.Option.{slice_get-get_or, slice_get_past}
+use Rattle.std.proofs.lemmas.Option.{slice_get-get_or, slice_get_past, none-some}
 use Rattle.std.proofs.lemmas.Bool.{cases_lt}
 use Rattle.std.proofs.lemmas.Bool.Decides.{nat_tests}
 use Rattle.bsc_codes.specs.Bytes.{BLANK, IGS, ESC}
@@ -185,9 +185,6 @@ pub record IsBuilt (text : List ℕ) (i : ℕ) (action : Action) (bytes : List �
   pub room : length (bytes ++ more) ≤ 144
   pub read : record_of text ≡ Some (record { action = action; bytes = record { items = bytes ++ more } })
 
-none_some : {X : Type 0} (x : X) → ◌≡◌ {A = Option X} None (Some x) → ⊥
-none_some x q = cc
-
 false_true : false ≡ true → ⊥
 false_true q = cc
 
@@ -207,11 +204,11 @@ nothing_built text n action head h =
     record { more = more; rest = rest; room = room; read = is ∙ read }
 
 onto_some : (x : ℕ) (o : Option (List ℕ)) (more : List ℕ) → option_map (λ ys. x ∷ ys) o ≡ Some more → (ys : List ℕ) × (o ≡ Some ys) × (more ≡ x ∷ ys)
-onto_some x None more h = absurd (none_some more h)
+onto_some x None more h = absurd (none-some more h)
 onto_some x (Some ys) more h = let e : more ≡ x ∷ ys = cc in (ys, refl, e)
 
 blanks_some : (bs : List ℕ) (o : Option (List ℕ)) (more : List ℕ) → option_map (λ ys. bs ++ ys) o ≡ Some more → (ys : List ℕ) × (o ≡ Some ys) × (more ≡ bs ++ ys)
-blanks_some bs None more h = absurd (none_some more h)
+blanks_some bs None more h = absurd (none-some more h)
 blanks_some bs (Some ys) more h = let e : more ≡ bs ++ ys = cc in (ys, refl, e)
 
 regrouped : (text : List ℕ) (i : ℕ) (action : Action) (bytes part ys : List ℕ) → expanded (drop i text) ≡ Some ys → length (bytes ++ (part ++ ys)) ≤ 144
@@ -233,12 +230,12 @@ built_byte text i action bytes b h e =
 -- an IGS has its count
 counted : (xs : List ℕ) (more : List ℕ) → expanded (IGS ∷ xs) ≡ Some more
     → (0 < length xs) × (is_count (get_or xs 0 0) ≡ true) × (expanded (IGS ∷ xs) ≡ option_map (λ ys. replicate (get_or xs 0 0 - BLANK) BLANK ++ ys) (expanded (drop 1 xs)))
-counted [] more h = absurd (none_some more h)
+counted [] more h = absurd (none-some more h)
 counted (c ∷ xs) more h = either (is_count c) refl
   where
     either : (b : Bool) → is_count c ≡ b → (0 < length (c ∷ xs)) × (is_count c ≡ true) × (expanded (IGS ∷ c ∷ xs) ≡ option_map (λ ys. replicate (c - BLANK) BLANK ++ ys) (expanded xs))
     either true e = (omega arith, e, expanded-igs c xs e)
-    either false e = absurd (none_some more (rw e at h))
+    either false e = absurd (none-some more (rw e at h))
 
 pub built_count : (text : List ℕ) (i : ℕ) (action : Action) (bytes : List ℕ) → IsBuilt text i action bytes → i < length text → get_or text i 0 ≡ IGS
     → (i + 1 < length text) × (BLANK < get_or text (i + 1) 0) × (length bytes + (get_or text (i + 1) 0 - BLANK) ≤ 144)

@@ -10,6 +10,7 @@ use Rattle.rje_text.specs.RecordText.{reads_record, reads_records}
 use Rattle.rje_text.specs.TextFault.{HasNoCount}
 use Rattle.rje_text.proofs.Expanding.{not_equal, no_count_past, no_count_at}
 use Rattle.rje_text.proofs.Lifting.{IsPart}
+use Rattle.std.proofs.lemmas.Option.{none-some}
 
 -- no byte of the text is an IRS
 abbrev pub LacksIrs : List ℕ → Type 0
@@ -96,9 +97,6 @@ take_split : (n m : ℕ) (xs : List ℕ) → take (n + m) xs ≡ take n xs ++ ta
 take_split n m xs =
     sym (take-append-drop n (take (n + m) xs)) ∙ ap (λ ys. ys ++ drop n (take (n + m) xs)) (take-take n (n + m) xs (omega arith)) ∙ ap (λ ys. take n xs ++ ys) (drop-take n m xs)
 
-none_some : {X : Type 0} (x : X) → ◌≡◌ {A = Option X} None (Some x) → ⊥
-none_some x q = cc
-
 false_true : false ≡ true → ⊥
 false_true q = cc
 
@@ -117,11 +115,11 @@ none_left text start more h e = same (sym e ∙ ap records_in (drop_all start te
     same q = cc
 
 first_some : (o : Option Record) (rest : Option (List Record)) (more : List Record) → one_first o rest ≡ Some more → IsSome o
-first_some None rest more h = absurd (none_some more h)
+first_some None rest more h = absurd (none-some more h)
 first_some (Some r) rest more h = refl
 
 parts : (r : Record) (rest : Option (List Record)) (more : List Record) → one_first (Some r) rest ≡ Some more → (later : List Record) × (rest ≡ Some later) × (more ≡ r ∷ later)
-parts r None more h = absurd (none_some more h)
+parts r None more h = absurd (none-some more h)
 parts r (Some later) more h = let e : more ≡ r ∷ later = cc in (later, refl, e)
 
 -- below, start is where a record's text begins in the text, and end is how long it is

@@ -1,3 +1,4 @@
+pub mod Both
 pub mod Blanks
 pub mod Expanding
 pub mod Lifting

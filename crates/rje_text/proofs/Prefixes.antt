@@ -1,5 +1,5 @@
 -- Beginnings of texts that read: a beginning reads too, unless it ends in an IGS, whose count then stands behind it.
-use Rattle.std.proofs.Common.{◌≡◌, ◌≢◌, ◌⊎◌, inl, inr, ℕ, ◌+◌, ◌-◌, ◌<◌, ◌≤◌, Bool, true, false, cond, eqb, leb, List, [], ◌∷◌, ◌++◌, length, replicate, get_or, Option, Some, None, refl, ap, sym, ◌∙◌, subst, arith, ⊎_elim, is_some}
+use Rattle.std.proofs.Common.{◌≡◌, ◌≢◌, ◌⊎◌, inl, inr, ℕ, ◌+◌, ◌-◌, ◌<◌, ◌≤◌, Bool, true, false, cond, eqb, leb, List, [], ◌∷◌, ◌++◌, length, replicate, get_or, Option, Some, None, refl, ap, sym, ◌∙◌, subst, arith, ⊎_elim, is_some, take, zero, suc}
 use Rattle.std.specs.Option.{option_map, option_and_then, option_map_or}
 use Rattle.std.proofs.lemmas.List.{append_assoc, length-append, length-replicate}
 use Rattle.std.proofs.lemmas.Bool.{cases_eq, cases_lt}
@@ -15,15 +15,17 @@ use Rattle.rje_text.specs.Reading.{is_count, expanded, record_with, record_of, r
 use Rattle.rje_text.specs.TextFault.{reads_normal}
 use Rattle.rje_text.proofs.Expanding.{not_equal, expanded-igs, expanded-byte}
 use Rattle.rje_text.proofs.Fronts.{LacksIrs, one_first, records_in-more, records_in-piece, records_in-nil}
+use Rattle.std.proofs.lemmas.Option.{none-some, same_Some}
 
-some_none : {X : Type 0} (x : X) → None ≡ Some x → ⊥
-some_none x e = cc
+-- the beginning of a beginning
+pub take_take : (p q : ℕ) (xs : List ℕ) → p ≤ q → take p (take q xs) ≡ take p xs
+take_take zero q xs l = refl
+take_take (suc p) zero xs l = absurd (omega (arith, l))
+take_take (suc p) (suc q) [] l = refl
+take_take (suc p) (suc q) (x ∷ xs) l = ap (λ (ys : List ℕ). x ∷ ys) (take_take p q xs (omega (arith, l)))
 
 true_false : false ≡ true → ⊥
 true_false e = cc
-
-some_same : {X : Type 0} (x y : X) → Some x ≡ Some y → x ≡ y
-some_same x y e = cc
 
 -- the last byte, and 0 where there is none
 abbrev pub last_of : List ℕ → ℕ
@@ -68,8 +70,8 @@ record ExpandsWithin (u : List ℕ) (n : ℕ) : Type 0 where
 
 -- what o and a function give, where both give something
 map_parts : {X Y : Type 0} (f : X → Y) (o : Option X) (y : Y) → option_map f o ≡ Some y → (x : X) × (o ≡ Some x) × (f x ≡ y)
-map_parts f None y e = absurd (some_none y e)
-map_parts f (Some x) y e = (x, refl, some_same (f x) y e)
+map_parts f None y e = absurd (none-some y e)
+map_parts f (Some x) y e = (x, refl, same_Some (f x) y e)
 
 within_byte : (x : ℕ) (u : List ℕ) (n : ℕ) → x ≢ IGS → ExpandsWithin u n → ExpandsWithin (x ∷ u) (n + 1)
 within_byte x u n h w =
@@ -99,7 +101,7 @@ count_parts c xs ys e = by (is_count c) refl
     by true t =
         let p = map_parts (λ zs. replicate (c - BLANK) BLANK ++ zs) (expanded xs) ys (sym (expanded-igs c xs t) ∙ e) in
         (t, (p.0, p.1, omega (arith, ap length p.2, length-append (replicate (c - BLANK) BLANK) p.0, length-replicate (c - BLANK) BLANK)))
-    by false t = absurd (some_none ys (sym (no_count c xs t) ∙ e))
+    by false t = absurd (none-some ys (sym (no_count c xs t) ∙ e))
 
 wider : (u : List ℕ) (m n : ℕ) → m ≤ n → ExpandsWithin u m → ExpandsWithin u n
 wider u m n l w = record { data_of = w.data_of; is = w.is; within = omega (arith, w.within); ends = w.ends }
@@ -114,7 +116,7 @@ count_step c u v ys zs h l (inl w) = inl (wider (IGS ∷ c ∷ u) ((c - BLANK) +
 count_step c u v ys zs h l (inr o) = inr (last_igs c u o.0, o.1)
 
 igs_end : (v ys : List ℕ) → expanded (IGS ∷ v) ≡ Some ys → IsOpen (IGS ∷ []) v
-igs_end [] ys e = absurd (some_none ys e)
+igs_end [] ys e = absurd (none-some ys e)
 igs_end (c ∷ v) ys e = (refl, (count_parts c v ys e).0)
 
 expanded_front : (u v ys : List ℕ) → expanded (u ++ v) ≡ Some ys → ExpandsWithin u (length ys) ⊎ IsOpen u v
@@ -182,7 +184,7 @@ head_is : (x c : ℕ) (a : Action) → head_action x c ≡ Some a → (x ≡ ESC
 head_is x c a h =
     ⊎_elim
     (λ (e : x ≡ ESC). (e, subst (λ z. head_action z c ≡ Some a) e h))
-    (λ (n : x ≢ ESC). absurd (some_none a (rw (not_equal x ESC n) at h)))
+    (λ (n : x ≢ ESC). absurd (none-some a (rw (not_equal x ESC n) at h)))
     (cases_eq x ESC)
 
 igs_acts_not : action_of IGS ≡ None
@@ -190,7 +192,7 @@ unfolding action_of
 igs_acts_not = refl
 
 code_other : (c : ℕ) (a : Action) → action_of c ≡ Some a → c ≢ IGS
-code_other c a h e = some_none a (sym igs_acts_not ∙ subst (λ z. action_of z ≡ Some a) e h)
+code_other c a h e = none-some a (sym igs_acts_not ∙ subst (λ z. action_of z ≡ Some a) e h)
 
 esc_reads : reads_record (ESC ∷ []) ≡ true
 unfolding record_of

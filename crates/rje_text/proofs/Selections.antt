@@ -17,6 +17,7 @@ use Rattle.rje_text.specs.TextFault.{LacksCount, PassesLimit, reads_normal}
 use Rattle.rje_text.specs.RecordText.{HasFront, unpacked, reads_records, IsFaultFrom, IsNormalFault}
 use Rattle.rje_text.proofs.Expanding.{not_equal}
 use Rattle.rje_text.proofs.Lifting.{IsPart, rest_is_part, lift_fault}
+use Rattle.std.proofs.lemmas.Option.{none-some}
 
 unselected : (so_far : Option Mode) (text : List ℕ) → selection_in so_far text ≡ None → normal_reading so_far text ≡ option_map (unpacked Unset) (records_in text)
 unfolding normal_reading
@@ -34,16 +35,13 @@ no_front so_far text h = record { within = omega arith; reads = λ k l. unselect
 false_true : false ≡ true → ⊥
 false_true q = cc
 
-none_some : {X : Type 0} (x : X) → ◌≡◌ {A = Option X} None (Some x) → ⊥
-none_some x q = cc
-
 selected_first : (x : ℕ) (xs : List ℕ) (select : Select) → selection_in None (x ∷ xs) ≡ Some select → normal_reading None (x ∷ xs) ≡ option_map (unpacked select) (records_in xs)
 unfolding normal_reading
 selected_first x xs select h = rw h refl
 
 pub one_front : (so_far : Option Mode) (text : List ℕ) (select : Select) → selection_in so_far text ≡ Some select → HasFront so_far text 1 select
-one_front (Some mode) text select h = absurd (none_some select h)
-one_front None [] select h = absurd (none_some select h)
+one_front (Some mode) text select h = absurd (none-some select h)
+one_front None [] select h = absurd (none-some select h)
 one_front None (x ∷ xs) select h = record { within = omega arith; reads = longer }
   where
     longer : (k : ℕ) → 1 ≤ k → normal_reading None (take k (x ∷ xs)) ≡ option_map (unpacked select) (records_in (drop 1 (take k (x ∷ xs))))

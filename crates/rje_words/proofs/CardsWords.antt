@@ -21,6 +21,7 @@ use Rattle.rje_words.specs.Orders.{IsCards}
 use Rattle.rje_words.specs.WordsFault.{IsRefusedFor, IsWantOfMemory}
 use Rattle.rje_words.proofs.CardsLevel.{AllFilesFit, AllFit, FileFits, Repeats, Reads, Seen, cards, cards_fault, cards_met, is_seen, level_conflicts, level_passes, nothing_seen, rules, with_file, with_option, with_word, with_words}
 use Rattle.rje_words.proofs.FileWords.{apart, memory_only, no_address, no_socket}
+use Rattle.rje_text.proofs.Both.{both}
 
 -- OPTIONS THAT WERE SEEN
 
@@ -172,10 +173,6 @@ names_fit ws (Some name) h = (subst (NamesFit None) (sym h.0) h.1, ap (name_afte
 abbrev NoneAgain : List CardsWord → Seen → Type 0
 NoneAgain ws seen = (o : CardsOption) → (is_seen o seen && is_among o ws) ≡ false
 
-both_true : (a b : Bool) → (a && b) ≡ true → (a ≡ true) × (b ≡ true)
-both_true true b e = (refl, e)
-both_true false b e = cc
-
 not_true : (b : Bool) → not b ≡ true → b ≡ false
 not_true true e = cc
 not_true false e = refl
@@ -231,7 +228,7 @@ all_fit (named name ∷ ws) seen files names once none =
     still transparent = refl
     still append = refl
 all_fit (option given ∷ ws) seen files names once none =
-    let parts = both_true (not (is_among given ws)) (has_each_once ws) once in (
+    let parts = both (not (is_among given ws)) (has_each_once ws) once in (
       fresh (is_seen given seen) (is_same given given) (is_among given ws) (none given) (same_option given),
       all_fit ws (with_option given seen) (same_files given) (subst (λ o. NamesFit o (names_in ws)) (sym (option_unnamed given seen)) names) parts.1 (λ o. ap (λ b. b && is_among o ws) (option_seen o given seen)
           ∙ later_fresh (is_seen o seen) (is_same given o) (is_among o ws) (none o) (same_among given o ws (not_true (is_among given ws) parts.0))),
