@@ -3,3 +3,4 @@ pub mod BlockListing
 pub mod JobTexts
 pub mod ReportTexts
 pub mod Script
+pub mod TurnTexts

@@ -10,6 +10,7 @@ mod report_lines;
 mod report_text;
 mod script;
 mod script_fault;
+mod turn_lines;
 
 pub use job_lines::{cards_text, good_text};
 pub use job_texts::{entries_text, papers_text};
@@ -19,3 +20,4 @@ pub use report_lines::{counted_text, handed_text, outcome_text};
 pub use report_text::run_text;
 pub use script::read_script;
 pub use script_fault::ScriptFault;
+pub use turn_lines::{both_text, peer_text, receiver_text, sender_text};

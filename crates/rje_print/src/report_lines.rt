@@ -88,7 +88,7 @@ fn name_of(outcome: Option<Outcome>) -> &'static [u8]
     }
 }
 
-fn say_text(said: Say) -> &'static [u8]
+pub(crate) fn say_text(said: Say) -> &'static [u8]
     ensures name { result.now ≡ say_name said }
     ensures short { length result.now ≤ 6 }
 {
@@ -103,7 +103,7 @@ fn say_text(said: Say) -> &'static [u8]
     }
 }
 
-fn arrived_text(arrived: Sound, refused: bool) -> &'static [u8]
+pub(crate) fn arrived_text(arrived: Sound, refused: bool) -> &'static [u8]
     ensures name { result.now ≡ arrived_name arrived refused }
     ensures short { length result.now ≤ 6 }
 {
@@ -114,7 +114,7 @@ fn arrived_text(arrived: Sound, refused: bool) -> &'static [u8]
     }
 }
 
-fn reply_text(reply: Option<Reply>) -> &'static [u8]
+pub(crate) fn reply_text(reply: Option<Reply>) -> &'static [u8]
     ensures name { result.now ≡ reply_name reply }
     ensures short { length result.now ≤ 6 }
 {
@@ -128,7 +128,7 @@ fn reply_text(reply: Option<Reply>) -> &'static [u8]
     }
 }
 
-fn sound_text(sound: Sound) -> &'static [u8]
+pub(crate) fn sound_text(sound: Sound) -> &'static [u8]
     ensures name { result.now ≡ sound_name sound }
     ensures short { length result.now ≤ 6 }
 {
