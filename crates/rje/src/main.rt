@@ -2,6 +2,8 @@
 #![tactic(auto)]
 
 use rje_commands::{CommandFault, FileStore, command, is_for_sockets, socket_command};
+use std::fs::File;
+use std::os::fd::AsRawFd;
 use std::process::ExitCode;
 use std::{env, io};
 
@@ -19,6 +21,7 @@ fn run(rt: &HostRuntime) -> io::Result<u8> {
     let words: Vec<&str> = words.iter().map(|word| word.as_str()).collect(alloc)?;
     let mut store = FileStore::new(rt, alloc);
     if is_for_sockets(words.as_slice()) {
+        let _held = [held_number(rt), held_number(rt), held_number(rt)];
         return Ok(socket_command(
             rt,
             alloc,
@@ -36,6 +39,16 @@ fn run(rt: &HostRuntime) -> io::Result<u8> {
         &mut rt.stdout(),
         &mut rt.stderr(),
     ))
+}
+
+/// The null device, for reading, under the number of a standard stream that is closed. Else a file or a connection would get the number, and
+/// with it what is written to the stream.
+fn held_number(rt: &HostRuntime) -> Option<File> {
+    let null = File::open(rt, "/dev/null").ok()?;
+    match null.as_raw_fd() {
+        0..=2 => Some(null),
+        _ => None,
+    }
 }
 
 /// Tells why the words can't be had: there is no memory for them, or they are no text.
