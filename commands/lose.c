@@ -1,16 +1,22 @@
-/* Loaded before the C library (LD_PRELOAD): as many of the first transmissions of the process as LOSE says are lost on their way. */
+/* Loaded before the C library (LD_PRELOAD): of the transmissions of the process as many pass as PASS says, none where it isn't set, and then
+   as many are lost on their way as LOSE says. */
 #define _GNU_SOURCE
 #include <dlfcn.h>
 #include <stdlib.h>
 #include <sys/socket.h>
 
+static long number_in(const char *name)
+{
+    const char *text = getenv(name);
+    return text ? atol(text) : 0;
+}
+
 ssize_t send(int socket, const void *bytes, size_t length, int flags)
 {
     static ssize_t (*real)(int, const void *, size_t, int);
     static long sent;
-    const char *lost = getenv("LOSE");
-    sent++;
-    if (lost && sent <= atol(lost))
+    long behind = ++sent - number_in("PASS");
+    if (behind > 0 && behind <= number_in("LOSE"))
         return (ssize_t)length;
     if (!real)
         real = (ssize_t (*)(int, const void *, size_t, int))dlsym(RTLD_NEXT, "send");

@@ -4,9 +4,9 @@ _rje() {
     local commands='blocks cards show check print try loop send receive help' words=--help
     case $command in
     cards) words+=' --printer --punch --transparent --name --append' ;;
-    loop) words+=' --timeout' ;;
-    send) words+=' --to --timeout' ;;
-    receive) words+=' --listen --timeout' ;;
+    loop) words+=' --timeout --trace' ;;
+    send) words+=' --to --timeout --trace' ;;
+    receive) words+=' --listen --timeout --trace' ;;
     esac
     COMPREPLY=()
     if [ "$COMP_CWORD" = 1 ]; then

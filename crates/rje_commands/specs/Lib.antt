@@ -9,3 +9,4 @@ pub mod Command
 pub mod Ending
 pub mod Patience
 pub mod Marking
+pub mod Tracing

@@ -13,6 +13,7 @@ use crate::broken_off::BrokenOff;
 use crate::keeper::Keeper;
 use crate::marker::Marker;
 use crate::store::Store;
+use crate::watch::Watch;
 use bsc_link::{Say, Sound, Wish};
 use line_world::Spoken;
 use rje_station::{Arrival, Line, ReceivingStation, SendingStation, StationFault};
@@ -34,11 +35,12 @@ pub enum Left {
 
 /// Sends what the station has, to the end of its transmission. Each job is marked in its file as soon as it is counted; where that fails, no
 /// more are, and the transmission goes on.
-pub fn send_all<'a, L: Line, S: Store>(
+pub fn send_all<'a, L: Line, S: Store, W: Watch>(
     station: &mut SendingStation,
     line: &mut L,
     marker: &mut Marker<'a>,
     store: &mut S,
+    watch: &mut W,
 ) -> Result<(), StationFault>
     ensures took { OnOk result (SendsToEnd station.old station.new) }
     ensures fault { IfErr result (SendsToFault station.old station.new) }
@@ -47,7 +49,7 @@ pub fn send_all<'a, L: Line, S: Store>(
         station.new.counted (S.files store.old) (S.files store.new)) }
 {
     for _ in 0..u64::MAX {
-        if !speak_hear_and_mark(station, line, marker, store)? {
+        if !speak_hear_and_mark(station, line, marker, store, watch)? {
             return Ok(());
         }
     }
@@ -55,11 +57,12 @@ pub fn send_all<'a, L: Line, S: Store>(
 }
 
 /// One turn of a sending station, and whether there is one; then as many jobs are marked as it has counted.
-fn speak_hear_and_mark<'a, L: Line, S: Store>(
+fn speak_hear_and_mark<'a, L: Line, S: Store, W: Watch>(
     station: &mut SendingStation,
     line: &mut L,
     marker: &mut Marker<'a>,
     store: &mut S,
+    watch: &mut W,
 ) -> Result<bool, StationFault>
     ensures takes { IfOk result (λ is_turn. is_turn ≡ true → (t : SpokenTurn)
         × SenderTakes station.old station.new t) }
@@ -72,13 +75,17 @@ fn speak_hear_and_mark<'a, L: Line, S: Store>(
     ensures still { marker.new.marked ≡ marker.old.marked
         → Discloses (S.files store.old) (S.files store.new) IsSame }
 {
-    let is_turn = speak_and_hear(station, line)?;
+    let is_turn = speak_and_hear(station, line, watch)?;
     marker.mark(station.counted(), store);
     Ok(is_turn)
 }
 
 /// One turn of a sending station, and whether there is one: it says what is due, and but for EOT it listens.
-fn speak_and_hear<L: Line>(station: &mut SendingStation, line: &mut L) -> Result<bool, StationFault>
+fn speak_and_hear<L: Line, W: Watch>(
+    station: &mut SendingStation,
+    line: &mut L,
+    watch: &mut W,
+) -> Result<bool, StationFault>
     ensures takes { IfOk result (λ is_turn. is_turn ≡ true → (t : SpokenTurn)
         × SenderTakes station.old station.new t) }
     ensures over { IfOk result (λ is_turn. is_turn ≡ false → (station.old.over ≡ true)
@@ -87,9 +94,13 @@ fn speak_and_hear<L: Line>(station: &mut SendingStation, line: &mut L) -> Result
     ensures status { IfErr result (λ fault. IsFailing (status_of (of_station fault))) }
 {
     match station.speak(line) {
-        Ok(Say::End) => Ok(true),
-        Ok(_) => {
-            station.hear(line, false)?;
+        Ok(Say::End) => {
+            watch.sender_took(Say::End, Sound::Quiet);
+            Ok(true)
+        }
+        Ok(said) => {
+            let heard = station.hear(line, false)?;
+            watch.sender_took(said, heard);
             Ok(true)
         }
         Err(StationFault::Over) => Ok(false),
@@ -99,11 +110,12 @@ fn speak_and_hear<L: Line>(station: &mut SendingStation, line: &mut L) -> Result
 
 /// Receives what comes, until the sender ends the transmission or stays quiet for long. Each job is kept before its last block is
 /// answered; where it can't be, the station leaves.
-pub fn receive_all<'a, L: Line, S: Store>(
+pub fn receive_all<'a, L: Line, S: Store, W: Watch>(
     station: &mut ReceivingStation,
     line: &mut L,
     keeper: &mut Keeper<'a>,
     store: &mut S,
+    watch: &mut W,
 ) -> Result<Left, BrokenOff<'a>>
     ensures left { IfOk result (λ left. LeavesSo left station.old station.new) }
     ensures fault { IfErr result (BreaksOff station.old station.new) }
@@ -115,7 +127,7 @@ pub fn receive_all<'a, L: Line, S: Store>(
         (L.transmissions line.old) (L.transmissions line.new)
         (S.files store.old) (S.files store.new)) }
 {
-    let left = hear_out(station, line, keeper, store)?;
+    let left = hear_out(station, line, keeper, store, watch)?;
     if left == Left::Abandoned {
         station.abandon();
     }
@@ -123,11 +135,12 @@ pub fn receive_all<'a, L: Line, S: Store>(
 }
 
 /// Receives until the sender ends the transmission, or there is no more hope of it.
-fn hear_out<'a, L: Line, S: Store>(
+fn hear_out<'a, L: Line, S: Store, W: Watch>(
     station: &mut ReceivingStation,
     line: &mut L,
     keeper: &mut Keeper<'a>,
     store: &mut S,
+    watch: &mut W,
 ) -> Result<Left, BrokenOff<'a>>
     ensures heard { IfOk result (λ left. HearsOut left station.old station.new) }
     ensures fault { IfErr result (BreaksOff station.old station.new) }
@@ -141,7 +154,7 @@ fn hear_out<'a, L: Line, S: Store>(
 {
     let mut quiet = 0;
     for _ in 0..MAX_HEARINGS {
-        if !hear_keep_and_speak(station, line, keeper, store)? {
+        if !hear_keep_and_speak(station, line, keeper, store, watch)? {
             return Ok(Left::Ended);
         }
         quiet = quiet_after(quiet, station);
@@ -170,11 +183,12 @@ fn quiet_after(quiet: u32, station: &ReceivingStation) -> u32
 
 /// One turn of a receiving station: it listens, it keeps the job that has come to its end, and it replies where the transmission isn't
 /// over, which is answered. Where the job can't be kept, it leaves and doesn't reply.
-fn hear_keep_and_speak<'a, L: Line, S: Store>(
+fn hear_keep_and_speak<'a, L: Line, S: Store, W: Watch>(
     station: &mut ReceivingStation,
     line: &mut L,
     keeper: &mut Keeper<'a>,
     store: &mut S,
+    watch: &mut W,
 ) -> Result<bool, BrokenOff<'a>>
     ensures takes { OnOk result ((t : SpokenTurn) × ReceiverTakes station.old station.new t
         × (L.transmissions line.new ≡ after_answer t (L.transmissions line.old))) }
@@ -190,31 +204,43 @@ fn hear_keep_and_speak<'a, L: Line, S: Store>(
         (S.files store.old) (S.files store.new)) }
 {
     station.hear(line, Wish::Go)?;
+    let Some(arrival) = station.arrival() else {
+        unreachable!()
+    };
     if let Err(fault) = keeper.keep(station.jobs(), store) {
         station.abandon();
+        watch.receiver_took(arrival, None);
         return Err(BrokenOff::File(fault));
     }
     match station.speak(line) {
-        Ok(_) => Ok(true),
-        Err(StationFault::Over) => Ok(false),
+        Ok(reply) => {
+            watch.receiver_took(arrival, reply);
+            Ok(true)
+        }
+        Err(StationFault::Over) => {
+            watch.receiver_took(arrival, None);
+            Ok(false)
+        }
         Err(fault) => Err(BrokenOff::Line(fault)),
     }
 }
 
 /// Lets a sender and a receiver take turns, each at its end of a line, to the end of the transmission.
-pub fn take_turns<N: Line, F: Line>(
+pub fn take_turns<N: Line, F: Line, W: Watch>(
     sender: &mut SendingStation,
     near: &mut N,
     receiver: &mut ReceivingStation,
     far: &mut F,
+    watch: &mut W,
 ) -> Result<(), StationFault>
     ensures took { OnOk result (BothToEnd sender.old sender.new receiver.old receiver.new) }
     ensures fault { IfErr result (BothToFault sender.old sender.new receiver.old receiver.new) }
 {
     for _ in 0..u64::MAX {
-        let Some(_) = take_turn(sender, near, receiver, far)? else {
+        let Some(turn) = take_turn(sender, near, receiver, far)? else {
             return Ok(());
         };
+        watch.both_took(&turn);
     }
     Ok(())
 }

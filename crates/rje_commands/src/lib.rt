@@ -16,6 +16,8 @@ mod socket_commands;
 mod socket_line;
 mod store;
 mod telling;
+mod tracer;
+mod watch;
 
 pub use command_fault::CommandFault;
 pub use file_store::FileStore;

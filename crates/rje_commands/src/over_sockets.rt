@@ -7,6 +7,7 @@ use rje_words::{Order, SocketOrder, parse};
 use std::alloc::Global;
 use std::io::Write;
 use std::net::Net;
+use std::time::Clock;
 
 /// Whether these words, which are those behind the program's name, ask for a command over sockets.
 pub fn is_for_sockets(words: &[&str]) -> bool {
@@ -17,8 +18,8 @@ pub fn is_for_sockets(words: &[&str]) -> bool {
 }
 
 /// Runs the command over sockets that these words ask for, and answers its exit status. What the command gives goes to `out`, and why it
-/// fails to `err`.
-pub fn socket_command<R: Net, S: Store, O: Write, E: Write>(
+/// fails to `err`, and its turns as they happen where that is asked for.
+pub fn socket_command<R: Net + Clock, S: Store, O: Write, E: Write>(
     rt: &R,
     alloc: Global,
     words: &[&str],
@@ -32,9 +33,9 @@ pub fn socket_command<R: Net, S: Store, O: Write, E: Write>(
         Err(fault) => return tell_words(&fault, out, err),
     };
     let ended = match order {
-        SocketOrder::Loop(order) => loopback(rt, alloc, order, store, out),
-        SocketOrder::Send(order) => send(rt, alloc, order, store, out),
-        SocketOrder::Receive(order) => return receive(rt, alloc, order, store, out, err),
+        SocketOrder::Loop(order) => loopback(rt, alloc, order, store, out, err),
+        SocketOrder::Send(order) => send(rt, alloc, order, store, out, err),
+        SocketOrder::Receive(order) => receive(rt, alloc, order, store, out, err),
     };
     match ended {
         Ok(ending) => Ending::status(ending),

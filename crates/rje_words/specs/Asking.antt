@@ -62,16 +62,19 @@ abbrev pub IsTimeoutOf : Option Text → ℕ → Type 0
 IsTimeoutOf (Some text) timeout = let digits = without_leading_plus text in IsNumeral 10 digits → digits_value 10 digits < 2 ^ 16 → timeout ≡ digits_value 10 digits
 IsTimeoutOf None timeout = timeout ≡ 3000
 
--- the order has the job file and the time-out that were found
+-- the order has the job file and the time-out that were found, and tells each turn where that option was
 pub record IsLoopOrderOf (rows : List Row) (order : LoopOrder) : Type 0 where
   pub jobs : order.jobs.now ≡ word_in (codes "JOBS") rows
   pub timeout : IsTimeoutOf (one_of (codes "timeout") rows) order.timeout
+  pub trace : order.trace ≡ is_on (codes "trace") rows
 
--- the order has the job file, the time-out and the address that were found, the address by this option
+-- the order has the job file, the time-out and the address that were found, the address by this option, and tells each turn where the option
+-- for that was
 pub record IsPeerOrderOf (id : Text) (rows : List Row) (order : PeerOrder) : Type 0 where
   pub jobs : order.jobs.now ≡ word_in (codes "JOBS") rows
   pub address : IsAddressOf (word_in id rows) (Some order.address)
   pub timeout : IsTimeoutOf (one_of (codes "timeout") rows) order.timeout
+  pub trace : order.trace ≡ is_on (codes "trace") rows
 
 -- the order is that of the command of this name, with the values that were found
 abbrev pub IsOrderOf : Text → List Row → Order → Type 0

@@ -43,6 +43,10 @@ timeout_rule = record (new_rule (codes "timeout")) {
   defaults = codes "3000" ∷ [];
 }
 
+-- the option to tell each turn
+abbrev pub trace_rule : Rule
+trace_rule = flag_rule (codes "trace")
+
 -- a command of this name with one file
 abbrev pub file_app : Text → Text → App
 file_app name id = with_rule (new_app name) (file_rule id)
@@ -67,15 +71,15 @@ try_app = with_rule (file_app (codes "try") (codes "JOBS")) (file_rule (codes "S
 
 -- `loop JOBS`
 abbrev pub loop_app : App
-loop_app = with_rule (file_app (codes "loop") (codes "JOBS")) timeout_rule
+loop_app = with_rule (with_rule (file_app (codes "loop") (codes "JOBS")) timeout_rule) trace_rule
 
 -- `send JOBS --to ADDR`
 abbrev pub send_app : App
-send_app = with_rule (with_rule (file_app (codes "send") (codes "JOBS")) (address_rule (codes "to"))) timeout_rule
+send_app = with_rule (with_rule (with_rule (file_app (codes "send") (codes "JOBS")) (address_rule (codes "to"))) timeout_rule) trace_rule
 
 -- `receive JOBS --listen ADDR`
 abbrev pub receive_app : App
-receive_app = with_rule (with_rule (file_app (codes "receive") (codes "JOBS")) (address_rule (codes "listen"))) timeout_rule
+receive_app = with_rule (with_rule (with_rule (file_app (codes "receive") (codes "JOBS")) (address_rule (codes "listen"))) timeout_rule) trace_rule
 
 abbrev pub rje_app : App
 rje_app =

@@ -71,6 +71,8 @@ pub struct LoopOrder<'a> {
     pub jobs: &'a str,
     /// How long a hearing waits for more bytes, in milliseconds, 1 to 60000.
     pub timeout: u16,
+    /// Whether each turn is told on standard error as it happens.
+    pub trace: bool,
 }
 
 /// What `send` and `receive` are asked for.
@@ -82,4 +84,6 @@ pub struct PeerOrder<'a> {
     pub address: SocketAddr,
     /// How long a hearing waits for more bytes, in milliseconds, 1 to 60000.
     pub timeout: u16,
+    /// Whether each turn is told on standard error as it happens.
+    pub trace: bool,
 }

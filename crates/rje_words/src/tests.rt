@@ -101,6 +101,7 @@ fn commands_over_sockets(rt: HostRuntime) {
         Order::Sockets(SocketOrder::Loop(LoopOrder {
             jobs: "jobs.rje",
             timeout: 250,
+            trace: false,
         })),
     );
     assert_order(
@@ -110,6 +111,7 @@ fn commands_over_sockets(rt: HostRuntime) {
             jobs: "jobs.rje",
             address: local(3780),
             timeout: 3000,
+            trace: false,
         })),
     );
     assert_order(
@@ -125,6 +127,7 @@ fn commands_over_sockets(rt: HostRuntime) {
             jobs: "jobs.rje",
             address: local(0),
             timeout: 60000,
+            trace: false,
         })),
     );
 }
@@ -227,6 +230,44 @@ fn append_stands_among_the_other_words(rt: HostRuntime) {
     assert_refused(
         &rt,
         &["show", "jobs", "--append"],
+        ErrorKind::UnknownArgument,
+    );
+}
+
+/// Whether a command over sockets is asked to tell its turns, where one is asked for.
+fn traces<'a>(rt: &impl AllocGlobal, words: &'a [&'a str]) -> Option<bool> {
+    match parse(rt.alloc(), words) {
+        Ok(Order::Sockets(SocketOrder::Loop(order))) => Some(order.trace),
+        Ok(Order::Sockets(SocketOrder::Send(order) | SocketOrder::Receive(order))) => {
+            Some(order.trace)
+        }
+        _ => None,
+    }
+}
+
+#[test]
+fn trace_stands_among_the_other_words(rt: HostRuntime) {
+    let address = "127.0.0.1:3780";
+    assert!(rt; traces(&rt, &["loop", "jobs"]) == Some(false));
+    assert!(rt; traces(&rt, &["loop", "jobs", "--trace"]) == Some(true));
+    assert!(rt; traces(&rt, &["loop", "--trace", "--timeout", "1", "jobs"]) == Some(true));
+    assert!(rt; traces(&rt, &["send", "jobs", "--to", address]) == Some(false));
+    assert!(rt; traces(&rt, &["send", "--trace", "jobs", "--to", address]) == Some(true));
+    assert!(rt; traces(&rt, &["receive", "jobs", "--listen", address]) == Some(false));
+    assert!(rt; traces(&rt, &["receive", "jobs", "--listen", address, "--trace"]) == Some(true));
+    assert_refused(
+        &rt,
+        &["loop", "--trace", "jobs", "--trace"],
+        ErrorKind::ArgumentConflict,
+    );
+    assert_refused(
+        &rt,
+        &["loop", "jobs", "--trace=on"],
+        ErrorKind::TooManyValues,
+    );
+    assert_refused(
+        &rt,
+        &["try", "jobs", "script", "--trace"],
         ErrorKind::UnknownArgument,
     );
 }

@@ -99,6 +99,7 @@ fn loop_order<'a>(matches: &ArgMatches<'a>) -> LoopOrder<'a>
     LoopOrder {
         jobs: word(matches, "JOBS"),
         timeout: timeout_of(matches),
+        trace: has_trace(matches),
     }
 }
 
@@ -115,6 +116,7 @@ fn peer_order<'a>(matches: &ArgMatches<'a>, id: &str) -> Result<PeerOrder<'a>, W
         jobs: word(matches, "JOBS"),
         address,
         timeout: timeout_of(matches),
+        trace: has_trace(matches),
     })
 }
 
@@ -123,6 +125,13 @@ fn timeout_of(matches: &ArgMatches) -> u16
     ensures { IsTimeoutOf (one_of (codes "timeout") (rows_of (found_of matches.now))) result }
 {
     matches.get_one::<u16>("timeout").unwrap_or(3000)
+}
+
+/// Whether each turn is to be told.
+fn has_trace(matches: &ArgMatches) -> bool
+    ensures { result ≡ is_on (codes "trace") (rows_of (found_of matches.now)) }
+{
+    is_given(matches, "trace")
 }
 
 /// The value that was found, and no character where none was.

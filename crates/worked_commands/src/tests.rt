@@ -5,4 +5,5 @@ mod receiving;
 mod sending;
 mod socket_commands;
 mod told_line;
+mod traced;
 mod trials;

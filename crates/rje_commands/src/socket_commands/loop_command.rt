@@ -11,21 +11,25 @@ use crate::exchange::take_turns;
 use crate::socket_commands::Ending;
 use crate::socket_line::SocketLine;
 use crate::store::Store;
+use crate::tracer::Tracer;
+use crate::watch::Watch;
 use rje_print::{counted_text, handed_text, outcome_text};
 use rje_station::{Line, ReceivingStation, SendingStation};
 use rje_words::LoopOrder;
 use std::alloc::Global;
 use std::io::{self, Write};
 use std::net::{Ipv4Addr, Net, OpenListener, SocketAddr, TcpListener, TcpStream};
+use std::time::Clock;
 
 /// Sends the jobs of a job file from one end of a connection to the other, and prints how many were counted, how many handed out, and how
-/// it ended.
-pub fn loopback<'a, R: Net, S: Store, O: Write>(
+/// it ended. Where that is asked for, each turn is told to `err` as it happens.
+pub fn loopback<'a, R: Net + Clock, S: Store, O: Write, E: Write>(
     rt: &R,
     alloc: Global,
     order: LoopOrder<'a>,
     store: &mut S,
     out: &mut O,
+    err: &mut E,
 ) -> Result<Ending, CommandFault<'a>> {
     let jobs = read_job_file(alloc, order.jobs, store)?;
     let mut sender = SendingStation::new(alloc, jobs.as_slice())?;
@@ -33,23 +37,26 @@ pub fn loopback<'a, R: Net, S: Store, O: Write>(
     let Ok((mut near, mut far)) = both_ends(rt, order.timeout) else {
         return Err(CommandFault::LineFailed);
     };
+    let mut tracer = Tracer::new(rt, order.trace, err);
     loop_over(
         &mut sender,
         &mut near,
         &mut receiver,
         &mut far,
         jobs.len(),
+        &mut tracer,
         out,
     )
 }
 
 /// Sends what the sender has to the receiver, each at its end of a line, and prints the lines of it, also after a fault of the line.
-fn loop_over<'a, N: Line, F: Line, O: Write>(
+fn loop_over<'a, N: Line, F: Line, W: Watch, O: Write>(
     sender: &mut SendingStation,
     near: &mut N,
     receiver: &mut ReceivingStation,
     far: &mut F,
     given: usize,
+    watch: &mut W,
     out: &mut O,
 ) -> Result<Ending, CommandFault<'a>>
     ensures took { OnOk result (BothToEnd sender.old sender.new receiver.old receiver.new) }
@@ -57,7 +64,7 @@ fn loop_over<'a, N: Line, F: Line, O: Write>(
     ensures printed { OnOk result (Appends (O.contents out.old) (O.contents out.new)
         (loop_text sender.new.counted given receiver.new.jobs (outcome_of sender.new))) }
 {
-    let taken = take_turns(sender, near, receiver, far);
+    let taken = take_turns(sender, near, receiver, far, watch);
     let lines = [
         counted_text(sender.counted(), given),
         handed_text(receiver.jobs()),

@@ -16,6 +16,8 @@ use crate::socket_commands::Ending;
 use crate::socket_line::SocketLine;
 use crate::store::Store;
 use crate::telling::tell;
+use crate::tracer::Tracer;
+use crate::watch::{Unwatched, Watch};
 use rje_jobs::Job;
 use rje_print::handed_text;
 use rje_station::{Line, ReceivingStation};
@@ -23,34 +25,36 @@ use rje_words::PeerOrder;
 use std::alloc::Global;
 use std::io::{self, Write};
 use std::net::{Net, OpenListener, SocketAddr, TcpListener};
+use std::time::Clock;
 
 /// Looks whether the job file can be written, takes one connection at this address and one transmission, writes its jobs into the file
-/// and prints how many there are. Answers the exit status.
-pub fn receive<R: Net, S: Store, O: Write, E: Write>(
+/// and prints how many there are. Where that is asked for, who is connected and each turn is told to `err` as it happens.
+pub fn receive<'a, R: Net + Clock, S: Store, O: Write, E: Write>(
     rt: &R,
     alloc: Global,
-    order: PeerOrder,
+    order: PeerOrder<'a>,
     store: &mut S,
     out: &mut O,
     err: &mut E,
-) -> u8 {
-    if let Err(fault) = look_at_file(order.jobs, store) {
-        return tell(&fault, err);
-    }
-    match accepted(rt, order.address, order.timeout) {
-        Ok(mut line) => receive_over(alloc, &mut line, order.jobs, store, out, err),
-        Err(_) => tell(&CommandFault::LineFailed, err),
-    }
+) -> Result<Ending, CommandFault<'a>> {
+    look_at_file(order.jobs, store)?;
+    let Ok((mut line, peer)) = accepted(rt, order.address, order.timeout) else {
+        return Err(CommandFault::LineFailed);
+    };
+    let mut tracer = Tracer::new(rt, order.trace, err);
+    tracer.connected(peer);
+    received(alloc, &mut line, order.jobs, store, &mut tracer, out)
 }
 
+/// A line to whoever connects first, and the peer's address.
 fn accepted<R: Net>(
     rt: &R,
     address: SocketAddr,
     timeout: u16,
-) -> io::Result<SocketLine<R::Stream>> {
+) -> io::Result<(SocketLine<R::Stream>, SocketAddr)> {
     let listener = TcpListener::bind(rt, address)?;
-    let (stream, _) = listener.accept()?;
-    SocketLine::new(stream, timeout)
+    let (stream, peer) = listener.accept()?;
+    Ok((SocketLine::new(stream, timeout)?, peer))
 }
 
 /// Receives one transmission over a line into the job file of this name, also where the line fails, and prints how many jobs there are.
@@ -70,17 +74,18 @@ pub fn receive_over<L: Line, S: Store, O: Write, E: Write>(
         (S.files store.old) (S.files store.new)
         (L.transmissions line.old) (L.transmissions line.new)) }
 {
-    match received(alloc, line, name, store, out) {
+    match received(alloc, line, name, store, &mut Unwatched, out) {
         Ok(ending) => ending.status(),
         Err(fault) => tell(&fault, err),
     }
 }
 
-fn received<'a, L: Line, S: Store, O: Write>(
+fn received<'a, L: Line, S: Store, W: Watch, O: Write>(
     alloc: Global,
     line: &mut L,
     name: &'a str,
     store: &mut S,
+    watch: &mut W,
     out: &mut O,
 ) -> Result<Ending, CommandFault<'a>>
     ensures received { IfOk result (λ ending. Receives ending name.entry.now
@@ -92,7 +97,7 @@ fn received<'a, L: Line, S: Store, O: Write>(
 {
     let mut station = ReceivingStation::new(alloc)?;
     let mut keeper = Keeper::new(alloc, name, store)?;
-    let left = receive_all(&mut station, line, &mut keeper, store);
+    let left = receive_all(&mut station, line, &mut keeper, store, watch);
     let handed = handed_text(station.jobs());
     let written = keep_rest(&left, &mut keeper, station.take(), store);
     let printed = put(handed.as_slice(), out);

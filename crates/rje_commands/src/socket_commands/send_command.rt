@@ -21,6 +21,8 @@ use crate::socket_commands::Ending;
 use crate::socket_line::SocketLine;
 use crate::store::Store;
 use crate::telling::tell;
+use crate::tracer::Tracer;
+use crate::watch::{Unwatched, Watch};
 use rje_files::{first_unsendable, mark_places, read_entries, unsent_jobs};
 use rje_jobs::Jobs;
 use rje_print::{counted_text, outcome_text};
@@ -29,25 +31,35 @@ use rje_words::PeerOrder;
 use std::alloc::Global;
 use std::io::{self, Write};
 use std::net::{Net, SocketAddr, TcpStream};
-use std::time::Duration;
+use std::time::{Clock, Duration};
 
 /// Sends the jobs of a job file that were not sent to this address, marks those that were counted, and prints how many there are and how
-/// it ended.
-pub fn send<'a, R: Net, S: Store, O: Write>(
+/// it ended. Where that is asked for, who is connected and each turn is told to `err` as it happens.
+pub fn send<'a, R: Net + Clock, S: Store, O: Write, E: Write>(
     rt: &R,
     alloc: Global,
     order: PeerOrder<'a>,
     store: &mut S,
     out: &mut O,
+    err: &mut E,
 ) -> Result<Ending, CommandFault<'a>> {
     let file = job_file(alloc, order.jobs, store)?;
     let Unsent { jobs, places } = unsent_of(alloc, file.bytes.as_slice())?;
     let mut station = SendingStation::new(alloc, jobs.as_slice())?;
     let mut marker = Marker::new(alloc, file.name, file.bytes, places);
-    match connected(rt, order.address, order.timeout) {
-        Ok(mut line) => transmit(&mut station, &mut marker, &mut line, store, out),
-        Err(_) => Err(CommandFault::LineFailed),
-    }
+    let Ok(mut line) = connected(rt, order.address, order.timeout) else {
+        return Err(CommandFault::LineFailed);
+    };
+    let mut tracer = Tracer::new(rt, order.trace, err);
+    tracer.connected(order.address);
+    transmit(
+        &mut station,
+        &mut marker,
+        &mut line,
+        store,
+        &mut tracer,
+        out,
+    )
 }
 
 /// Sends over a line what is left of the job file of this name. Then, also after a fault of the line, marks in
@@ -94,7 +106,7 @@ fn sent<'a, L: Line, S: Store, O: Write>(
     let Unsent { jobs, places } = unsent_of(alloc, file.bytes.as_slice())?;
     let mut station = SendingStation::new(alloc, jobs.as_slice())?;
     let mut marker = Marker::new(alloc, file.name, file.bytes, places);
-    transmit(&mut station, &mut marker, line, store, out)
+    transmit(&mut station, &mut marker, line, store, &mut Unwatched, out)
 }
 
 /// A job file as it was read.
@@ -152,11 +164,12 @@ fn connected<R: Net>(
 }
 
 /// Sends what the station has over a line, marks what is counted, at the end in the whole file, and prints the lines of it.
-fn transmit<'a, L: Line, S: Store, O: Write>(
+fn transmit<'a, L: Line, S: Store, W: Watch, O: Write>(
     station: &mut SendingStation,
     marker: &mut Marker<'a>,
     line: &mut L,
     store: &mut S,
+    watch: &mut W,
     out: &mut O,
 ) -> Result<Ending, CommandFault<'a>>
     ensures took { OnOk result (SendsToEnd station.old station.new) }
@@ -171,7 +184,7 @@ fn transmit<'a, L: Line, S: Store, O: Write>(
         → IsLeft marker.old.file.items jobs → IsFailing (status_of fault)) }
 {
     let given = station.jobs().len();
-    let sent = send_all(station, line, marker, store);
+    let sent = send_all(station, line, marker, store, watch);
     let counted = station.counted();
     let marked = marker.write(counted, store);
     let lines = [

@@ -2,7 +2,7 @@
 ghost use Rattle.std.specs.Prelude.{◌≡◌, codes, IfOk};
 ghost use Rattle.clap.specs.Words.{App, Rule, with_rule, with_subcommand};
 ghost use Rattle.rje_words.specs.CommandLine.{IsArg, IsApp, file_rule, flag_rule, name_rule, address_rule};
-ghost use Rattle.rje_words.specs.CommandLine.{timeout_rule, file_app, blocks_app, cards_app};
+ghost use Rattle.rje_words.specs.CommandLine.{timeout_rule, trace_rule, file_app, blocks_app, cards_app};
 ghost use Rattle.rje_words.specs.CommandLine.{try_app, loop_app, send_app, receive_app, rje_app};
 
 use clap::{Arg, ArgAction, Command, value_parser};
@@ -95,7 +95,8 @@ fn loopback<'a>(alloc: Global) -> Result<Command<'a>, AllocError>
         "Send the jobs of a job file over a connection on this machine, both ends in one process",
         JOBS_HELP,
     )?;
-    with_arg(command, timeout(alloc))
+    let command = with_arg(command, timeout(alloc))?;
+    with_arg(command, trace(alloc))
 }
 
 fn send<'a>(alloc: Global) -> Result<Command<'a>, AllocError>
@@ -109,7 +110,8 @@ fn send<'a>(alloc: Global) -> Result<Command<'a>, AllocError>
     )?;
     let to = address(alloc, "to", "Where the receiver listens, as 192.0.2.1:3780");
     let command = with_arg(command, to)?;
-    with_arg(command, timeout(alloc))
+    let command = with_arg(command, timeout(alloc))?;
+    with_arg(command, trace(alloc))
 }
 
 fn receive<'a>(alloc: Global) -> Result<Command<'a>, AllocError>
@@ -123,7 +125,8 @@ fn receive<'a>(alloc: Global) -> Result<Command<'a>, AllocError>
     )?;
     let listen = address(alloc, "listen", "Where to listen, as 0.0.0.0:3780");
     let command = with_arg(command, listen)?;
-    with_arg(command, timeout(alloc))
+    let command = with_arg(command, timeout(alloc))?;
+    with_arg(command, trace(alloc))
 }
 
 fn blocks<'a>(alloc: Global) -> Result<Command<'a>, AllocError>
@@ -220,6 +223,16 @@ fn timeout<'a>(alloc: Global) -> Arg<'a>
         .value_parser(value_parser!(u16).range(1..=60000))
         .default_value("3000")
         .help("How long a hearing waits for more bytes, 1 to 60000 milliseconds")
+}
+
+fn trace<'a>(alloc: Global) -> Arg<'a>
+    ensures { IsArg trace_rule result }
+{
+    flag(
+        alloc,
+        "trace",
+        "Tell each turn on standard error as it happens",
+    )
 }
 
 fn with_arg<'a>(command: Command<'a>, arg: Arg<'a>) -> Result<Command<'a>, AllocError>

@@ -14,6 +14,7 @@ use std::net::{
 };
 use std::process::Abort;
 use std::test::Fail;
+use std::time::Clock;
 
 /// What a command writes, in memory of its own.
 type Written = ArrayVec<u8, 4096>;
@@ -30,7 +31,7 @@ const RECEIVED: &[u8] =
 const NO_JOBS: &[u8] = b"RJ37\x00\x02\x00\x00\x00\x00\x00\x00\x00\x00";
 
 /// The command over sockets of these words, where the file `jobs` has these bytes, ends with this status and writes these texts.
-fn assert_socket_command<R: Net + Abort + AllocGlobal>(
+fn assert_socket_command<R: Net + Clock + Abort + AllocGlobal>(
     rt: &R,
     words: &[&str],
     file: &[u8],

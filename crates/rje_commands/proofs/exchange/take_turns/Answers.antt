@@ -5,5 +5,5 @@ use Rattle.rje_commands.proofs.exchange.take_turns.Goals as goal
 
 pub loop-preserved : goal.loop-preserved
 loop-preserved g c =
-    let takes = subst (λ o. BothTake o c.loop.sender c.take_turn.new.sender c.loop.receiver c.take_turn.new.receiver) c.in-Some.is c.in_ok-take_turn.ensures.takes in
-    both_on c.args.sender.now c.loop.sender c.take_turn.new.sender c.args.receiver.now c.loop.receiver c.take_turn.new.receiver c.loop.counter (unhindered c.in-Some.field-0) c.loop.invariant takes.0 takes.1
+    let takes = subst (λ o. BothTake o c.loop.sender c.take_turn.new.sender c.loop.receiver c.take_turn.new.receiver) c.in-Some.is c.in_ok-turn.ensures.takes in
+    both_on c.args.sender.now c.loop.sender c.take_turn.new.sender c.args.receiver.now c.loop.receiver c.take_turn.new.receiver c.loop.counter (unhindered c.in-Some.turn) c.loop.invariant takes.0 takes.1

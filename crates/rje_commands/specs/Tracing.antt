@@ -1,0 +1,8 @@
+-- What a tracer writes of a transmission (own profile).
+use Rattle.std.specs.Prelude.{ℕ, List, Option, IfSome}
+use Rattle.std.specs.Io.KnownBytes.{Appends}
+use Rattle.std.specs.declared.time.Instant.{Instant}
+
+-- a tracer that isn't quiet, since it has the instant of its start, wrote this line of some time, in nanoseconds
+abbrev pub Tells : Option Instant → Option (List ℕ) → Option (List ℕ) → (ℕ → List ℕ) → Type 0
+Tells start old new line = IfSome start (λ _. (nanos : ℕ) × Appends old new (line nanos))

@@ -1,0 +1,203 @@
+//! What `--trace` tells: its lines by hand, and those of a `loop` by a clock of the tests' own.
+use arrayvec::ArrayVec;
+use bsc_link::{Reply, Say, Sound};
+use line_world::Spoken;
+use rje_commands::{MemoryStore, Store, socket_command};
+use rje_print::{both_text, peer_text, receiver_text, sender_text};
+use rje_station::Arrival;
+use std::cell::Cell;
+use std::io::{self, ErrorKind, Write};
+use std::net::{Ipv4Addr, Ipv6Addr, Net, SocketAddr};
+use std::process::Abort;
+use std::test::Fail;
+use std::time::{Clock, Duration};
+
+/// The file of one job (default device, normal, whole, one record `A`).
+const FILE: &[u8] =
+    b"RJ37\x00\x01\x00\x00\x00\x00\x00\x00\x00\x01\x00\x00\x01\x00\x00\x00\x00\x00\x00\x00\x01\x00\x01\xC1";
+
+/// What a loop of that file prints.
+const TEXT: &[u8] = b"counted 1 of 1 jobs\nhanded 1 jobs, 1 whole\noutcome done\n";
+
+#[test]
+fn a_line_tells_a_time_and_a_turn(rt: HostRuntime) {
+    let none = Duration::new(0, 999_999);
+    let long = Duration::new(3661, 50_999_999);
+    let line = sender_text(none, Say::Bid, Sound::Ack0);
+    assert!(rt; line.as_slice() == b"0.000 bid ack0\n".as_slice());
+    let line = sender_text(long, Say::Again, Sound::Quiet);
+    assert!(rt; line.as_slice() == b"3661.050 again quiet\n".as_slice());
+    let block = Arrival {
+        sound: Sound::Block,
+        refused: false,
+    };
+    let line = receiver_text(long, block, Some(Reply::Ack1));
+    assert!(rt; line.as_slice() == b"3661.050 block ack1\n".as_slice());
+    let refused = Arrival {
+        sound: Sound::Block,
+        refused: true,
+    };
+    let line = receiver_text(none, refused, Some(Reply::Nak));
+    assert!(rt; line.as_slice() == b"0.000 block! nak\n".as_slice());
+    let turn = Spoken {
+        said: Say::End,
+        arrived: Sound::Eot,
+        refused: false,
+        reply: None,
+        heard: Sound::Quiet,
+    };
+    let line = both_text(Duration::new(12, 340_000_000), &turn);
+    assert!(rt; line.as_slice() == b"12.340 end eot - quiet\n".as_slice());
+}
+
+#[test]
+fn a_line_tells_who_is_connected(rt: HostRuntime) -> Result<(), Fail> {
+    let after = Duration::from_millis(9);
+    let peer = SocketAddr::from((Ipv4Addr::new(192, 0, 2, 1), 3780));
+    assert!(rt;
+        peer_text(after, peer)?.as_slice() == b"0.009 connected 192.0.2.1:3780\n".as_slice()
+    );
+    let peer = SocketAddr::from((Ipv6Addr::LOCALHOST, 3780));
+    assert!(rt; peer_text(after, peer)?.as_slice() == b"0.009 connected [::1]:3780\n".as_slice());
+    Ok(())
+}
+
+/// The network of a runtime, and a clock that goes on by 7 milliseconds with each look at it, and fails after some.
+#[derive(Drop)]
+struct Ticking<'a, R> {
+    net: &'a R,
+    looks: Cell<u64>,
+    last: u64,
+}
+
+impl<R: Net> Net for Ticking<'_, R> {
+    type Stream = R::Stream;
+
+    type Listener = R::Listener;
+
+    fn bind(&self, address: SocketAddr) -> io::Result<R::Listener> {
+        self.net.bind(address)
+    }
+
+    fn connect(&self, address: SocketAddr) -> io::Result<R::Stream> {
+        self.net.connect(address)
+    }
+}
+
+impl<R> Clock for Ticking<'_, R> {
+    fn monotonic(&self) -> io::Result<Duration> {
+        let looks = self.looks.get();
+        if looks == self.last {
+            return Err(io::Error::from(ErrorKind::Other));
+        }
+        self.looks.set(looks.saturating_add(1));
+        Ok(Duration::from_millis(looks.saturating_mul(7)))
+    }
+
+    fn since_1970(&self) -> io::Result<Duration> {
+        Err(io::Error::from(ErrorKind::Unsupported))
+    }
+}
+
+/// A loop of these words, by a clock that fails after so many looks, is done, prints what it always does, and tells this.
+fn assert_loop<R: Net + Abort + AllocGlobal>(
+    rt: &R,
+    words: &[&str],
+    looks: u64,
+    err: &mut impl Write,
+) -> Result<(), Fail> {
+    let clock = Ticking {
+        net: rt,
+        looks: Cell::new(0),
+        last: looks,
+    };
+    let mut store = MemoryStore::new(rt.alloc());
+    store.write("jobs", FILE)?;
+    let mut out = ArrayVec::<u8, 4096>::new();
+    let ended = socket_command(&clock, rt.alloc(), words, &mut store, &mut out, err);
+    assert!(rt; ended == 0);
+    assert!(rt; out.as_slice() == TEXT);
+    Ok(())
+}
+
+/// The trace of that loop.
+const TRACE: &[u8] =
+    b"0.007 bid enq ack0 ack0\n0.014 block block ack1 ack1\n0.021 end eot - quiet\n";
+
+/// What is left of it where the third line isn't written, and where the second isn't.
+const CUT: [&[u8]; 2] = [
+    b"0.007 bid enq ack0 ack0\n0.014 block block ack1 ack1\n",
+    b"0.007 bid enq ack0 ack0\n",
+];
+
+/// The words of that loop.
+const TRACED: [&str; 3] = ["loop", "jobs", "--trace"];
+
+#[test]
+fn a_loop_tells_each_turn_with_its_time(rt: HostRuntime) -> Result<(), Fail> {
+    let mut err = ArrayVec::<u8, 4096>::new();
+    assert_loop(&rt, &TRACED, 100, &mut err)?;
+    assert!(rt; err.as_slice() == TRACE);
+    Ok(())
+}
+
+#[test]
+fn a_loop_tells_nothing_where_it_is_not_asked_to(rt: HostRuntime) -> Result<(), Fail> {
+    let mut err = ArrayVec::<u8, 4096>::new();
+    assert_loop(&rt, &TRACED[..2], 100, &mut err)?;
+    assert!(rt; err.is_empty());
+    Ok(())
+}
+
+#[test]
+fn a_trace_goes_quiet_where_the_clock_fails(rt: HostRuntime) -> Result<(), Fail> {
+    for (looks, told) in [
+        (0, b"".as_slice()),
+        (1, b""),
+        (2, CUT[1]),
+        (3, CUT[0]),
+        (4, TRACE),
+    ] {
+        let mut err = ArrayVec::<u8, 4096>::new();
+        assert_loop(&rt, &TRACED, looks, &mut err)?;
+        assert!(rt; err.as_slice() == told);
+    }
+    Ok(())
+}
+
+/// A writer of which one write, counted from 0, fails.
+#[derive(Drop)]
+struct Failing {
+    written: ArrayVec<u8, 4096>,
+    writes: u32,
+    failing: u32,
+}
+
+impl Write for Failing {
+    fn write(&mut self, bytes: &[u8]) -> io::Result<usize> {
+        let write = self.writes;
+        self.writes = write.saturating_add(1);
+        if write == self.failing {
+            return Err(io::Error::from(ErrorKind::Other));
+        }
+        self.written.write(bytes)
+    }
+
+    fn flush(&mut self) -> io::Result<()> {
+        Ok(())
+    }
+}
+
+#[test]
+fn a_trace_goes_quiet_where_a_write_fails(rt: HostRuntime) -> Result<(), Fail> {
+    for (failing, told) in [(0, b"".as_slice()), (1, CUT[1]), (2, CUT[0]), (3, TRACE)] {
+        let mut err = Failing {
+            written: ArrayVec::new(),
+            writes: 0,
+            failing,
+        };
+        assert_loop(&rt, &TRACED, 100, &mut err)?;
+        assert!(rt; err.written.as_slice() == told);
+    }
+    Ok(())
+}
