@@ -3,6 +3,7 @@
 
 use rje_commands::{CommandFault, FileStore, command, is_for_sockets, socket_command};
 use std::fs::File;
+use std::io::IsTerminal;
 use std::os::fd::AsRawFd;
 use std::process::ExitCode;
 use std::{env, io};
@@ -19,6 +20,11 @@ fn run(rt: &HostRuntime) -> io::Result<u8> {
     let alloc = rt.alloc();
     let words: Vec<String> = env::args(rt)?.skip(1).collect(alloc)?;
     let words: Vec<&str> = words.iter().map(|word| word.as_str()).collect(alloc)?;
+    if words.is_empty() && rt.stdin().is_terminal() {
+        let _ = eprintln!(rt;
+            "rje: reads a deck from the terminal, up to Ctrl-D; rje --help tells the commands"
+        );
+    }
     let mut store = FileStore::new(rt, alloc);
     if is_for_sockets(words.as_slice()) {
         let _held = [held_number(rt), held_number(rt), held_number(rt)];
