@@ -29,10 +29,13 @@ struct Record {
     bytes: Vec<u8>,
 }
 
+const STATES: [&str; 4] = ["waiting", "sent", "whole", "cut"];
+
 struct Job {
+    name: [u8; 8],
+    state: u8,
     select: u8,
     mode: u8,
-    whole: bool,
     records: Vec<Record>,
 }
 
@@ -55,14 +58,15 @@ fn job_of_deck(deck: &[u8]) -> Result<Job, String> {
         }
         records.push(Record { action: 0, bytes: line.iter().map(|c| to_ebcdic[*c as usize]).collect() });
     }
-    Ok(Job { select: 0, mode: 0, whole: true, records })
+    Ok(Job { name: [b' '; 8], state: 0, select: 0, mode: 0, records })
 }
 
 fn write_jobs(jobs: &[Job]) -> Vec<u8> {
-    let mut out = b"RJ37\x00\x01".to_vec();
+    let mut out = b"RJ37\x00\x02".to_vec();
     out.extend_from_slice(&(jobs.len() as u64).to_be_bytes());
     for job in jobs {
-        out.extend_from_slice(&[job.select, job.mode, job.whole as u8]);
+        out.extend_from_slice(&job.name);
+        out.extend_from_slice(&[job.state, job.select, job.mode]);
         out.extend_from_slice(&(job.records.len() as u64).to_be_bytes());
         for record in &job.records {
             out.extend_from_slice(&[record.action, record.bytes.len() as u8]);
@@ -76,18 +80,24 @@ fn is_action(byte: u8) -> bool {
     matches!(byte, 0 | 0x61 | 0xE2 | 0xE3 | 0xD4 | 0xC1..=0xC9 | 0xD1..=0xD3)
 }
 
+fn is_name(name: &[u8]) -> bool {
+    let end = name.iter().position(|c| *c == b' ').unwrap_or(name.len());
+    name[..end].iter().all(|c| c.is_ascii_uppercase() || c.is_ascii_digit()) && name[end..].iter().all(|c| *c == b' ')
+}
+
 fn read_jobs(bytes: &[u8]) -> Option<Vec<Job>> {
     fn number(bytes: &mut &[u8]) -> Option<u64> {
         let (front, rest) = bytes.split_at_checked(8)?;
         *bytes = rest;
         Some(u64::from_be_bytes(front.try_into().ok()?))
     }
-    let mut rest = bytes.strip_prefix(b"RJ37\x00\x01")?;
+    let mut rest = bytes.strip_prefix(b"RJ37\x00\x02")?;
     let count = number(&mut rest)?;
     let mut jobs = Vec::new();
     for _ in 0..count {
-        let (&[select, mode, whole], more) = rest.split_first_chunk::<3>()?;
-        if select > 2 || mode > 1 || whole > 1 {
+        let (&name, more) = rest.split_first_chunk::<8>()?;
+        let (&[state, select, mode], more) = more.split_first_chunk::<3>()?;
+        if !is_name(&name) || state > 3 || select > 2 || mode > 1 {
             return None;
         }
         rest = more;
@@ -101,13 +111,13 @@ fn read_jobs(bytes: &[u8]) -> Option<Vec<Job>> {
             records.push(Record { action, bytes: data.to_vec() });
             rest = more;
         }
-        jobs.push(Job { select, mode, whole: whole == 1, records });
+        jobs.push(Job { name, state, select, mode, records });
     }
     rest.is_empty().then_some(jobs)
 }
 
 fn fits(job: &Job) -> bool {
-    job.whole
+    job.state != 3
         && (job.mode == 0 || job.select == 2)
         && job.records.iter().all(|r| {
             if job.mode == 1 {
@@ -157,8 +167,10 @@ fn run(words: &[String]) -> Result<Vec<u8>, String> {
             for (i, job) in jobs.iter().enumerate() {
                 let select = ["unset", "printer", "punch"][job.select as usize];
                 let mode = ["normal", "transparent"][job.mode as usize];
-                let state = if job.whole { "whole" } else { "cut" };
-                text += &format!("{} {select} {mode} {state} {} records\n", i + 1, job.records.len());
+                let state = STATES[job.state as usize];
+                let line = format!("{} {select} {mode} {state} {} records {}", i + 1, job.records.len(), String::from_utf8_lossy(&job.name));
+                text += line.trim_end();
+                text.push('\n');
             }
             Ok(text.into_bytes())
         }
