@@ -8,6 +8,9 @@ use std::io::Read;
 /// The most bytes of an input.
 pub const MAX_INPUT: usize = 16_777_216;
 
+/// So many bytes are read at once.
+const PIECE: usize = 65_536;
+
 /// All bytes of a reader, which has at most `MAX_INPUT`. Failed where it has more, and where a read fails,
 /// an interruption included.
 pub fn read_all<I: Read>(alloc: Global, input: &mut I) -> Result<Vec<u8>, StoreFault>
@@ -18,7 +21,7 @@ pub fn read_all<I: Read>(alloc: Global, input: &mut I) -> Result<Vec<u8>, StoreF
         (λ rest. MAX_INPUT < length rest → IsErr result) }
 {
     let mut bytes = Vec::new(alloc);
-    let mut piece = [0u8; 4096];
+    let mut piece = [0u8; PIECE];
     loop {
         let count = input.read(&mut piece).map_err(|_| StoreFault::Failed)?;
         if count == 0 {

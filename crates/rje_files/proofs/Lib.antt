@@ -13,3 +13,4 @@ pub mod Names
 pub mod OneMore
 pub mod Marking
 pub mod GoodEntries
+pub mod Skips

@@ -1,6 +1,7 @@
 -- Where a reader stops: the longest prefix that begins a job file.
 use Rattle.std.proofs.Common.{◌≡◌, ℕ, zero, suc, ◌+◌, ◌*◌, ◌<◌, ◌≤◌, Bool, true, false, List, [], ◌∷◌, ◌++◌, length, take, drop, get_or, refl, ap, sym, ◌∙◌, subst, arith}
-use Rattle.std.proofs.lemmas.List.{append_assoc, append-nil, take_more, take_all}
+use Rattle.std.proofs.lemmas.List.{append_assoc, append-nil, take_more, take_all, length-take-le, length-drop}
+use Rattle.std.proofs.Math.Seq.{take-add}
 use Rattle.rje_files.specs.declared.job_file.reader.Due.{Due}
 use Rattle.rje_files.specs.declared.job_file.reader.Due.TheVariants.{Head, Version, JobCount, Name, State, Select, Mode, Whole, RecordCount, Action, Length, Data, Nothing}
 use Rattle.rje_files.specs.declared.job_file.reader.Reader.{Reader}
@@ -9,7 +10,7 @@ use Rattle.rje_files.specs.declared.job_file.version.FileVersion.TheVariants.{Fi
 use Rattle.rje_files.specs.JobFile.{IsFileUpTo, head}
 use Rattle.rje_files.specs.FileFault.{Begins, IsLongest}
 use Rattle.rje_files.specs.Reading.Grammar.{TheseBytes, Number, AnyBytes, Records, Name as NameBytes, AfterMode, AfterSelect, FromSelect, FromState, Fields, Counted, Entries, FromVersion, File}
-use Rattle.rje_files.specs.Reading.Reader.{Expects, Rest, Follows, IsSound, IsStep, HasRead}
+use Rattle.rje_files.specs.Reading.Reader.{Expects, Rest, Follows, IsSound, IsStep, IsSkip, HasRead}
 use Rattle.rje_files.proofs.Steps.{at_due, from_due}
 use Rattle.rje_files.proofs.Grammar.{file_there, file_back}
 
@@ -104,6 +105,17 @@ module _ (IsFile : List ℕ → Type 0) where
     there = λ xs f. s.there xs (h.there (get_or b p 0 ∷ xs) (subst IsFile (regroup b p xs l) f));
     back = λ xs f. subst IsFile (sym (regroup b p xs l)) (h.back (get_or b p 0 ∷ xs) (s.back xs f));
   }
+
+  pub read_past : (b : List ℕ) (p n : ℕ) (d e : Reader) → p + n ≤ length b → HasRead IsFile (take p b) d → IsSkip d n e → HasRead IsFile (take (p + n) b) e
+  read_past b p n d e l h s =
+      let ys = take n (drop p b) in
+      let len : length ys ≡ n = length-take-le n (drop p b) (omega (arith, length-drop p b, l)) in
+      let join : (xs : List ℕ) → take (p + n) b ++ xs ≡ take p b ++ (ys ++ xs) = λ xs. ap (λ (zs : List ℕ). zs ++ xs) (take-add p n b) ∙ append_assoc (take p b) ys xs in
+      record {
+        sound = s.sound;
+        there = λ xs f. s.there ys xs len (h.there (ys ++ xs) (subst IsFile (join xs) f));
+        back = λ xs f. subst IsFile (sym (join xs)) (h.back (ys ++ xs) (s.back ys xs len f));
+      }
 
   pub begins : (front : List ℕ) (d : Reader) → HasRead IsFile front d → Begins IsFile front
   begins front d h = let w = due_word d.due d.version d.jobs d.records in (w.0, h.back w.0 w.1)

@@ -1,6 +1,6 @@
 -- Job files from the front, byte by byte: a device of the proofs; no promise rests on this file.
 -- What may follow at a reader.
-use Rattle.std.specs.Prelude.{◌≡◌, ℕ, suc, ◌-◌, ◌^◌, ◌<◌, ◌≤◌, List, [], ◌∷◌, ◌++◌, drop}
+use Rattle.std.specs.Prelude.{◌≡◌, ℕ, suc, ◌-◌, ◌^◌, ◌<◌, ◌≤◌, List, [], ◌∷◌, ◌++◌, length, drop}
 use Rattle.rje_files.specs.declared.job_file.reader.Due.{Due}
 use Rattle.rje_files.specs.declared.job_file.reader.Due.TheVariants.{Head, Version, JobCount, Name, State, Select, Mode, Whole, RecordCount, Action, Length, Data, Nothing}
 use Rattle.rje_files.specs.declared.job_file.reader.Reader.{Reader}
@@ -34,6 +34,15 @@ Follows Nothing v j r xs = xs ≡ []
 abbrev pub Expects : Reader → List ℕ → Type 0
 Expects reader xs = Follows reader.due reader.version reader.jobs reader.records xs
 
+-- how many data bytes are due
+abbrev pub data_left : Due → ℕ
+data_left (Data n) = n
+data_left d = 0
+
+-- how many data bytes are due at this reader
+abbrev pub data_due_in : Reader → ℕ
+data_due_in reader = data_left reader.due
+
 -- its numbers are in their ranges
 abbrev pub IsSoundDue : Due → Type 0
 IsSoundDue (Head k) = k < 5
@@ -52,6 +61,12 @@ pub record IsStep (reader : Reader) (byte : ℕ) (next : Reader) : Type 0 where
   pub sound : IsSound next
   pub there : (xs : List ℕ) → Expects reader (byte ∷ xs) → Expects next xs
   pub back : (xs : List ℕ) → Expects next xs → Expects reader (byte ∷ xs)
+
+-- after so many bytes, whatever they are, next expects what this reader expects behind them
+pub record IsSkip (reader : Reader) (count : ℕ) (next : Reader) : Type 0 where
+  pub sound : IsSound next
+  pub there : (ys xs : List ℕ) → length ys ≡ count → Expects reader (ys ++ xs) → Expects next xs
+  pub back : (ys xs : List ℕ) → length ys ≡ count → Expects next xs → Expects reader (ys ++ xs)
 
 -- where front was read, the reader expects what makes it a file
 pub record HasRead (IsFile : List ℕ → Type 0) (front : List ℕ) (reader : Reader) : Type 0 where

@@ -14,10 +14,19 @@ pub(super) fn first_fault(newest: FileVersion, bytes: &[u8]) -> Option<FileFault
     ensures file { IfNone result (IsFileUpTo newest bytes.now) }
 {
     let mut reader = Reader::new(newest);
-    for (place, byte) in bytes.iter().enumerate() {
-        match reader.step(*byte) {
-            Some(next) => reader = next,
-            None => return Some(fault_at(newest, bytes, place, reader)),
+    let mut place = 0;
+    while place < bytes.len() {
+        let data = reader.data_due().min(bytes.len() - place);
+        if data > 0 {
+            // Any bytes may be data: they are passed over at once.
+            reader = reader.behind_data(data);
+            place += data;
+        } else {
+            match reader.step(bytes[place]) {
+                Some(next) => reader = next,
+                None => return Some(fault_at(newest, bytes, place, reader)),
+            }
+            place += 1;
         }
     }
     if reader.is_done() {

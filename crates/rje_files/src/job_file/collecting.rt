@@ -171,9 +171,9 @@ fn data(items: &[u8]) -> ArrayVec<u8, 144>
     ensures { result.items ≡ items.now }
 {
     let mut bytes: ArrayVec<u8, 144> = ArrayVec::new();
-    for item in items {
-        bytes.push(*item);
-    }
+    let Ok(()) = bytes.try_extend_from_slice(items) else {
+        unreachable!()
+    };
     bytes
 }
 

@@ -1,8 +1,8 @@
-//! A place in a job file, moved on byte by byte.
+//! A place in a job file, moved on byte by byte, and past data at once.
 ghost use Rattle.std.specs.Prelude.{◌≡◌, ℕ, ◌∷◌, [], List, ◌+◌, ◌*◌, ◌^◌, ◌-◌, ◌<◌, ◌≤◌, true, false, IfSome, IfNone};
 ghost use Rattle.rje_files.specs.Reading.Grammar.{Records, AfterMode, Entries, is_action_byte, version_read};
 ghost use Rattle.rje_files.specs.Entry.{may_stand};
-ghost use Rattle.rje_files.specs.Reading.Reader.{Expects, Rest, IsSound, IsStep};
+ghost use Rattle.rje_files.specs.Reading.Reader.{Expects, Rest, IsSound, IsStep, IsSkip, data_due_in};
 
 use super::HEAD;
 use super::name::may_stand;
@@ -119,6 +119,30 @@ impl Reader {
                 self.at(Due::Data(left - 1))
             }),
             Due::Nothing => None,
+        }
+    }
+
+    /// How many data bytes are due.
+    pub(super) fn data_due(&self) -> usize
+        ensures { result ≡ data_due_in self.now }
+    {
+        match self.due {
+            Due::Data(left) => left,
+            _ => 0,
+        }
+    }
+
+    /// Behind so many data bytes, of those that are due.
+    pub(super) fn behind_data(&self, count: usize) -> Reader
+        requires some { 0 < count }
+        requires within { count ≤ data_due_in self.now }
+        ensures { IsSkip self.now count result }
+    {
+        let left = self.data_due() - count;
+        if left == 0 {
+            next_record(self.version, self.jobs, self.records)
+        } else {
+            self.at(Due::Data(left))
         }
     }
 
