@@ -8,3 +8,4 @@ pub mod Answering
 pub mod Received
 pub mod Failing
 pub mod Marked
+pub mod Watched

@@ -10,3 +10,4 @@ pub mod Ending
 pub mod Patience
 pub mod Marking
 pub mod Tracing
+pub mod Watching

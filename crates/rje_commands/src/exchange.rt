@@ -1,12 +1,16 @@
 //! Stations that take turns over a line, until the transmission ends.
-ghost use Rattle.std.specs.Prelude.{◌≡◌, ◌<◌, ◌+◌, true, false, if◌then◌else◌, IfOk, OnOk, IfErr};
+ghost use Rattle.std.specs.Prelude.{◌≡◌, ◌⊎◌, ◌<◌, ◌+◌, List, true, false, if◌then◌else◌, IfOk, OnOk, IfErr};
+ghost use Rattle.bsc_history.specs.History.{History};
 ghost use Rattle.bsc_history.specs.declared.spoken_turn.SpokenTurn.{SpokenTurn};
+ghost use Rattle.line_world.specs.declared.spoken.Spoken.{Spoken as Turn};
+ghost use Rattle.rje_station.specs.Receiving.{Receiving, after_abandon};
 ghost use Rattle.rje_commands.specs.Answering.{BreaksKeeping, KeepsToBreak, KeepsToEnd, after_answer};
 ghost use Rattle.rje_commands.specs.CommandFault.{IsFailing, of_broken_off, of_station, status_of};
 ghost use Rattle.rje_commands.specs.Keeping.{BreaksOff, BreaksOffNow, GoesOnKeeping, IsOfFile};
 ghost use Rattle.rje_commands.specs.Marking.{GoesOnMarking};
 ghost use Rattle.rje_commands.specs.Patience.{LeavesSo, HearsOut, was_quiet};
 ghost use Rattle.rje_commands.specs.Store.{Discloses, IsSame};
+ghost use Rattle.rje_commands.specs.Watching.{SenderWatched, SenderWatchedAll, ReceiverWatched, ReceiverWatchedAll, BothWatchedAll};
 ghost use Rattle.line_world.specs.AnyLines.{SenderTakes, SenderFails, SendsToEnd, SendsToFault, ReceiverTakes, BothTake, BothFail, BothToEnd, BothToFault};
 
 use crate::broken_off::BrokenOff;
@@ -47,6 +51,8 @@ pub fn send_all<'a, L: Line, S: Store, W: Watch>(
     ensures status { IfErr result (λ fault. IsFailing (status_of (of_station fault))) }
     ensures marked { OnOk result (GoesOnMarking marker.old marker.new station.old.counted
         station.new.counted (S.files store.old) (S.files store.new)) }
+    ensures told { OnOk result ((h : History)
+        × SenderWatchedAll W.saw_sender station.old watch.old station.new watch.new h) }
 {
     for _ in 0..u64::MAX {
         if !speak_hear_and_mark(station, line, marker, store, watch)? {
@@ -74,6 +80,9 @@ fn speak_hear_and_mark<'a, L: Line, S: Store, W: Watch>(
         station.new.counted (S.files store.old) (S.files store.new)) }
     ensures still { marker.new.marked ≡ marker.old.marked
         → Discloses (S.files store.old) (S.files store.new) IsSame }
+    ensures told { IfOk result (λ is_turn. is_turn ≡ true → (t : SpokenTurn)
+        × SenderWatched W.saw_sender station.old watch.old station.new watch.new t) }
+    ensures untold { IfOk result (λ is_turn. is_turn ≡ false → watch.new ≡ watch.old) }
 {
     let is_turn = speak_and_hear(station, line, watch)?;
     marker.mark(station.counted(), store);
@@ -92,6 +101,9 @@ fn speak_and_hear<L: Line, W: Watch>(
         × (station.new ≡ station.old)) }
     ensures fault { IfErr result (SenderFails station.old station.new) }
     ensures status { IfErr result (λ fault. IsFailing (status_of (of_station fault))) }
+    ensures told { IfOk result (λ is_turn. is_turn ≡ true → (t : SpokenTurn)
+        × SenderWatched W.saw_sender station.old watch.old station.new watch.new t) }
+    ensures untold { IfOk result (λ is_turn. is_turn ≡ false → watch.new ≡ watch.old) }
 {
     match station.speak(line) {
         Ok(Say::End) => {
@@ -126,6 +138,9 @@ pub fn receive_all<'a, L: Line, S: Store, W: Watch>(
     ensures broken { IfErr result (KeepsToBreak keeper.old keeper.new station.old station.new
         (L.transmissions line.old) (L.transmissions line.new)
         (S.files store.old) (S.files store.new)) }
+    ensures told { OnOk result ((h : History) × (far : Receiving)
+        × ReceiverWatchedAll W.saw_receiver station.old watch.old far watch.new h
+        × ((station.new ≡ far) ⊎ (station.new ≡ after_abandon far))) }
 {
     let left = hear_out(station, line, keeper, store, watch)?;
     if left == Left::Abandoned {
@@ -151,6 +166,8 @@ fn hear_out<'a, L: Line, S: Store, W: Watch>(
     ensures broken { IfErr result (KeepsToBreak keeper.old keeper.new station.old station.new
         (L.transmissions line.old) (L.transmissions line.new)
         (S.files store.old) (S.files store.new)) }
+    ensures told { OnOk result ((h : History)
+        × ReceiverWatchedAll W.saw_receiver station.old watch.old station.new watch.new h) }
 {
     let mut quiet = 0;
     for _ in 0..MAX_HEARINGS {
@@ -202,8 +219,10 @@ fn hear_keep_and_speak<'a, L: Line, S: Store, W: Watch>(
     ensures broken { IfErr result (BreaksKeeping keeper.old keeper.new station.old station.new
         (L.transmissions line.old) (L.transmissions line.new)
         (S.files store.old) (S.files store.new)) }
+    ensures told { OnOk result ((t : SpokenTurn)
+        × ReceiverWatched W.saw_receiver station.old watch.old station.new watch.new t) }
 {
-    station.hear(line, Wish::Go)?;
+    let reply = station.hear(line, Wish::Go)?;
     let Some(arrival) = station.arrival() else {
         unreachable!()
     };
@@ -213,12 +232,12 @@ fn hear_keep_and_speak<'a, L: Line, S: Store, W: Watch>(
         return Err(BrokenOff::File(fault));
     }
     match station.speak(line) {
-        Ok(reply) => {
+        Ok(_) => {
             watch.receiver_took(arrival, reply);
             Ok(true)
         }
         Err(StationFault::Over) => {
-            watch.receiver_took(arrival, None);
+            watch.receiver_took(arrival, reply);
             Ok(false)
         }
         Err(fault) => Err(BrokenOff::Line(fault)),
@@ -235,6 +254,8 @@ pub fn take_turns<N: Line, F: Line, W: Watch>(
 ) -> Result<(), StationFault>
     ensures took { OnOk result (BothToEnd sender.old sender.new receiver.old receiver.new) }
     ensures fault { IfErr result (BothToFault sender.old sender.new receiver.old receiver.new) }
+    ensures told { OnOk result ((turns : List Turn) × BothWatchedAll W.saw_both
+        sender.old receiver.old watch.old sender.new receiver.new watch.new turns) }
 {
     for _ in 0..u64::MAX {
         let Some(turn) = take_turn(sender, near, receiver, far)? else {

@@ -66,33 +66,33 @@ impl<C: Clock, W: Write> Tracer<C, W> {
 }
 
 impl<C: Clock, W: Write> Watch for Tracer<C, W> {
-    fn sender_took(&mut self, said: Say, heard: Sound)
-        ensures told { Tells self.new.start (W.contents self.old.out) (W.contents self.new.out)
-            (λ nanos. sender_line nanos said heard) }
-        ensures quiet { self.old.start ≡ None → self.new ≡ self.old }
-    {
+    ghost saw_sender = { λ old new said heard.
+        Tells new.start (W.contents old.out) (W.contents new.out)
+        (λ nanos. sender_line nanos said heard) × (old.start ≡ None → new ≡ old) };
+
+    ghost saw_receiver = { λ old new arrival reply.
+        Tells new.start (W.contents old.out) (W.contents new.out)
+        (λ nanos. receiver_line nanos arrival reply) × (old.start ≡ None → new ≡ old) };
+
+    ghost saw_both = { λ old new turn.
+        Tells new.start (W.contents old.out) (W.contents new.out)
+        (λ nanos. both_line nanos turn) × (old.start ≡ None → new ≡ old) };
+
+    fn sender_took(&mut self, said: Say, heard: Sound) {
         match self.elapsed() {
             Some(after) => self.write(sender_text(after, said, heard).as_slice()),
             None => self.start = None,
         }
     }
 
-    fn receiver_took(&mut self, arrival: Arrival, reply: Option<Reply>)
-        ensures told { Tells self.new.start (W.contents self.old.out) (W.contents self.new.out)
-            (λ nanos. receiver_line nanos arrival reply) }
-        ensures quiet { self.old.start ≡ None → self.new ≡ self.old }
-    {
+    fn receiver_took(&mut self, arrival: Arrival, reply: Option<Reply>) {
         match self.elapsed() {
             Some(after) => self.write(receiver_text(after, arrival, reply).as_slice()),
             None => self.start = None,
         }
     }
 
-    fn both_took(&mut self, turn: &Spoken)
-        ensures told { Tells self.new.start (W.contents self.old.out) (W.contents self.new.out)
-            (λ nanos. both_line nanos turn.now) }
-        ensures quiet { self.old.start ≡ None → self.new ≡ self.old }
-    {
+    fn both_took(&mut self, turn: &Spoken) {
         match self.elapsed() {
             Some(after) => self.write(both_text(after, turn).as_slice()),
             None => self.start = None,

@@ -1,9 +1,11 @@
 //! `loop`: both ends in one process, over a connection on this machine.
-ghost use Rattle.std.specs.Prelude.{◌≡◌, IfOk, OnOk};
+ghost use Rattle.std.specs.Prelude.{◌≡◌, List, IfOk, OnOk};
 ghost use Rattle.std.specs.Io.KnownBytes.{Appends};
 ghost use Rattle.rje_station.specs.Sending.{outcome_of};
 ghost use Rattle.line_world.specs.AnyLines.{BothToEnd};
+ghost use Rattle.line_world.specs.declared.spoken.Spoken.{Spoken};
 ghost use Rattle.rje_commands.specs.Ending.{ending_of, loop_text};
+ghost use Rattle.rje_commands.specs.Watching.{BothWatchedAll};
 
 use crate::command_fault::CommandFault;
 use crate::commands::{put_lines, read_job_file};
@@ -63,6 +65,8 @@ fn loop_over<'a, N: Line, F: Line, W: Watch, O: Write>(
     ensures ended { IfOk result (λ ending. ending ≡ ending_of (outcome_of sender.new)) }
     ensures printed { OnOk result (Appends (O.contents out.old) (O.contents out.new)
         (loop_text sender.new.counted given receiver.new.jobs (outcome_of sender.new))) }
+    ensures told { OnOk result ((turns : List Spoken) × BothWatchedAll W.saw_both
+        sender.old receiver.old watch.old sender.new receiver.new watch.new turns) }
 {
     let taken = take_turns(sender, near, receiver, far, watch);
     let lines = [

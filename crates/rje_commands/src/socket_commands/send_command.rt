@@ -2,6 +2,7 @@
 ghost use Rattle.std.specs.Prelude.{◌≡◌, ◌⊎◌, List, Option, length, IfErr, IfOk, OnOk};
 ghost use Rattle.std.specs.Io.KnownBytes.{Appends};
 ghost use Rattle.rje_jobs.specs.declared.job.Job.{Job};
+ghost use Rattle.bsc_history.specs.History.{History};
 ghost use Rattle.rje_files.specs.Marks.{AreMarks};
 ghost use Rattle.rje_files.specs.Unsent.{IsLeft};
 ghost use Rattle.rje_station.specs.Sending.{outcome_of};
@@ -12,6 +13,7 @@ ghost use Rattle.rje_commands.specs.Ending.{ending_of, sent_text, IsRefusedFile,
 ghost use Rattle.rje_commands.specs.Inside.{IsSendFault};
 ghost use Rattle.rje_commands.specs.Marking.{Marks};
 ghost use Rattle.rje_commands.specs.Store.{FileMap, Discloses, IsSame};
+ghost use Rattle.rje_commands.specs.Watching.{SenderWatchedAll};
 
 use crate::command_fault::CommandFault;
 use crate::commands::{put_lines, read_file};
@@ -182,6 +184,8 @@ fn transmit<'a, L: Line, S: Store, W: Watch, O: Write>(
         (S.files store.new)) }
     ensures status { IfErr result (λ fault. (jobs : List Job)
         → IsLeft marker.old.file.items jobs → IsFailing (status_of fault)) }
+    ensures told { OnOk result ((h : History)
+        × SenderWatchedAll W.saw_sender station.old watch.old station.new watch.new h) }
 {
     let given = station.jobs().len();
     let sent = send_all(station, line, marker, store, watch);

@@ -1,5 +1,7 @@
+use Rattle.bsc_history.specs.History.{History}
 use Rattle.rje_commands.specs.Answering.{Answered}
 use Rattle.rje_commands.specs.Keeping.{GoesOnKeeping}
+use Rattle.rje_commands.specs.Watching.{ReceiverWatchedAll}
 use Rattle.rje_commands.proofs.Patience.{HearsSoFar}
 use Rattle.rje_commands.proofs.exchange.hear_out.Given as goal
 
@@ -8,3 +10,4 @@ invariant-loop g l =
     HearsSoFar l.initial.station l.counter l.quiet l.station
     × Answered l.initial.station l.station (g.L.Line.transmissions l.initial.line) (g.L.Line.transmissions l.line)
     × GoesOnKeeping l.initial.keeper l.keeper l.initial.station.jobs l.station.jobs (g.S.Store.files l.initial.store) (g.S.Store.files l.store)
+    × ((h : History) × ReceiverWatchedAll g.W.Watch.saw_receiver l.initial.station l.initial.watch l.station l.watch h)

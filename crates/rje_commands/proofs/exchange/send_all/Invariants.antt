@@ -1,9 +1,12 @@
 use Rattle.line_world.proofs.TurnsOverLines.{SendsSoFar}
+use Rattle.bsc_history.specs.History.{History}
 use Rattle.rje_commands.specs.Marking.{GoesOnMarking}
+use Rattle.rje_commands.specs.Watching.{SenderWatchedAll}
 use Rattle.rje_commands.proofs.exchange.send_all.Given as goal
 
 abbrev pub invariant-loop : goal.invariant-loop
 invariant-loop g l = record {
   turns : SendsSoFar l.initial.station l.counter l.station;
   marked : GoesOnMarking l.initial.marker l.marker l.initial.station.counted l.station.counted (g.S.Store.files l.initial.store) (g.S.Store.files l.store);
+  told : (h : History) × SenderWatchedAll g.W.Watch.saw_sender l.initial.station l.initial.watch l.station l.watch h;
 }
