@@ -19,7 +19,7 @@ table_is = refl
 pub entry_is : (i : ℕ) → i < 256 → get_or TABLE i 0 ≡ shifts 8 i
 entry_is i h = ap (λ t. get_or t i 0) table_is ∙ get_or-map-range_with_len (shifts 8) 0 256 i i 0 h (omega arith)
 
-swap_last : (a b c : ℕ) → bit_xor (bit_xor a b) c ≡ bit_xor (bit_xor a c) b
+pub swap_last : (a b c : ℕ) → bit_xor (bit_xor a b) c ≡ bit_xor (bit_xor a c) b
 swap_last a b c = xor_assoc a b c ∙ ap (bit_xor a) (xor_comm b c) ∙ sym (xor_assoc a c b)
 
 cancelled : (a b c : ℕ) → bit_xor (bit_xor a c) (bit_xor b c) ≡ bit_xor a b
@@ -43,7 +43,7 @@ shift-xor a b =
       ]
     ]
 
-shifts-xor : (n a b : ℕ) → shifts n (bit_xor a b) ≡ bit_xor (shifts n a) (shifts n b)
+pub shifts-xor : (n a b : ℕ) → shifts n (bit_xor a b) ≡ bit_xor (shifts n a) (shifts n b)
 unfolding shifts
 shifts-xor zero a b = refl
 shifts-xor (suc n) a b = ap (shifts n) (shift-xor a b) ∙ shifts-xor n (shift a) (shift b)

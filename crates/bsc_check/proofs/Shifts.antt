@@ -1,5 +1,5 @@
 -- The register's shifts divide.
-use Rattle.std.proofs.Common.{◌≡◌, ℕ, zero, suc, ◌+◌, ◌-◌, ◌*◌, ◌/◌, ◌%◌, ◌^◌, ◌<◌, Bool, true, false, cond, eqb, List, [], ◌∷◌, ◌++◌, length, replicate, take, drop, refl, ap, sym, ◌∙◌, arith, append_assoc, length-append, length-take, length-drop, get_or, take-append-drop, append-nil, inl, inr, ◌⊎◌}
+use Rattle.std.proofs.Common.{◌≡◌, ℕ, zero, suc, ◌+◌, ◌-◌, ◌*◌, ◌/◌, ◌%◌, ◌^◌, ◌<◌, Bool, true, false, cond, eqb, List, [], ◌∷◌, ◌++◌, length, replicate, take, drop, refl, ap, sym, ◌∙◌, subst, arith, append_assoc, length-append, length-take, length-drop, get_or, take-append-drop, append-nil, inl, inr, ◌⊎◌}
 use Rattle.std.proofs.Math.Nat.{suc-add, pow-succ'}
 use Rattle.std.proofs.lemmas.Nat.{xor_shr, xor_mod, pow_pos, xor_comm, xor_lt, shr-shr, div-add-mod', mod_below, mod-mul-add}
 use Rattle.std.proofs.lemmas.Bool.{cond_both, cases_eq}
@@ -7,7 +7,7 @@ use Rattle.std.specs.Prelude.{bit_xor}
 use Rattle.std.specs.List.{flat_map}
 use Rattle.bsc_check.specs.Polynomials.{plus, add_at_front, generator_tail, cancel, remainder}
 use Rattle.bsc_check.specs.Check.{low_bits, from_bits, polynomial, check_of, IsCheckOf}
-use Rattle.bsc_check.specs.Shifts.{shift, shifts}
+use Rattle.bsc_check.specs.Shifts.{shift, shifts, register_after}
 use Rattle.bsc_check.proofs.Division.{add_front_only, cancel_behind, cancel-add, length-cancel}
 
 -- so many bits are so many
@@ -217,3 +217,11 @@ pub one_byte_more : (bytes : List ℕ) (c x : ℕ) → c < 2 ^ 16 → x < 2 ^ 8 
 one_byte_more bytes c x hc hx s =
     check_from_bits (bytes ++ x ∷ []) (shifts 8 (bit_xor c x)) (shifts_below 8 (bit_xor c x) (xor_lt 16 c x hc (omega arith)))
     (remainder_push bytes c x hc hx (bits_from_check bytes c s))
+
+-- and after many bytes
+pub bytes_more : (before bytes : List ℕ) (c : ℕ) → c < 2 ^ 16 → ((k : ℕ) → get_or bytes k 0 < 2 ^ 8) → IsCheckOf c before → IsCheckOf (register_after c bytes) (before ++ bytes)
+bytes_more before [] c hc hx s = subst (IsCheckOf c) (sym (append-nil before)) s
+bytes_more before (x ∷ bytes) c hc hx s =
+    let small : x < 2 ^ 8 = hx 0 in
+    subst (IsCheckOf (register_after c (x ∷ bytes))) (append_assoc before (x ∷ []) bytes)
+    (bytes_more (before ++ x ∷ []) bytes (shifts 8 (bit_xor c x)) (shifts_below 8 (bit_xor c x) (xor_lt 16 c x hc (omega (arith, small)))) (λ k. hx (suc k)) (one_byte_more before c x hc small s))

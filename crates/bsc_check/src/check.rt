@@ -3,6 +3,7 @@ ghost use Rattle.std.specs.Prelude.{◌≡◌, ℕ, List, [], ◌∷◌, ◌++�
 ghost use Rattle.bsc_check.specs.Check.{check_of, IsCheckOf};
 
 use crate::table::next_register;
+use crate::tables::register_after_all;
 use std::marker::Model;
 
 /// The check of the bytes that were added so far: what is left of them as a polynomial, divided by x^16 + x^15 + x^2 + 1.
@@ -41,13 +42,12 @@ impl Check {
     }
 
     /// Adds each byte, in order.
+    #[tactic(auto, using(crate::proofs::Shifts::bytes_more))]
     pub fn add_all(&mut self, bytes: &[u8])
         ensures { (before : List ℕ) → IsCheckOf self.old before
             → IsCheckOf self.new (before ++ bytes.now) }
     {
-        for byte in bytes {
-            self.add(*byte);
-        }
+        self.register = register_after_all(self.register, bytes);
     }
 
     /// The two bytes of the check in the order of the line, the low-order byte first.

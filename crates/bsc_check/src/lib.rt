@@ -4,6 +4,7 @@
 mod check;
 mod laws;
 mod table;
+mod tables;
 #[cfg(test)]
 mod tests;
 

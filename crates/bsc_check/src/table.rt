@@ -30,7 +30,7 @@ const TABLE: [u16; 256] = [
 
 /// What eight shifts make of a byte.
 #[tactic(auto, using(crate::proofs::ByTable::entry_is))]
-fn entry(byte: u8) -> u16
+pub(crate) fn entry(byte: u8) -> u16
     ensures { result ≡ shifts 8 byte }
 {
     TABLE[usize::from(byte)]

@@ -38,6 +38,23 @@ fn known_bytes_have_known_checks(rt: HostRuntime) {
 }
 
 #[test]
+fn many_bytes_have_the_check_of_one_after_another(rt: HostRuntime) {
+    let mut bytes = [0u8; 40];
+    for (place, byte) in bytes.iter_mut().enumerate() {
+        *byte = (place * 37 % 256) as u8 ^ 0xA5;
+    }
+    for length in 0..=40usize {
+        let mut register = 0u16;
+        for byte in &bytes[..length] {
+            register = eight_shifts(register ^ u16::from(*byte));
+        }
+        let mut check = Check::new();
+        check.add_all(&bytes[..length]);
+        assert!(rt; check.bytes() == register.to_le_bytes());
+    }
+}
+
+#[test]
 fn the_table_is_eight_shifts(rt: HostRuntime) {
     let mut check = Check::new();
     let mut register = 0u16;
