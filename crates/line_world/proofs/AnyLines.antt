@@ -1,8 +1,7 @@
 -- Two stations over lines of any kind that keep the headline's premises: their turns are a conversation, and both stand where it left
 -- them.
-use Rattle.std.proofs.Common.{◌≡◌, ◌⊎◌, inl, inr, ℕ, ◌<◌, Bool, true, false, ◌&&◌, List, [], ◌∷◌, length, take, slice_get, Some, refl, ap, sym, ◌∙◌, subst, arith}
-use Rattle.std.specs.List.{AllByRecursion}
-use Rattle.std.proofs.lemmas.Bool.{true≢false, cases_Bool}
+use Rattle.std.proofs.Common.{◌≡◌, ℕ, ◌<◌, Bool, true, false, ◌&&◌, List, [], ◌∷◌, length, take, slice_get, Some, refl, ap, sym, ◌∙◌, subst, arith}
+use Rattle.std.proofs.lemmas.Bool.{true≢false}
 use Rattle.bsc_codes.specs.declared.block.Block.{Block}
 use Rattle.bsc_frame.specs.declared.frame.Frame.TheVariants as frame
 use Rattle.bsc_frame.specs.declared.heard.Heard.{Heard}
@@ -13,23 +12,20 @@ use Rattle.bsc_link.specs.Sender.{say_in}
 use Rattle.bsc_link.specs.Receiver.{receiver_news}
 use Rattle.rje_jobs.specs.declared.job.Job.{Job}
 use Rattle.rje_jobs.specs.Blocks.{blocks}
-use Rattle.rje_jobs.specs.Fitting.{JobFits}
-use Rattle.rje_jobs.specs.Joined.{joined}
 use Rattle.rje_station.specs.Hearing.{sound_heard}
-use Rattle.rje_station.specs.Receiving.{Receiving, first_receiving, after_receiving, after_replying}
+use Rattle.rje_station.specs.Receiving.{Receiving, first_receiving, after_receiving}
 use Rattle.rje_station.specs.Sending.{Sending, first_sending, ended_by}
 use Rattle.bsc_history.specs.declared.spoken_turn.SpokenTurn.{SpokenTurn}
 use Rattle.bsc_history.specs.History.{Plan, History, is_over}
 use Rattle.bsc_history.specs.Known.{known, gives_up_now}
-use Rattle.bsc_history.specs.Got.{got}
-use Rattle.bsc_history.specs.Conversation.{MayBeSpoken, IsConversation, Follows, is_block}
+use Rattle.bsc_history.specs.Conversation.{IsConversation, Follows, is_block}
 use Rattle.bsc_history.specs.Cores.{taken}
 use Rattle.bsc_history.specs.ReplyRule.{replying}
 use Rattle.bsc_history.specs.SayingRule.{saying}
 use Rattle.bsc_history.proofs.ForRuns.{conversations_may_be_spoken, conversations_are_spoken, receiver_core_replies, sender_core_says}
 use Rattle.line_world.specs.AnyLines.{SenderTakes, SenderTook, ReceiverTakes, ReceiverTook, after_answering, IsFaithful, AreFaithful, OverFaithfulLines}
 use Rattle.line_world.specs.Headline.{OfHistories}
-use Rattle.line_world.specs.Plan.{plan_of, numbered}
+use Rattle.line_world.specs.Plan.{plan_of}
 use Rattle.line_world.specs.Turns.{StandsSending, StandsReceiving, SendingTurns, ReceivingTurns}
 use Rattle.line_world.proofs.Comings.{first_left}
 use Rattle.line_world.proofs.Planned.{begins}

@@ -1,5 +1,5 @@
 -- The loop of a run of two stations that both have jobs: the turns so far are those of a history, and both stations stand where it left them.
-use Rattle.std.proofs.Common.{Bool, ◌≡◌, ◌≢◌, ◌⊎◌, inl, inr, ℕ, ◌+◌, ◌<◌, ◌==◌, true, false, List, [], ◌∷◌, ◌++◌, length, map, reverse, take, drop, slice_get, Option, Some, None, refl, ap, sym, ◌∙◌, subst, arith}
+use Rattle.std.proofs.Common.{Bool, ◌≡◌, ◌≢◌, ◌⊎◌, inl, inr, ℕ, ◌+◌, ◌==◌, true, false, List, [], ◌∷◌, ◌++◌, length, map, reverse, take, drop, slice_get, Option, Some, None, refl, ap, sym, ◌∙◌, subst, arith}
 use Rattle.std.proofs.lemmas.List.{take-append-drop, map-append, length-map, length-reverse, reverse-append}
 use Rattle.bsc_link.specs.declared.rank.Rank.{Rank}
 use Rattle.bsc_link.specs.declared.say.Say.{Say}
@@ -27,7 +27,7 @@ use Rattle.line_world.proofs.Alone.{Laws, Listens}
 use Rattle.line_world.proofs.Contends.{contends_first}
 use Rattle.line_world.proofs.PairRuns.{StandsPairRun, cases_jobs, due_goes, primary_more, secondary_more, both_more, nothing_due}
 use Rattle.line_world.proofs.PairTelling.{pairs_append, pairs_any, pairs_length, pairs_longer}
-use Rattle.line_world.proofs.Sends.{SendsBy, sends_first, none_not}
+use Rattle.line_world.proofs.Sends.{SendsBy, sends_first}
 use Rattle.line_world.proofs.RunLoop.{plan_some, some_jobs}
 
 pub record PairRunning (ups downs : List Job) (turns : List PairTurn) (n : ℕ) (spoken : List PairSpoken) (a b : Contending) : Type 0 where

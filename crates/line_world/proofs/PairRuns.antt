@@ -1,5 +1,5 @@
 -- One turn of two stations that both have jobs is one turn of the conversation.
-use Rattle.std.proofs.Common.{◌≡◌, ◌≢◌, ◌⊎◌, inl, inr, ℕ, ◌<◌, ◌==◌, Bool, true, false, not, ◌||◌, List, [], ◌∷◌, ◌++◌, length, take, slice_get, Some, None, if◌then◌else◌, refl, ap, sym, ◌∙◌, subst, arith, length-append, append-nil}
+use Rattle.std.proofs.Common.{◌≡◌, ◌≢◌, ◌⊎◌, inl, inr, ℕ, ◌<◌, Bool, true, false, not, List, [], ◌∷◌, ◌++◌, length, take, slice_get, Some, None, if◌then◌else◌, refl, ap, sym, ◌∙◌, subst, arith, length-append, append-nil}
 use Rattle.std.proofs.lemmas.Bool.{false≢true, cases_Bool}
 use Rattle.bsc_link.specs.declared.contender_place.ContenderPlace.{ContenderPlace}
 use Rattle.bsc_link.specs.declared.rank.Rank.{Rank}
@@ -24,7 +24,6 @@ use Rattle.line_world.specs.Turns.{after_turn}
 use Rattle.line_world.proofs.Comings.{tell}
 use Rattle.line_world.specs.Plan.{plan_of}
 use Rattle.bsc_history.specs.SayingRule.{saying}
-use Rattle.rje_station.proofs.Uncounted.{blocks_begun}
 use Rattle.line_world.proofs.RunTurns.{turn_of}
 use Rattle.line_world.proofs.Telling.{get_seam, take_one}
 use Rattle.bsc_history.specs.declared.bids.Bids.{Bids}
@@ -43,7 +42,7 @@ use Rattle.line_world.proofs.PairVain.{vainly, vain_follows, vain_listens, end_c
 use Rattle.line_world.proofs.Contends.{Contends, due-closed, closed-ungranted, primary_takes, secondary_takes, primary_alone, secondary_alone, both_speak}
 use Rattle.bsc_history.proofs.ForRuns.{and-left, counted-quiet, silent-says, lost-after, directions_may_be_spoken, pair_conversations_may_be_spoken}
 use Rattle.line_world.proofs.PairTelling.{pairs_append, pairs_longer}
-use Rattle.line_world.proofs.Sends.{SendsBy, sends_turn, sends_yielded, again, none_not, some_jobs}
+use Rattle.line_world.proofs.Sends.{SendsBy, sends_turn, sends_yielded, again, some_jobs}
 use Rattle.line_world.proofs.RunLoop.{plan_some}
 
 -- the turns so far were spoken over what the schedule tells of them, and both stations stand where they left them

@@ -1,5 +1,5 @@
 -- Schedules of pairs that tell schedules of sounds.
-use Rattle.std.proofs.Common.{◌≡◌, ℕ, zero, suc, List, [], ◌∷◌, ◌++◌, length, slice_get, Some, false, refl, ap}
+use Rattle.std.proofs.Common.{◌≡◌, suc, List, [], ◌∷◌, ◌++◌, length, false, refl, ap}
 use Rattle.bsc_frame.specs.Laws.{EveryHearing}
 use Rattle.line_world.proofs.Comings.{tell}
 use Rattle.line_world.specs.declared.pair_turn.PairTurn.{PairTurn}

@@ -26,7 +26,7 @@ use Rattle.line_world.proofs.SendingTurns.{turn_ends, turn_hears, cases_end}
 use Rattle.line_world.specs.Contending.{own_turn, other_turn}
 use Rattle.bsc_history.specs.Pair.{as_counted}
 use Rattle.line_world.specs.PairDriving.{SpeaksInVain, HearsNothing, after_end_of}
-use Rattle.line_world.proofs.Alone.{Laws, Listens, quiet_place, own_more, end_more, kept_jobs, end_jobs}
+use Rattle.line_world.proofs.Alone.{Laws, Listens, quiet_place, own_more, end_more, end_jobs}
 use Rattle.bsc_history.proofs.ForRuns.{same-sound, vain-follows}
 use Rattle.line_world.proofs.PairCarried.{spoken_of_due, answered_of_due, due_kept}
 

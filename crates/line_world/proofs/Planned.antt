@@ -1,14 +1,10 @@
 -- The plan of blocks.
-use Rattle.std.proofs.Common.{◌≡◌, ℕ, zero, suc, ◌+◌, ◌<◌, Bool, true, false, leb, List, [], ◌∷◌, ◌++◌, length, drop, if◌then◌else◌, refl, ap, sym, ◌∙◌, arith}
+use Rattle.std.proofs.Common.{◌≡◌, ℕ, zero, suc, ◌+◌, ◌<◌, Bool, true, List, [], ◌∷◌, length, drop, refl, ap, ◌∙◌, arith}
 use Rattle.bsc_codes.specs.declared.block.Block.{Block}
 use Rattle.bsc_codes.specs.declared.block.Closing.{Closing}
 use Rattle.bsc_codes.specs.declared.block.Closing.TheVariants.{Etb, Etx}
-use Rattle.rje_text.specs.declared.mode.Mode.{Mode}
-use Rattle.rje_text.specs.declared.record.Record.{Record}
-use Rattle.rje_text.specs.Spelling.{spelling}
-use Rattle.rje_text.specs.Cut.{cut, cut_behind}
 use Rattle.rje_jobs.specs.declared.job.Job.{Job}
-use Rattle.rje_jobs.specs.Blocks.{blocks, blocks_of_job}
+use Rattle.rje_jobs.specs.Blocks.{blocks}
 use Rattle.rje_jobs.specs.Joined.{ends_job}
 use Rattle.rje_station.specs.Sending.{next_in, next_after}
 use Rattle.bsc_history.specs.History.{what_follows, BeginsWithJob}

@@ -1,25 +1,24 @@
 -- What a line transmitted of a receiving station's replies, and what is kept by then.
-use Rattle.std.proofs.Common.{◌≡◌, inl, inr, ℕ, ◌+◌, ◌<◌, ◌≤◌, Bool, true, false, List, [], ◌∷◌, ◌++◌, length, take, Option, Some, None, refl, ap, sym, ◌∙◌, subst, arith}
+use Rattle.std.proofs.Common.{◌≡◌, inl, inr, ℕ, Bool, false, [], ◌∷◌, Option, refl, ap, ◌∙◌}
 use Rattle.bsc_frame.specs.declared.heard.Heard.{Heard}
 use Rattle.bsc_link.specs.declared.say.Say.{Say}
 use Rattle.bsc_link.specs.declared.sound.Sound.{Sound}
 use Rattle.bsc_link.specs.declared.wish.Wish.{Wish}
 use Rattle.rje_station.specs.Hearing.{sound_heard}
 use Rattle.bsc_history.specs.declared.spoken_turn.SpokenTurn.{SpokenTurn}
-use Rattle.rje_jobs.specs.declared.job.Job.{Job}
 use Rattle.rje_station.specs.declared.line_fault.LineFault.{LineFault}
 use Rattle.rje_station.specs.declared.station_fault.StationFault.{StationFault}
 use Rattle.rje_station.specs.declared.station_fault.StationFault.TheVariants as fault
 use Rattle.rje_station.specs.StationFault.{IfLine, IsCause}
 use Rattle.rje_station.specs.JoinedJobs.{begun_in}
 use Rattle.rje_station.specs.Line.{one_more}
-use Rattle.rje_station.specs.Receiving.{Receiving, MayRefuse, after_receiving, after_refusal, after_replying, first_receiving, with_reply}
-use Rattle.line_world.specs.AnyLines.{ReceiverTakes, ReceiverTook}
+use Rattle.rje_station.specs.Receiving.{Receiving, MayRefuse, after_receiving, after_refusal, after_replying, with_reply}
+use Rattle.line_world.specs.AnyLines.{ReceiverTakes}
 use Rattle.rje_commands.specs.declared.broken_off.BrokenOff.{BrokenOff}
 use Rattle.rje_commands.specs.declared.command_fault.CommandFault.{CommandFault}
 use Rattle.rje_commands.specs.declared.keeper.Keeper.{Keeper}
 use Rattle.rje_commands.specs.Answering.{Answered, BreaksKeeping, KeepsToBreak, KeepsToEnd, after_answer}
-use Rattle.rje_commands.specs.Keeping.{GoesOnKeeping, IsOfFile}
+use Rattle.rje_commands.specs.Keeping.{GoesOnKeeping}
 use Rattle.rje_commands.specs.Store.{FileMap, Discloses, IsSame}
 use Rattle.rje_commands.proofs.Growing.{goes_still}
 use Rattle.rje_commands.proofs.Keeping.{goes_on_twice, goes_nowhere}

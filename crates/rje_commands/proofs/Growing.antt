@@ -1,6 +1,6 @@
 -- The files of a receiver that go on with one more job.
-use Rattle.std.proofs.Common.{◌≡◌, ℕ, ◌+◌, ◌<◌, ◌≤◌, ◌^◌, ◌-◌, List, [], ◌∷◌, ◌++◌, length, map, drop, take, get_or, Bool, true, false, Option, Some, None, Result, Ok, Err, IfOk, OnOk, if◌then◌else◌, refl, ap, sym, ◌∙◌, subst, arith}
-use Rattle.std.proofs.lemmas.List.{append-nil, length-append, length-drop, length-map, map-append, take_all, take_more}
+use Rattle.std.proofs.Common.{◌≡◌, ℕ, ◌+◌, ◌<◌, ◌≤◌, List, [], ◌∷◌, ◌++◌, length, map, drop, take, get_or, Bool, true, false, Option, Some, None, if◌then◌else◌, refl, ap, sym, ◌∙◌, subst, arith}
+use Rattle.std.proofs.lemmas.List.{length-append, length-drop, length-map, map-append, take_all, take_more}
 use Rattle.std.proofs.lemmas.Slice.Eq.{bytes_eq-Decides}
 use Rattle.std.specs.Prelude.{bytes_eq}
 use Rattle.rje_jobs.specs.declared.job.Job.{Job}

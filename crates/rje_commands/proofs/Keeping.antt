@@ -1,14 +1,14 @@
 -- What stays kept of the jobs of a receiving station as more come.
-use Rattle.std.proofs.Common.{◌≡◌, inl, inr, ℕ, ◌+◌, ◌<◌, ◌≤◌, List, [], ◌∷◌, ◌++◌, length, take, drop, zero, suc, Bool, true, false, Option, Some, None, Result, Ok, Err, OnOk, if◌then◌else◌, refl, ap, sym, ◌∙◌, subst, arith, cond}
+use Rattle.std.proofs.Common.{◌≡◌, inl, inr, ℕ, ◌+◌, ◌<◌, ◌≤◌, List, [], ◌∷◌, length, take, zero, suc, Bool, true, false, Option, Some, None, if◌then◌else◌, refl, ap, sym, ◌∙◌, subst, arith, cond}
 use Rattle.std.proofs.lemmas.Bool.{cases_Bool}
-use Rattle.std.specs.List.{prefix_len, slice_get}
+use Rattle.std.specs.List.{slice_get}
 use Rattle.bsc_codes.specs.declared.block.Block.{Block}
 use Rattle.bsc_frame.specs.declared.frame.Frame.TheVariants as frame
 use Rattle.bsc_frame.specs.declared.heard.Heard.{Heard}
 use Rattle.bsc_frame.specs.declared.heard.Heard.TheVariants as heard
 use Rattle.rje_text.specs.declared.unpacked.Unpacked.{Unpacked}
 use Rattle.rje_jobs.specs.declared.job.Job.{Job}
-use Rattle.rje_jobs.specs.Joined.{with_records, ends_job, mode_of_begun}
+use Rattle.rje_jobs.specs.Joined.{ends_job, mode_of_begun}
 use Rattle.rje_text.specs.Reading.{reading}
 use Rattle.rje_station.specs.JoinedJobs.{begun_in, with_read, with_block}
 use Rattle.bsc_link.specs.declared.wish.Wish.{Wish}
@@ -17,7 +17,7 @@ use Rattle.rje_station.specs.Receiving.{Receiving, after_receiving, jobs_after, 
 use Rattle.rje_commands.specs.declared.keeper.Keeper.{Keeper}
 use Rattle.rje_commands.specs.declared.store.Place.{Place}
 use Rattle.rje_commands.specs.declared.store.Place.TheVariants.{Growing, Once}
-use Rattle.rje_commands.specs.Keeping.{AreKept, GoesOnKeeping, KeepsJobs, kept_after, whole_in_front}
+use Rattle.rje_commands.specs.Keeping.{AreKept, GoesOnKeeping, kept_after, whole_in_front}
 use Rattle.rje_commands.specs.Store.{FileMap}
 
 -- JOBS THAT COME

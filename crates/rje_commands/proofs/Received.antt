@@ -1,21 +1,18 @@
 -- One transmission that was received: what it comes to, and what is kept of it whatever ends it.
-use Rattle.std.proofs.Common.{◌≡◌, ◌⊎◌, inl, inr, true≢false, ℕ, ◌+◌, ◌<◌, ◌≤◌, List, [], ◌∷◌, ◌++◌, length, take, drop, Option, Some, None, Result, Ok, Err, IfErr, IfOk, OnErr, OnOk, refl, ap, sym, ◌∙◌, subst, arith}
+use Rattle.std.proofs.Common.{◌≡◌, ◌⊎◌, inl, inr, true≢false, ℕ, List, [], ◌∷◌, take, drop, Option, Some, None, Result, Ok, Err, IfErr, IfOk, OnErr, OnOk, refl, ap, sym, ◌∙◌, subst, arith}
 use Rattle.std.proofs.lemmas.List.{append-nil, take-append-drop}
 use Rattle.std.specs.Prelude.{IfSome, IsOk}
 use Rattle.std.specs.Result.{IsOkAnd}
 use Rattle.std.specs.Io.KnownBytes.{Appends}
-use Rattle.bsc_frame.specs.declared.heard.Heard.{Heard}
-use Rattle.bsc_link.specs.declared.wish.Wish.{Wish}
 use Rattle.rje_jobs.specs.declared.job.Job.{Job}
-use Rattle.rje_station.specs.Line.{one_more}
-use Rattle.rje_station.specs.Receiving.{Receiving, after_receiving, first_receiving}
+use Rattle.rje_station.specs.Receiving.{Receiving, first_receiving}
 use Rattle.rje_commands.specs.declared.broken_off.BrokenOff.{BrokenOff}
 use Rattle.rje_commands.specs.declared.command_fault.CommandFault.{CommandFault}
 use Rattle.rje_commands.specs.declared.exchange.Left.{Left}
 use Rattle.rje_commands.specs.declared.keeper.Keeper.{Keeper}
 use Rattle.rje_commands.specs.declared.socket_commands.ending.Ending.{Ending}
 use Rattle.rje_commands.specs.declared.store.Place.TheVariants.{Growing}
-use Rattle.rje_commands.specs.Answering.{Answered, BreaksKeeping, HasWhole, KeepsAnswered, KeepsToBreak, KeepsToEnd}
+use Rattle.rje_commands.specs.Answering.{HasWhole, KeepsAnswered, KeepsToBreak, KeepsToEnd}
 use Rattle.rje_commands.specs.Ending.{MakesJobFile, Receives, ending_of_left, received_text}
 use Rattle.rje_commands.specs.Keeping.{AreKept, GoesOnKeeping, IsOfFile, KeepsJobs, whole_in_front}
 use Rattle.rje_commands.specs.Patience.{LeavesSo}

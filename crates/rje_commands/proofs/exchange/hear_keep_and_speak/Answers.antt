@@ -1,4 +1,4 @@
-use Rattle.std.proofs.Common.{rules, ℕ, inl, inr, ◌≡◌, ap, sym, ◌∙◌, subst}
+use Rattle.std.proofs.Common.{rules, inr, ap, ◌∙◌}
 use Rattle.rje_commands.proofs.Answering.{replied_turn, last_turn, line_failed, not_kept, refusal_jobs}
 use Rattle.rje_station.specs.declared.station_fault.StationFault.{StationFault}
 use Rattle.rje_station.specs.Line.{one_more}

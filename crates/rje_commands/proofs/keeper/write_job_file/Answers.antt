@@ -1,4 +1,4 @@
-use Rattle.std.proofs.Common.{rules, ◌≡◌, Err, List, map, sym, ◌∙◌, subst}
+use Rattle.std.proofs.Common.{rules, ◌≡◌, Err, List, map, subst}
 use Rattle.rje_files.specs.declared.entry.Entry.{Entry}
 use Rattle.rje_files.specs.Entry.{entry_of}
 use Rattle.rje_files.specs.FileFault.{IsEntryFault}

@@ -1,7 +1,6 @@
-use Rattle.std.proofs.Common.{rules, ◌≡◌, OnOk, IfOk, IfErr, refl, ap, sym, ◌∙◌, subst}
-use Rattle.rje_station.specs.Receiving.{Receiving, first_receiving}
+use Rattle.std.proofs.Common.{rules, OnOk, IfErr, refl, subst}
+use Rattle.rje_station.specs.Receiving.{Receiving}
 use Rattle.rje_commands.specs.Answering.{KeepsToBreak, KeepsToEnd}
-use Rattle.rje_commands.specs.Patience.{LeavesSo}
 use Rattle.rje_commands.proofs.Received.{made_at_end, nothing_kept, received_kept, receives, same_itself}
 use Rattle.rje_commands.proofs.socket_commands.receive_command.received.Goals as goal
 
