@@ -19,7 +19,7 @@ use Rattle.rje_commands.specs.declared.command_fault.CommandFault.{CommandFault}
 use Rattle.rje_commands.specs.declared.keeper.Keeper.{Keeper}
 use Rattle.rje_commands.specs.Answering.{Answered, BreaksKeeping, KeepsToBreak, KeepsToEnd, after_answer}
 use Rattle.rje_commands.specs.Keeping.{GoesOnKeeping}
-use Rattle.rje_commands.specs.Store.{FileMap, Discloses, IsSame}
+use Rattle.rje_stores.specs.Store.{FileMap, Discloses, IsSame}
 use Rattle.rje_commands.proofs.Growing.{goes_still}
 use Rattle.rje_commands.proofs.Keeping.{goes_on_twice, goes_nowhere}
 

@@ -21,7 +21,7 @@ use Rattle.rje_commands.specs.CommandFault.{IsFailing, of_station, status_of}
 use Rattle.rje_commands.specs.Commands.{OfFile}
 use Rattle.rje_commands.specs.Ending.{IsRefusedFile, IsUnsentFault}
 use Rattle.rje_commands.specs.Inside.{IsSendFault}
-use Rattle.rje_commands.specs.Store.{FileMap}
+use Rattle.rje_stores.specs.Store.{FileMap}
 use Rattle.rje_commands.proofs.Inputs.{of_file}
 
 -- a line that fails, or a station that was over

@@ -1,49 +1,18 @@
 -- The files of a receiver that go on with one more job.
-use Rattle.std.proofs.Common.{◌≡◌, ℕ, ◌+◌, ◌<◌, ◌≤◌, List, [], ◌∷◌, ◌++◌, length, map, drop, take, get_or, Bool, true, false, Option, Some, None, if◌then◌else◌, refl, ap, sym, ◌∙◌, subst, arith}
+use Rattle.std.proofs.Common.{◌≡◌, ℕ, ◌+◌, ◌<◌, ◌≤◌, List, [], ◌∷◌, ◌++◌, length, map, drop, take, get_or, Option, refl, ap, sym, ◌∙◌, subst, arith}
 use Rattle.std.proofs.lemmas.List.{length-append, length-drop, length-map, map-append, take_all, take_more}
-use Rattle.std.proofs.lemmas.Slice.Eq.{bytes_eq-Decides}
-use Rattle.std.specs.Prelude.{bytes_eq}
 use Rattle.rje_jobs.specs.declared.job.Job.{Job}
 use Rattle.rje_files.specs.declared.job_file.version.FileVersion.TheVariants.{Second}
 use Rattle.rje_files.specs.Entry.{entry_of}
 use Rattle.rje_files.specs.Growth.{GrowsBy, grown}
 use Rattle.rje_files.specs.JobFile.{IsEntryFileOf, file_of}
-use Rattle.rje_commands.specs.declared.store.Place.{Place}
-use Rattle.rje_commands.specs.declared.store.Place.TheVariants.{Growing, Once}
+use Rattle.rje_stores.specs.declared.store.Place.{Place}
+use Rattle.rje_stores.specs.declared.store.Place.TheVariants.{Growing, Once}
+use Rattle.rje_stores.proofs.Changes.{same_after, same_twice, set_after, set_longer, set_over}
 use Rattle.rje_commands.specs.Ending.{MakesJobFile}
 use Rattle.rje_commands.specs.declared.keeper.Keeper.{Keeper}
 use Rattle.rje_commands.specs.Keeping.{AreKept, GoesOnKeeping, KeepsJobs}
-use Rattle.rje_commands.specs.Store.{FileMap, Discloses, Extends, IsSame, Sets}
-use Rattle.rje_commands.proofs.Inputs.{same_twice, set_after}
-
--- a name that was set has the bytes
-pub set_there : (f g : FileMap) (name bytes : List ℕ) → Sets name bytes f g → g name ≡ Some bytes
-set_there f g name bytes sets = sets name ∙ rw ((bytes_eq-Decides name name).1 refl) refl
-
--- a name that is set twice has the last bytes
-pub set_again : (name first bytes : List ℕ) (f g h : FileMap) → Sets name first f g → Sets name bytes g h → Sets name bytes f h
-set_again name first bytes f g h one two other = two other ∙ go (bytes_eq other name) (one other) where
-  go : (b : Bool) → g other ≡ (if b then Some first else f other) → (if b then Some bytes else g other) ≡ (if b then Some bytes else f other)
-  go true e = refl
-  go false e = e
-
-pub set_over : (name first bytes : List ℕ) (f g h : Option FileMap) → Discloses f g (Sets name first) → Discloses g h (Sets name bytes) → Discloses f h (Sets name bytes)
-set_over name first bytes None g h p q = tt
-set_over name first bytes (Some f) None h p q = absurd p
-set_over name first bytes (Some f) (Some g) None p q = absurd q
-set_over name first bytes (Some f) (Some g) (Some h) p q = set_again name first bytes f g h p q
-
--- a file that was set, and extended
-set_longer : (name bytes front tail : List ℕ) (f g h : Option FileMap) → Discloses f g (Sets name bytes) → Discloses g h (Extends name front tail)
-    → Discloses f h (Sets name (grown front tail bytes))
-set_longer name bytes front tail None g h p q = tt
-set_longer name bytes front tail (Some f) None h p q = absurd p
-set_longer name bytes front tail (Some f) (Some g) None p q = absurd q
-set_longer name bytes front tail (Some f) (Some g) (Some h) p (had, there, sets) =
-    set_again name bytes (grown front tail bytes) f g h p
-    (subst (λ (bs : List ℕ). Sets name (grown front tail bs) g h) (same (sym there ∙ set_there f g name bytes p)) sets) where
-      same : Some had ≡ Some bytes → had ≡ bytes
-      same e = ap (λ (o : Option (List ℕ)). elim o [ Some bs ↦ bs | None ↦ [] ]) e
+use Rattle.rje_stores.specs.Store.{FileMap, Discloses, Extends, IsSame, Sets}
 
 -- a file has its front
 has_front : (es : List _) (bytes : List ℕ) → IsEntryFileOf Second es bytes → 14 ≤ length bytes
@@ -106,12 +75,6 @@ grows_not_once Growing other = refl
 grows_not_once Once other = absurd (other refl)
 
 -- A WHOLE TRANSMISSION
-
-pub same_after : (name bytes : List ℕ) (f g h : Option FileMap) → Discloses f g (Sets name bytes) → Discloses g h IsSame → Discloses f h (Sets name bytes)
-same_after name bytes None g h p q = tt
-same_after name bytes (Some f) None h p q = absurd p
-same_after name bytes (Some f) (Some g) None p q = absurd q
-same_after name bytes (Some f) (Some g) (Some h) p q = λ other. q other ∙ p other
 
 -- the file stays where no file changes
 pub made_still : (jobs : List Job) (name : List ℕ) (f g h : Option FileMap) → MakesJobFile jobs name f g → Discloses g h IsSame → MakesJobFile jobs name f h

@@ -1,6 +1,6 @@
 -- What holds of the bytes that were read holds of the file, and of the deck, that they are.
 use Rattle.std.proofs.Common.{◌≡◌, ◌≤◌, ℕ, Bool, true, false, List, length, Option, Some, None, Result, Ok, Err, OnOk, IfErr, inl, inr, refl, sym, subst, ◌∙◌}
-use Rattle.std.specs.Prelude.{IfSome, bytes_eq, if◌then◌else◌}
+use Rattle.std.specs.Prelude.{IfSome}
 use Rattle.std.specs.Option.{IsSomeAnd}
 use Rattle.std.specs.Result.{IsErrAnd}
 use Rattle.rje_jobs.specs.declared.job.Job.{Job}
@@ -12,6 +12,7 @@ use Rattle.line_world.specs.declared.turn.Turn.{Turn}
 use Rattle.line_world.specs.declared.world_fault.WorldFault.{WorldFault}
 use Rattle.line_world.specs.Run.{IsRunFault}
 use Rattle.rje_print.specs.Script.{IsScript}
+use Rattle.rje_stores.proofs.Changes.{same_twice, set_after}
 use Rattle.rje_commands.specs.CommandFault.{of_world}
 use Rattle.rje_words.specs.declared.order.CardsOrder.{CardsOrder}
 use Rattle.rje_words.specs.declared.order.TryOrder.{TryOrder}
@@ -23,14 +24,7 @@ use Rattle.rje_commands.specs.declared.command_fault.CommandFault.TheVariants as
 use Rattle.rje_commands.specs.Command.{LeavesAsAsked}
 use Rattle.rje_commands.specs.Commands.{AreEntriesOf, AreInFront, OfFile, OfFiles, OfDeck, IsFault, MakesFile, Leaves}
 use Rattle.rje_commands.specs.Inside.{IsCardsFault, IsHeld, IsHeldFault, IsMade, IsThere, IsTryFault}
-use Rattle.rje_commands.specs.Store.{FileMap, Discloses, IsSame, Sets}
-
--- files that stayed the same twice stayed the same
-pub same_twice : (f g h : Option FileMap) → Discloses f g IsSame → Discloses g h IsSame → Discloses f h IsSame
-same_twice None g h p q = tt
-same_twice (Some f) None h p q = absurd p
-same_twice (Some f) (Some g) None p q = absurd q
-same_twice (Some f) (Some g) (Some h) p q = λ name. q name ∙ p name
+use Rattle.rje_stores.specs.Store.{FileMap, Discloses, IsSame, Sets}
 
 module _ (P : List ℕ → Type 0) (bytes : List ℕ) (holds : P bytes) where
   of_known : (known : Option (List ℕ)) → IsSomeAnd known (λ file. bytes ≡ file) → IsSomeAnd known P
@@ -141,14 +135,6 @@ leaves words (FileOrder.Show jobs) f g input asked same = inl same
 leaves words (FileOrder.Check jobs) f g input asked same = inl same
 leaves words (FileOrder.Print jobs) f g input asked same = inl same
 leaves words (FileOrder.Try order) f g input asked same = inl same
-
--- a file that was made after a read that left the files as they were
-pub set_after : (name bytes : List ℕ) (f g h : Option FileMap) → Discloses f g IsSame → Discloses g h (Sets name bytes) → Discloses f h (Sets name bytes)
-set_after name bytes None g h p q = tt
-set_after name bytes (Some f) None h p q = absurd p
-set_after name bytes (Some f) (Some g) None p q = absurd q
-set_after name bytes (Some f) (Some g) (Some h) p q = λ other.
-    subst (λ (had : Option (List ℕ)). h other ≡ (if bytes_eq other name then Some bytes else had)) (p other) (q other)
 
 pub made_file : (order : CardsOrder) (deck bytes : List ℕ) (held : Option (List ℕ)) (f g h i : Option FileMap) → deck_fault deck ≡ None
     → IsMade order deck held bytes → length bytes ≤ 16777216 → Discloses f g IsSame → IsHeld order g held → Discloses g h IsSame

@@ -15,10 +15,10 @@ use Rattle.bsc_link.specs.declared.wish.Wish.{Wish}
 use Rattle.bsc_link.specs.Receiver.{receiver_news}
 use Rattle.rje_station.specs.Receiving.{Receiving, after_receiving, jobs_after, sound_taken}
 use Rattle.rje_commands.specs.declared.keeper.Keeper.{Keeper}
-use Rattle.rje_commands.specs.declared.store.Place.{Place}
-use Rattle.rje_commands.specs.declared.store.Place.TheVariants.{Growing, Once}
+use Rattle.rje_stores.specs.declared.store.Place.{Place}
+use Rattle.rje_stores.specs.declared.store.Place.TheVariants.{Growing, Once}
 use Rattle.rje_commands.specs.Keeping.{AreKept, GoesOnKeeping, kept_after, whole_in_front}
-use Rattle.rje_commands.specs.Store.{FileMap}
+use Rattle.rje_stores.specs.Store.{FileMap}
 
 -- JOBS THAT COME
 

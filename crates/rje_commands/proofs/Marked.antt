@@ -1,29 +1,15 @@
 -- What stays marked of the jobs of a sender as more are counted.
-use Rattle.std.proofs.Common.{◌≡◌, inl, inr, ℕ, ◌+◌, ◌<◌, List, [], set, true, Option, Some, None, Result, Ok, Err, OnOk, refl, ap, sym, ◌∙◌, subst, arith}
+use Rattle.std.proofs.Common.{◌≡◌, inl, inr, ℕ, ◌+◌, ◌<◌, List, set, true, Option, Some, Result, Ok, Err, OnOk, refl, sym, ◌∙◌, subst, arith}
 use Rattle.std.proofs.lemmas.List.{length-set}
 use Rattle.std.specs.List.{slice_get}
 use Rattle.rje_files.specs.Marks.{AreMarks}
 use Rattle.rje_files.specs.Unsent.{IsSentFile}
+use Rattle.rje_stores.proofs.Changes.{byte_set, same_after, same_itself, same_twice, set_after, set_over}
 use Rattle.rje_commands.specs.declared.marker.Marker.{Marker}
 use Rattle.rje_commands.specs.Ending.{MarksSent}
 use Rattle.rje_commands.specs.Marking.{AreMarked, GoesOnMarking, Marks}
-use Rattle.rje_commands.specs.Store.{FileMap, Discloses, IsSame, Sets, SetsByte}
-use Rattle.rje_commands.proofs.Growing.{same_after, set_again, set_over, set_there}
-use Rattle.rje_commands.proofs.Inputs.{same_twice, set_after}
+use Rattle.rje_stores.specs.Store.{FileMap, Discloses, IsSame, SetsByte}
 use Rattle.rje_commands.proofs.Sending.{marked_after}
-use Rattle.rje_commands.proofs.Received.{same_itself}
-
--- a file that was set, and then a byte of it
-byte_set : (name bytes : List ℕ) (place byte : ℕ) (f g h : Option FileMap) → Discloses f g (Sets name bytes) → Discloses g h (SetsByte name place byte)
-    → Discloses f h (Sets name (set bytes place byte))
-byte_set name bytes place byte None g h p q = tt
-byte_set name bytes place byte (Some f) None h p q = absurd p
-byte_set name bytes place byte (Some f) (Some g) None p q = absurd q
-byte_set name bytes place byte (Some f) (Some g) (Some h) p (had, there, less, sets) =
-    set_again name bytes (set bytes place byte) f g h p
-    (subst (λ (bs : List ℕ). Sets name (set bs place byte) g h) (same (sym there ∙ set_there f g name bytes p)) sets) where
-      same : Some had ≡ Some bytes → had ≡ bytes
-      same e = ap (λ (o : Option (List ℕ)). elim o [ Some bs ↦ bs | None ↦ [] ]) e
 
 -- the next mark
 next_mark : (file places name : List ℕ) (n counted place : ℕ) (files g h : Option FileMap) → slice_get places n ≡ Some place → counted ≡ n + 1 → 0 < n

@@ -11,12 +11,12 @@ use Rattle.rje_commands.specs.declared.command_fault.CommandFault.{CommandFault}
 use Rattle.rje_commands.specs.declared.exchange.Left.{Left}
 use Rattle.rje_commands.specs.declared.keeper.Keeper.{Keeper}
 use Rattle.rje_commands.specs.declared.socket_commands.ending.Ending.{Ending}
-use Rattle.rje_commands.specs.declared.store.Place.TheVariants.{Growing}
+use Rattle.rje_stores.specs.declared.store.Place.TheVariants.{Growing}
 use Rattle.rje_commands.specs.Answering.{HasWhole, KeepsAnswered, KeepsToBreak, KeepsToEnd}
 use Rattle.rje_commands.specs.Ending.{MakesJobFile, Receives, ending_of_left, received_text}
 use Rattle.rje_commands.specs.Keeping.{AreKept, GoesOnKeeping, IsOfFile, KeepsJobs, whole_in_front}
 use Rattle.rje_commands.specs.Patience.{LeavesSo}
-use Rattle.rje_commands.specs.Store.{FileMap, Discloses, IsSame}
+use Rattle.rje_stores.specs.Store.{FileMap, Discloses, IsSame}
 use Rattle.rje_commands.proofs.Answering.{none_answered}
 use Rattle.rje_commands.proofs.Inputs.{done_as}
 use Rattle.rje_commands.proofs.Growing.{kept_still, none_kept}
@@ -141,7 +141,3 @@ received_kept written first last station name (Some f) looked kept made before a
 pub nothing_kept : (name : List ℕ) (f made : Option FileMap) (before after : ℕ) → Discloses f made IsSame → after ≡ before → IfSome f (λ _. KeepsAnswered name f made before after)
 nothing_kept name None made before after same silent = tt
 nothing_kept name (Some f) made before after same silent = (first_receiving, before, none_answered first_receiving before, inl (silent, ([], [], refl, inr (refl, same))))
-
-pub same_itself : (f : Option FileMap) → Discloses f f IsSame
-same_itself None = tt
-same_itself (Some f) = λ name. refl

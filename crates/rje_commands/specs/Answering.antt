@@ -14,7 +14,7 @@ use Rattle.rje_commands.specs.declared.broken_off.BrokenOff.{BrokenOff}
 use Rattle.rje_commands.specs.declared.keeper.Keeper.{Keeper}
 use Rattle.rje_commands.specs.Ending.{MakesJobFile}
 use Rattle.rje_commands.specs.Keeping.{GoesOnKeeping, IsOfFile, whole_in_front}
-use Rattle.rje_commands.specs.Store.{FileMap, Discloses, IsSame}
+use Rattle.rje_stores.specs.Store.{FileMap, Discloses, IsSame}
 
 -- how many transmissions there are after a turn of a receiving station: one more where it replied; after the last hearing it doesn't
 abbrev pub after_answer : SpokenTurn → ℕ → ℕ

@@ -9,7 +9,7 @@ use Rattle.rje_words.specs.Asking.{AsksFor, IsWordsFault}
 use Rattle.rje_commands.specs.declared.command_fault.CommandFault.{CommandFault}
 use Rattle.rje_commands.specs.CommandFault.{status_of, IsHelp}
 use Rattle.rje_commands.specs.Commands.{Does, IsFault, MakesFile, OfDeck}
-use Rattle.rje_commands.specs.Store.{FileMap, Discloses, IsSame}
+use Rattle.rje_stores.specs.Store.{FileMap, Discloses, IsSame}
 
 -- the words ask for help, or for the version
 abbrev pub AsksForHelp : List (List ℕ) → Type 0

@@ -25,7 +25,7 @@ use Rattle.rje_print.specs.JobTexts.{cards_line, IsShown, IsGood, IsPaper}
 use Rattle.rje_print.specs.ReportTexts.{run_text}
 use Rattle.rje_print.specs.Script.{IsScript, IsFirstBadLine}
 use Rattle.rje_commands.specs.declared.command_fault.CommandFault.{CommandFault}
-use Rattle.rje_commands.specs.Store.{FileMap, Discloses, IsSame, Sets}
+use Rattle.rje_stores.specs.Store.{FileMap, Discloses, IsSame, Sets}
 
 -- WHAT A COMMAND READS
 

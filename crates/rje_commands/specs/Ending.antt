@@ -19,7 +19,7 @@ use Rattle.rje_commands.specs.declared.command_fault.CommandFault.{CommandFault}
 use Rattle.rje_commands.specs.CommandFault.{status_of}
 use Rattle.rje_commands.specs.Commands.{OfFile}
 use Rattle.rje_commands.specs.Patience.{LeavesSo}
-use Rattle.rje_commands.specs.Store.{FileMap, Discloses, Sets}
+use Rattle.rje_stores.specs.Store.{FileMap, Discloses, Sets}
 
 -- the exit status
 abbrev pub ending_status : Ending → ℕ

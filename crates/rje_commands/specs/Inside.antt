@@ -13,7 +13,7 @@ use Rattle.rje_words.specs.declared.order.CardsOrder.{CardsOrder}
 use Rattle.rje_commands.specs.CommandFault.{IsFailing, status_of}
 use Rattle.rje_commands.specs.Commands.{AreEntriesOf, OfFile, IsFaultOfRun, deck_entry}
 use Rattle.rje_commands.specs.Ending.{IsUnsentFault}
-use Rattle.rje_commands.specs.Store.{FileMap}
+use Rattle.rje_stores.specs.Store.{FileMap}
 
 -- there is no memory for what has this name, or it can't be read
 abbrev pub IsReadFault : List ℕ → CommandFault → Type 0

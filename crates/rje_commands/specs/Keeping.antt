@@ -13,9 +13,9 @@ use Rattle.rje_station.specs.Receiving.{Receiving, MayRefuse, after_abandon, aft
 use Rattle.line_world.specs.AnyLines.{ReceiverFails, ReceiverTook}
 use Rattle.rje_commands.specs.declared.broken_off.BrokenOff.{BrokenOff}
 use Rattle.rje_commands.specs.declared.keeper.Keeper.{Keeper}
-use Rattle.rje_commands.specs.declared.store.Place.{Place}
-use Rattle.rje_commands.specs.declared.store.Place.TheVariants.{Growing, Once}
-use Rattle.rje_commands.specs.Store.{FileMap, Discloses, IsSame, Sets}
+use Rattle.rje_stores.specs.declared.store.Place.{Place}
+use Rattle.rje_stores.specs.declared.store.Place.TheVariants.{Growing, Once}
+use Rattle.rje_stores.specs.Store.{FileMap, Discloses, IsSame, Sets}
 
 -- how many jobs, from the first on, have come to their ends
 abbrev pub whole_in_front : List Job → ℕ

@@ -1,7 +1,5 @@
-pub mod Store
 pub mod Keeping
 pub mod Answering
-pub mod MemoryStore
 pub mod Commands
 pub mod CommandFault
 pub mod Inside

@@ -3,7 +3,7 @@ use Rattle.std.specs.Prelude.{◌≡◌, ◌⊎◌, ℕ, false, List, Option}
 use Rattle.rje_files.specs.Marks.{AreMarks}
 use Rattle.rje_commands.specs.declared.marker.Marker.{Marker}
 use Rattle.rje_commands.specs.Ending.{MarksSent}
-use Rattle.rje_commands.specs.Store.{FileMap, Discloses, IsSame}
+use Rattle.rje_stores.specs.Store.{FileMap, Discloses, IsSame}
 
 -- none is marked, and no file changed; or the file of this name became that of the same entries as this file's, in which just so many of those
 -- that were not Sent are Sent, and no other file changed

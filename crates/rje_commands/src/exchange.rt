@@ -9,18 +9,18 @@ ghost use Rattle.rje_commands.specs.CommandFault.{IsFailing, of_broken_off, of_s
 ghost use Rattle.rje_commands.specs.Keeping.{BreaksOff, BreaksOffNow, GoesOnKeeping, IsOfFile};
 ghost use Rattle.rje_commands.specs.Marking.{GoesOnMarking};
 ghost use Rattle.rje_commands.specs.Patience.{LeavesSo, HearsOut, was_quiet};
-ghost use Rattle.rje_commands.specs.Store.{Discloses, IsSame};
+ghost use Rattle.rje_stores.specs.Store.{Discloses, IsSame};
 ghost use Rattle.rje_commands.specs.Watching.{SenderWatched, SenderWatchedAll, ReceiverWatched, ReceiverWatchedAll, BothWatchedAll};
 ghost use Rattle.line_world.specs.AnyLines.{SenderTakes, SenderFails, SendsToEnd, SendsToFault, ReceiverTakes, BothTake, BothFail, BothToEnd, BothToFault};
 
 use crate::broken_off::BrokenOff;
 use crate::keeper::Keeper;
 use crate::marker::Marker;
-use crate::store::Store;
 use crate::watch::Watch;
 use bsc_link::{Say, Sound, Wish};
 use line_world::Spoken;
 use rje_station::{Arrival, Line, ReceivingStation, SendingStation, StationFault};
+use rje_stores::Store;
 
 /// After so many quiet hearings in a row a receiving station leaves.
 const MAX_QUIET: u32 = 40;

@@ -4,15 +4,14 @@ ghost use Rattle.rje_commands.specs.CommandFault.{IsFailing, status_of};
 ghost use Rattle.rje_commands.specs.Ending.{MakesJobFile};
 ghost use Rattle.rje_commands.specs.Inside.{IsWriteFault};
 ghost use Rattle.rje_commands.specs.Keeping.{AreKept, KeepsJobs, kept_after};
-ghost use Rattle.rje_commands.specs.Store.{FileMap, Discloses, IsSame, Sets};
+ghost use Rattle.rje_stores.specs.Store.{FileMap, Discloses, IsSame, Sets};
 ghost use Rattle.rje_jobs.specs.declared.job.Job.{Job as Item};
 
 use crate::command_fault::CommandFault;
 use crate::commands::{extend_file, look_at_file, write_file};
-use crate::reading::MAX_INPUT;
-use crate::store::{Place, Store};
 use rje_files::{Growth, entries_of, growth_of, write_entries};
 use rje_jobs::{Job, Jobs};
+use rje_stores::{MAX_INPUT, Place, Store};
 use std::alloc::Global;
 
 /// Keeps the jobs of a transmission in the file of a name: each as soon as it has come to its end, or all at the end where the file is a

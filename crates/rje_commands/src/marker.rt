@@ -7,12 +7,12 @@ ghost use Rattle.rje_files.specs.Unsent.{IsLeft};
 ghost use Rattle.rje_commands.specs.CommandFault.{IsFailing, status_of};
 ghost use Rattle.rje_commands.specs.Ending.{MarksSent};
 ghost use Rattle.rje_commands.specs.Marking.{AreMarked, GoesOnMarking};
-ghost use Rattle.rje_commands.specs.Store.{FileMap, Discloses, IsSame};
+ghost use Rattle.rje_stores.specs.Store.{FileMap, Discloses, IsSame};
 
 use crate::command_fault::CommandFault;
 use crate::commands::{look_at_file, set_byte_of_file, write_file};
-use crate::store::{Place, Store};
 use rje_files::{MARK, sent_file};
+use rje_stores::{Place, Store};
 use std::alloc::Global;
 
 /// Marks the jobs of a job file as they are counted: the first by a new file in its place, and each further one by a byte in that.

@@ -5,12 +5,12 @@ ghost use Rattle.rje_words.specs.Asking.{AsksFor, IsWordsFault};
 ghost use Rattle.rje_commands.specs.Commands.{Does, IsFault, Leaves};
 ghost use Rattle.rje_commands.specs.Command.{DoesAsAsked, IsRefused, LeavesAsAsked, AsksForNoFiles, IsStatus};
 ghost use Rattle.rje_commands.specs.CommandFault.{is_of_output};
-ghost use Rattle.rje_commands.specs.Store.{Discloses, IsSame};
+ghost use Rattle.rje_stores.specs.Store.{Discloses, IsSame};
 
 use crate::command_fault::CommandFault;
 use crate::commands::{blocks, cards, check, print, show, trial};
-use crate::store::Store;
 use crate::telling::{tell, tell_words};
+use rje_stores::Store;
 use rje_words::{FileOrder, Order, parse};
 use std::alloc::Global;
 use std::io::{Read, Write};

@@ -1,8 +1,8 @@
 //! One run of the program over sockets, files and two writers.
 use crate::command_fault::CommandFault;
 use crate::socket_commands::{Ending, loopback, receive, send};
-use crate::store::Store;
 use crate::telling::{tell, tell_words};
+use rje_stores::Store;
 use rje_words::{Order, SocketOrder, parse};
 use std::alloc::Global;
 use std::io::Write;

@@ -9,15 +9,15 @@ ghost use Rattle.rje_commands.specs.Commands.{Does, IsFault, Leaves, OfDeck, Mak
 ghost use Rattle.rje_commands.specs.Commands.{AreEntriesOf, deck_job};
 ghost use Rattle.rje_commands.specs.Inside.{IsCardsFault, IsHeld, IsHeldFault, IsMade};
 ghost use Rattle.rje_commands.specs.CommandFault.{is_of_output};
-ghost use Rattle.rje_commands.specs.Store.{Discloses, IsSame};
+ghost use Rattle.rje_stores.specs.Store.{Discloses, IsSame};
 
 use crate::command_fault::CommandFault;
 use crate::commands::inputs::{read_deck, read_if_there};
 use crate::commands::output::{put, write_file};
-use crate::store::Store;
 use rje_files::{Entry, State, read_entries, write_entries};
 use rje_jobs::{FileFault, job_of_deck};
 use rje_print::cards_text;
+use rje_stores::Store;
 use rje_words::CardsOrder;
 use std::alloc::Global;
 use std::io::{Read, Write};

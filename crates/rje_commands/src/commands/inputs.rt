@@ -3,13 +3,12 @@ ghost use Rattle.std.specs.Prelude.{◌≡◌, IfOk, IfErr, option_map};
 ghost use Rattle.rje_files.specs.JobFile.{HasEntries, HasJobs};
 ghost use Rattle.rje_commands.specs.Commands.{OfDeck, OfFile};
 ghost use Rattle.rje_commands.specs.Inside.{IsReadFault, IsInputFault, IsThere};
-ghost use Rattle.rje_commands.specs.Store.{Discloses, IsSame};
+ghost use Rattle.rje_stores.specs.Store.{Discloses, IsSame};
 
 use crate::command_fault::CommandFault;
-use crate::reading::read_all;
-use crate::store::{Store, StoreFault};
 use rje_files::{Entry, jobs_of, read_entries};
 use rje_jobs::Jobs;
+use rje_stores::{Store, StoreFault, read_all};
 use rje_words::STANDARD_INPUT;
 use std::alloc::Global;
 use std::io::Read;

@@ -3,14 +3,13 @@ ghost use Rattle.std.specs.Prelude.{◌≡◌, ◌≤◌, ◌+◌, length, IfOk,
 ghost use Rattle.std.specs.List.{flat_map};
 ghost use Rattle.rje_commands.specs.Inside.{IsWriteFault};
 ghost use Rattle.rje_commands.specs.CommandFault.{is_of_output};
-ghost use Rattle.rje_commands.specs.Store.{Discloses, Extends, IsSame, Sets, SetsByte};
+ghost use Rattle.rje_stores.specs.Store.{Discloses, Extends, IsSame, Sets, SetsByte};
 ghost use Rattle.std.specs.Io.KnownBytes.{Appends};
 
 use crate::command_fault::CommandFault;
-use crate::reading::MAX_INPUT;
-use crate::store::{Place, Store, StoreFault};
 use rje_files::Growth;
 use rje_print::PrintedLine;
+use rje_stores::{MAX_INPUT, Place, Store, StoreFault};
 use std::alloc::Global;
 use std::io::Write;
 

@@ -3,13 +3,13 @@ ghost use Rattle.std.specs.Prelude.{◌≡◌, IfErr, OnOk, None, false};
 ghost use Rattle.rje_words.specs.declared.order.FileOrder.{FileOrder};
 ghost use Rattle.rje_commands.specs.Commands.{Does, IsFault};
 ghost use Rattle.rje_commands.specs.CommandFault.{is_of_output};
-ghost use Rattle.rje_commands.specs.Store.{Discloses, IsSame};
+ghost use Rattle.rje_stores.specs.Store.{Discloses, IsSame};
 
 use crate::command_fault::CommandFault;
 use crate::commands::inputs::read_job_file;
 use crate::commands::output::put;
-use crate::store::Store;
 use rje_print::papers_text;
+use rje_stores::Store;
 use std::alloc::Global;
 use std::io::Write;
 

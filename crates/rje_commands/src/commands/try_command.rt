@@ -4,15 +4,15 @@ ghost use Rattle.rje_words.specs.declared.order.FileOrder.{FileOrder};
 ghost use Rattle.rje_commands.specs.Commands.{Does, IsFault, IsRunText};
 ghost use Rattle.rje_commands.specs.Inside.{IsTryFault};
 ghost use Rattle.rje_commands.specs.CommandFault.{is_of_output};
-ghost use Rattle.rje_commands.specs.Store.{Discloses, IsSame};
+ghost use Rattle.rje_stores.specs.Store.{Discloses, IsSame};
 
 use crate::command_fault::CommandFault;
 use crate::commands::inputs::read_file;
 use crate::commands::output::put;
-use crate::store::Store;
 use line_world::run;
 use rje_files::{jobs_of, read_entries};
 use rje_print::{read_script, run_text};
+use rje_stores::Store;
 use rje_words::TryOrder;
 use std::alloc::{AllocError, Global};
 use std::io::Write;

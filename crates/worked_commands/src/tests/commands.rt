@@ -1,9 +1,9 @@
 //! Commands, by their words.
 use arrayvec::ArrayVec;
-use rje_commands::{FileStore, MAX_INPUT, MemoryStore, Store, StoreFault, command};
-use std::fs;
+use rje_commands::command;
+use rje_stores::{MAX_INPUT, MemoryStore};
 use std::io::{self, ErrorKind, Read, Write};
-use std::process::{self, Abort};
+use std::process::Abort;
 use std::test::Fail;
 
 /// What a command writes, in memory of its own.
@@ -278,31 +278,4 @@ fn an_output_that_fails_ends_with_status_3(rt: HostRuntime) {
         &mut told,
     );
     assert!(rt; ended == 3);
-}
-
-#[test]
-fn files_are_read_back(rt: HostRuntime) -> Result<(), Fail> {
-    let name = format!(in rt.alloc();
-        "/tmp/rje_files_are_read_back_{}",
-        process::id(rt.process())
-    )?;
-    let mut files = FileStore::new(&rt, rt.alloc());
-    files.write(name.as_str(), b"A\n")?;
-    assert!(rt; files.read(rt.alloc(), name.as_str())?.as_slice() == b"A\n".as_slice());
-    fs::remove_file(&rt, name.as_str())?;
-    assert!(rt; files.read(rt.alloc(), "/tmp").err() == Some(StoreFault::Failed));
-    assert!(rt; files.read(rt.alloc(), name.as_str()).err() == Some(StoreFault::Missing));
-    Ok(())
-}
-
-#[test]
-fn files_in_memory_are_read_back(rt: HostRuntime) -> Result<(), Fail> {
-    let mut files = MemoryStore::new(rt.alloc());
-    files.write("a", b"one")?;
-    files.write("b", b"two")?;
-    files.write("a", b"three")?;
-    assert!(rt; files.read(rt.alloc(), "a")?.as_slice() == b"three".as_slice());
-    assert!(rt; files.read(rt.alloc(), "b")?.as_slice() == b"two".as_slice());
-    assert!(rt; files.read(rt.alloc(), "c").err() == Some(StoreFault::Missing));
-    Ok(())
 }

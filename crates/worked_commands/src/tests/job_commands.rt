@@ -2,7 +2,8 @@
 ghost use Rattle.std.specs.Prelude.{None};
 
 use arrayvec::ArrayVec;
-use rje_commands::{MemoryStore, Store, StoreFault, command};
+use rje_commands::command;
+use rje_stores::{MemoryStore, Store, StoreFault};
 use std::alloc::Global;
 use std::process::Abort;
 use std::test::Fail;

@@ -2,9 +2,10 @@
 use arrayvec::ArrayVec;
 use bsc_link::{Reply, Say, Sound};
 use line_world::Spoken;
-use rje_commands::{MemoryStore, Store, socket_command};
+use rje_commands::socket_command;
 use rje_print::{both_text, peer_text, receiver_text, sender_text};
 use rje_station::Arrival;
+use rje_stores::{MemoryStore, Store};
 use std::cell::Cell;
 use std::io::{self, ErrorKind, Write};
 use std::net::{Ipv4Addr, Ipv6Addr, Net, SocketAddr};

@@ -1,6 +1,7 @@
 //! `try`, by its words.
 use arrayvec::ArrayVec;
-use rje_commands::{MemoryStore, Store, command};
+use rje_commands::command;
+use rje_stores::{MemoryStore, Store};
 use std::process::Abort;
 use std::test::Fail;
 

@@ -1,7 +1,7 @@
 use Rattle.std.proofs.Common.{rules, ◌≡◌, ◌≤◌, length, Err}
 use Rattle.rje_commands.specs.declared.command_fault.CommandFault.TheVariants as told
 use Rattle.rje_commands.specs.Ending.{MarksSent}
-use Rattle.rje_commands.specs.Store.{Sets, Discloses}
+use Rattle.rje_stores.specs.Store.{Sets, Discloses}
 use Rattle.rje_commands.proofs.Failing.{memory_fails}
 use Rattle.rje_commands.proofs.Inputs.{done_as, done_both}
 use Rattle.rje_commands.proofs.marker.Marker.write.Goals as goal

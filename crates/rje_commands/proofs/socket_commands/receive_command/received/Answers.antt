@@ -1,7 +1,8 @@
 use Rattle.std.proofs.Common.{rules, OnOk, IfErr, refl, subst}
 use Rattle.rje_station.specs.Receiving.{Receiving}
+use Rattle.rje_stores.proofs.Changes.{same_itself}
 use Rattle.rje_commands.specs.Answering.{KeepsToBreak, KeepsToEnd}
-use Rattle.rje_commands.proofs.Received.{made_at_end, nothing_kept, received_kept, receives, same_itself}
+use Rattle.rje_commands.proofs.Received.{made_at_end, nothing_kept, received_kept, receives}
 use Rattle.rje_commands.proofs.socket_commands.receive_command.received.Goals as goal
 
 pub returns-in_err-station-clause-kept : goal.returns-in_err-station-clause-kept

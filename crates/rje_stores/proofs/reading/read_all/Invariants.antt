@@ -1,7 +1,7 @@
 use Rattle.std.proofs.Common.{◌-◌, ◌≤◌, length}
 use Rattle.std.specs.Io.KnownBytes.{Consumes}
-use Rattle.rje_commands.specs.declared.reading.TheConstants.{MAX_INPUT}
-use Rattle.rje_commands.proofs.reading.read_all.Given as goal
+use Rattle.rje_stores.specs.declared.reading.TheConstants.{MAX_INPUT}
+use Rattle.rje_stores.proofs.reading.read_all.Given as goal
 
 abbrev pub invariant-loop-bytes : goal.invariant-loop-bytes
 invariant-loop-bytes g l = (length l.bytes.items ≤ MAX_INPUT)

@@ -2,7 +2,7 @@
 use Rattle.std.specs.Prelude.{◌≡◌, ℕ, ◌<◌, List, length, set, Option, Some, None, ⊤, bytes_eq, if◌then◌else◌}
 use Rattle.std.specs.Option.{IsSomeAnd}
 use Rattle.rje_files.specs.Growth.{grown}
-use Rattle.rje_commands.specs.declared.reading.TheConstants.{MAX_INPUT}
+use Rattle.rje_stores.specs.declared.reading.TheConstants.{MAX_INPUT}
 
 -- the files: the bytes of each name that has some
 abbrev pub FileMap : Type 0

@@ -1,7 +1,7 @@
 //! The files that the program reads and writes by name.
 ghost use Rattle.std.specs.Prelude.{◌≡◌, ℕ, ◌≤◌, ◌++◌, List, Option, length, IfOk, IfSome, IsErrOf, OnOk, OnErr};
 ghost use Rattle.rje_files.specs.Growth.{grown};
-ghost use Rattle.rje_commands.specs.Store.{FileMap, Discloses, IsSame, Sets, SetsByte, Extends, Has, Lacks};
+ghost use Rattle.rje_stores.specs.Store.{FileMap, Discloses, IsSame, Sets, SetsByte, Extends, Has, Lacks};
 
 use crate::reading::MAX_INPUT;
 use std::alloc::Global;

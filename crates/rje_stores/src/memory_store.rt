@@ -1,7 +1,7 @@
 //! Files in memory.
 ghost use Rattle.std.specs.Prelude.{◌≡◌, ◌≤◌, ◌↔◌, ℕ, List, None, Some, length, IfOk, OnOk, OnErr, IsErrOf, IsOkUnless};
-ghost use Rattle.rje_commands.specs.Store.{IsSame, Sets, IsTooLong};
-ghost use Rattle.rje_commands.specs.MemoryStore.{files_of};
+ghost use Rattle.rje_stores.specs.Store.{IsSame, Sets, IsTooLong};
+ghost use Rattle.rje_stores.specs.MemoryStore.{files_of};
 
 use crate::reading::MAX_INPUT;
 use crate::store::{Store, StoreFault};

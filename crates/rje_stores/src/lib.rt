@@ -1,0 +1,14 @@
+//! Stores of files: how a program reads and writes files by their names.
+#![tactic(auto)]
+
+mod file_store;
+mod memory_store;
+mod reading;
+mod store;
+#[cfg(test)]
+mod tests;
+
+pub use file_store::FileStore;
+pub use memory_store::MemoryStore;
+pub use reading::{MAX_INPUT, read_all};
+pub use store::{Place, Store, StoreFault};
