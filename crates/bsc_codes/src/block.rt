@@ -16,7 +16,7 @@ pub enum Closing {
 /// A block: its text without framing, fill and check, what ends it, and whether its text is transparent.
 #[derive(Debug, PartialEq, Eq, Drop)]
 pub struct Block {
-    pub text: ArrayVec<u8, 512>,
+    pub text: ArrayVec<u8, MAX_TEXT>,
     pub closing: Closing,
     pub transparent: bool,
 }

@@ -22,4 +22,4 @@ pub use laws::{
     written_is_transmission,
 };
 pub use listener::Listener;
-pub use writer::write_frame;
+pub use writer::{MAX_TRANSMISSION, write_frame};

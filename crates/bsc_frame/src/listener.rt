@@ -12,6 +12,7 @@ mod text;
 use crate::{Fed, Frame, Heard};
 use arrayvec::ArrayVec;
 use bsc_check::Check;
+use bsc_codes::MAX_TEXT;
 use stage::{Stage, heard_in};
 use std::marker::Model;
 use step::step;
@@ -24,7 +25,7 @@ use text::keeps;
 pub struct Listener {
     stage: Stage,
     // the data bytes, from the start of a text on
-    text: ArrayVec<u8, 512>,
+    text: ArrayVec<u8, MAX_TEXT>,
     // from the start of a text on, the check of the data bytes, and then of the closing byte too
     check: Check,
 }

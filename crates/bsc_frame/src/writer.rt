@@ -17,9 +17,15 @@ use arrayvec::ArrayVec;
 use bsc_check::Check;
 use bsc_codes::{Block, Closing, DLE, ENQ, EOT, NAK, PAD, STX, SYN};
 
+/// The most bytes of a transmission without fill: of a transparent block of 512 bytes that are all DLE.
+pub const MAX_TRANSMISSION: usize = 1033;
+
 /// Writes one transmission of the frame, without pads in front and without fill, and one pad FF; on Ok the buffer holds just that, whatever
 /// it held before. A block of normal text is refused for its first byte that can't stand there, an Abort always; nothing else is.
-pub fn write_frame(frame: &Frame, out: &mut ArrayVec<u8, 1033>) -> Result<(), FrameFault>
+pub fn write_frame(
+    frame: &Frame,
+    out: &mut ArrayVec<u8, MAX_TRANSMISSION>,
+) -> Result<(), FrameFault>
     ensures ok { OnOk result (Written frame.now out.new.items) }
     ensures err { OnErr result (out.new.items ≡ out.old.items) }
     // A refusal is told only where its cause holds, and always where one does.
@@ -42,7 +48,7 @@ pub fn write_frame(frame: &Frame, out: &mut ArrayVec<u8, 1033>) -> Result<(), Fr
 }
 
 /// Writes a control sequence of one or two bytes.
-fn write_control(out: &mut ArrayVec<u8, 1033>, first: u8, second: Option<u8>)
+fn write_control(out: &mut ArrayVec<u8, MAX_TRANSMISSION>, first: u8, second: Option<u8>)
     ensures { out.new.items ≡ SYN ∷ SYN ∷ first ∷ (option_to_list second ++ PAD ∷ []) }
 {
     begin(out);
@@ -54,7 +60,7 @@ fn write_control(out: &mut ArrayVec<u8, 1033>, first: u8, second: Option<u8>)
 }
 
 /// Writes a block, or says why not.
-fn write_block(out: &mut ArrayVec<u8, 1033>, block: &Block) -> Result<(), FrameFault>
+fn write_block(out: &mut ArrayVec<u8, MAX_TRANSMISSION>, block: &Block) -> Result<(), FrameFault>
     ensures ok { OnOk result (Written (frame.Block block.now) out.new.items) }
     ensures err { OnErr result (out.new.items ≡ out.old.items) }
     ensures fault { IfErr result (λ fault. Refused (frame.Block block.now) fault) }
@@ -97,7 +103,7 @@ fn first_bad(text: &[u8]) -> Option<usize>
 }
 
 /// Writes a block that isn't refused.
-fn put_block(out: &mut ArrayVec<u8, 1033>, block: &Block)
+fn put_block(out: &mut ArrayVec<u8, MAX_TRANSMISSION>, block: &Block)
     ensures items { out.new.items ≡ SYN ∷ SYN ∷
         (body_without_fill (frame.Block block.now) ++ PAD ∷ []) }
     ensures room { array_vec_len block.now.text ≤ 512 }
@@ -110,7 +116,7 @@ fn put_block(out: &mut ArrayVec<u8, 1033>, block: &Block)
 }
 
 /// Begins a transmission.
-fn begin(out: &mut ArrayVec<u8, 1033>)
+fn begin(out: &mut ArrayVec<u8, MAX_TRANSMISSION>)
     ensures items { out.new.items ≡ SYN ∷ SYN ∷ [] }
     ensures len { array_vec_len out.new ≡ 2 }
 {
@@ -120,7 +126,7 @@ fn begin(out: &mut ArrayVec<u8, 1033>)
 }
 
 /// Appends the start of a text.
-fn put_start(out: &mut ArrayVec<u8, 1033>, transparent: bool)
+fn put_start(out: &mut ArrayVec<u8, MAX_TRANSMISSION>, transparent: bool)
     requires { array_vec_len out.old + 2 ≤ 1033 }
     ensures items { out.new.items ≡ out.old.items ++ start_of_text transparent }
     ensures len { array_vec_len out.new ≤ array_vec_len out.old + 2 }
@@ -132,7 +138,7 @@ fn put_start(out: &mut ArrayVec<u8, 1033>, transparent: bool)
 }
 
 /// Appends a text without fill.
-fn put_text(out: &mut ArrayVec<u8, 1033>, transparent: bool, text: &[u8])
+fn put_text(out: &mut ArrayVec<u8, MAX_TRANSMISSION>, transparent: bool, text: &[u8])
     requires { array_vec_len out.old + 2 * length text.now ≤ 1033 }
     ensures items { out.new.items ≡ out.old.items ++ text_without_fill transparent text.now }
     ensures len { array_vec_len out.new ≤ array_vec_len out.old + 2 * length text.now }
@@ -143,7 +149,7 @@ fn put_text(out: &mut ArrayVec<u8, 1033>, transparent: bool, text: &[u8])
 }
 
 /// Appends one data byte.
-fn put_byte(out: &mut ArrayVec<u8, 1033>, transparent: bool, byte: u8)
+fn put_byte(out: &mut ArrayVec<u8, MAX_TRANSMISSION>, transparent: bool, byte: u8)
     requires { array_vec_len out.old + 2 ≤ 1033 }
     ensures items { out.new.items ≡ out.old.items ++ on_line transparent (Some byte) }
     ensures len { array_vec_len out.new ≤ array_vec_len out.old + 2 }
@@ -155,7 +161,12 @@ fn put_byte(out: &mut ArrayVec<u8, 1033>, transparent: bool, byte: u8)
 }
 
 /// Appends what ends a block of this text.
-fn put_end(out: &mut ArrayVec<u8, 1033>, transparent: bool, text: &[u8], closing: Closing)
+fn put_end(
+    out: &mut ArrayVec<u8, MAX_TRANSMISSION>,
+    transparent: bool,
+    text: &[u8],
+    closing: Closing,
+)
     requires { array_vec_len out.old + 4 ≤ 1033 }
     ensures items { out.new.items ≡ out.old.items ++ block_end transparent text.now closing }
     ensures len { array_vec_len out.new ≤ array_vec_len out.old + 4 }

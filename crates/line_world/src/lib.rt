@@ -38,7 +38,7 @@ pub use laws::{
     clean_line_is_enough, fair_line_is_enough, faithful_lines_keep_order, histories_keep_order,
     one_way_is_a_run, pair_runs_keep_order, runs_keep_order, stations_keep_history,
 };
-pub use memory_line::{MAX_TRANSMISSION, MemoryLine};
+pub use memory_line::MemoryLine;
 pub use pair_report::PairReport;
 pub use pair_spoken::PairSpoken;
 pub use pair_turn::PairTurn;

@@ -4,12 +4,10 @@ ghost use Rattle.rje_station.specs.Line.{Rose, Sends, Hears, IsWithin, one_more}
 ghost use Rattle.line_world.specs.MemoryLine.{empty_line, pieces_in, ready, given_to, pieces_left, came_with, laid, talk_of, may_fail_on, last_fault_of, after_put, after_fail_at, after_call, after_failing, after_transmitting, after_listening};
 
 use arrayvec::ArrayVec;
+use bsc_frame::MAX_TRANSMISSION;
 use rje_station::{Came, Line, LineFault};
 use std::alloc::Global;
 use std::marker::Model;
-
-/// The longest transmission that a line in memory takes.
-pub const MAX_TRANSMISSION: usize = 1033;
 
 /// A line in memory: the bytes that come are handed in, and the last transmission is kept. No call takes memory.
 #[derive(Drop)]
@@ -18,7 +16,7 @@ pub struct MemoryLine {
     // The piece in hand, and how many of its bytes were given.
     piece: usize,
     given: usize,
-    sent: ArrayVec<u8, 1033>,
+    sent: ArrayVec<u8, MAX_TRANSMISSION>,
     // How many transmissions were begun.
     transmissions: u64,
     failures: u64,

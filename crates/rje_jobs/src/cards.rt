@@ -8,7 +8,7 @@ ghost use Rattle.rje_jobs.specs.Deck.{deck_fault, filled, card_of, cards_of};
 use crate::lines::next_line;
 use arrayvec::ArrayVec;
 use bsc_codes::{BLANK, to_ebcdic};
-use rje_text::{Action, Mode, Record};
+use rje_text::{Action, MAX_RECORD, Mode, Record};
 use std::marker::Model;
 
 /// The columns of a card.
@@ -93,7 +93,7 @@ fn card(line: &[u8], mode: Mode) -> Record
 }
 
 /// Puts the codes of the characters that have one into an empty card.
-fn push_codes(line: &[u8], card: &mut ArrayVec<u8, 144>)
+fn push_codes(line: &[u8], card: &mut ArrayVec<u8, MAX_RECORD>)
     requires fits { length line.now ≤ CARD }
     requires empty { card.old.items ≡ [] }
     ensures codes { card.new.items ≡ filter_map ebcdic_of line.now }
@@ -107,7 +107,7 @@ fn push_codes(line: &[u8], card: &mut ArrayVec<u8, 144>)
 }
 
 /// Fills a card with blanks.
-fn fill(card: &mut ArrayVec<u8, 144>)
+fn fill(card: &mut ArrayVec<u8, MAX_RECORD>)
     requires { length card.old.items ≤ CARD }
     ensures { card.new.items ≡ filled Mode.Transparent card.old.items }
 {

@@ -3,10 +3,10 @@ ghost use Rattle.bsc_frame.specs.Written.{Written};
 ghost use Rattle.rje_station.specs.Writing.{CanBeWritten};
 
 use arrayvec::ArrayVec;
-use bsc_frame::{Frame, write_frame};
+use bsc_frame::{Frame, MAX_TRANSMISSION, write_frame};
 
 /// Room for the longest transmission that is written.
-pub(crate) type Transmission = ArrayVec<u8, 1033>;
+pub(crate) type Transmission = ArrayVec<u8, MAX_TRANSMISSION>;
 
 /// The transmission of a frame that can be written.
 pub(crate) fn transmission_of(frame: &Frame) -> Transmission

@@ -9,5 +9,5 @@ pub const MAX_RECORD: usize = 144;
 #[derive(Clone, Debug, PartialEq, Eq, Drop)]
 pub struct Record {
     pub action: Action,
-    pub bytes: ArrayVec<u8, 144>,
+    pub bytes: ArrayVec<u8, MAX_RECORD>,
 }

@@ -80,7 +80,7 @@ fn is_blank_count(byte: u8) -> bool
     BLANK < byte && byte < 0x80
 }
 
-fn fill(bytes: &mut ArrayVec<u8, 144>, count: usize)
+fn fill(bytes: &mut ArrayVec<u8, MAX_RECORD>, count: usize)
     requires { array_vec_len bytes.old + count ≤ 144 }
     ensures { bytes.new.items ≡ bytes.old.items ++ replicate count BLANK }
 {

@@ -5,6 +5,7 @@ ghost use Rattle.rje_text.specs.Spelling.{action_escape, compressed, written_run
 ghost use Rattle.rje_text.specs.Spelling.Run.{Blanks};
 ghost use Rattle.rje_text.specs.Action.{code_of};
 
+use crate::packer::MAX_TEXT_SENT;
 use crate::{Action, Mode, Record};
 use arrayvec::ArrayVec;
 use bsc_codes::{BLANK, ESC, IGS, IRS};
@@ -13,7 +14,9 @@ use bsc_codes::{BLANK, ESC, IGS, IRS};
 pub(crate) const MAX_SPELLING: usize = 147;
 
 /// A text while records are spelled into it: the most that is sent, and one spelling more.
-pub(crate) type TextInHand = ArrayVec<u8, 657>;
+pub(crate) type TextInHand = ArrayVec<u8, MAX_IN_HAND>;
+
+const MAX_IN_HAND: usize = MAX_TEXT_SENT + MAX_SPELLING;
 
 /// Puts behind the text how a record stands in a text of this mode.
 pub(crate) fn spell(item: &Record, mode: Mode, text: &mut TextInHand)

@@ -9,11 +9,12 @@ use super::text::{at_normal, at_second_check, at_text_dle, at_transparent};
 use crate::Frame;
 use arrayvec::ArrayVec;
 use bsc_check::Check;
+use bsc_codes::MAX_TEXT;
 
 /// Takes one byte: the frame that it makes whole, or more has come.
 pub(crate) fn step(
     stage: &mut Stage,
-    text: &mut ArrayVec<u8, 512>,
+    text: &mut ArrayVec<u8, MAX_TEXT>,
     check: &mut Check,
     byte: u8,
 ) -> Option<Frame>

@@ -8,7 +8,7 @@ use crate::Frame;
 use crate::frame::{ACK0, ACK1, LEADING_PAD, RVI, WACK};
 use arrayvec::ArrayVec;
 use bsc_check::Check;
-use bsc_codes::{DLE, ENQ, EOT, NAK, PAD, STX, SYN};
+use bsc_codes::{DLE, ENQ, EOT, MAX_TEXT, NAK, PAD, STX, SYN};
 
 fn is_pad(byte: u8) -> bool
     ensures { result ≡ is_pad_of byte }
@@ -57,7 +57,7 @@ pub(crate) fn after_no_sync(byte: u8) -> Stage
 /// Takes the first byte of a body, or one more SYN.
 pub(crate) fn at_body(
     stage: &mut Stage,
-    text: &mut ArrayVec<u8, 512>,
+    text: &mut ArrayVec<u8, MAX_TEXT>,
     check: &mut Check,
     byte: u8,
 ) -> Option<Frame>
@@ -84,7 +84,7 @@ pub(crate) fn at_body(
 /// Takes the byte behind a DLE in a body's first place.
 pub(crate) fn at_dle(
     stage: &mut Stage,
-    text: &mut ArrayVec<u8, 512>,
+    text: &mut ArrayVec<u8, MAX_TEXT>,
     check: &mut Check,
     byte: u8,
 ) -> Option<Frame>

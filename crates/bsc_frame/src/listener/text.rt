@@ -23,7 +23,12 @@ use bsc_check::Check;
 use bsc_codes::{Block, Closing, DLE, ENQ, ETB, ETX, MAX_TEXT, SYN};
 
 /// Whether a byte is data that this stage keeps; it is kept then. Most bytes of a line are, and need no more than this.
-pub(crate) fn keeps(stage: Stage, text: &mut ArrayVec<u8, 512>, check: &mut Check, byte: u8) -> bool
+pub(crate) fn keeps(
+    stage: Stage,
+    text: &mut ArrayVec<u8, MAX_TEXT>,
+    check: &mut Check,
+    byte: u8,
+) -> bool
     requires { CheckRuns stage text.old.items check.old }
     ensures next { result ≡ true → On (so_far_of stage text.new.items)
         ≡ next (so_far_of stage text.old.items) byte }
@@ -47,7 +52,7 @@ pub(crate) fn keeps(stage: Stage, text: &mut ArrayVec<u8, 512>, check: &mut Chec
 /// Takes a byte in normal text.
 pub(crate) fn at_normal(
     stage: &mut Stage,
-    text: &mut ArrayVec<u8, 512>,
+    text: &mut ArrayVec<u8, MAX_TEXT>,
     check: &mut Check,
     byte: u8,
 ) -> Option<Frame>
@@ -76,7 +81,7 @@ pub(crate) fn at_normal(
 /// Takes a byte in transparent text.
 pub(crate) fn at_transparent(
     stage: &mut Stage,
-    text: &mut ArrayVec<u8, 512>,
+    text: &mut ArrayVec<u8, MAX_TEXT>,
     check: &mut Check,
     byte: u8,
 )
@@ -94,7 +99,7 @@ pub(crate) fn at_transparent(
 /// Takes the byte behind a DLE in transparent text.
 pub(crate) fn at_text_dle(
     stage: &mut Stage,
-    text: &mut ArrayVec<u8, 512>,
+    text: &mut ArrayVec<u8, MAX_TEXT>,
     check: &mut Check,
     byte: u8,
 ) -> Option<Frame>
@@ -120,7 +125,7 @@ pub(crate) fn at_text_dle(
 /// Keeps one more data byte, where there is room for it.
 fn keep(
     stage: &mut Stage,
-    text: &mut ArrayVec<u8, 512>,
+    text: &mut ArrayVec<u8, MAX_TEXT>,
     check: &mut Check,
     transparent: bool,
     byte: u8,
@@ -140,7 +145,7 @@ fn keep(
 }
 
 /// The frame of a text that an ENQ ends.
-fn frame_of_enq(transparent: bool, text: &ArrayVec<u8, 512>) -> Frame
+fn frame_of_enq(transparent: bool, text: &ArrayVec<u8, MAX_TEXT>) -> Frame
     ensures { result ≡ enq_frame transparent text.now.items }
 {
     if transparent || !text.is_empty() {
@@ -153,7 +158,7 @@ fn frame_of_enq(transparent: bool, text: &ArrayVec<u8, 512>) -> Frame
 /// Closes a text.
 fn close(
     stage: &mut Stage,
-    text: &ArrayVec<u8, 512>,
+    text: &ArrayVec<u8, MAX_TEXT>,
     check: &mut Check,
     transparent: bool,
     closing: Closing,
@@ -170,7 +175,7 @@ fn close(
 /// Takes the second byte of a check.
 pub(crate) fn at_second_check(
     stage: &mut Stage,
-    text: &mut ArrayVec<u8, 512>,
+    text: &mut ArrayVec<u8, MAX_TEXT>,
     check: &Check,
     transparent: bool,
     closing: Closing,

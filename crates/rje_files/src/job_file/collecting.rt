@@ -13,7 +13,7 @@ use crate::{Entry, State};
 use arrayvec::ArrayVec;
 use byteorder::{BigEndian, ByteOrder};
 use rje_jobs::Job;
-use rje_text::{Action, Mode, Record, Records as RecordList, Select};
+use rje_text::{Action, MAX_RECORD, Mode, Record, Records as RecordList, Select};
 use std::alloc::{AllocError, Global};
 
 /// The jobs of a version 1 file.
@@ -166,11 +166,11 @@ fn record_at<'a>(bytes: &'a [u8]) -> (Record, &'a [u8])
     (record, rest)
 }
 
-fn data(items: &[u8]) -> ArrayVec<u8, 144>
+fn data(items: &[u8]) -> ArrayVec<u8, MAX_RECORD>
     requires { length items.now ≤ 144 }
     ensures { result.items ≡ items.now }
 {
-    let mut bytes: ArrayVec<u8, 144> = ArrayVec::new();
+    let mut bytes: ArrayVec<u8, MAX_RECORD> = ArrayVec::new();
     let Ok(()) = bytes.try_extend_from_slice(items) else {
         unreachable!()
     };
