@@ -4,5 +4,5 @@ use Rattle.std.specs.Io.KnownBytes.{Appends}
 use Rattle.std.specs.declared.time.Instant.{Instant}
 
 -- a tracer that isn't quiet, since it has the instant of its start, wrote this line of some time, in nanoseconds
-abbrev pub Tells : Option Instant → Option (List ℕ) → Option (List ℕ) → (ℕ → List ℕ) → Type 0
-Tells start old new line = IfSome start (λ _. (nanos : ℕ) × Appends old new (line nanos))
+abbrev pub TracesLine : Option Instant → Option (List ℕ) → Option (List ℕ) → (ℕ → List ℕ) → Type 0
+TracesLine start old new line = IfSome start (λ _. (nanos : ℕ) × Appends old new (line nanos))

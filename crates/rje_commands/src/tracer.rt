@@ -1,6 +1,6 @@
 //! The watch that writes a line a turn.
 ghost use Rattle.std.specs.Prelude.{◌≡◌, false, None};
-ghost use Rattle.rje_commands.specs.Tracing.{Tells};
+ghost use Rattle.rje_commands.specs.Tracing.{TracesLine};
 ghost use Rattle.rje_print.specs.TurnTexts.{peer_line, sender_line, receiver_line, both_line};
 
 use crate::watch::Watch;
@@ -37,7 +37,7 @@ impl<C: Clock, W: Write> Tracer<C, W> {
 
     /// The peer at this address is connected.
     pub fn connected(&mut self, peer: SocketAddr)
-        ensures told { Tells self.new.start (W.contents self.old.out) (W.contents self.new.out)
+        ensures told { TracesLine self.new.start (W.contents self.old.out) (W.contents self.new.out)
             (λ nanos. peer_line nanos peer) }
         ensures quiet { self.old.start ≡ None → self.new ≡ self.old }
     {
@@ -56,7 +56,7 @@ impl<C: Clock, W: Write> Tracer<C, W> {
 
     /// Writes a line.
     fn write(&mut self, line: &[u8])
-        ensures { Tells self.new.start (W.contents self.old.out) (W.contents self.new.out)
+        ensures { TracesLine self.new.start (W.contents self.old.out) (W.contents self.new.out)
             (λ _. line.now) }
     {
         if self.out.write_all(line).is_err() {
@@ -67,15 +67,15 @@ impl<C: Clock, W: Write> Tracer<C, W> {
 
 impl<C: Clock, W: Write> Watch for Tracer<C, W> {
     ghost saw_sender = { λ old new said heard.
-        Tells new.start (W.contents old.out) (W.contents new.out)
+        TracesLine new.start (W.contents old.out) (W.contents new.out)
         (λ nanos. sender_line nanos said heard) × (old.start ≡ None → new ≡ old) };
 
     ghost saw_receiver = { λ old new arrival reply.
-        Tells new.start (W.contents old.out) (W.contents new.out)
+        TracesLine new.start (W.contents old.out) (W.contents new.out)
         (λ nanos. receiver_line nanos arrival reply) × (old.start ≡ None → new ≡ old) };
 
     ghost saw_both = { λ old new turn.
-        Tells new.start (W.contents old.out) (W.contents new.out)
+        TracesLine new.start (W.contents old.out) (W.contents new.out)
         (λ nanos. both_line nanos turn) × (old.start ≡ None → new ≡ old) };
 
     fn sender_took(&mut self, said: Say, heard: Sound) {

@@ -38,9 +38,9 @@ Has None name bytes = ⊤
 Has (Some f) name bytes = f name ≡ Some bytes
 
 -- where the files are told, this name has none
-abbrev pub Lacks : Option FileMap → List ℕ → Type 0
-Lacks None name = ⊤
-Lacks (Some f) name = f name ≡ None
+abbrev pub IsMissing : Option FileMap → List ℕ → Type 0
+IsMissing None name = ⊤
+IsMissing (Some f) name = f name ≡ None
 
 -- there is such a file, and it is too long to be read
 abbrev pub IsTooLong : Option (List ℕ) → Type 0

@@ -1,7 +1,7 @@
 //! The files that the program reads and writes by name.
 ghost use Rattle.std.specs.Prelude.{◌≡◌, ℕ, ◌≤◌, ◌++◌, List, Option, length, IfOk, IfSome, IsErrOf, OnOk, OnErr};
 ghost use Rattle.rje_files.specs.Growth.{grown};
-ghost use Rattle.rje_stores.specs.Store.{FileMap, Discloses, IsSame, Sets, SetsByte, Extends, Has, Lacks};
+ghost use Rattle.rje_stores.specs.Store.{FileMap, Discloses, IsSame, Sets, SetsByte, Extends, Has, IsMissing};
 
 use crate::reading::MAX_INPUT;
 use std::alloc::Global;
@@ -39,7 +39,7 @@ pub trait Store {
     fn read(&mut self, alloc: Global, name: &str) -> Result<Vec<u8>, StoreFault>
         ensures has { IfOk result (λ bytes. Has (files self.old) name.now bytes.items) }
         ensures limit { IfOk result (λ bytes. length bytes.items ≤ MAX_INPUT) }
-        ensures missing { IsErrOf result StoreFault.Missing → Lacks (files self.old) name.now }
+        ensures missing { IsErrOf result StoreFault.Missing → IsMissing (files self.old) name.now }
         ensures same { Discloses (files self.old) (files self.new) IsSame };
 
     /// Makes these bytes the file of this name, in place of what it had. A store may fail at any time.
