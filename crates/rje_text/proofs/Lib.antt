@@ -9,5 +9,6 @@ pub mod ShortSpelling
 pub mod TheCut
 pub mod ReadBack
 pub mod Prefixes
+pub mod NoneFound
 pub mod OneFault
 pub mod NextBlocks

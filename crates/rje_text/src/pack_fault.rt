@@ -1,9 +1,10 @@
 //! Why a record can't be sent.
-ghost use Rattle.std.specs.Prelude.{◌≡◌, position};
+ghost use Rattle.std.specs.Prelude.{◌≡◌, not, position};
+ghost use Rattle.std.specs.List.{list_any};
 ghost use Rattle.rje_text.specs.PackFault.{
   pack_fault,
   bad_byte as bad_byte_of,
-  is_no_data_byte,
+  is_no_data_byte as no_data,
   card_length as card_length_of,
   is_of_cards as of_cards,
   action_here as action_fault,
@@ -51,10 +52,32 @@ fn bad_byte(bytes: &[u8], mode: Mode) -> Option<PackFault>
     }
 }
 
+/// The place of the first byte that a normal text can't carry for data. Most records have none, and that is seen sooner without a place.
+#[tactic(auto, using(crate::proofs::NoneFound::none_first))]
 fn no_data_byte(bytes: &[u8]) -> Option<usize>
-    ensures { result ≡ position is_no_data_byte bytes.now }
+    ensures { result ≡ position no_data bytes.now }
 {
-    bytes.iter().position(|b| *b < 0x40 || 0xFE < *b)
+    if are_data_bytes(bytes) {
+        return None;
+    }
+    bytes.iter().position(|byte| is_no_data_byte(*byte))
+}
+
+/// Whether a normal text can carry each of these bytes for data. It doesn't stop at the first that it can't, so many are tested at once.
+fn are_data_bytes(bytes: &[u8]) -> bool
+    ensures { result ≡ not (list_any no_data bytes.now) }
+{
+    let mut good = true;
+    for byte in bytes {
+        good &= !is_no_data_byte(*byte);
+    }
+    good
+}
+
+fn is_no_data_byte(byte: u8) -> bool
+    ensures { result ≡ no_data byte }
+{
+    byte < 0x40 || 0xFE < byte
 }
 
 /// A card of another length than the job's cards have.
