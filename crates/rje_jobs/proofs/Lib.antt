@@ -1,3 +1,4 @@
 pub mod FirstLine
 pub mod Faults
 pub mod SoundCards
+pub mod Shown
