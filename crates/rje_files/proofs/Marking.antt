@@ -1,5 +1,5 @@
 -- One more job of a file made Sent by a byte.
-use Rattle.std.proofs.Common.{◌≡◌, inl, inr, ℕ, zero, suc, ◌+◌, ◌<◌, ◌≤◌, Bool, true, false, not, List, [], ◌∷◌, ◌++◌, length, set, drop, get_or, Some, if◌then◌else◌, refl, ap, sym, ◌∙◌, subst, arith}
+use Rattle.std.proofs.Common.{◌≡◌, inl, inr, ℕ, zero, suc, ◌+◌, ◌<◌, ◌≤◌, Bool, true, false, not, List, [], ◌∷◌, ◌++◌, length, set, drop, get_or, Option, Some, if◌then◌else◌, refl, ap, sym, ◌∙◌, subst, arith}
 use Rattle.std.proofs.lemmas.Bool.{cases_Bool}
 use Rattle.std.proofs.lemmas.List.{append_assoc, append-nil, drop_all, drop_more, length-append}
 use Rattle.std.proofs.lemmas.List.Elements.{recursion_from_All}
@@ -13,7 +13,7 @@ use Rattle.rje_files.specs.declared.job_file.version.FileVersion.TheVariants.{Fi
 use Rattle.rje_files.specs.Entry.{is_job_name, agrees}
 use Rattle.rje_files.specs.JobFile.{HasEntries, IsOfVersion, FitsFields, AreForFile, entry_bytes, records_bytes, state_byte, select_byte, mode_byte, file_of, head, version_byte}
 use Rattle.rje_files.specs.Unsent.{CanPass, IsSentFile, is_sent, unsent, with_sent}
-use Rattle.rje_files.specs.Marks.{AreMarks}
+use Rattle.rje_files.specs.Marks.{AreMarks, AreStatePlaces}
 use Rattle.rje_files.proofs.OneFile.{one_file}
 use Rattle.rje_files.proofs.Sent.{none_left, kept, made}
 use Rattle.rje_text.proofs.Both.{both}
@@ -46,6 +46,31 @@ each start (e ∷ es) = go (is_sent e.state) (each (start + length (entry_bytes 
   go : (b : Bool) → length (marks_from next es) ≡ length (unsent es) → length (if b then marks_from next es else ((start + 8) ∷ marks_from next es)) ≡ length (if not b then e ∷ unsent es else unsent es)
   go true same = same
   go false same = ap suc same
+
+-- WHERE IT STANDS
+
+stands : (before after : List Entry) (e : Entry) (start : ℕ) → is_sent e.state ≡ false
+    → slice_get (marks_from start (before ++ e ∷ after)) (length (unsent before)) ≡ Some ((start + length (bytes_of before)) + 8)
+stands [] after e start left = rw left (ap (λ (n : ℕ). Some (n + 8)) still) where
+  still : start ≡ start + 0
+  still = omega arith
+stands (x ∷ before) after e start left = go (is_sent x.state) (stands before after e next left ∙ ap (λ (n : ℕ). Some (n + 8)) further) where
+  next : ℕ
+  next = start + length (entry_bytes Second x)
+
+  further : next + length (bytes_of before) ≡ start + length (bytes_of (x ∷ before))
+  further = omega (arith, length-append (entry_bytes Second x) (bytes_of before))
+
+  more : List ℕ
+  more = marks_from next (before ++ e ∷ after)
+
+  place : Option ℕ
+  place = Some ((start + length (bytes_of (x ∷ before))) + 8)
+
+  go : (b : Bool) → slice_get more (length (unsent before)) ≡ place
+      → slice_get (if b then more else ((start + 8) ∷ more)) (length (if not b then x ∷ unsent before else unsent before)) ≡ place
+  go true is = is
+  go false is = is
 
 -- THE BYTE
 
@@ -214,6 +239,17 @@ all_there xs i start places past e =
 
 pub each_there : (xs : List Entry) (places : List ℕ) → places ≡ marks_from 14 xs → length places ≡ length (unsent xs)
 each_there xs places is = ap length is ∙ each 14 xs
+
+front_long : (es : List Entry) → length (file_of Second es) ≡ 14 + length (bytes_of es)
+front_long es = length-append (front_of (length es)) (bytes_of es)
+
+stand : (xs : List Entry) → AreStatePlaces xs (marks_from 14 xs)
+stand xs before after e is left =
+    ap (λ (ys : List Entry). slice_get (marks_from 14 ys) (length (unsent before))) is ∙ stands before after e 14 left
+    ∙ ap (λ (n : ℕ). Some (n + 8)) (sym (front_long before))
+
+pub stand_there : (xs : List Entry) (places : List ℕ) → places ≡ marks_from 14 xs → AreStatePlaces xs places
+stand_there xs places is = subst (AreStatePlaces xs) (sym is) (stand xs)
 
 pub marks_there : (xs : List Entry) (places file : List ℕ) → places ≡ marks_from 14 xs → HasEntries xs file → All CanPass xs → AreMarks file places
 marks_there xs places file is has pass = subst (AreMarks file) (sym is) (marks_file xs (recursion_from_All CanPass xs pass) file has)

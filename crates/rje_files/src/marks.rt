@@ -3,7 +3,7 @@ ghost use Rattle.std.specs.Prelude.{◌≡◌, ◌+◌, List, ℕ, length, IfOk,
 ghost use Rattle.std.specs.List.{All};
 ghost use Rattle.rje_files.specs.declared.job_file.version.FileVersion.{FileVersion};
 ghost use Rattle.rje_files.specs.JobFile.{HasEntries, entry_bytes};
-ghost use Rattle.rje_files.specs.Marks.{AreMarks};
+ghost use Rattle.rje_files.specs.Marks.{AreMarks, AreStatePlaces};
 ghost use Rattle.rje_files.specs.Unsent.{CanPass, unsent};
 
 use crate::Entry;
@@ -29,6 +29,7 @@ const RECORD: usize = 2;
 /// than memory can be has none.
 pub fn mark_places(alloc: Global, entries: &[Entry]) -> Result<Vec<usize>, AllocError>
     ensures each { IfOk result (λ places. length places.items ≡ length (unsent entries.now)) }
+    ensures stand { IfOk result (λ places. AreStatePlaces entries.now places.items) }
     ensures marks { IfOk result (λ places. (file : List ℕ) → HasEntries entries.now file
         → All CanPass entries.now → AreMarks file places.items) }
 {

@@ -1,5 +1,5 @@
 use Rattle.std.proofs.Common.{rules, ◌∙◌, sym}
-use Rattle.rje_files.proofs.Marking.{adds, all_there, each_there, marks_there, passes}
+use Rattle.rje_files.proofs.Marking.{adds, all_there, each_there, marks_there, passes, stand_there}
 use Rattle.rje_files.proofs.marks.mark_places.Goals.{then-not-was_sent+in_ok-push, else-not-was_sent}
 use Rattle.rje_files.proofs.marks.mark_places.Goals as goal
 
@@ -16,6 +16,11 @@ loop-entry-preserved c = elim c.if-not-was_sent.branch [
 pub returns-clause-each : goal.returns-clause-each
 returns-clause-each c =
     each_there c.args.entries.now c.loop-entry.places.items
+    (all_there c.args.entries.now c.loop-entry.entry-index c.loop-entry.start c.loop-entry.places.items c.loop-entry-test.false c.loop-entry.invariant)
+
+pub returns-clause-stand : goal.returns-clause-stand
+returns-clause-stand c =
+    stand_there c.args.entries.now c.loop-entry.places.items
     (all_there c.args.entries.now c.loop-entry.entry-index c.loop-entry.start c.loop-entry.places.items c.loop-entry-test.false c.loop-entry.invariant)
 
 pub returns-clause-marks : goal.returns-clause-marks
