@@ -24,19 +24,19 @@ fn tables() -> ([u8; 256], [u8; 256]) {
     (to_ebcdic, to_ascii)
 }
 
-struct Record {
-    action: u8,
-    bytes: Vec<u8>,
+pub struct Record {
+    pub action: u8,
+    pub bytes: Vec<u8>,
 }
 
 const STATES: [&str; 4] = ["waiting", "sent", "whole", "cut"];
 
-struct Job {
+pub struct Job {
     name: [u8; 8],
     state: u8,
     select: u8,
     mode: u8,
-    records: Vec<Record>,
+    pub records: Vec<Record>,
 }
 
 fn lines(deck: &[u8]) -> impl Iterator<Item = &[u8]> {
@@ -85,7 +85,7 @@ fn is_name(name: &[u8]) -> bool {
     name[..end].iter().all(|c| c.is_ascii_uppercase() || c.is_ascii_digit()) && name[end..].iter().all(|c| *c == b' ')
 }
 
-fn read_jobs(bytes: &[u8]) -> Option<Vec<Job>> {
+pub fn read_jobs(bytes: &[u8]) -> Option<Vec<Job>> {
     fn number(bytes: &mut &[u8]) -> Option<u64> {
         let (front, rest) = bytes.split_at_checked(8)?;
         *bytes = rest;
@@ -116,7 +116,7 @@ fn read_jobs(bytes: &[u8]) -> Option<Vec<Job>> {
     rest.is_empty().then_some(jobs)
 }
 
-fn fits(job: &Job) -> bool {
+pub fn fits(job: &Job) -> bool {
     job.state != 3
         && (job.mode == 0 || job.select == 2)
         && job.records.iter().all(|r| {

@@ -1,0 +1,179 @@
+// Baseline for side-by-side timing: what an experienced Rust programmer would write for `rje loop` of a job file of normal text: both ends
+// of a loopback connection in one thread. It reads and tests the jobs, cuts them into blocks, writes, sends, hears, checks and unpacks each,
+// answers it, and holds what came. It says nothing twice and takes no fault: whatever goes wrong, it stops.
+// Build: rustc --edition 2021 -O -C target-cpu=x86-64 loopfull.rs. Words: loop JOBS.
+#[path = "jobs.rs"]
+#[allow(dead_code)]
+mod jobs;
+
+use jobs::{fits, read_jobs};
+use std::io::{Read, Write};
+use std::net::{TcpListener, TcpStream};
+
+fn table() -> [u16; 256] {
+    let mut table = [0u16; 256];
+    for (i, entry) in table.iter_mut().enumerate() {
+        let mut register = i as u16;
+        for _ in 0..8 {
+            register = if register & 1 == 1 { (register >> 1) ^ 0xA001 } else { register >> 1 };
+        }
+        *entry = register;
+    }
+    table
+}
+
+fn check(table: &[u16; 256], bytes: &[u8], closing: u8) -> u16 {
+    let step = |register: u16, byte: u8| (register >> 8) ^ table[usize::from((register as u8) ^ byte)];
+    step(bytes.iter().fold(0, |register, byte| step(register, *byte)), closing)
+}
+
+fn spell(record: &[u8], out: &mut Vec<u8>) {
+    let mut i = 0;
+    while i < record.len() {
+        if record[i] != 0x40 {
+            out.push(record[i]);
+            i += 1;
+            continue;
+        }
+        let start = i;
+        while i < record.len() && record[i] == 0x40 {
+            i += 1;
+        }
+        let mut run = i - start;
+        while run >= 63 {
+            out.extend_from_slice(&[0x1D, 0x7F]);
+            run -= 63;
+        }
+        match run {
+            0 => {}
+            1 => out.push(0x40),
+            r => out.extend_from_slice(&[0x1D, 0x40 + r as u8]),
+        }
+    }
+    out.push(0x1E);
+}
+
+fn is_text_byte(byte: u8) -> bool {
+    !matches!(byte, 0x01 | 0x02 | 0x03 | 0x10 | 0x1F | 0x26 | 0x2D | 0x32 | 0x37 | 0x3D)
+}
+
+/// The text of the block that a transmission is, byte by byte; None where the check fails.
+fn heard(table: &[u16; 256], line: &[u8], text: &mut Vec<u8>) -> Option<u8> {
+    let mut bytes = line.iter().copied().skip_while(|b| *b == 0xFF || *b == 0x55).skip_while(|b| *b == 0x32);
+    if bytes.next() != Some(0x02) {
+        return None;
+    }
+    text.clear();
+    loop {
+        let byte = bytes.next()?;
+        match byte {
+            0x32 => {}
+            0x26 | 0x03 => {
+                let sent = u16::from(bytes.next()?) | u16::from(bytes.next()?) << 8;
+                return (check(table, text, byte) == sent).then_some(byte);
+            }
+            _ if is_text_byte(byte) && text.len() < 512 => text.push(byte),
+            _ => return None,
+        }
+    }
+}
+
+fn unpack(text: &[u8], records: &mut Vec<Vec<u8>>) -> Option<()> {
+    let mut record = Vec::with_capacity(80);
+    let mut bytes = text.iter();
+    while let Some(byte) = bytes.next() {
+        match byte {
+            0x1E => records.push(std::mem::replace(&mut record, Vec::with_capacity(80))),
+            0x1D => {
+                let count = bytes.next().filter(|c| (0x41..=0x7F).contains(*c))?;
+                record.resize(record.len() + usize::from(count - 0x40), 0x40);
+            }
+            _ => record.push(*byte),
+        }
+        if record.len() > 144 {
+            return None;
+        }
+    }
+    Some(())
+}
+
+fn pass(from: &mut TcpStream, to: &mut TcpStream, bytes: &[u8], got: &mut [u8]) -> usize {
+    from.write_all(bytes).unwrap();
+    let mut have = 0;
+    while have < bytes.len() {
+        have += to.read(&mut got[have..]).unwrap();
+    }
+    have
+}
+
+/// Both ends of the connection, and room for what is in hand.
+struct Ends {
+    table: [u16; 256],
+    near: TcpStream,
+    far: TcpStream,
+    line: Vec<u8>,
+    heard: [u8; 1100],
+    text: Vec<u8>,
+}
+
+impl Ends {
+    fn new() -> Self {
+        let listener = TcpListener::bind("127.0.0.1:0").unwrap();
+        let near = TcpStream::connect(listener.local_addr().unwrap()).unwrap();
+        let (far, _) = listener.accept().unwrap();
+        near.set_nodelay(true).unwrap();
+        far.set_nodelay(true).unwrap();
+        Ends { table: table(), near, far, line: Vec::new(), heard: [0; 1100], text: Vec::new() }
+    }
+
+    fn say(&mut self, bytes: &[u8]) {
+        pass(&mut self.near, &mut self.far, bytes, &mut self.heard);
+    }
+
+    fn reply(&mut self) {
+        pass(&mut self.far, &mut self.near, b"\x32\x32\x10\x70\xFF", &mut self.heard);
+    }
+
+    /// Sends a block, and puts the records that came behind those that were there.
+    fn send(&mut self, text: &[u8], closing: u8, records: &mut Vec<Vec<u8>>) {
+        self.line.clear();
+        self.line.extend_from_slice(b"\x32\x32\x02");
+        self.line.extend_from_slice(text);
+        self.line.push(closing);
+        self.line.extend_from_slice(&check(&self.table, text, closing).to_le_bytes());
+        self.line.push(0xFF);
+        let count = pass(&mut self.near, &mut self.far, &self.line, &mut self.heard);
+        assert!(heard(&self.table, &self.heard[..count], &mut self.text) == Some(closing));
+        unpack(&self.text, records).unwrap();
+        self.reply();
+    }
+}
+
+fn main() {
+    let bytes = std::fs::read(std::env::args().nth(2).unwrap()).unwrap();
+    let jobs = read_jobs(&bytes).unwrap();
+    assert!(jobs.iter().all(fits));
+    let mut ends = Ends::new();
+    let mut handed: Vec<Vec<Vec<u8>>> = Vec::new();
+    ends.say(b"\x32\x32\x2D\xFF");
+    ends.reply();
+    let (mut text, mut next) = (Vec::new(), Vec::new());
+    for job in &jobs {
+        let mut records: Vec<Vec<u8>> = Vec::new();
+        text.clear();
+        for record in &job.records {
+            next.clear();
+            spell(&record.bytes, &mut next);
+            if text.len() + next.len() > 510 {
+                ends.send(&text, 0x26, &mut records);
+                text.clear();
+            }
+            text.extend_from_slice(&next);
+        }
+        ends.send(&text, 0x03, &mut records);
+        assert!(records.len() == job.records.len());
+        handed.push(records);
+    }
+    ends.say(b"\x32\x32\x37\xFF");
+    println!("counted {0} of {0} jobs\nhanded {0} jobs, {0} whole\noutcome done", handed.len());
+}
