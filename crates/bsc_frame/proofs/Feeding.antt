@@ -1,6 +1,6 @@
 -- Pieces of bytes, one after the other.
-use Rattle.std.proofs.Common.{◌≡◌, ℕ, ◌+◌, ◌<◌, List, [], ◌∷◌, ◌++◌, length, take, drop, get_or, refl, ap, sym, ◌∙◌, append_assoc, subst}
-use Rattle.std.proofs.lemmas.List.{append_cancel_right, take-append-drop, drop_more}
+use Rattle.std.proofs.Common.{◌≡◌, ℕ, ◌+◌, ◌-◌, ◌<◌, List, [], ◌∷◌, ◌++◌, length, take, drop, get_or, refl, ap, sym, ◌∙◌, append_assoc, subst, arith}
+use Rattle.std.proofs.lemmas.List.{append_cancel_right, take-append-drop, drop_more, drop-drop, length-drop, take_all}
 use Rattle.bsc_frame.specs.declared.frame.Frame.{Frame}
 use Rattle.bsc_frame.specs.Transmission.{Transmission, HasNoFrame}
 use Rattle.bsc_frame.specs.Heard.{IsHeard}
@@ -57,3 +57,12 @@ feed_more p q piece i c h e n =
 -- the byte with which a frame is whole
 pub feed_last : (p : HeardSoFar) (f : Frame) (piece : List ℕ) (i c : ℕ) → i < length piece → get_or piece i 0 ≡ c → Got f ≡ next p c → run p (drop i piece) ≡ Hears f (drop (i + 1) piece)
 feed_last p f piece i c h e n = ap (run p) (drop_more piece i 0 h ∙ ap (λ b. b ∷ drop (i + 1) piece) e) ∙ run_got p f c (drop (i + 1) piece) (sym n)
+
+-- some bytes of a piece, kept at once
+pub feed_kept : (p q : HeardSoFar) (piece : List ℕ) (used kept : ℕ)
+    → run q (drop kept (take (length piece - used) (drop used piece))) ≡ run p (take (length piece - used) (drop used piece))
+    → run q (drop (used + kept) piece) ≡ run p (drop used piece)
+feed_kept p q piece used kept e =
+    let rest : take (length piece - used) (drop used piece) ≡ drop used piece = take_all (length piece - used) (drop used piece) (omega (arith, length-drop used piece)) in
+    let behind : drop kept (drop used piece) ≡ drop (used + kept) piece = drop-drop kept used piece ∙ ap (λ (n : ℕ). drop n piece) (omega arith) in
+    ap (run q) (sym behind) ∙ ap (λ (l : List ℕ). run q (drop kept l)) (sym rest) ∙ e ∙ ap (run p) rest

@@ -6,5 +6,6 @@ pub mod Kept
 pub mod TextStarts
 pub mod Silence
 pub mod Quiet
+pub mod DataRuns
 pub mod Feeding
 pub mod Sending

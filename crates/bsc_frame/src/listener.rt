@@ -4,6 +4,7 @@ ghost use Rattle.bsc_frame.specs.Transmission.{Transmission, HasNoFrame};
 ghost use Rattle.bsc_frame.specs.Heard.{IsHeard};
 ghost use Rattle.bsc_frame.specs.Listener.{HasTaken};
 
+mod data;
 mod stage;
 mod step;
 mod sync;
@@ -13,14 +14,13 @@ use crate::{Fed, Frame, Heard};
 use arrayvec::ArrayVec;
 use bsc_check::Check;
 use bsc_codes::MAX_TEXT;
+use data::keep_data;
 use stage::{Stage, heard_in};
 use std::marker::Model;
 use step::step;
-use text::keeps;
 
 /// Hears frames in bytes that come in any pieces. It keeps what has come of one transmission, at most 512 data bytes of it, and their
-/// running check; each byte is looked at once, or twice where it may be one of a text and isn't kept, and no call takes memory. Bytes that can no longer become a transmission are taken until
-/// `quiet` or `reset`.
+/// running check; no call takes memory. Bytes that can no longer become a transmission are taken until `quiet` or `reset`.
 #[derive(Drop)]
 pub struct Listener {
     stage: Stage,
@@ -81,16 +81,20 @@ impl Listener {
         // Locals stay in registers from byte to byte.
         let mut stage = self.stage;
         let mut check = self.check;
-        for (i, byte) in piece.iter().enumerate() {
-            if keeps(stage, &mut self.text, &mut check, *byte) {
-                continue;
-            }
-            if let Some(frame) = step(&mut stage, &mut self.text, &mut check, *byte) {
-                self.stage = Stage::Pads;
-                return Fed {
-                    used: i + 1,
-                    frame: Some(frame),
-                };
+        let mut used = 0;
+        while used < piece.len() {
+            let kept = keep_data(stage, &mut self.text, &mut check, &piece[used..]);
+            used += kept;
+            if kept == 0 {
+                let byte = piece[used];
+                used += 1;
+                if let Some(frame) = step(&mut stage, &mut self.text, &mut check, byte) {
+                    self.stage = Stage::Pads;
+                    return Fed {
+                        used,
+                        frame: Some(frame),
+                    };
+                }
             }
         }
         self.stage = stage;

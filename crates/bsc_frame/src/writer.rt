@@ -6,12 +6,12 @@ ghost use Rattle.std.specs.Option.{option_to_list};
 ghost use Rattle.arrayvec.specs.ArrayVec.{array_vec_len};
 ghost use Rattle.bsc_frame.specs.Body.{IsNormalText, on_line, start_of_text, block_end};
 ghost use Rattle.bsc_frame.specs.declared.frame.Frame.TheVariants as frame;
-ghost use Rattle.bsc_frame.specs.FrameFault.{IsFirstBad, IsTextRefused, Refused};
+ghost use Rattle.bsc_frame.specs.FrameFault.{IsTextRefused, Refused};
 ghost use Rattle.bsc_frame.specs.Written.{Written, text_without_fill, body_without_fill};
 
 use crate::closing::closing_byte;
 use crate::frame::{ACK0, ACK1, RVI, WACK};
-use crate::normal_text::is_normal;
+use crate::normal_text::first_bad;
 use crate::{Frame, FrameFault};
 use arrayvec::ArrayVec;
 use bsc_check::Check;
@@ -87,19 +87,6 @@ fn bad_place(block: &Block) -> Option<usize>
     } else {
         first_bad(block.text.as_slice())
     }
-}
-
-/// The place of the first byte that is no normal text byte.
-fn first_bad(text: &[u8]) -> Option<usize>
-    ensures { MatchOption result (AllByRecursion IsNormalText text.now)
-        (λ place. IsFirstBad text.now place) }
-{
-    for (i, byte) in text.iter().enumerate() {
-        if !is_normal(*byte) {
-            return Some(i);
-        }
-    }
-    None
 }
 
 /// Writes a block that isn't refused.

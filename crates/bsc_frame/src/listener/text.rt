@@ -22,33 +22,6 @@ use arrayvec::ArrayVec;
 use bsc_check::Check;
 use bsc_codes::{Block, Closing, DLE, ENQ, ETB, ETX, MAX_TEXT, SYN};
 
-/// Whether a byte is data that this stage keeps; it is kept then. Most bytes of a line are, and need no more than this.
-pub(crate) fn keeps(
-    stage: Stage,
-    text: &mut ArrayVec<u8, MAX_TEXT>,
-    check: &mut Check,
-    byte: u8,
-) -> bool
-    requires { CheckRuns stage text.old.items check.old }
-    ensures next { result ≡ true → On (so_far_of stage text.new.items)
-        ≡ next (so_far_of stage text.old.items) byte }
-    ensures runs { CheckRuns stage text.new.items check.new }
-    ensures left { result ≡ false → text.new ≡ text.old }
-    ensures check { result ≡ false → check.new ≡ check.old }
-{
-    let is_data = match stage {
-        Stage::Text(false) => is_normal(byte),
-        Stage::Text(true) => byte != DLE,
-        _ => false,
-    };
-    if !is_data || MAX_TEXT <= text.len() {
-        return false;
-    }
-    text.push(byte);
-    check.add(byte);
-    true
-}
-
 /// Takes a byte in normal text.
 pub(crate) fn at_normal(
     stage: &mut Stage,

@@ -1,7 +1,7 @@
 use Rattle.std.proofs.Common.{get_or, below_more, ◌≤◌, length, arith}
 use Rattle.bsc_frame.specs.Body.{IsNormalText}
 use Rattle.bsc_frame.proofs.FirstBad.{all_normal}
-use Rattle.bsc_frame.proofs.writer.first_bad.Goals as goal
+use Rattle.bsc_frame.proofs.normal_text.first_bad.Goals as goal
 
 pub loop-i-preserved : goal.loop-i-preserved
 loop-i-preserved c =

@@ -1,6 +1,6 @@
 use Rattle.std.proofs.Common.{◌<◌, ℕ, get_or}
 use Rattle.bsc_frame.specs.Body.{IsNormalText}
-use Rattle.bsc_frame.proofs.writer.first_bad.Given as goal
+use Rattle.bsc_frame.proofs.normal_text.first_bad.Given as goal
 
 -- every byte in front of this one is a normal text byte
 abbrev pub invariant-loop-i : goal.invariant-loop-i
