@@ -1,5 +1,6 @@
 //! Data in ASCII.
 ghost use Rattle.std.specs.Prelude.{◌≡◌, ◌++◌, OnOk};
+ghost use Rattle.std.specs.Io.{StartsWith};
 ghost use Rattle.rje_jobs.specs.Ascii.{shown, ascii};
 
 use std::alloc::AllocError;
@@ -26,7 +27,8 @@ const SHOWN: [u8; 256] = [
 
 /// Appends the characters of these bytes.
 pub(crate) fn push_ascii(bytes: &[u8], out: &mut Vec<u8>) -> Result<(), AllocError>
-    ensures { OnOk result (out.new.items ≡ out.old.items ++ ascii bytes.now) }
+    ensures shown { OnOk result (out.new.items ≡ out.old.items ++ ascii bytes.now) }
+    ensures front { StartsWith out.new.items out.old.items }
 {
     let start = out.len();
     out.extend_from_slice(bytes)?;

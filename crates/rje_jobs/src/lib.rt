@@ -24,5 +24,5 @@ pub use fitting::job_fits;
 pub use job::Job;
 pub use jobs::Jobs;
 pub use laws::{deck_jobs_fit, fitting_jobs_are_cut};
-pub use listing::list_job;
-pub use punch::{Form, punch_job};
+pub use listing::{list_job, push_listing};
+pub use punch::{Form, punch_job, push_cards};

@@ -1,5 +1,6 @@
 //! Jobs as listings.
 ghost use Rattle.std.specs.Prelude.{◌≡◌, ◌++◌, IfOk, IfErr, OnOk};
+ghost use Rattle.std.specs.Io.{StartsWith};
 ghost use Rattle.rje_jobs.specs.Listing.{carriage as carriage_of, line, listing};
 
 use crate::ascii::push_ascii;
@@ -13,14 +14,26 @@ pub fn list_job(alloc: Global, job: &Job) -> Result<Vec<u8>, FileFault>
     ensures memory { IfErr result (λ fault. fault ≡ FileFault.OutOfMemory) }
 {
     let mut out = Vec::new(alloc);
-    for item in job.records.as_slice() {
-        list_record(item, &mut out)?;
-    }
+    push_listing(job, &mut out)?;
     Ok(out)
 }
 
-fn list_record(item: &Record, out: &mut Vec<u8>) -> Result<(), AllocError>
-    ensures { OnOk result (out.new.items ≡ out.old.items ++ line item.now) }
+/// Appends the listing of a job. Where memory runs out, a part of it may stand behind what was there.
+pub fn push_listing(job: &Job, out: &mut Vec<u8>) -> Result<(), FileFault>
+    ensures listing { OnOk result (out.new.items ≡ out.old.items ++ listing job.now) }
+    ensures front { StartsWith out.new.items out.old.items }
+    ensures memory { IfErr result (λ fault. fault ≡ FileFault.OutOfMemory) }
+{
+    for item in job.records.as_slice() {
+        push_line(item, out)?;
+    }
+    Ok(())
+}
+
+/// Appends the line of a record.
+fn push_line(item: &Record, out: &mut Vec<u8>) -> Result<(), AllocError>
+    ensures line { OnOk result (out.new.items ≡ out.old.items ++ line item.now) }
+    ensures front { StartsWith out.new.items out.old.items }
 {
     push_ascii(item.bytes.as_slice(), out)?;
     out.extend_from_slice(carriage(item.action))

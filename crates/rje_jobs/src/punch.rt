@@ -1,5 +1,6 @@
 //! Jobs as punched cards.
 ghost use Rattle.std.specs.Prelude.{◌≡◌, ◌++◌, ◌-◌, replicate, IfOk, IfErr, OnOk};
+ghost use Rattle.std.specs.Io.{StartsWith};
 ghost use Rattle.rje_jobs.specs.Punch.{card, punched};
 
 use crate::ascii::push_ascii;
@@ -24,14 +25,26 @@ pub fn punch_job(alloc: Global, job: &Job, form: Form) -> Result<Vec<u8>, FileFa
     ensures memory { IfErr result (λ fault. fault ≡ FileFault.OutOfMemory) }
 {
     let mut out = Vec::new(alloc);
-    for item in job.records.as_slice() {
-        punch_record(item, form, &mut out)?;
-    }
+    push_cards(job, form, &mut out)?;
     Ok(out)
 }
 
-fn punch_record(item: &Record, form: Form, out: &mut Vec<u8>) -> Result<(), AllocError>
-    ensures { OnOk result (out.new.items ≡ out.old.items ++ card form item.now) }
+/// Appends the punched cards of a job. Where memory runs out, some of them may stand behind what was there.
+pub fn push_cards(job: &Job, form: Form, out: &mut Vec<u8>) -> Result<(), FileFault>
+    ensures cards { OnOk result (out.new.items ≡ out.old.items ++ punched form job.now) }
+    ensures front { StartsWith out.new.items out.old.items }
+    ensures memory { IfErr result (λ fault. fault ≡ FileFault.OutOfMemory) }
+{
+    for item in job.records.as_slice() {
+        push_card(item, form, out)?;
+    }
+    Ok(())
+}
+
+/// Appends the card of a record.
+fn push_card(item: &Record, form: Form, out: &mut Vec<u8>) -> Result<(), AllocError>
+    ensures card { OnOk result (out.new.items ≡ out.old.items ++ card form item.now) }
+    ensures front { StartsWith out.new.items out.old.items }
 {
     let bytes = item.bytes.as_slice();
     match form {
@@ -48,7 +61,8 @@ fn punch_record(item: &Record, form: Form, out: &mut Vec<u8>) -> Result<(), Allo
 
 /// Appends the blanks that fill a card of so many bytes.
 fn fill(length: usize, out: &mut Vec<u8>) -> Result<(), AllocError>
-    ensures { OnOk result (out.new.items ≡ out.old.items ++ replicate (80 - length) BLANK) }
+    ensures blanks { OnOk result (out.new.items ≡ out.old.items ++ replicate (80 - length) BLANK) }
+    ensures front { StartsWith out.new.items out.old.items }
 {
     for _ in 0..CARD.saturating_sub(length) {
         out.push(BLANK)?;

@@ -1,11 +1,11 @@
 //! The texts of jobs, one after another.
-ghost use Rattle.std.specs.Prelude.{◌≡◌, IfOk, IfErr};
+ghost use Rattle.std.specs.Prelude.{◌≡◌, ◌++◌, IfOk, IfErr, OnOk};
 ghost use Rattle.rje_print.specs.JobTexts.{IsShown, IsPaper, paper};
 
 use crate::job_lines::push_entry;
 use crate::printed_line::PrintedLine;
 use rje_files::Entry;
-use rje_jobs::{FileFault, Form, Job, list_job, punch_job};
+use rje_jobs::{FileFault, Form, Job, push_cards, push_listing};
 use rje_text::Select;
 use std::alloc::{AllocError, Global};
 
@@ -32,18 +32,18 @@ pub fn papers_text(alloc: Global, jobs: &[Job]) -> Result<Vec<u8>, FileFault>
 {
     let mut text = Vec::new(alloc);
     for job in jobs {
-        let paper = paper_of(alloc, job)?;
-        text.extend_from_slice(paper.as_slice())?;
+        push_paper(job, &mut text)?;
     }
     Ok(text)
 }
 
-fn paper_of(alloc: Global, job: &Job) -> Result<Vec<u8>, FileFault>
-    ensures paper { IfOk result (λ text. text.items ≡ paper job.now) }
+/// Appends the paper of a job.
+fn push_paper(job: &Job, text: &mut Vec<u8>) -> Result<(), FileFault>
+    ensures paper { OnOk result (text.new.items ≡ text.old.items ++ paper job.now) }
     ensures memory { IfErr result (λ fault. fault ≡ FileFault.OutOfMemory) }
 {
     match job.select {
-        Select::Punch => punch_job(alloc, job, Form::Ascii),
-        Select::Unset | Select::Printer => list_job(alloc, job),
+        Select::Punch => push_cards(job, Form::Ascii, text),
+        Select::Unset | Select::Printer => push_listing(job, text),
     }
 }
