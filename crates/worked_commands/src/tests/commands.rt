@@ -1,7 +1,7 @@
 //! Commands, by their words.
 use arrayvec::ArrayVec;
 use rje_commands::command;
-use rje_stores::{MAX_INPUT, MemoryStore};
+use rje_stores::{MAX_INPUT, MemoryStore, Store};
 use std::io::{self, ErrorKind, Read, Write};
 use std::process::Abort;
 use std::test::Fail;
