@@ -1,5 +1,5 @@
 //! `receive`: one transmission from whoever connects, into a job file.
-ghost use Rattle.std.specs.Prelude.{◌≡◌, ◌⊎◌, Option, IfErr, IfOk, IfSome, IsOk, OnErr, OnOk};
+ghost use Rattle.std.specs.Prelude.{◌≡◌, ◌⊎◌, Option, IfErr, IfOk, IfSome, IsErrOf, IsOk, OnErr, OnOk};
 ghost use Rattle.std.specs.Result.{IsOkAnd};
 ghost use Rattle.rje_commands.specs.Answering.{KeepsAnswered};
 ghost use Rattle.rje_commands.specs.CommandFault.{IsFailing, of_broken_off, status_of};
@@ -136,6 +136,11 @@ fn ending_after<'a>(
     ensures ending { IfOk result (λ ending.
         IsOkAnd left.entry (λ left. ending ≡ ending_of_left left)
         × IsOk written.entry × IsOk printed.entry) }
+    ensures first { IfErr left.entry (λ broken. IsErrOf result (of_broken_off broken)) }
+    ensures second { IsOk left.entry → IfErr written.entry (λ fault. IsErrOf result fault) }
+    ensures third { IsOk left.entry → IsOk written.entry
+        → IfErr printed.entry (λ fault. IsErrOf result fault) }
+    ensures none { IsOk left.entry → IsOk written.entry → IsOk printed.entry → IsOk result }
     ensures status { IfErr left.entry (λ broken. IsFailing (status_of (of_broken_off broken)))
         → IfErr written.entry (λ fault. IsFailing (status_of fault))
         → IfErr printed.entry (λ fault. IsFailing (status_of fault))
