@@ -1,5 +1,5 @@
 //! Stations that take turns over a line, until the transmission ends.
-ghost use Rattle.std.specs.Prelude.{◌≡◌, ◌⊎◌, ◌<◌, ◌+◌, List, true, false, if◌then◌else◌, IfOk, OnOk, IfErr};
+ghost use Rattle.std.specs.Prelude.{◌≡◌, ◌⊎◌, ◌<◌, ◌+◌, ℕ, List, true, false, if◌then◌else◌, IfOk, OnOk, IfErr, OnErr};
 ghost use Rattle.bsc_history.specs.History.{History};
 ghost use Rattle.bsc_history.specs.declared.spoken_turn.SpokenTurn.{SpokenTurn};
 ghost use Rattle.line_world.specs.declared.spoken.Spoken.{Spoken as Turn};
@@ -7,7 +7,7 @@ ghost use Rattle.rje_station.specs.Receiving.{Receiving, after_abandon};
 ghost use Rattle.rje_commands.specs.Answering.{BreaksKeeping, KeepsToBreak, KeepsToEnd, after_answer};
 ghost use Rattle.rje_commands.specs.CommandFault.{IsFailing, of_broken_off, of_station, status_of};
 ghost use Rattle.rje_commands.specs.Keeping.{BreaksOff, BreaksOffNow, GoesOnKeeping, IsOfFile};
-ghost use Rattle.rje_commands.specs.Marking.{GoesOnMarking};
+ghost use Rattle.rje_commands.specs.Marking.{GoesOnMarking, WereCounted};
 ghost use Rattle.rje_commands.specs.Patience.{LeavesSo, HearsOut, was_quiet};
 ghost use Rattle.rje_stores.specs.Store.{Discloses, IsSame};
 ghost use Rattle.rje_commands.specs.Watching.{SenderWatched, SenderWatchedAll, ReceiverWatched, ReceiverWatchedAll, BothWatchedAll};
@@ -51,6 +51,10 @@ pub fn send_all<'a, L: Line, S: Store, W: Watch>(
     ensures status { IfErr result (λ fault. IsFailing (status_of (of_station fault))) }
     ensures marked { OnOk result (GoesOnMarking marker.old marker.new station.old.counted
         station.new.counted (S.files store.old) (S.files store.new)) }
+    ensures broken { OnErr result ((n : ℕ) × GoesOnMarking marker.old marker.new
+        station.old.counted n (S.files store.old) (S.files store.new)) }
+    ensures count { (marker.new.marked ≡ marker.old.marked)
+        ⊎ WereCounted station.old marker.new.marked }
     ensures told { OnOk result ((h : History)
         × SenderWatchedAll W.saw_sender station.old watch.old station.new watch.new h) }
 {
@@ -78,6 +82,9 @@ fn speak_hear_and_mark<'a, L: Line, S: Store, W: Watch>(
     ensures status { IfErr result (λ fault. IsFailing (status_of (of_station fault))) }
     ensures marked { OnOk result (GoesOnMarking marker.old marker.new station.old.counted
         station.new.counted (S.files store.old) (S.files store.new)) }
+    ensures count { (marker.new.marked ≡ marker.old.marked)
+        ⊎ (marker.new.marked ≡ station.new.counted) }
+    ensures unmarked { OnErr result ((marker.new ≡ marker.old) × (store.new ≡ store.old)) }
     ensures still { marker.new.marked ≡ marker.old.marked
         → Discloses (S.files store.old) (S.files store.new) IsSame }
     ensures told { IfOk result (λ is_turn. is_turn ≡ true → (t : SpokenTurn)

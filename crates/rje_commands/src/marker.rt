@@ -1,5 +1,5 @@
 //! Marks the jobs of a transmission in their file while they are counted.
-ghost use Rattle.std.specs.Prelude.{◌≡◌, ◌+◌, ◌<◌, ℕ, List, Option, Some, true, false, IfErr, IfOk, IfSome, OnOk, OnErr};
+ghost use Rattle.std.specs.Prelude.{◌≡◌, ◌⊎◌, ◌+◌, ◌<◌, ℕ, List, Option, Some, true, false, IfErr, IfOk, IfSome, OnOk, OnErr};
 ghost use Rattle.std.specs.List.{slice_get};
 ghost use Rattle.rje_jobs.specs.declared.job.Job.{Job};
 ghost use Rattle.rje_files.specs.Marks.{AreMarks};
@@ -53,6 +53,7 @@ impl<'a> Marker<'a> {
     pub fn mark<S: Store>(&mut self, counted: usize, store: &mut S)
         ensures marked { (before : ℕ) → GoesOnMarking self.old self.new before counted
             (S.files store.old) (S.files store.new) }
+        ensures count { (self.new.marked ≡ self.old.marked) ⊎ (self.new.marked ≡ counted) }
         ensures still { self.new.marked ≡ self.old.marked
             → Discloses (S.files store.old) (S.files store.new) IsSame }
     {

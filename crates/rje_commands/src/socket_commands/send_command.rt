@@ -11,7 +11,7 @@ ghost use Rattle.rje_commands.specs.Commands.{OfFile};
 ghost use Rattle.rje_commands.specs.CommandFault.{IsFailing, status_of};
 ghost use Rattle.rje_commands.specs.Ending.{ending_of, sent_text, IsRefusedFile, IsUnsentFault, MarksSent, SendsLeft, EndsSending};
 ghost use Rattle.rje_commands.specs.Inside.{IsSendFault};
-ghost use Rattle.rje_commands.specs.Marking.{Marks};
+ghost use Rattle.rje_commands.specs.Marking.{Marks, MarksCounted, MarksNoMore};
 ghost use Rattle.rje_stores.specs.Store.{FileMap, Discloses, IsSame};
 ghost use Rattle.rje_commands.specs.Watching.{SenderWatchedAll};
 
@@ -79,6 +79,7 @@ pub fn send_over<L: Line, S: Store, O: Write, E: Write>(
         (S.files store.old) (S.files store.new) (O.contents out.old) (O.contents out.new) }
     ensures status { (result ≡ 0) ⊎ ((result ≡ 4) ⊎ ((result ≡ 1) ⊎ IsFailing result)) }
     ensures refused { result ≡ 1 → OfFile name.now (S.files store.old) IsRefusedFile }
+    ensures marked { MarksNoMore name.now (S.files store.old) (S.files store.new) }
     ensures files_kept { result ≡ 1 → Discloses (S.files store.old) (S.files store.new) IsSame }
     ensures silent { result ≡ 1 → (line.new ≡ line.old) × (out.new ≡ out.old) }
 {
@@ -99,6 +100,7 @@ fn sent<'a, L: Line, S: Store, O: Write>(
         SendsLeft ending name.entry.now file (S.files store.old) (S.files store.new)
         (O.contents out.old) (O.contents out.new))) }
     ensures fault { IfErr result (IsSendFault name.entry.now (S.files store.old)) }
+    ensures marked { MarksNoMore name.entry.now (S.files store.old) (S.files store.new) }
     ensures files_kept { IfErr result (λ fault. status_of fault ≡ 1
         → Discloses (S.files store.old) (S.files store.new) IsSame) }
     ensures silent { IfErr result (λ fault. status_of fault ≡ 1
@@ -182,6 +184,10 @@ fn transmit<'a, L: Line, S: Store, W: Watch, O: Write>(
         → Marks marker.old station.old.counted files (S.files store.old)
         → MarksSent marker.old.file.items station.new.counted marker.old.name.now files
         (S.files store.new)) }
+    ensures count { (files : Option FileMap) → marker.old.marked ≡ station.old.counted
+        → Marks marker.old station.old.counted files (S.files store.old)
+        → MarksCounted station.old marker.old.file.items marker.old.name.now files
+        (S.files store.new) }
     ensures status { IfErr result (λ fault. (jobs : List Job)
         → IsLeft marker.old.file.items jobs → IsFailing (status_of fault)) }
     ensures told { OnOk result ((h : History)

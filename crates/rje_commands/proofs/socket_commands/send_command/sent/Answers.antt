@@ -8,7 +8,7 @@ use Rattle.rje_commands.specs.Ending.{sent_text}
 use Rattle.rje_station.specs.StationFault.{IsNewCause}
 use Rattle.rje_commands.specs.CommandFault.{of_station}
 use Rattle.rje_commands.proofs.Failing.{left_fails, not_refused, send_fails, station_fails}
-use Rattle.rje_commands.proofs.Marked.{begun}
+use Rattle.rje_commands.proofs.Marked.{begun, begun_counts}
 use Rattle.rje_commands.proofs.Sending.{sends_left}
 use Rattle.rje_commands.proofs.socket_commands.send_command.sent.Goals as goal
 
@@ -40,6 +40,9 @@ returns g c =
           (subst (λ s. OnOk c.transmit.result (SendsToEnd s station)) first c.transmit.ensures.took) c.transmit.ensures.ended
           (subst (λ n. OnOk c.transmit.result (Appends before after (sent_text station.counted n (outcome_of station)))) given c.transmit.ensures.printed) marked;
       fault = send_fails c.transmit.result c.args.name.now f fails;
+      marked = begun_counts marker c.in_ok-station.station c.args.name.now file.bytes.items found.places.items jobs f read made c.in_ok-file.ensures.bytes c.in_ok-file.ensures.same left first
+          (ap (λ v. v.items) c.new-marker.ensures.file) (ap (λ v. v.items) c.new-marker.ensures.places)
+          (c.new-marker.ensures.name ∙ c.in_ok-file.ensures.name) c.new-marker.ensures.none marks c.transmit.ensures.count;
       files_kept = not_refused c.transmit.result _ fails;
       silent = not_refused c.transmit.result _ fails;
     }
