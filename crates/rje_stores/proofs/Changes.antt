@@ -56,7 +56,7 @@ pub set_longer : (name bytes front tail : List ℕ) (f g h : Option FileMap) →
 set_longer name bytes front tail None g h p q = tt
 set_longer name bytes front tail (Some f) None h p q = absurd p
 set_longer name bytes front tail (Some f) (Some g) None p q = absurd q
-set_longer name bytes front tail (Some f) (Some g) (Some h) p (had, there, sets) =
+set_longer name bytes front tail (Some f) (Some g) (Some h) p (had, there, long, sets) =
     set_again name bytes (grown front tail bytes) f g h p
     (subst (λ (bs : List ℕ). Sets name (grown front tail bs) g h) (same (sym there ∙ set_there f g name bytes p)) sets) where
       same : Some had ≡ Some bytes → had ≡ bytes

@@ -1,5 +1,5 @@
 -- What a store of files is: names with their bytes, where it tells them.
-use Rattle.std.specs.Prelude.{◌≡◌, ℕ, ◌<◌, List, length, set, Option, Some, None, ⊤, bytes_eq, if◌then◌else◌}
+use Rattle.std.specs.Prelude.{◌≡◌, ℕ, ◌<◌, ◌≤◌, List, length, set, Option, Some, None, ⊤, bytes_eq, if◌then◌else◌}
 use Rattle.std.specs.Option.{IsSomeAnd}
 use Rattle.rje_files.specs.Growth.{grown}
 use Rattle.rje_stores.specs.declared.reading.TheConstants.{MAX_INPUT}
@@ -22,10 +22,10 @@ IsSame f g = (name : List ℕ) → g name ≡ f name
 abbrev pub Sets : List ℕ → List ℕ → FileMap → FileMap → Type 0
 Sets name bytes f g = (other : List ℕ) → g other ≡ (if bytes_eq other name then Some bytes else f other)
 
--- the file of this name was there; now it has one piece in front, in place of as many bytes, and another behind, and each other name what it
--- had
+-- the file of this name was there and is no shorter than this piece; now it has the piece in front, in place of as many bytes, and another
+-- behind, and each other name what it had
 abbrev pub Extends : List ℕ → (front tail : List ℕ) → FileMap → FileMap → Type 0
-Extends name front tail f g = (bytes : List ℕ) × (f name ≡ Some bytes) × Sets name (grown front tail bytes) f g
+Extends name front tail f g = (bytes : List ℕ) × (f name ≡ Some bytes) × (length front ≤ length bytes) × Sets name (grown front tail bytes) f g
 
 -- the file of this name was there and is longer than this place; now it has this byte there and else what it had, and each other name what it
 -- had

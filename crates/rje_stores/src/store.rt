@@ -59,7 +59,7 @@ pub trait Store {
     }
 
     /// Makes the file of this name begin with one piece, in place of as many bytes, and go on behind its end with another: all of it or
-    /// nothing. A store may fail at any time, and does where there is no such file.
+    /// nothing. A store may fail at any time, and does where there is no such file, or one with fewer bytes than the piece in front.
     fn extend(
         &mut self,
         alloc: Global,
@@ -111,6 +111,7 @@ fn grown_bytes(
     tail: &[u8],
 ) -> Result<Vec<u8>, StoreFault>
     ensures grown { IfOk result (λ longer. longer.items ≡ grown front.now tail.now bytes.now) }
+    ensures room { IfOk result (λ _. length front.now ≤ length bytes.now) }
 {
     let Some((_, rest)) = bytes.split_at_checked(front.len()) else {
         return Err(StoreFault::Failed);

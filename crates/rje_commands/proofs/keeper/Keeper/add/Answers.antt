@@ -1,4 +1,4 @@
-use Rattle.std.proofs.Common.{rules, ◌≡◌, ◌∙◌, length}
+use Rattle.std.proofs.Common.{rules, ◌≡◌, ◌∙◌}
 use Rattle.rje_commands.proofs.Growing.{first_kept, next_kept}
 use Rattle.rje_commands.proofs.keeper.Keeper.add.Goals.{then-self-eq0+in_ok-write_first, else-self-eq0+in_ok-self}
 use Rattle.rje_commands.proofs.keeper.Keeper.add.Goals as goal
