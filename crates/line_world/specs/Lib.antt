@@ -11,10 +11,4 @@ pub mod CleanLine
 pub mod Headline
 pub mod Fairness
 pub mod Series
-pub mod Contending
-pub mod PairRun
-pub mod PairHeadline
-pub mod PairDriving
-pub mod OneWay
 pub mod Drive
-pub mod PairDrive

@@ -11,9 +11,6 @@ use Rattle.bsc_history.specs.declared.spoken_turn.SpokenTurn.{SpokenTurn}
 use Rattle.bsc_history.specs.History.{History}
 use Rattle.bsc_history.specs.Known.{is_counting}
 use Rattle.bsc_history.specs.Got.{brings_block}
-use Rattle.bsc_history.specs.Pair.{PairHistory}
-
--- ---- One transmission.
 
 -- after its EOT a sending station hears nothing, and after all else it notes what it heard, and whether that counted the outstanding block
 abbrev pub answer_events : Say → Sound → Bool → List Event
@@ -42,27 +39,3 @@ heard_events t = event.Heard t.arrived ∷ (received_events (brings_block t) t.r
 abbrev pub receiver_events : History → List Event
 receiver_events [] = []
 receiver_events (t ∷ past) = receiver_events past ++ heard_events t
-
--- ---- Two stations that both have jobs.
-
--- where the other said EOT and it doesn't arrive, the receiving station is told of the end
-abbrev pub ended_events : Say → Sound → List Event
-ended_events Say.End Sound.Eot = []
-ended_events Say.End _ = event.Over ∷ []
-ended_events _ arrived = []
-
--- what the receiving station of one of them notes of what the other said and it said itself: where both spoke it hears nothing
-abbrev pub listener_events : Option SpokenTurn → Option SpokenTurn → List Event
-listener_events None own = []
-listener_events (Some t) None = heard_events t ++ ended_events t.said t.arrived
-listener_events (Some t) (Some own) = ended_events t.said t.arrived
-
--- what that of the secondary notes of all turns ..
-abbrev pub secondary_events : PairHistory → List Event
-secondary_events [] = []
-secondary_events (t ∷ past) = secondary_events past ++ listener_events t.primary t.secondary
-
--- .. and that of the primary
-abbrev pub primary_events : PairHistory → List Event
-primary_events [] = []
-primary_events (t ∷ past) = primary_events past ++ listener_events t.secondary t.primary

@@ -13,7 +13,7 @@ use std::alloc::{AllocError, Global};
 pub const MAX_DAMAGE: usize = 8192;
 
 /// What was sent on one line comes on another one, after its fate.
-pub(crate) fn carry(
+pub fn carry(
     alloc: Global,
     fate: &Fate,
     from: &MemoryLine,

@@ -156,7 +156,7 @@ impl<'a> Ends<'a> {
 }
 
 /// Refuses bytes that are heard as damage of what was said may not be.
-pub(crate) fn check_damage(fate: &Fate, said: Sound, heard: Sound) -> Result<(), TurnFault>
+pub fn check_damage(fate: &Fate, said: Sound, heard: Sound) -> Result<(), TurnFault>
     ensures may { OnOk result (MayDamage fate.now said heard) }
     ensures fault { IfErr result (λ fault. fault ≡ Fault.NotDamage) }
     ensures wrong { OnErr result (IsDamaged fate.now × (is_damage said heard ≡ false)) }

@@ -3,9 +3,6 @@ ghost use Rattle.line_world.specs.AnyLines.{OverFaithfulLines};
 ghost use Rattle.line_world.specs.CleanLine.{CleanLineIsEnough};
 ghost use Rattle.line_world.specs.Fairness.{FairLineIsEnough};
 ghost use Rattle.line_world.specs.Headline.{AreHandedInOrder, AreHandedWhole, HandsFirstJobs, OfHistories, OfRuns};
-ghost use Rattle.line_world.specs.OneWay.{WithoutDownJobs};
-ghost use Rattle.line_world.specs.PairHeadline.{OfPairRuns};
-ghost use Rattle.line_world.specs.PairRun.{NoDamageNoPair, BadCutNoPair};
 ghost use Rattle.line_world.specs.Plan.{NextIsPlanned};
 ghost use Rattle.line_world.specs.Run.{NoDamageNoConversation, BadCutNoConversation};
 ghost use Rattle.line_world.specs.Turns.{SendingTurns, ReceivingTurns};
@@ -31,15 +28,6 @@ pub fn stations_keep_history()
 pub fn broken_schedules_have_no_conversation()
     ensures damage { NoDamageNoConversation }
     ensures cuts { BadCutNoConversation }
-{
-    one_hearing();
-}
-
-/// Where a looked-at fate of a schedule of two stations that both have jobs breaks its rule, there is no conversation of the pair with
-/// the same refusals: so no run over it that meets these is Ok.
-pub fn broken_schedules_have_no_pair_conversation()
-    ensures damage { NoDamageNoPair }
-    ensures cuts { BadCutNoPair }
 {
     one_hearing();
 }
@@ -92,20 +80,3 @@ pub fn faithful_lines_keep_order()
     stations_keep_history();
     histories_keep_order();
 }
-
-/// The headline, each way of two stations that both have jobs. Whatever the line loses or damages, the records of each station's jobs
-/// that a run of the pair hands out are a prefix of those given, in order and each once, and every job that counts as sent was handed out
-/// whole.
-pub fn pair_runs_keep_order()
-    ensures in_order { OfPairRuns (λ counted given handed. AreHandedInOrder given handed) }
-    ensures counted_whole { OfPairRuns AreHandedWhole }
-    ensures first_jobs { OfPairRuns HandsFirstJobs }
-{
-    histories_keep_order();
-}
-
-/// Where the secondary has no jobs, what a run of a pair tells of the primary's is what a run of them over the same turns tells, and of
-/// the secondary nothing is told.
-pub fn one_way_is_a_run()
-    ensures { WithoutDownJobs }
-{}

@@ -8,7 +8,7 @@ use std::alloc::AllocError;
 
 /// Why a turn of two stations came to nothing.
 #[derive(Clone, Copy, Debug, PartialEq, Eq)]
-pub(crate) enum TurnFault {
+pub enum TurnFault {
     /// There is no memory for the pieces.
     OutOfMemory,
     /// A fate's bytes are no damage of what was sent.
@@ -19,7 +19,7 @@ pub(crate) enum TurnFault {
 
 impl TurnFault {
     /// The fault of a run in its first attempt, in this turn.
-    pub(crate) fn at(self, turn: usize) -> WorldFault
+    pub fn at(self, turn: usize) -> WorldFault
         ensures { result ≡ fault_at self turn }
     {
         match self {

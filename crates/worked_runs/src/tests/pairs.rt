@@ -4,9 +4,8 @@ use super::schedules::{
     assert_equal_jobs, assert_turn, cut, damaged, job_of, pair_schedule, schedule, unfit_job,
 };
 use bsc_link::{Outcome, Rank, Reply, Say, Sound, Wish};
-use line_world::{
-    Bids, PairReport, PairTurn, Paired, Report, Side, Spoken, WorldFault, drive_pair, run, run_pair,
-};
+use line_world::{Report, Spoken, WorldFault, run};
+use pair_world::{Bids, PairReport, PairTurn, Paired, Side, drive_pair, run_pair};
 use rje_jobs::{Job, Jobs};
 use rje_station::Station;
 use rje_text::{Mode, Select};

@@ -3,7 +3,8 @@
 use super::pairs::{Call, report_by};
 use super::schedules::{GOOD, TURN, assert_same_jobs, pair_schedule, record_of, schedule};
 use bsc_link::{Outcome, Rank, Reply, Say, Sound};
-use line_world::{Bids, PairSpoken, Report, Spoken, WorldFault, run, run_all};
+use line_world::{Report, Spoken, WorldFault, run, run_all};
+use pair_world::{Bids, PairSpoken};
 use rje_jobs::Job;
 use rje_text::{Mode, Records, Select};
 use std::alloc::AllocError;

@@ -1,7 +1,8 @@
 //! Schedules, jobs and printed turns, for the tests of runs.
 use arrayvec::ArrayVec;
 use bsc_link::{Outcome, Reply, Say, Sound, Wish};
-use line_world::{Bids, Fate, PairTurn, Report, Spoken, Turn, run};
+use line_world::{Fate, Report, Spoken, Turn, run};
+use pair_world::{Bids, PairTurn};
 use rje_jobs::Job;
 use rje_text::{Action, Mode, Record, Records, Select};
 use std::alloc::{AllocError, AllocGlobal, Global};

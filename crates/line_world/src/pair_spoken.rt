@@ -1,9 +1,0 @@
-//! One turn of a report of two stations that both have jobs.
-use crate::Spoken;
-
-/// One turn of a report of two stations that both have jobs: what each said, where it spoke, and what came of it.
-#[derive(Clone, Copy, Debug, PartialEq, Eq)]
-pub struct PairSpoken {
-    pub primary: Option<Spoken>,
-    pub secondary: Option<Spoken>,
-}

@@ -1,0 +1,15 @@
+pub mod BrokenPairs
+pub mod Alone
+pub mod Contenders
+pub mod Contends
+pub mod PairCarried
+pub mod PairFaults
+pub mod PairHeadline
+pub mod PairLoop
+pub mod PairRuns
+pub mod PairTelling
+pub mod PairVain
+pub mod PairNoted
+pub mod Sends
+pub mod OneWay
+pub mod PairCalm

@@ -1,0 +1,170 @@
+-- What one station hears of the other over lines in memory.
+use Rattle.std.proofs.Common.{◌≡◌, ◌≢◌, inl, inr, ℕ, Bool, false, List, [], Option, Some, None, refl, ap, sym, ◌∙◌, subst}
+use Rattle.std.specs.List.{flat_map}
+use Rattle.std.proofs.lemmas.Bool.{true≢false, cases_Bool}
+use Rattle.bsc_frame.specs.declared.heard.Heard.{Heard}
+use Rattle.bsc_link.specs.declared.contender_place.ContenderPlace.{ContenderPlace}
+use Rattle.bsc_link.specs.declared.reply.Reply.{Reply}
+use Rattle.bsc_link.specs.declared.say.Say.{Say}
+use Rattle.bsc_link.specs.declared.sound.Sound.{Sound}
+use Rattle.bsc_link.specs.declared.wish.Wish.{Wish}
+use Rattle.bsc_link.specs.declared.rank.Rank.{Rank}
+use Rattle.bsc_link.specs.Contender.{ContenderState, after_bid}
+use Rattle.bsc_link.specs.Sender.{say_in, sender_sent_end}
+use Rattle.rje_jobs.specs.declared.job.Job.{Job}
+use Rattle.rje_station.specs.declared.arrival.Arrival.{Arrival}
+use Rattle.rje_station.specs.Hearing.{Hearing, HearsSound, sound_heard}
+use Rattle.rje_station.specs.JoinedJobs.{begun_in}
+use Rattle.rje_station.specs.Line.{Talk, Passes}
+use Rattle.rje_station.specs.Receiving.{MayRefuse}
+use Rattle.rje_station.specs.Sending.{IsWrittenOf, after_speaking, after_hearing, is_end}
+use Rattle.rje_station.specs.Station.{Contending, due_at, is_receiving, after_own_speaking, after_answer, HeardOther, HeardAnswer, after_other, lets_in, contender_said, contender_answered}
+use Rattle.line_world.specs.declared.turn.Turn.{Turn}
+use Rattle.line_world.specs.declared.turn_fault.TurnFault.{TurnFault}
+use Rattle.line_world.specs.declared.turn_fault.TurnFault.TheVariants as Fault
+use Rattle.bsc_history.specs.Conversation.{is_block}
+use Rattle.line_world.specs.Damage.{AreHeardAs, Fits}
+use Rattle.line_world.specs.Driving.{bytes_after, MayDamage, IsReplyFault}
+use Rattle.bsc_history.specs.Fate.{sound_of}
+use Rattle.line_world.specs.MemoryLine.{LineInMemory, talk_of}
+use Rattle.line_world.proofs.ForPairs.{line_hears, same_sound, same_refusal, refused_block, unsent}
+use Rattle.bsc_history.proofs.ForRuns.{and-false}
+use Rattle.pair_world.specs.PairDriving.{GoesAcross, HearsNothing, IsAloneFault}
+
+-- ---- Across.
+
+-- an ENQ alone is passed over
+pub passed_enq : (c : ContenderState) (sound : Sound) → lets_in c sound ≡ false → sound ≡ Sound.Enq
+passed_enq c Sound.Enq e = refl
+passed_enq c _ e = absurd (true≢false e)
+
+-- and it isn't refused
+pub passed_unrefused : (what : Heard) (begun : Option Job) (refused : Bool) → sound_heard what ≡ Sound.Enq → MayRefuse what begun refused → refused ≡ false
+passed_unrefused what begun refused is may = refused_block what begun refused may ∙ and-false refused (is_block (sound_heard what)) (rw is refl)
+
+module _ (s s' : Contending) (wish : Wish) (reply : Option Reply) (l m : LineInMemory) (arrival : Arrival)
+    (g : HeardOther s s' wish reply (λ what. Passes (Some (talk_of l)) (Some (talk_of m)) (λ t u. Hearing t u what)))
+    (seen : s'.receiver.arrival ≡ Some arrival) where
+  -- an ENQ that is passed over is told too
+  brought : s'.receiver.arrival ≡ Some (record { sound = sound_heard g.what; refused = g.refused })
+  brought = elim (cases_Bool (lets_in s.contender (sound_heard g.what))) [
+    | inl let_in ↦ ap (λ x. x.receiver.arrival) g.state ∙ rw let_in refl
+    | inr out ↦
+        let is : sound_heard g.what ≡ Sound.Enq = passed_enq s.contender (sound_heard g.what) out in
+        let none : g.refused ≡ false = passed_unrefused g.what (begun_in s.receiver.jobs) g.refused is g.may in
+        ap (λ x. x.receiver.arrival) g.state ∙ rw (out, is, none) refl
+  ]
+
+  pub arrived_across : arrival.sound ≡ sound_heard g.what
+  arrived_across = same_sound arrival _ (sym seen ∙ brought)
+
+  pub refused_across : arrival.refused ≡ g.refused
+  refused_across = same_refusal arrival _ (sym seen ∙ brought)
+
+pub goes_across : (turn : Turn) (said : Sound) (sent : List ℕ) (s s' : Contending) (reply : Option Reply) (l m : LineInMemory) (arrival : Arrival)
+    → Fits turn.up sent → flat_map (λ p. p) l.waiting ≡ bytes_after turn.up sent
+    → HeardOther s s' turn.wish reply (λ what. Passes (Some (talk_of l)) (Some (talk_of m)) (λ t u. Hearing t u what))
+    → s'.receiver.arrival ≡ Some arrival → MayDamage turn.up said arrival.sound
+    → GoesAcross turn said sent s s' arrival.sound arrival.refused reply
+goes_across turn said sent s s' reply l m arrival fits comes g seen may =
+    let a : arrival.sound ≡ sound_heard g.what = arrived_across s s' turn.wish reply l m arrival g seen in
+    let f : arrival.refused ≡ g.refused = refused_across s s' turn.wish reply l m arrival g seen in
+    record {
+      what = g.what;
+      carried = record { fits = fits; heard = line_hears l m g.what (bytes_after turn.up sent) comes g.told; may = subst (MayDamage turn.up said) a may };
+      arrived_is = a;
+      may = subst (MayRefuse g.what (begun_in s.receiver.jobs)) (sym f) g.may;
+      state = g.state ∙ ap (λ b. after_other s g.what b turn.wish) (sym f);
+      reply_is = g.reply_is;
+    }
+
+-- ---- Back.
+
+-- where something was due, an answer was listened for
+pub answer_heard : (old new : Option Talk) (say : Say) (sound : Sound) → (say ≡ Say.Nothing → ⊥) → HeardAnswer old new say sound → Passes old new (λ t u. HearsSound t u sound)
+answer_heard old new Say.Nothing sound n h = absurd (n refl)
+answer_heard old new _ sound n h = h
+
+-- what is due stays due, but for EOT
+live_at : (s : Contending) (say : Say) → due_at s ≡ say → say ≢ Say.Nothing → s.failed ≡ false
+live_at s say e n = elim (cases_Bool s.failed) [ inl f ↦ absurd (n (sym e ∙ rw f refl)) | inr f ↦ f ]
+
+free_at : (s : Contending) (say : Say) → due_at s ≡ say → say ≢ Say.Nothing → is_receiving s.contender.place ≡ false
+free_at s say e n = elim (cases_Bool (is_receiving s.contender.place)) [ inl r ↦ absurd (n (sym e ∙ rw (live_at s say e n, r) refl)) | inr r ↦ r ]
+
+pub going_at : (s : Contending) (say : Say) → due_at s ≡ say → say ≢ Say.Nothing → s.sender.over ≡ false
+going_at s say e n = elim (cases_Bool s.sender.over) [ inl o ↦ absurd (n (sym e ∙ rw (live_at s say e n, free_at s say e n, o) refl)) | inr o ↦ o ]
+
+pub says_at : (s : Contending) (say : Say) → due_at s ≡ say → say ≢ Say.Nothing → say_in s.sender.core.place ≡ say
+says_at s say e n = sym (sym e ∙ rw (live_at s say e n, free_at s say e n, going_at s say e n) refl)
+
+bid_place : (rank : Rank) (place : ContenderPlace) (noted : Bool) → is_receiving (after_bid (record { rank = rank; place = place; bid_noted = noted })).place ≡ is_receiving place
+bid_place rank ContenderPlace.Free noted = refl
+bid_place rank _ noted = refl
+
+said_place : (say : Say) (c : ContenderState) → say ≢ Say.End → is_receiving (contender_said say c).place ≡ is_receiving c.place
+said_place Say.End c n = absurd (n refl)
+said_place Say.Bid c n = bid_place c.rank c.place c.bid_noted
+said_place _ c n = refl
+
+-- where something was due, this is what speaking makes
+pub spoken_of_due : (s : Contending) (say : Say) → due_at s ≡ say → say ≢ Say.Nothing → after_own_speaking s ≡ record s { sender = after_speaking s.sender; contender = contender_said say s.contender }
+spoken_of_due s Say.Nothing e n = absurd (n refl)
+spoken_of_due s Say.Bid e n = rw (e, after_own_speaking) (ap (λ x. record s { sender = after_speaking s.sender; contender = contender_said x s.contender }) e)
+spoken_of_due s Say.Block e n = rw (e, after_own_speaking) (ap (λ x. record s { sender = after_speaking s.sender; contender = contender_said x s.contender }) e)
+spoken_of_due s Say.Again e n = rw (e, after_own_speaking) (ap (λ x. record s { sender = after_speaking s.sender; contender = contender_said x s.contender }) e)
+spoken_of_due s Say.Delay e n = rw (e, after_own_speaking) (ap (λ x. record s { sender = after_speaking s.sender; contender = contender_said x s.contender }) e)
+spoken_of_due s Say.Ask e n = rw (e, after_own_speaking) (ap (λ x. record s { sender = after_speaking s.sender; contender = contender_said x s.contender }) e)
+spoken_of_due s Say.End e n = rw (e, after_own_speaking) (ap (λ x. record s { sender = after_speaking s.sender; contender = contender_said x s.contender }) e)
+
+pub answered_of_due : (s : Contending) (say : Say) (heard : Sound) (pause : Bool) → due_at s ≡ say → say ≢ Say.Nothing → after_answer s heard pause ≡ record s { sender = after_hearing s.sender heard pause; contender = contender_answered say heard s.contender }
+answered_of_due s Say.Nothing heard pause e n = absurd (n refl)
+answered_of_due s Say.Bid heard pause e n = rw (e, after_answer) (ap (λ x. record s { sender = after_hearing s.sender heard pause; contender = contender_answered x heard s.contender }) e)
+answered_of_due s Say.Block heard pause e n = rw (e, after_answer) (ap (λ x. record s { sender = after_hearing s.sender heard pause; contender = contender_answered x heard s.contender }) e)
+answered_of_due s Say.Again heard pause e n = rw (e, after_answer) (ap (λ x. record s { sender = after_hearing s.sender heard pause; contender = contender_answered x heard s.contender }) e)
+answered_of_due s Say.Delay heard pause e n = rw (e, after_answer) (ap (λ x. record s { sender = after_hearing s.sender heard pause; contender = contender_answered x heard s.contender }) e)
+answered_of_due s Say.Ask heard pause e n = rw (e, after_answer) (ap (λ x. record s { sender = after_hearing s.sender heard pause; contender = contender_answered x heard s.contender }) e)
+answered_of_due s Say.End heard pause e n = rw (e, after_answer) (ap (λ x. record s { sender = after_hearing s.sender heard pause; contender = contender_answered x heard s.contender }) e)
+
+not_end : (say : Say) → say ≢ Say.End → is_end say ≡ false
+not_end Say.End n = absurd (n refl)
+not_end _ n = refl
+
+pub due_kept : (s : Contending) (say : Say) → due_at s ≡ say → say ≢ Say.Nothing → say ≢ Say.End → due_at (after_own_speaking s) ≡ say
+due_kept s say e n m =
+    let live = live_at s say e n in
+    let free = free_at s say e n in
+    let says : say_in s.sender.core.place ≡ say = says_at s say e n in
+    let core : sender_sent_end s.sender.core ≡ s.sender.core = unsent s.sender.core (λ x. m (sym says ∙ x)) in
+    rw (spoken_of_due s say e n, live, said_place say s.contender m, free, says, not_end say m) (ap (λ x. say_in x.place) core ∙ says)
+
+-- ---- In vain.
+
+pub hears_nothing : (say : Say) (pause : Bool) (s s' : Contending) (heard : Sound) → say ≢ Say.End → s' ≡ after_answer s heard pause → AreHeardAs [] heard → HearsNothing say pause s s' heard
+hears_nothing Say.End pause s s' heard n state h = absurd (n refl)
+hears_nothing _ pause s s' heard n state h = (state, h)
+
+pub nothing_came : (l m : LineInMemory) (sound : Sound) → flat_map (λ p. p) l.waiting ≡ [] → Passes (Some (talk_of l)) (Some (talk_of m)) (λ t u. HearsSound t u sound) → AreHeardAs [] sound
+nothing_came l m sound comes h = record { what = h.what; heard = line_hears l m h.what [] comes h.hearing; sound_is = h.sound_is }
+
+-- ---- Faults.
+
+by_reply : (turn : Turn) (s l middle : Contending) (sent : List ℕ) (arrived : Sound) (refused : Bool) (answer due : Option Reply) (fault : TurnFault) → IsWrittenOf (due_at s) s.sender.rest sent
+    → GoesAcross turn (sound_of (due_at s)) sent l middle arrived refused answer → middle.receiver.due ≡ due → IsReplyFault turn.down due fault → IsAloneFault turn s l fault
+by_reply turn s l middle sent arrived refused answer due Fault.OutOfMemory written across is h = tt
+by_reply turn s l middle sent arrived refused answer None Fault.NotDamage written across is h = absurd h
+by_reply turn s l middle sent arrived refused answer None Fault.BadCut written across is h = absurd h
+by_reply turn s l middle sent arrived refused answer (Some reply) Fault.NotDamage written across is h = record {
+  sent = sent;
+  written = written;
+  breaks = inr (record { arrived = arrived; refused = refused; answer = answer; middle = middle; across = across; reply = reply; reply_is = is; reply_sent = h.0; written = h.1; breaks = h.2 });
+}
+by_reply turn s l middle sent arrived refused answer (Some reply) Fault.BadCut written across is h = record {
+  sent = sent;
+  written = written;
+  breaks = inr (record { arrived = arrived; refused = refused; answer = answer; middle = middle; across = across; reply = reply; reply_is = is; reply_sent = h.0; written = h.1; breaks = h.2 });
+}
+
+pub fault_back : (turn : Turn) (s l middle : Contending) (sent : List ℕ) (arrived : Sound) (refused : Bool) (answer : Option Reply) (fault : TurnFault) → IsWrittenOf (due_at s) s.sender.rest sent
+    → GoesAcross turn (sound_of (due_at s)) sent l middle arrived refused answer → IsReplyFault turn.down middle.receiver.due fault → IsAloneFault turn s l fault
+fault_back turn s l middle sent arrived refused answer fault written across h = by_reply turn s l middle sent arrived refused answer middle.receiver.due fault written across refl h

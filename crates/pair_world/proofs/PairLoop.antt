@@ -1,0 +1,215 @@
+-- The loop of a run of two stations that both have jobs: the turns so far are those of a history, and both stations stand where it left them.
+use Rattle.std.proofs.Common.{Bool, ◌≡◌, ◌≢◌, ◌⊎◌, inl, inr, ℕ, ◌+◌, ◌==◌, true, false, List, [], ◌∷◌, ◌++◌, length, map, reverse, take, drop, slice_get, Option, Some, None, refl, ap, sym, ◌∙◌, subst, arith}
+use Rattle.std.proofs.lemmas.List.{take-append-drop, map-append, length-map, length-reverse, reverse-append}
+use Rattle.bsc_link.specs.declared.rank.Rank.{Rank}
+use Rattle.bsc_link.specs.declared.say.Say.{Say}
+use Rattle.rje_jobs.specs.declared.job.Job.{Job}
+use Rattle.rje_jobs.specs.Blocks.{blocks}
+use Rattle.bsc_codes.specs.declared.block.Block.{Block}
+use Rattle.rje_station.specs.Receiving.{Receiving}
+use Rattle.rje_station.specs.Sending.{Sending, outcome_of}
+use Rattle.rje_station.specs.Station.{Contending, first_contending, due_at, is_deaf}
+use Rattle.line_world.specs.declared.spoken.Spoken.{Spoken}
+use Rattle.bsc_history.specs.History.{Plan, History}
+use Rattle.bsc_history.specs.Known.{tries, holds, gives_up_now}
+use Rattle.bsc_history.specs.Outcome.{gave_up_before, outcome, outcome_by}
+use Rattle.line_world.specs.Plan.{plan_of}
+use Rattle.pair_world.specs.declared.pair_spoken.PairSpoken.{PairSpoken}
+use Rattle.pair_world.specs.declared.pair_turn.PairTurn.{PairTurn}
+use Rattle.bsc_history.specs.Pair.{SpokenPair, PairHistory, up, down, is_something}
+use Rattle.bsc_history.specs.PairCount.{spent, down_gives_up, down_gave_up}
+use Rattle.bsc_history.specs.PairConversation.{down_outcome}
+use Rattle.pair_world.specs.PairDriving.{TakesPair}
+use Rattle.bsc_history.specs.PairSchedule.{NothingIsDue}
+use Rattle.pair_world.specs.PairDrive.{SendsAfter, ReceivesAfter, StandPair, IsPairDrive}
+use Rattle.pair_world.specs.PairRun.{TellsPairs, pair_of, spoken_pairs}
+use Rattle.pair_world.proofs.Alone.{Laws, Listens}
+use Rattle.pair_world.proofs.Contends.{contends_first}
+use Rattle.pair_world.proofs.PairRuns.{StandsPairRun, cases_jobs, due_goes, primary_more, secondary_more, both_more, nothing_due}
+use Rattle.pair_world.proofs.PairTelling.{pairs_append, pairs_any, pairs_length, pairs_longer}
+use Rattle.pair_world.proofs.Sends.{SendsBy, sends_first}
+use Rattle.line_world.proofs.ForPairs.{plan_some, some_jobs}
+
+pub record PairRunning (ups downs : List Job) (turns : List PairTurn) (n : ℕ) (spoken : List PairSpoken) (a b : Contending) : Type 0 where
+  pub history : PairHistory
+  pub long : length history ≡ n
+  pub spoken_is : spoken ≡ spoken_pairs history
+  pub stands : StandsPairRun ups downs turns history a b
+
+stands_first : (ups downs : List Job) (turns : List PairTurn) → StandsPairRun ups downs turns [] (first_contending Rank.Primary ups) (first_contending Rank.Secondary downs)
+stands_first ups downs turns = record {
+  before = [];
+  told = tt;
+  long = refl;
+  spoken = record { conversation = tt; placed = tt };
+  fits = tt;
+  a_live = refl;
+  b_live = refl;
+  contends = contends_first;
+  up_sends = sends_first ups;
+  down_sends = sends_first downs;
+  up_receives = record { jobs = refl; live = λ g. record { core = refl; jobs = refl; over = λ e. refl } };
+  down_receives = record { jobs = refl; live = λ g. record { core = refl; jobs = refl; over = λ e. refl } };
+  a_silent = refl;
+  b_silent = refl;
+  a_said = refl;
+  b_said = refl;
+  a_heard = refl;
+  b_heard = refl;
+}
+
+pub pair_first : (ups downs : List Job) (turns : List PairTurn) (spoken : List PairSpoken) (a b : Contending) → spoken ≡ [] → a ≡ first_contending Rank.Primary ups → b ≡ first_contending Rank.Secondary downs → PairRunning ups downs turns 0 spoken a b
+pair_first ups downs turns spoken a b e is js = rw (e, is, js) (record { history = []; long = refl; spoken_is = refl; stands = stands_first ups downs turns })
+
+-- ---- One more turn.
+
+pair_same : (t : PairSpoken) (x y : Option Spoken) → t.primary ≡ x → t.secondary ≡ y → t ≡ record { primary = x; secondary = y }
+pair_same t x y e f = ap (λ z. record t { primary = z }) e ∙ ap (λ z. record { primary = x; secondary = z }) f
+
+goes_on : (ups downs : List Job) (turns : List PairTurn) (n : ℕ) (spoken spoken' : List PairSpoken) (a b a' b' : Contending) (t : PairSpoken) (p : PairRunning ups downs turns n spoken a b) (x : SpokenPair) → t ≡ pair_of x → spoken' ≡ spoken ++ t ∷ []
+    → StandsPairRun ups downs turns (x ∷ p.history) a' b' → PairRunning ups downs turns (n + 1) spoken' a' b'
+goes_on ups downs turns n spoken spoken' a b a' b' t p x is more stands =
+    let turned : spoken_pairs (x ∷ p.history) ≡ spoken_pairs p.history ++ pair_of x ∷ [] = ap (map pair_of) (reverse-append (x ∷ []) p.history) ∙ map-append pair_of (reverse p.history) (x ∷ []) in
+    record {
+      history = x ∷ p.history;
+      long = omega (arith, p.long);
+      spoken_is = more ∙ ap (λ xs. xs ++ t ∷ []) p.spoken_is ∙ ap (λ z. spoken_pairs p.history ++ z ∷ []) is ∙ sym turned;
+      stands = stands;
+    }
+
+pub pair_more : Laws → (ups downs : List Job) (turns : List PairTurn) (n : ℕ) (spoken spoken' : List PairSpoken) (a b a' b' : Contending) (turn : PairTurn) (t : PairSpoken) → PairRunning ups downs turns n spoken a b → slice_get turns n ≡ Some turn
+    → TakesPair (Some t) turn a a' b b' → spoken' ≡ spoken ++ t ∷ [] → PairRunning ups downs turns (n + 1) spoken' a' b'
+pair_more laws ups downs turns n spoken spoken' a b a' b' turn t p here took more =
+    let there : slice_get turns (length p.history) ≡ Some turn = subst (λ k. slice_get turns k ≡ Some turn) (sym p.long) here in
+    elim took [
+      | inl w ↦ goes_on ups downs turns n spoken spoken' a b a' b' t p _ (pair_same t (Some w.spoken) None w.primary_is w.secondary_is) more (primary_more laws ups downs turns p.history a a' b b' turn t p.stands there w)
+      | inr (inl w) ↦ goes_on ups downs turns n spoken spoken' a b a' b' t p _ (pair_same t None (Some w.spoken) w.primary_is w.secondary_is) more (secondary_more laws ups downs turns p.history a a' b b' turn t p.stands there w)
+      | inr (inr w) ↦ goes_on ups downs turns n spoken spoken' a b a' b' t p _ (pair_same t (Some w.collide.first) (Some w.collide.second) w.collide.primary_is w.collide.secondary_is) more (both_more laws ups downs turns p.history a a' b b' turn t p.stands there w)
+    ]
+
+-- ---- The end.
+
+outcome_some : (plan : Plan) (h : History) → (plan ≡ [] → ⊥) → outcome plan h ≡ outcome_by plan (gave_up_before h) (gives_up_now h) h
+outcome_some [] h n = absurd (n refl)
+outcome_some (b ∷ plan) h n = refl
+
+down_outcome_some : (plan : Plan) (h : PairHistory) → (plan ≡ [] → ⊥) → down_outcome plan h ≡ outcome_by plan (down_gave_up h) (down_gives_up h) (down h)
+down_outcome_some [] h n = absurd (n refl)
+down_outcome_some (b ∷ plan) h n = refl
+
+up_ending : (ups : List Job) (h : History) (s : Contending) → SendsBy ups h (gave_up_before h) (tries h) (holds h) s.sender → outcome_of s.sender ≡ outcome (plan_of (blocks ups)) h
+up_ending ups h s p = elim (cases_jobs ups) [
+  | inl none ↦ let e : s.sender.jobs ≡ [] = p.jobs_are ∙ none in rw (e, none) refl
+  | inr l ↦
+      let some : (length s.sender.jobs == 0) ≡ false = ap (λ js. length js == 0) p.jobs_are ∙ some_jobs ups l in
+      rw some (p.core.ends ∙ sym (outcome_some (plan_of (blocks ups)) h (plan_some ups l)))
+]
+
+down_ending : (downs : List Job) (h : PairHistory) (s : Contending) → SendsBy downs (down h) (down_gave_up h) (spent h).tries (spent h).holds s.sender → outcome_of s.sender ≡ down_outcome (plan_of (blocks downs)) h
+down_ending downs h s p = elim (cases_jobs downs) [
+  | inl none ↦ let e : s.sender.jobs ≡ [] = p.jobs_are ∙ none in rw (e, none) refl
+  | inr l ↦
+      let some : (length s.sender.jobs == 0) ≡ false = ap (λ js. length js == 0) p.jobs_are ∙ some_jobs downs l in
+      rw some (p.core.ends ∙ sym (down_outcome_some (plan_of (blocks downs)) h (plan_some downs l)))
+]
+
+sends_after : (jobs : List Job) (own : History) (b : Bool) (m n : ℕ) (s : Sending) → SendsBy jobs own b m n s → SendsAfter jobs own m n s
+sends_after jobs own b m n s p = record {
+  jobs_are = p.jobs_are;
+  says = p.core.says;
+  parity = p.core.parity;
+  rvi = p.core.rvi;
+  tried = p.core.tried;
+  held = p.core.held;
+  counted = p.counted;
+  over = p.over;
+}
+
+receives_after : (blocks : List Block) (own : History) (r : Receiving) → Listens blocks own r → ReceivesAfter blocks own r
+receives_after blocks own r p = record { jobs = p.jobs; live = p.live }
+
+stand_pair : (ups downs : List Job) (turns : List PairTurn) (h : PairHistory) (a b : Contending) → StandsPairRun ups downs turns h a b → StandPair ups downs h a b
+stand_pair ups downs turns h a b s = record {
+  a_live = s.a_live;
+  b_live = s.b_live;
+  a_rank = s.contends.p_rank;
+  b_rank = s.contends.q_rank;
+  a_place = s.contends.p_place;
+  b_place = s.contends.q_place;
+  a_noted = s.contends.p_noted;
+  a_sends = sends_after ups (up h) (gave_up_before (up h)) (tries (up h)) (holds (up h)) a.sender s.up_sends;
+  b_sends = sends_after downs (down h) (down_gave_up h) (spent h).tries (spent h).holds b.sender s.down_sends;
+  a_receives = receives_after (blocks downs) (down h) a.receiver s.down_receives;
+  b_receives = receives_after (blocks ups) (up h) b.receiver s.up_receives;
+  a_silent = s.a_silent;
+  b_silent = s.b_silent;
+  a_said = s.a_said;
+  b_said = s.b_said;
+  a_heard = s.a_heard;
+  b_heard = s.b_heard;
+}
+
+whole_pair : Laws → (ups downs : List Job) (turns : List PairTurn) (n : ℕ) (spoken : List PairSpoken) (a b : Contending) → (p : PairRunning ups downs turns n spoken a b) → (length p.history ≡ length turns) ⊎ NothingIsDue (plan_of (blocks ups)) (plan_of (blocks downs)) p.history
+    → IsPairDrive ups downs turns spoken a b
+whole_pair laws ups downs turns n spoken a b p whole =
+    let h = p.history in
+    let s = p.stands in
+    let rest = pairs_any laws.every (drop (length h) turns) in
+    let places = s.before ++ rest.0 in
+    let told : TellsPairs turns places =
+    subst (λ xs. TellsPairs xs places) (take-append-drop (length h) turns) (pairs_append (take (length h) turns) (drop (length h) turns) s.before rest.0 s.told rest.1) in
+    let long : length turns ≡ length places = pairs_length turns places told in
+    let whole_places : (length h ≡ length turns) ⊎ NothingIsDue (plan_of (blocks ups)) (plan_of (blocks downs)) h → (length h ≡ length places) ⊎ NothingIsDue (plan_of (blocks ups)) (plan_of (blocks downs)) h = λ w. elim w [ inl e ↦ inl (e ∙ long) | inr none ↦ inr none ] in
+    record {
+      run = record {
+        history = h;
+        places = places;
+        conversation = record {
+          told = told;
+          conversation = record { spoken = pairs_longer (plan_of (blocks ups)) (plan_of (blocks downs)) s.before rest.0 h s.spoken; whole = whole_places whole };
+          fits = s.fits;
+        };
+        spoken_is = p.spoken_is;
+        up_side = record { handed_is = s.up_receives.jobs; counted_is = s.up_sends.counted.counted };
+        down_side = record { handed_is = s.down_receives.jobs; counted_is = s.down_sends.counted.counted };
+        up_ending = up_ending ups (up h) a s.up_sends;
+        down_ending = down_ending downs h b s.down_sends;
+      };
+      stand = stand_pair ups downs turns h a b s;
+    }
+
+pub pair_over : Laws → (ups downs : List Job) (turns : List PairTurn) (n : ℕ) (spoken : List PairSpoken) (a b a' b' : Contending) (turn : PairTurn) → PairRunning ups downs turns n spoken a b → slice_get turns n ≡ Some turn → TakesPair None turn a a' b b'
+    → IsPairDrive ups downs turns spoken a' b'
+pair_over laws ups downs turns n spoken a b a' b' turn p here took =
+    let there : slice_get turns (length p.history) ≡ Some turn = subst (λ k. slice_get turns k ≡ Some turn) (sym p.long) here in
+    rw (took.2, took.3) (whole_pair laws ups downs turns n spoken a b p (inr (nothing_due laws ups downs turns p.history a a b b turn (record { primary = None; secondary = None }) p.stands there took.0 took.1)))
+
+pub pair_out : Laws → (ups downs : List Job) (turns : List PairTurn) (n : ℕ) (spoken : List PairSpoken) (a b : Contending) → PairRunning ups downs turns n spoken a b → n ≡ length turns → IsPairDrive ups downs turns spoken a b
+pair_out laws ups downs turns n spoken a b p out = whole_pair laws ups downs turns n spoken a b p (inl (p.long ∙ out))
+
+pub pair_length : (ups downs : List Job) (turns : List PairTurn) (n : ℕ) (spoken : List PairSpoken) (a b : Contending) → PairRunning ups downs turns n spoken a b → length spoken ≡ n
+pair_length ups downs turns n spoken a b p = ap length p.spoken_is ∙ length-map (reverse p.history) pair_of ∙ length-reverse p.history ∙ p.long
+
+-- ---- Who hears.
+
+some_due : (say : Say) → say ≢ Say.Nothing → is_something say ≡ true
+some_due Say.Nothing n = absurd (n refl)
+some_due _ n = refl
+
+hears_by : (s : Contending) → s.failed ≡ false → s.receiver.over ≡ false → is_deaf s ≡ false
+hears_by s live over = rw (live, over) refl
+
+-- where something is due at one station, the other hears it
+pub secondary_hears : (ups downs : List Job) (turns : List PairTurn) (n : ℕ) (spoken : List PairSpoken) (a b : Contending) → PairRunning ups downs turns n spoken a b → due_at a ≢ Say.Nothing → is_deaf b ≡ false
+secondary_hears ups downs turns n spoken a b p some =
+    let h = p.history in
+    let s = p.stands in
+    let goes = due_goes ups (up h) (down h) (gave_up_before (up h)) (tries (up h)) (holds (up h)) a s.a_live s.contends.p_place s.up_sends (some_due (due_at a) some) in
+    hears_by b s.b_live ((s.up_receives.live goes).over goes)
+
+pub primary_hears : (ups downs : List Job) (turns : List PairTurn) (n : ℕ) (spoken : List PairSpoken) (a b : Contending) → PairRunning ups downs turns n spoken a b → due_at b ≢ Say.Nothing → is_deaf a ≡ false
+primary_hears ups downs turns n spoken a b p some =
+    let h = p.history in
+    let s = p.stands in
+    let goes = due_goes downs (down h) (up h) (down_gave_up h) (spent h).tries (spent h).holds b s.b_live s.contends.q_place s.down_sends (some_due (due_at b) some) in
+    hears_by a s.a_live ((s.down_receives.live goes).over goes)

@@ -1,0 +1,120 @@
+-- Both speak at once: one turn of each direction, of which nothing arrives.
+use Rattle.std.proofs.Common.{◌≡◌, ◌≢◌, inl, inr, Bool, false, List, [], ◌∷◌, None, refl, ap, sym, ◌∙◌, subst}
+use Rattle.std.proofs.lemmas.Bool.{true≢false}
+use Rattle.bsc_codes.specs.declared.block.Block.{Block}
+use Rattle.bsc_link.specs.declared.say.Say.{Say}
+use Rattle.bsc_link.specs.declared.sound.Sound.{Sound}
+use Rattle.rje_jobs.specs.declared.job.Job.{Job}
+use Rattle.rje_jobs.specs.Blocks.{blocks}
+use Rattle.rje_station.specs.Sending.{after_speaking, after_hearing}
+use Rattle.rje_station.specs.Station.{Contending, due_at, after_own_speaking, after_answer, contender_said, contender_answered}
+use Rattle.line_world.specs.declared.fate.Fate.TheVariants as fates
+use Rattle.line_world.specs.declared.spoken.Spoken.{Spoken}
+use Rattle.bsc_history.specs.declared.spoken_turn.SpokenTurn.{SpokenTurn}
+use Rattle.line_world.specs.declared.turn.Turn.{Turn}
+use Rattle.bsc_history.specs.History.{History, is_over}
+use Rattle.bsc_history.specs.Got.{got}
+use Rattle.bsc_history.specs.Conversation.{Follows}
+use Rattle.bsc_history.specs.Cores.{receiver_after}
+use Rattle.line_world.specs.Damage.{AreHeardAs}
+use Rattle.line_world.specs.Plan.{plan_of}
+use Rattle.bsc_history.specs.SayingRule.{saying}
+use Rattle.line_world.specs.Turns.{after_turn}
+use Rattle.line_world.proofs.ForPairs.{Told, reply_told, turn_of, turn_ends, turn_hears, cases_end}
+use Rattle.pair_world.specs.Contending.{own_turn, other_turn}
+use Rattle.bsc_history.specs.Pair.{as_counted}
+use Rattle.pair_world.specs.PairDriving.{SpeaksInVain, HearsNothing, after_end_of}
+use Rattle.pair_world.proofs.Alone.{Laws, Listens, quiet_place, own_more, end_more, end_jobs}
+use Rattle.bsc_history.proofs.ForRuns.{same-sound, vain-follows}
+use Rattle.pair_world.proofs.PairCarried.{spoken_of_due, answered_of_due, due_kept}
+
+hears_more : (say : Say) (pause : Bool) (s s' : Contending) (heard : Sound) → say ≢ Say.End → HearsNothing say pause s s' heard → (s' ≡ after_answer s heard pause) × AreHeardAs [] heard
+hears_more Say.End pause s s' heard n h = absurd (n refl)
+hears_more Say.Bid pause s s' heard n h = h
+hears_more Say.Block pause s s' heard n h = h
+hears_more Say.Again pause s s' heard n h = h
+hears_more Say.Ask pause s s' heard n h = h
+hears_more Say.Delay pause s s' heard n h = h
+hears_more Say.Nothing pause s s' heard n h = h
+
+module _ (laws : Laws) (jobs : List Job) (own : History) (g bid_out : Bool) (s s' : Contending) (turn : Turn) (t : Spoken) (goes : is_over own ≡ false) (due_is : due_at s ≡ saying (plan_of (blocks jobs)) g own)
+    (something : due_at s ≢ Say.Nothing) (vain : SpeaksInVain turn.pause s s' t) where
+  abbrev u : SpokenTurn
+  u = turn_of turn t
+
+  -- the end, or silence
+  pub record IsVainly : Type 0 where
+    pub heard : t.heard ≡ Sound.Quiet
+    pub sender : s'.sender ≡ after_turn s.sender u
+    pub receiver : s'.receiver ≡ s.receiver
+    pub contender : s'.contender ≡ own_turn t.said t.heard s.contender
+    pub failed : s'.failed ≡ s.failed
+
+  vain_ends : t.said ≡ Say.End → IsVainly
+  vain_ends end =
+      let due : due_at s ≡ Say.End = sym vain.said ∙ end in
+      let h : HearsNothing Say.End turn.pause (after_own_speaking s) s' t.heard = subst (λ x. HearsNothing x turn.pause (after_own_speaking s) s' t.heard) due vain.hears in
+      let spoke : s' ≡ record s { sender = after_speaking s.sender; contender = contender_said (due_at s) s.contender } = h.0 ∙ spoken_of_due s (due_at s) refl something in
+      record {
+        heard = h.1;
+        sender = ap (λ x. x.sender) spoke ∙ sym (turn_ends s.sender u end);
+        receiver = ap (λ x. x.receiver) spoke;
+        contender = ap (λ x. x.contender) spoke ∙ rw (due, end) refl;
+        failed = ap (λ x. x.failed) spoke;
+      }
+
+  vain_more : t.said ≢ Say.End → IsVainly
+  vain_more more =
+      let unended : due_at s ≢ Say.End = λ e. more (vain.said ∙ e) in
+      let h = hears_more (due_at s) turn.pause (after_own_speaking s) s' t.heard unended vain.hears in
+      let told : Told fates.Lost Sound.Quiet t.heard = reply_told laws.one laws.transmits laws.every fates.Lost None t.heard h.1 in
+      let kept : due_at (after_own_speaking s) ≡ due_at s = due_kept s (due_at s) refl something unended in
+      let spoke = spoken_of_due s (due_at s) refl something in
+      let heard : s' ≡ record (after_own_speaking s) { sender = after_hearing (after_own_speaking s).sender t.heard turn.pause; contender = contender_answered (due_at s) t.heard (after_own_speaking s).contender } =
+      h.0 ∙ answered_of_due (after_own_speaking s) (due_at s) t.heard turn.pause kept something in
+      record {
+        heard = sym (same-sound Sound.Quiet t.heard told.after);
+        sender = ap (λ x. x.sender) heard ∙ ap (λ x. after_hearing x.sender t.heard turn.pause) spoke ∙ sym (turn_hears s.sender u t.said refl more);
+        receiver = ap (λ x. x.receiver) heard ∙ ap (λ x. x.receiver) spoke;
+        contender = ap (λ x. x.contender) heard ∙ ap (λ x. contender_answered (due_at s) t.heard x.contender) spoke ∙ ap (λ y. contender_answered y t.heard (contender_said y s.contender)) (sym vain.said) ∙ sym (own_more t.said t.heard s.contender more);
+        failed = ap (λ x. x.failed) heard ∙ ap (λ x. x.failed) spoke;
+      }
+
+  pub vainly : IsVainly
+  vainly = elim (cases_end t.said) [ inl end ↦ vain_ends end | inr more ↦ vain_more more ]
+
+  pub vain_follows : Follows (plan_of (blocks jobs)) g own (as_counted bid_out u)
+  vain_follows = vain-follows bid_out (plan_of (blocks jobs)) g own u goes (vain.said ∙ due_is) vain.arrived vain.refused vain.reply vainly.heard
+
+-- ---- The receiver of a turn of which nothing arrived.
+
+taken_quiet : (own : History) (u : SpokenTurn) → u.arrived ≡ Sound.Quiet → receiver_after (u ∷ own) ≡ receiver_after own
+taken_quiet own u e = rw e (quiet_place (receiver_after own) u.wish (receiver_after own).place refl)
+
+got_quiet : (own : History) (u : SpokenTurn) → u.arrived ≡ Sound.Quiet → got (u ∷ own) ≡ got own
+got_quiet own u e = rw e refl
+
+pub vain_listens : (blocks : List Block) (own : History) (u : SpokenTurn) (x : Contending) → u.arrived ≡ Sound.Quiet → is_over own ≡ false → Listens blocks own x.receiver → Listens blocks (u ∷ own) (after_end_of u.said x).receiver
+vain_listens blocks own u x e goes p =
+    let stands = p.live goes in
+    record {
+      jobs = end_jobs u.said x ∙ rw (got_quiet own u e) p.jobs;
+      live = λ going. elim (cases_end u.said) [
+        | inl end ↦ absurd (true≢false (rw end at going))
+        | inr more ↦
+            let is : after_end_of u.said x ≡ x = end_more u.said x more in
+            record {
+              core = ap (λ y. y.receiver.core) is ∙ stands.core ∙ sym (taken_quiet own u e);
+              jobs = ap (λ y. y.receiver.jobs) is ∙ rw (got_quiet own u e) stands.jobs;
+              over = λ z. ap (λ y. y.receiver.over) is ∙ stands.over goes;
+            }
+      ];
+    }
+
+pub end_contender : (say : Say) (x : Contending) → (after_end_of say x).contender ≡ other_turn say Sound.Quiet x.contender
+end_contender Say.End x = refl
+end_contender _ x = refl
+
+pub end_sender_kept : (say : Say) (x : Contending) → ((after_end_of say x).sender ≡ x.sender) × ((after_end_of say x).failed ≡ x.failed)
+end_sender_kept Say.End x = (refl, refl)
+end_sender_kept _ x = (refl, refl)
