@@ -8,7 +8,7 @@ use Rattle.std.proofs.lemmas.List.FromFn.{get_or-map-range_with_len}
 use Rattle.std.proofs.Math.Nat.{pow-succ'}
 use Rattle.bsc_check.proofs.Shifts.{bit_cases}
 use Rattle.bsc_check.specs.declared.table.TheConstants.{TABLE}
-use Rattle.bsc_check.specs.Shifts.{shift, shifts}
+use Rattle.bsc_check.specs.Inside.Shifts.{shift, shifts}
 
 -- the whole table, computed
 pub table_is : TABLE ≡ map (shifts 8) (range_with_len 0 256)

@@ -6,7 +6,7 @@ use Rattle.std.specs.Int.Bits.{xor_zero_l}
 use Rattle.std.proofs.lemmas.List.FromFn.{get_or-map-range_with_len}
 use Rattle.bsc_check.proofs.ByTable.{swap_last, shifts-xor, register_by_table}
 use Rattle.bsc_check.specs.declared.tables.TheConstants.{TABLES}
-use Rattle.bsc_check.specs.Shifts.{shift, shifts, register_after}
+use Rattle.bsc_check.specs.Inside.Shifts.{shift, shifts, register_after}
 
 -- the tables, computed
 tables_are : TABLES ≡ map (λ k. map (shifts (8 * k + 16)) (range_with_len 0 256)) (range_with_len 0 7)

@@ -7,7 +7,7 @@ use Rattle.std.specs.Prelude.{bit_xor}
 use Rattle.std.specs.List.{flat_map}
 use Rattle.bsc_check.specs.Polynomials.{plus, add_at_front, generator_tail, cancel, remainder}
 use Rattle.bsc_check.specs.Check.{low_bits, from_bits, polynomial, check_of, IsCheckOf}
-use Rattle.bsc_check.specs.Shifts.{shift, shifts, register_after}
+use Rattle.bsc_check.specs.Inside.Shifts.{shift, shifts, register_after}
 use Rattle.bsc_check.proofs.Division.{add_front_only, cancel_behind, cancel-add, length-cancel}
 
 -- so many bits are so many

@@ -1,4 +1,4 @@
 pub mod Polynomials
 pub mod Check
-pub mod Shifts
+pub mod Inside
 pub mod Laws

@@ -1,6 +1,6 @@
 //! One byte more, by a table: a byte moves the register by eight shifts, and what the eight shifts make of the byte alone is looked up.
 ghost use Rattle.std.specs.Prelude.{◌≡◌, bit_xor};
-ghost use Rattle.bsc_check.specs.Shifts.{shifts};
+ghost use Rattle.bsc_check.specs.Inside.Shifts.{shifts};
 
 /// What eight shifts make of each byte.
 const TABLE: [u16; 256] = [

@@ -1,6 +1,6 @@
 //! Many bytes more, eight at once, by a table for each of their places: a byte goes through the shifts of those behind it too.
 ghost use Rattle.std.specs.Prelude.{◌≡◌, ◌+◌, ◌*◌, ◌<◌};
-ghost use Rattle.bsc_check.specs.Shifts.{shifts, register_after};
+ghost use Rattle.bsc_check.specs.Inside.Shifts.{shifts, register_after};
 
 use crate::table::{entry, next_register};
 

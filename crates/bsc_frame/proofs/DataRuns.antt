@@ -4,9 +4,9 @@ use Rattle.std.proofs.lemmas.Bool.{lt-ltb}
 use Rattle.std.proofs.lemmas.List.{append-nil}
 use Rattle.std.specs.List.{AllByRecursion}
 use Rattle.bsc_frame.specs.Body.{IsNormalText}
-use Rattle.bsc_frame.specs.Listening.Data.{IsData}
-use Rattle.bsc_frame.specs.Listening.HeardSoFar.{Text, On, next, with_byte}
-use Rattle.bsc_frame.specs.Listening.Run.{run}
+use Rattle.bsc_frame.specs.Inside.Listening.Data.{IsData}
+use Rattle.bsc_frame.specs.Inside.Listening.HeardSoFar.{Text, On, next, with_byte}
+use Rattle.bsc_frame.specs.Inside.Listening.Run.{run}
 use Rattle.bsc_frame.proofs.Hearing.{run_on}
 use Rattle.bsc_frame.proofs.NormalBytes.{passes}
 

@@ -4,8 +4,8 @@ use Rattle.std.proofs.lemmas.List.{append_cancel_right, take-append-drop, drop_m
 use Rattle.bsc_frame.specs.declared.frame.Frame.{Frame}
 use Rattle.bsc_frame.specs.Transmission.{Transmission, HasNoFrame}
 use Rattle.bsc_frame.specs.Heard.{IsHeard}
-use Rattle.bsc_frame.specs.Listening.HeardSoFar.{HeardSoFar, Pads, Progress, On, Got, next, heard_at}
-use Rattle.bsc_frame.specs.Listening.Run.{Waits, Hears, run}
+use Rattle.bsc_frame.specs.Inside.Listening.HeardSoFar.{HeardSoFar, Pads, Progress, On, Got, next, heard_at}
+use Rattle.bsc_frame.specs.Inside.Listening.Run.{Waits, Hears, run}
 use Rattle.bsc_frame.specs.Listener.{HasTaken}
 use Rattle.bsc_frame.proofs.Hearing.{run_on, run_got}
 use Rattle.bsc_frame.proofs.Found.{found}

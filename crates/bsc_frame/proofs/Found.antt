@@ -6,9 +6,9 @@ use Rattle.std.specs.Bool.{OnFalse}
 use Rattle.std.specs.List.{flat_map}
 use Rattle.bsc_frame.specs.Body.{closing_byte, on_line, start_of_text, dle, IsText, block_end, EndedByEnq, IsBlockBody, Body, IsNormalText}
 use Rattle.bsc_frame.specs.Transmission.{IsPad, Transmission}
-use Rattle.bsc_frame.specs.Listening.NormalText.{is_normal_text}
-use Rattle.bsc_frame.specs.Listening.HeardSoFar.{HeardSoFar, Pads, OneSyn, Syns, Dle, Text, TextDle, AwaitsCheck, AwaitsSecondCheck, BadText, OnlyPads, OnlyNoise, Progress, On, Got, is_pad, with_byte, frame_of_enq, closed, is_check, after_no_sync, next, block_of}
-use Rattle.bsc_frame.specs.Listening.Run.{Hears, run}
+use Rattle.bsc_frame.specs.Inside.Listening.NormalText.{is_normal_text}
+use Rattle.bsc_frame.specs.Inside.Listening.HeardSoFar.{HeardSoFar, Pads, OneSyn, Syns, Dle, Text, TextDle, AwaitsCheck, AwaitsSecondCheck, BadText, OnlyPads, OnlyNoise, Progress, On, Got, is_pad, with_byte, frame_of_enq, closed, is_check, after_no_sync, next, block_of}
+use Rattle.bsc_frame.specs.Inside.Listening.Run.{Hears, run}
 use Rattle.bsc_codes.specs.declared.block.Block.{Block}
 use Rattle.bsc_codes.specs.declared.block.Closing.{Closing}
 use Rattle.bsc_codes.specs.declared.block.Closing.TheVariants.{Etb, Etx}

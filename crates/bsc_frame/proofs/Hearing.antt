@@ -7,9 +7,9 @@ use Rattle.std.specs.Option.{option_to_list}
 use Rattle.bsc_frame.specs.Body.{closing_byte, on_line, start_of_text, dle, IsText, block_end, EndedByEnq, IsBlockBody, Body, IsNormalText}
 use Rattle.bsc_frame.specs.Transmission.{IsPad, SyncPattern, Transmission}
 use Rattle.bsc_frame.specs.Laws.{OneTransmission}
-use Rattle.bsc_frame.specs.Listening.NormalText.{is_normal_text}
-use Rattle.bsc_frame.specs.Listening.HeardSoFar.{HeardSoFar, Pads, Syns, Text, TextDle, AwaitsCheck, AwaitsSecondCheck, On, Got, frame_of_enq, is_check, next, block_of}
-use Rattle.bsc_frame.specs.Listening.Run.{Hears, run}
+use Rattle.bsc_frame.specs.Inside.Listening.NormalText.{is_normal_text}
+use Rattle.bsc_frame.specs.Inside.Listening.HeardSoFar.{HeardSoFar, Pads, Syns, Text, TextDle, AwaitsCheck, AwaitsSecondCheck, On, Got, frame_of_enq, is_check, next, block_of}
+use Rattle.bsc_frame.specs.Inside.Listening.Run.{Hears, run}
 use Rattle.bsc_codes.specs.declared.block.Block.{Block}
 use Rattle.bsc_codes.specs.declared.block.Closing.{Closing}
 use Rattle.bsc_codes.specs.declared.block.Closing.TheVariants.{Etb, Etx}

@@ -1,8 +1,8 @@
 -- A fact that each byte keeps, along a run.
 use Rattle.std.proofs.Common.{◌≡◌, ℕ, List, [], ◌∷◌, subst}
 use Rattle.std.specs.List.{AllByRecursion}
-use Rattle.bsc_frame.specs.Listening.HeardSoFar.{HeardSoFar, Progress, On, Got, next}
-use Rattle.bsc_frame.specs.Listening.Run.{Waits, Hears, run}
+use Rattle.bsc_frame.specs.Inside.Listening.HeardSoFar.{HeardSoFar, Progress, On, Got, next}
+use Rattle.bsc_frame.specs.Inside.Listening.Run.{Waits, Hears, run}
 
 -- the fact holds after a byte, unless a frame is whole with it
 abbrev pub KeepsAt : (HeardSoFar → Type 0) → Progress → Type 0

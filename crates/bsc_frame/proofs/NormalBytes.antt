@@ -8,7 +8,7 @@ use Rattle.std.specs.Cmp.{nat_eq_equiv}
 use Rattle.std.specs.List.{list_any}
 use Rattle.bsc_codes.specs.Bytes.{control_bytes}
 use Rattle.bsc_frame.specs.Body.{IsNormalText}
-use Rattle.bsc_frame.specs.Listening.NormalText.{is_normal_text}
+use Rattle.bsc_frame.specs.Inside.Listening.NormalText.{is_normal_text}
 
 -- what the test says of a byte
 abbrev pub Says : ℕ → Bool → Type 0

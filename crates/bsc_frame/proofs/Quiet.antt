@@ -3,8 +3,8 @@ use Rattle.std.proofs.Common.{◌≡◌, ℕ, List, ◌++◌, refl, ap, sym, ◌
 use Rattle.bsc_frame.specs.Transmission.{HasNoFrame}
 use Rattle.bsc_frame.specs.Heard.{IsHeard}
 use Rattle.bsc_frame.specs.Laws.{OneHearing, EveryHearing}
-use Rattle.bsc_frame.specs.Listening.HeardSoFar.{HeardSoFar, Pads, OneSyn, Syns, Dle, Text, TextDle, AwaitsCheck, AwaitsSecondCheck, BadText, OnlyPads, OnlyNoise, heard_at}
-use Rattle.bsc_frame.specs.Listening.Run.{Run, Waits, Hears, run}
+use Rattle.bsc_frame.specs.Inside.Listening.HeardSoFar.{HeardSoFar, Pads, OneSyn, Syns, Dle, Text, TextDle, AwaitsCheck, AwaitsSecondCheck, BadText, OnlyPads, OnlyNoise, heard_at}
+use Rattle.bsc_frame.specs.Inside.Listening.Run.{Run, Waits, Hears, run}
 use Rattle.bsc_frame.specs.declared.heard.Heard.TheVariants as heard
 use Rattle.bsc_frame.proofs.Hearing.{run_transmission, one_transmission_lem}
 use Rattle.bsc_frame.specs.declared.heard.Heard.{Heard}

@@ -3,8 +3,8 @@ use Rattle.std.proofs.Common.{◌≡◌, ℕ, true, false, cond, eqb, List, [], 
 use Rattle.std.proofs.lemmas.Bool.{eqb-true, cond_both}
 use Rattle.std.specs.List.{AllByRecursion}
 use Rattle.bsc_frame.specs.Heard.{IsPadOrSyn}
-use Rattle.bsc_frame.specs.Listening.HeardSoFar.{HeardSoFar, Pads, OneSyn, Syns, Dle, Text, TextDle, AwaitsCheck, AwaitsSecondCheck, BadText, OnlyPads, OnlyNoise, Progress, On, Got, is_pad, after_no_sync, next}
-use Rattle.bsc_frame.specs.Listening.Run.{Waits, Hears, run}
+use Rattle.bsc_frame.specs.Inside.Listening.HeardSoFar.{HeardSoFar, Pads, OneSyn, Syns, Dle, Text, TextDle, AwaitsCheck, AwaitsSecondCheck, BadText, OnlyPads, OnlyNoise, Progress, On, Got, is_pad, after_no_sync, next}
+use Rattle.bsc_frame.specs.Inside.Listening.Run.{Waits, Hears, run}
 use Rattle.bsc_codes.specs.Bytes.{STX, DLE, ENQ, SYN, EOT, NAK}
 use Rattle.bsc_frame.specs.declared.frame.Frame.TheVariants as frame
 use Rattle.bsc_frame.specs.Bytes.{ACK0, ACK1, WACK, RVI}

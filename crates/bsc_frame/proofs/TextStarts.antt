@@ -5,9 +5,9 @@ use Rattle.std.specs.List.{AllByRecursion}
 use Rattle.bsc_frame.specs.Body.{closing_byte, start_of_text}
 use Rattle.bsc_frame.specs.Transmission.{HasPrefix}
 use Rattle.bsc_frame.specs.Heard.{IsTextStart}
-use Rattle.bsc_frame.specs.Listening.NormalText.{is_normal_text}
-use Rattle.bsc_frame.specs.Listening.HeardSoFar.{HeardSoFar, Pads, OneSyn, Syns, Dle, Text, TextDle, AwaitsCheck, AwaitsSecondCheck, BadText, OnlyPads, OnlyNoise, Progress, On, Got, is_pad, with_byte, frame_of_enq, closed, is_check, after_no_sync, next}
-use Rattle.bsc_frame.specs.Listening.Run.{Waits, Hears, run}
+use Rattle.bsc_frame.specs.Inside.Listening.NormalText.{is_normal_text}
+use Rattle.bsc_frame.specs.Inside.Listening.HeardSoFar.{HeardSoFar, Pads, OneSyn, Syns, Dle, Text, TextDle, AwaitsCheck, AwaitsSecondCheck, BadText, OnlyPads, OnlyNoise, Progress, On, Got, is_pad, with_byte, frame_of_enq, closed, is_check, after_no_sync, next}
+use Rattle.bsc_frame.specs.Inside.Listening.Run.{Waits, Hears, run}
 use Rattle.bsc_codes.specs.declared.block.Closing.TheVariants.{Etb, Etx}
 use Rattle.bsc_codes.specs.Bytes.{STX, ETX, DLE, ETB, ENQ, SYN, EOT, NAK}
 use Rattle.bsc_frame.specs.declared.frame.Frame.TheVariants as frame

@@ -6,4 +6,4 @@ pub mod Written
 pub mod FrameFault
 pub mod Laws
 pub mod Listener
-pub mod Listening
+pub mod Inside

@@ -31,11 +31,11 @@ pub struct Listener {
 }
 
 impl Model for Listener {
-    ghost use Rattle.bsc_frame.specs.Listening.HeardSoFar.{HeardSoFar};
+    ghost use Rattle.bsc_frame.specs.Inside.Listening.HeardSoFar.{HeardSoFar};
 
     ghost Value = { HeardSoFar };
 
-    ghost use Rattle.bsc_frame.specs.Listening.Stage.{so_far_of, CheckRuns};
+    ghost use Rattle.bsc_frame.specs.Inside.Listening.Stage.{so_far_of, CheckRuns};
 
     ghost view = { λ l. so_far_of l.stage l.text.items };
 

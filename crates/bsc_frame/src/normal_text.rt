@@ -5,7 +5,7 @@ ghost use Rattle.std.specs.List.{AllByRecursion};
 ghost use Rattle.bsc_codes.specs.Bytes.{control_bytes};
 ghost use Rattle.bsc_frame.specs.Body.{IsNormalText};
 ghost use Rattle.bsc_frame.specs.FrameFault.{IsFirstBad};
-ghost use Rattle.bsc_frame.specs.Listening.NormalText.{is_normal_text};
+ghost use Rattle.bsc_frame.specs.Inside.Listening.NormalText.{is_normal_text};
 
 /// Whether a byte may stand in normal text.
 pub(crate) fn is_normal(byte: u8) -> bool

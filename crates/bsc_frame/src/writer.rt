@@ -114,7 +114,7 @@ fn begin(out: &mut ArrayVec<u8, MAX_TRANSMISSION>)
 
 /// Appends the start of a text.
 fn put_start(out: &mut ArrayVec<u8, MAX_TRANSMISSION>, transparent: bool)
-    requires { array_vec_len out.old + 2 ≤ 1033 }
+    requires { array_vec_len out.old + 2 ≤ MAX_TRANSMISSION }
     ensures items { out.new.items ≡ out.old.items ++ start_of_text transparent }
     ensures len { array_vec_len out.new ≤ array_vec_len out.old + 2 }
 {
@@ -126,7 +126,7 @@ fn put_start(out: &mut ArrayVec<u8, MAX_TRANSMISSION>, transparent: bool)
 
 /// Appends a text without fill.
 fn put_text(out: &mut ArrayVec<u8, MAX_TRANSMISSION>, transparent: bool, text: &[u8])
-    requires { array_vec_len out.old + 2 * length text.now ≤ 1033 }
+    requires { array_vec_len out.old + 2 * length text.now ≤ MAX_TRANSMISSION }
     ensures items { out.new.items ≡ out.old.items ++ text_without_fill transparent text.now }
     ensures len { array_vec_len out.new ≤ array_vec_len out.old + 2 * length text.now }
 {
@@ -137,7 +137,7 @@ fn put_text(out: &mut ArrayVec<u8, MAX_TRANSMISSION>, transparent: bool, text: &
 
 /// Appends one data byte.
 fn put_byte(out: &mut ArrayVec<u8, MAX_TRANSMISSION>, transparent: bool, byte: u8)
-    requires { array_vec_len out.old + 2 ≤ 1033 }
+    requires { array_vec_len out.old + 2 ≤ MAX_TRANSMISSION }
     ensures items { out.new.items ≡ out.old.items ++ on_line transparent (Some byte) }
     ensures len { array_vec_len out.new ≤ array_vec_len out.old + 2 }
 {
@@ -154,7 +154,7 @@ fn put_end(
     text: &[u8],
     closing: Closing,
 )
-    requires { array_vec_len out.old + 4 ≤ 1033 }
+    requires { array_vec_len out.old + 4 ≤ MAX_TRANSMISSION }
     ensures items { out.new.items ≡ out.old.items ++ block_end transparent text.now closing }
     ensures len { array_vec_len out.new ≤ array_vec_len out.old + 4 }
 {

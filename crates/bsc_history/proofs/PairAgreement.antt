@@ -8,7 +8,7 @@ use Rattle.bsc_history.specs.Known.{gives_up_now}
 use Rattle.bsc_history.specs.Pair.{with_turn, up, down, is_bid_out, counted}
 use Rattle.bsc_history.specs.PairCount.{down_gives_up}
 use Rattle.bsc_history.specs.PairConversation.{Part}
-use Rattle.bsc_history.specs.PairAgreement.{Agrees, DirectionsMayBeSpoken, PairConversationsMayBeSpoken, AgreesEachWay}
+use Rattle.bsc_history.specs.PairAgreement.{EndsAgree, DirectionsMayBeSpoken, PairConversationsMayBeSpoken, AgreesEachWay}
 
 part-spoken : (plan : Plan) (gives_up : Bool) (past : History) (speaks : Bool) (t : Option SpokenTurn) → MayBeSpoken plan past → Part plan gives_up past speaks t → MayBeSpoken plan (with_turn t past)
 part-spoken plan gives_up past speaks None spoken part = spoken
@@ -28,7 +28,7 @@ pair_conversations_may_be_spoken p q [] c = tt
 pair_conversations_may_be_spoken p q (t ∷ past) c = (((gives_up_now (up past), down_gives_up past), c.0), pair_conversations_may_be_spoken p q past c.1)
 
 -- the law of one direction
-pub agrees : GetsAtMostOneMore → KnowsBeforeBlocks → GetsInOrder → StaysWithinPlan → (plan : Plan) (h : History) → MayBeSpoken plan h → Agrees plan h
+pub agrees : GetsAtMostOneMore → KnowsBeforeBlocks → GetsInOrder → StaysWithinPlan → (plan : Plan) (h : History) → MayBeSpoken plan h → EndsAgree plan h
 agrees most knows order within plan h spoken = record {
   at_most_one_more = most plan h spoken;
   in_order = order plan h spoken;

@@ -11,7 +11,7 @@ use Rattle.bsc_history.specs.ReplyRule.{was_bid, last_reply, has_made_rvi, ack_o
 use Rattle.bsc_history.specs.Fate.{sound_of}
 use Rattle.bsc_history.specs.Conversation.{Follows}
 use Rattle.bsc_link.specs.declared.receiver_place.ReceiverPlace.{ReceiverPlace}
-use Rattle.bsc_link.specs.Receiver.{ReceiverState, receiver_hears, receiver_news, receiver_line, line_when_idle, line_in_transmission, last_reply_again, last_reply_after, due_ack, is_rvi}
+use Rattle.bsc_link.specs.Receiver.{ReceiverState, receiver_hears, receiver_news, line_at, line_when_idle, line_in_transmission, last_reply_again, last_reply_after, due_ack, is_rvi}
 use Rattle.bsc_history.specs.Cores.{taken, receiver_after, KeepsReceiver, ReceiverCoreKeeps, ReceiverCoreReplies, ReceiverCoreAccepts, ConversationsAreSpoken}
 use Rattle.bsc_history.proofs.Line.{ComesAs, comes}
 use Rattle.bsc_history.proofs.Got.{got-brought, got-same}
@@ -137,7 +137,7 @@ idle-place Sound.Block true wish e = refl
 idle-place Sound.Block false wish e = refl
 idle-place _ refused wish e = refl
 
-place-from : (s : ReceiverState) (arrived : Sound) (refused : Bool) (wish : Wish) (bid : Bool) → s.place ≡ place_with bid → arrived ≢ Sound.Eot → (receiver_line s (taken arrived refused) wish).0 ≡ place_with (elim arrived [ Sound.Enq ↦ true | _ ↦ bid ])
+place-from : (s : ReceiverState) (arrived : Sound) (refused : Bool) (wish : Wish) (bid : Bool) → s.place ≡ place_with bid → arrived ≢ Sound.Eot → (line_at s (taken arrived refused) wish).0 ≡ place_with (elim arrived [ Sound.Enq ↦ true | _ ↦ bid ])
 place-from s arrived refused wish true e never = rw e (bid-place s arrived refused wish never)
 place-from s arrived refused wish false e never = rw e (idle-place arrived refused wish never)
 

@@ -11,7 +11,7 @@ use Rattle.bsc_history.specs.Pair.{PairHistory, up, down}
 use Rattle.bsc_history.specs.PairConversation.{MayBePairSpoken, IsPairConversation}
 
 -- both ends of a direction agree
-pub record Agrees (plan : Plan) (h : History) : Type 0 where
+pub record EndsAgree (plan : Plan) (h : History) : Type 0 where
   -- the receiver got as many blocks as the sender knows of, or one more
   pub at_most_one_more : (length (got h) ≡ known h) ⊎ (length (got h) ≡ known h + 1)
   -- from the first on, in order and each once
@@ -31,4 +31,4 @@ PairConversationsMayBeSpoken = (p q : Plan) (h : PairHistory) → IsPairConversa
 
 -- so both ends agree, each way
 abbrev pub AgreesEachWay : Type 0
-AgreesEachWay = (p q : Plan) (h : PairHistory) → IsPairConversation p q h → Agrees p (up h) × Agrees q (down h)
+AgreesEachWay = (p q : Plan) (h : PairHistory) → IsPairConversation p q h → EndsAgree p (up h) × EndsAgree q (down h)

@@ -88,8 +88,8 @@ line_in_transmission s Sound.Eot wish = (ReceiverPlace.Ended, ended_now)
 line_in_transmission s _ wish = (ReceiverPlace.InTransmission, silent)
 
 -- the one line of the table for a state, a sound and a wish; ended: silent, nothing changes
-abbrev pub receiver_line : ReceiverState → Sound → Wish → ReceiverPlace × ReceiverNews
-receiver_line s sound wish = elim s.place [
+abbrev pub line_at : ReceiverState → Sound → Wish → ReceiverPlace × ReceiverNews
+line_at s sound wish = elim s.place [
   | ReceiverPlace.Idle ↦ line_when_idle sound wish
   | ReceiverPlace.InTransmission ↦ line_in_transmission s sound wish
   | ReceiverPlace.Ended ↦ (ReceiverPlace.Ended, silent)
@@ -118,11 +118,11 @@ after_news s place news = record {
 
 -- the news of one hearing
 abbrev pub receiver_news : ReceiverState → Sound → Wish → ReceiverNews
-receiver_news s sound wish = (receiver_line s sound wish).1
+receiver_news s sound wish = (line_at s sound wish).1
 
 -- one hearing
 abbrev pub receiver_hears : ReceiverState → Sound → Wish → ReceiverState
-receiver_hears s sound wish = after_news s (receiver_line s sound wish).0 (receiver_news s sound wish)
+receiver_hears s sound wish = after_news s (line_at s sound wish).0 (receiver_news s sound wish)
 
 -- the sender was silent for long: ended, from every place
 abbrev pub receiver_quiet_long : ReceiverState → ReceiverState

@@ -42,7 +42,7 @@ impl Model for Receiver {
 }
 
 impl Receiver {
-    ghost use Rattle.bsc_link.specs.Receiver.{first_receiver_state, receiver_hears, receiver_news, receiver_line, line_in_transmission, reply_to_block, reply_to_enq, receiver_quiet_long};
+    ghost use Rattle.bsc_link.specs.Receiver.{first_receiver_state, receiver_hears, receiver_news, line_at, line_in_transmission, reply_to_block, reply_to_enq, receiver_quiet_long};
 
     /// A receiver that waits for a bid.
     pub fn new() -> Self
@@ -84,7 +84,7 @@ impl Receiver {
 
     /// The line of the table for this state, sound and wish: the place after it, and the news.
     fn line(&self, sound: Sound, wish: Wish) -> (ReceiverPlace, ReceiverNews)
-        ensures { result ≡ receiver_line self.now sound wish }
+        ensures { result ≡ line_at self.now sound wish }
     {
         match self.place {
             ReceiverPlace::Idle => line_when_idle(sound, wish),

@@ -19,7 +19,7 @@ use Rattle.bsc_history.specs.declared.sound_turn.SoundTurn.{SoundTurn}
 use Rattle.line_world.specs.declared.turn.Turn.{Turn}
 use Rattle.line_world.specs.declared.world_fault.WorldFault.{WorldFault}
 use Rattle.line_world.specs.Damage.{HasBadCut, IsNoDamage}
-use Rattle.line_world.specs.Driving.{fault_in}
+use Rattle.line_world.specs.Faults.{fault_in}
 use Rattle.line_world.specs.Headline.{AreHandedWhole}
 use Rattle.line_world.specs.Run.{BreaksFirst, IsRunFault}
 use Rattle.line_world.specs.Series.{handed_in, counted_in, left_by, IsReportOf, AreRuns, IsSubsequenceOf, BreaksInAttempt, IsSeriesFault}

@@ -20,7 +20,8 @@ use Rattle.line_world.specs.declared.turn.Turn.{Turn}
 use Rattle.line_world.specs.declared.turn_fault.TurnFault.{TurnFault}
 use Rattle.line_world.specs.declared.turn_fault.TurnFault.TheVariants as Fault
 use Rattle.line_world.specs.Damage.{Fits, IsNoDamage}
-use Rattle.line_world.specs.Driving.{bytes_after, MayDamage, IsDamaged, IsFateFault, GoesUp, GoesDown, IsReplyCarried, IsReplyFault}
+use Rattle.line_world.specs.Inside.Driving.{GoesUp, GoesDown, IsReplyCarried, IsReplyFault}
+use Rattle.line_world.specs.Carrying.{bytes_after, MayDamage, IsDamaged, IsFateFault}
 use Rattle.bsc_history.specs.Fate.{is_damage_of, sound_of_reply}
 use Rattle.line_world.specs.MemoryLine.{LineInMemory, talk_of}
 use Rattle.line_world.proofs.Cutting.{append_nil}

@@ -20,7 +20,8 @@ use Rattle.rje_station.specs.Sending.{IsWrittenOf}
 use Rattle.line_world.specs.declared.fate.Fate.{Fate}
 use Rattle.bsc_history.specs.declared.sound_fate.SoundFate.{SoundFate}
 use Rattle.line_world.specs.Damage.{AreHeardAs, Tells}
-use Rattle.line_world.specs.Driving.{IsCarried, IsReplyCarried}
+use Rattle.line_world.specs.Inside.Driving.{IsReplyCarried}
+use Rattle.line_world.specs.Carrying.{IsCarried}
 use Rattle.bsc_history.specs.Fate.{is_damage_of, sound_of, sound_of_reply, after_fate}
 use Rattle.line_world.specs.Run.{FitsReply}
 use Rattle.bsc_history.proofs.ForRuns.{lost-after}

@@ -22,7 +22,8 @@ use Rattle.bsc_history.specs.Outcome.{outcome, outcome_after}
 use Rattle.bsc_history.specs.Conversation.{is_block}
 use Rattle.line_world.specs.Damage.{HasBadCut, IsNoDamage}
 use Rattle.line_world.specs.Drive.{IsDrive}
-use Rattle.line_world.specs.Driving.{TakesTurn, BreaksIn, BreaksReply, IsTurnFault, fault_at}
+use Rattle.line_world.specs.Inside.Driving.{TakesTurn, BreaksIn, BreaksReply, IsTurnFault}
+use Rattle.line_world.specs.Faults.{fault_at}
 use Rattle.bsc_history.specs.Fate.{sound_of, after_fate}
 use Rattle.line_world.specs.Plan.{plan_of}
 use Rattle.bsc_history.specs.ReplyRule.{replying}

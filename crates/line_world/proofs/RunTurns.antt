@@ -28,7 +28,8 @@ use Rattle.bsc_history.specs.Known.{known, gives_up_now}
 use Rattle.bsc_history.specs.Conversation.{IsAt, IsSpokenOver, MayBeSpoken, is_block}
 use Rattle.bsc_history.specs.Cores.{taken}
 use Rattle.bsc_history.specs.Got.{brings_block}
-use Rattle.line_world.specs.Driving.{IsCarried, GoesUp, GoesDown, GoesDownAfter, IsReplyCarried, TakesTurn}
+use Rattle.line_world.specs.Inside.Driving.{GoesUp, GoesDown, GoesDownAfter, IsReplyCarried, TakesTurn}
+use Rattle.line_world.specs.Carrying.{IsCarried}
 use Rattle.bsc_history.specs.Fate.{sound_of, sound_of_reply, after_fate, MayBeHeardAs}
 use Rattle.line_world.specs.Plan.{plan_of}
 use Rattle.bsc_history.specs.ReplyRule.{replying}

@@ -8,7 +8,8 @@ use Rattle.rje_station.specs.Sending.{Sending, IsWrittenOf}
 use Rattle.line_world.specs.declared.turn.Turn.{Turn}
 use Rattle.line_world.specs.declared.turn_fault.TurnFault.{TurnFault}
 use Rattle.line_world.specs.declared.turn_fault.TurnFault.TheVariants as Fault
-use Rattle.line_world.specs.Driving.{GoesUp, IsFateFault, IsReplyFault, IsTurnFault}
+use Rattle.line_world.specs.Inside.Driving.{GoesUp, IsReplyFault, IsTurnFault}
+use Rattle.line_world.specs.Carrying.{IsFateFault}
 use Rattle.bsc_history.specs.Fate.{sound_of}
 
 -- the fate of what was due

@@ -5,10 +5,12 @@ pub mod Run
 pub mod Turns
 pub mod AnyLines
 pub mod Traces
-pub mod Driving
+pub mod Inside
 pub mod GoodTurn
 pub mod CleanLine
 pub mod Headline
 pub mod Fairness
 pub mod Series
 pub mod Drive
+pub mod Carrying
+pub mod Faults

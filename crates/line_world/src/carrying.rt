@@ -3,7 +3,7 @@ ghost use Rattle.std.specs.Prelude.{◌≡◌, ◌↔◌, ◌≤◌, ◌++◌, l
 ghost use Rattle.std.specs.List.{flat_map};
 ghost use Rattle.bsc_link.specs.declared.sound.Sound.{Sound};
 ghost use Rattle.line_world.specs.Damage.{AreCuts, Fits};
-ghost use Rattle.line_world.specs.Driving.{bytes_after, IsFateFault};
+ghost use Rattle.line_world.specs.Carrying.{bytes_after, IsFateFault};
 
 use crate::turn_fault::TurnFault;
 use crate::{Fate, MemoryLine};

@@ -2,7 +2,8 @@
 ghost use Rattle.std.specs.Prelude.{◌≡◌, true, false, None, IfOk, OnOk, IfErr, OnErr};
 ghost use Rattle.bsc_history.specs.Fate.{is_damage_of as is_damage, sound_of as up_sound};
 ghost use Rattle.line_world.specs.declared.turn_fault.TurnFault.TheVariants as Fault;
-ghost use Rattle.line_world.specs.Driving.{MayDamage, IsDamaged, IsFateFault, GoesUp, GoesDown, IsReplyFault, Takes, IsTurnFault};
+ghost use Rattle.line_world.specs.Inside.Driving.{GoesUp, GoesDown, IsReplyFault, Takes, IsTurnFault};
+ghost use Rattle.line_world.specs.Carrying.{MayDamage, IsDamaged, IsFateFault};
 
 use crate::carrying::carry;
 use crate::turn_fault::TurnFault;

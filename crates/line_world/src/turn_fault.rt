@@ -1,7 +1,7 @@
 //! Why a turn of two stations came to nothing.
 ghost use Rattle.std.specs.Prelude.{◌≡◌};
 ghost use Rattle.line_world.specs.declared.turn_fault.TurnFault.TheVariants.{OutOfMemory};
-ghost use Rattle.line_world.specs.Driving.{fault_at};
+ghost use Rattle.line_world.specs.Faults.{fault_at};
 
 use crate::WorldFault;
 use std::alloc::AllocError;

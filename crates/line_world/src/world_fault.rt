@@ -1,7 +1,7 @@
 //! Why there is no report of a run.
 ghost use Rattle.std.specs.Prelude.{◌≡◌};
 ghost use Rattle.line_world.specs.declared.world_fault.WorldFault.TheVariants.{OutOfMemory};
-ghost use Rattle.line_world.specs.Driving.{fault_of, fault_in};
+ghost use Rattle.line_world.specs.Faults.{fault_of, fault_in};
 
 use rje_station::StationFault;
 use std::alloc::AllocError;

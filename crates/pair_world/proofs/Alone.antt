@@ -32,7 +32,8 @@ use Rattle.bsc_history.specs.Known.{known}
 use Rattle.bsc_history.specs.Got.{got}
 use Rattle.bsc_history.specs.Conversation.{Follows, IsAt, MayBeSpoken, is_block}
 use Rattle.bsc_history.specs.Cores.{taken}
-use Rattle.line_world.specs.Driving.{IsCarried, IsReplyCarried}
+use Rattle.line_world.specs.Inside.Driving.{IsReplyCarried}
+use Rattle.line_world.specs.Carrying.{IsCarried}
 use Rattle.bsc_history.specs.Fate.{sound_of, sound_of_reply, after_fate, MayBeHeardAs}
 use Rattle.line_world.specs.Plan.{plan_of, numbered}
 use Rattle.bsc_history.specs.ReplyRule.{replying}
@@ -43,7 +44,7 @@ use Rattle.line_world.proofs.ForPairs.{Told, tell, said_told, reply_told, reply_
 use Rattle.bsc_history.proofs.ForRuns.{counted-brought, comes, no-answer, receiver_core_replies, is_block-sound}
 use Rattle.pair_world.specs.Contending.{own_turn, other_turn, other_heard}
 use Rattle.bsc_history.specs.Pair.{without_enq, as_counted}
-use Rattle.pair_world.specs.PairDriving.{GoesAcross, ComesBack, ComesBackAfter, SpeaksAlone, after_end_of}
+use Rattle.pair_world.specs.Inside.PairDriving.{GoesAcross, ComesBack, ComesBackAfter, SpeaksAlone, after_end_of}
 use Rattle.line_world.specs.Run.{FitsTurn}
 use Rattle.pair_world.proofs.PairCarried.{passed_enq, passed_unrefused, spoken_of_due, answered_of_due, due_kept}
 use Rattle.pair_world.proofs.Sends.{SendsBy}

@@ -24,12 +24,13 @@ use Rattle.line_world.specs.declared.turn_fault.TurnFault.{TurnFault}
 use Rattle.line_world.specs.declared.turn_fault.TurnFault.TheVariants as Fault
 use Rattle.bsc_history.specs.Conversation.{is_block}
 use Rattle.line_world.specs.Damage.{AreHeardAs, Fits}
-use Rattle.line_world.specs.Driving.{bytes_after, MayDamage, IsReplyFault}
+use Rattle.line_world.specs.Inside.Driving.{IsReplyFault}
+use Rattle.line_world.specs.Carrying.{bytes_after, MayDamage}
 use Rattle.bsc_history.specs.Fate.{sound_of}
 use Rattle.line_world.specs.MemoryLine.{LineInMemory, talk_of}
 use Rattle.line_world.proofs.ForPairs.{line_hears, same_sound, same_refusal, refused_block, unsent}
 use Rattle.bsc_history.proofs.ForRuns.{and-false}
-use Rattle.pair_world.specs.PairDriving.{GoesAcross, HearsNothing, IsAloneFault}
+use Rattle.pair_world.specs.Inside.PairDriving.{GoesAcross, HearsNothing, IsAloneFault}
 
 -- ---- Across.
 

@@ -20,7 +20,7 @@ use Rattle.bsc_history.specs.Known.{tries, holds}
 use Rattle.bsc_history.specs.Outcome.{gave_up_before}
 use Rattle.bsc_history.specs.Conversation.{MayBeSpoken, is_block}
 use Rattle.line_world.specs.Damage.{HasBadCut, IsNoDamage}
-use Rattle.line_world.specs.Driving.{fault_at}
+use Rattle.line_world.specs.Faults.{fault_at}
 use Rattle.bsc_history.specs.Fate.{sound_of, after_fate}
 use Rattle.line_world.specs.Plan.{plan_of}
 use Rattle.bsc_history.specs.ReplyRule.{replying}
@@ -32,7 +32,7 @@ use Rattle.pair_world.specs.declared.pair_spoken.PairSpoken.{PairSpoken}
 use Rattle.pair_world.specs.declared.pair_turn.PairTurn.{PairTurn}
 use Rattle.bsc_history.specs.Pair.{PairHistory, up, down, is_bid_out, is_something, sound_counted}
 use Rattle.bsc_history.specs.PairCount.{spent, down_gave_up}
-use Rattle.pair_world.specs.PairDriving.{BreaksAlone, BreaksBack, BreaksPair, IsPairTurnFault}
+use Rattle.pair_world.specs.Inside.PairDriving.{BreaksAlone, BreaksBack, BreaksPair, IsPairTurnFault}
 use Rattle.pair_world.specs.PairRun.{TellsPairs, BreaksPairFirst, BreaksPairTurn, IsPairDriveFault}
 use Rattle.bsc_history.specs.PairSchedule.{PairPlace}
 use Rattle.pair_world.proofs.Alone.{Laws, replied, up_told, up_after, refused_is}

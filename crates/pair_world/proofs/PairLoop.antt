@@ -19,7 +19,7 @@ use Rattle.pair_world.specs.declared.pair_turn.PairTurn.{PairTurn}
 use Rattle.bsc_history.specs.Pair.{SpokenPair, PairHistory, up, down, is_something}
 use Rattle.bsc_history.specs.PairCount.{spent, down_gives_up, down_gave_up}
 use Rattle.bsc_history.specs.PairConversation.{down_outcome}
-use Rattle.pair_world.specs.PairDriving.{TakesPair}
+use Rattle.pair_world.specs.Inside.PairDriving.{TakesPair}
 use Rattle.bsc_history.specs.PairSchedule.{NothingIsDue}
 use Rattle.pair_world.specs.PairDrive.{SendsAfter, ReceivesAfter, StandPair, IsPairDrive}
 use Rattle.pair_world.specs.PairRun.{TellsPairs, pair_of, spoken_pairs}

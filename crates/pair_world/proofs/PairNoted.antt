@@ -30,7 +30,7 @@ use Rattle.bsc_history.specs.Pair.{sound_counted, as_counted}
 use Rattle.bsc_history.proofs.ForRuns.{counts-step}
 use Rattle.line_world.specs.declared.spoken.Spoken.{Spoken}
 use Rattle.line_world.specs.declared.turn.Turn.{Turn}
-use Rattle.pair_world.specs.PairDriving.{ComesBack, ComesBackAfter, SpeaksAlone, after_end_of}
+use Rattle.pair_world.specs.Inside.PairDriving.{ComesBack, ComesBackAfter, SpeaksAlone, after_end_of}
 use Rattle.line_world.specs.Plan.{plan_of}
 use Rattle.line_world.specs.Traces.{sender_events, heard_events}
 use Rattle.pair_world.specs.PairTraces.{ended_events, listener_events}

@@ -32,7 +32,7 @@ use Rattle.pair_world.specs.Contending.{is_sending, place_of, own_turn, other_tu
 use Rattle.bsc_history.specs.Pair.{SpokenPair, PairHistory, up, down, is_bid_out, is_open, as_counted, due, is_something}
 use Rattle.bsc_history.specs.PairCount.{spent, begun_again, down_gives_up, down_gave_up}
 use Rattle.bsc_history.specs.PairConversation.{PairFollows, primary_speaks, secondary_speaks}
-use Rattle.pair_world.specs.PairDriving.{PrimaryAlone, SecondaryAlone, BothSpeak, after_end_of, primary_does, secondary_does}
+use Rattle.pair_world.specs.Inside.PairDriving.{PrimaryAlone, SecondaryAlone, BothSpeak, after_end_of, primary_does, secondary_does}
 use Rattle.bsc_history.specs.PairSchedule.{PairPlace, IsPairAt, IsPairSpokenOver, NothingIsDue}
 use Rattle.pair_world.specs.PairRun.{TellsPair, TellsPairs, FitParts, AllPairsFit}
 use Rattle.pair_world.proofs.Alone.{Laws, Listens, Turned, turned}

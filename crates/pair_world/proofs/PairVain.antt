@@ -23,7 +23,7 @@ use Rattle.line_world.specs.Turns.{after_turn}
 use Rattle.line_world.proofs.ForPairs.{Told, reply_told, turn_of, turn_ends, turn_hears, cases_end}
 use Rattle.pair_world.specs.Contending.{own_turn, other_turn}
 use Rattle.bsc_history.specs.Pair.{as_counted}
-use Rattle.pair_world.specs.PairDriving.{SpeaksInVain, HearsNothing, after_end_of}
+use Rattle.pair_world.specs.Inside.PairDriving.{SpeaksInVain, HearsNothing, after_end_of}
 use Rattle.pair_world.proofs.Alone.{Laws, Listens, quiet_place, own_more, end_more, end_jobs}
 use Rattle.bsc_history.proofs.ForRuns.{same-sound, vain-follows}
 use Rattle.pair_world.proofs.PairCarried.{spoken_of_due, answered_of_due, due_kept}

@@ -1,7 +1,7 @@
 pub mod Contending
 pub mod PairRun
 pub mod PairHeadline
-pub mod PairDriving
+pub mod Inside
 pub mod OneWay
 pub mod PairTraces
 pub mod PairDrive

@@ -2,9 +2,10 @@
 ghost use Rattle.std.specs.Prelude.{◌≡◌, ◌≢◌, ◌∷◌, [], true, false, IfOk, OnOk, IfErr, Some, None};
 ghost use Rattle.bsc_link.specs.declared.say.Say.TheVariants as said;
 ghost use Rattle.bsc_history.specs.Fate.{sound_of as up_sound};
-ghost use Rattle.line_world.specs.Driving.{IsFateFault, IsReplyFault};
+ghost use Rattle.line_world.specs.Inside.Driving.{IsReplyFault};
+ghost use Rattle.line_world.specs.Carrying.{IsFateFault};
 ghost use Rattle.rje_station.specs.Station.{due_at, is_deaf};
-ghost use Rattle.pair_world.specs.PairDriving.{GoesAcross, ComesBack, SpeaksAlone, IsAloneFault, Collides, SpeaksInVain, after_end_of, TakesPair, IsPairTurnFault};
+ghost use Rattle.pair_world.specs.Inside.PairDriving.{GoesAcross, ComesBack, SpeaksAlone, IsAloneFault, Collides, SpeaksInVain, after_end_of, TakesPair, IsPairTurnFault};
 
 use crate::speaking::speaks;
 use crate::unfailing::{hear_across, hear_back, reply_back, say_due};

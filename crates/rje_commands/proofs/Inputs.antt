@@ -23,7 +23,7 @@ use Rattle.rje_commands.specs.declared.command_fault.CommandFault.{CommandFault}
 use Rattle.rje_commands.specs.declared.command_fault.CommandFault.TheVariants as told
 use Rattle.rje_commands.specs.Command.{LeavesAsAsked}
 use Rattle.rje_commands.specs.Commands.{AreEntriesOf, AreInFront, OfFile, OfFiles, OfDeck, IsFault, MakesFile, Leaves}
-use Rattle.rje_commands.specs.Inside.{IsCardsFault, IsHeld, IsHeldFault, IsMade, IsThere, IsTryFault}
+use Rattle.rje_commands.specs.Inside.Commands.{IsCardsFault, IsHeld, IsHeldFault, IsMade, IsThere, IsTryFault}
 use Rattle.rje_stores.specs.Store.{FileMap, Discloses, IsSame, Sets}
 
 module _ (P : List ℕ → Type 0) (bytes : List ℕ) (holds : P bytes) where

@@ -1,11 +1,2 @@
 pub mod Inputs
 pub mod Printed
-pub mod Sending
-pub mod Patience
-pub mod Keeping
-pub mod Growing
-pub mod Answering
-pub mod Received
-pub mod Failing
-pub mod Marked
-pub mod Watched

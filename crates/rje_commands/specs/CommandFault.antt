@@ -11,7 +11,6 @@ use Rattle.rje_print.specs.declared.script_fault.ScriptFault.{ScriptFault}
 use Rattle.rje_station.specs.declared.station_fault.StationFault.{StationFault}
 use Rattle.line_world.specs.declared.world_fault.WorldFault.{WorldFault}
 use Rattle.rje_words.specs.declared.words_fault.WordsFault.{WordsFault}
-use Rattle.rje_commands.specs.declared.broken_off.BrokenOff.{BrokenOff}
 use Rattle.rje_commands.specs.declared.command_fault.CommandFault.{CommandFault}
 use Rattle.rje_commands.specs.declared.command_fault.CommandFault.TheVariants.{OutOfMemory, Deck, File, BadJob, Script, NotDamage, BadCut, NoCommand, LineFailed, Babble, CannotRead, CannotWrite, Output, Closed}
 
@@ -65,10 +64,6 @@ of_station (StationFault.BadJob number) = BadJob number
 of_station StationFault.Babble = Babble
 of_station (StationFault.Line fault) = LineFailed
 of_station StationFault.Over = LineFailed
-
-abbrev pub of_broken_off : BrokenOff → CommandFault
-of_broken_off (BrokenOff.Line fault) = of_station fault
-of_broken_off (BrokenOff.File fault) = fault
 
 abbrev pub of_world : WorldFault → CommandFault
 of_world WorldFault.OutOfMemory = OutOfMemory

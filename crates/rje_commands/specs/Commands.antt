@@ -21,7 +21,7 @@ use Rattle.rje_words.specs.Device.{select_of, writing}
 use Rattle.rje_words.specs.declared.order.CardsOrder.{CardsOrder}
 use Rattle.rje_words.specs.declared.order.FileOrder.{FileOrder}
 use Rattle.rje_print.specs.BlockListing.{IsBlockListing}
-use Rattle.rje_print.specs.JobTexts.{cards_line, IsShown, IsGood, IsPaper}
+use Rattle.rje_print.specs.JobTexts.{cards_line, IsShown, IsChecked, IsPaper}
 use Rattle.rje_print.specs.ReportTexts.{run_text}
 use Rattle.rje_print.specs.Script.{IsScript, IsFirstBadLine}
 use Rattle.rje_commands.specs.declared.command_fault.CommandFault.{CommandFault}
@@ -114,7 +114,7 @@ Does (FileOrder.Blocks deck) files made input before after = OfDeck deck.now fil
 Does (FileOrder.Cards order) files made input before after =
     OfDeck order.deck.now files input (λ bytes. MakesCards order bytes files made before after)
 Does (FileOrder.Show jobs) files made input before after = OfFile jobs.now files (λ bytes. PrintsEntries bytes before after)
-Does (FileOrder.Check jobs) files made input before after = OfFile jobs.now files (λ bytes. PrintsJobs IsGood bytes before after)
+Does (FileOrder.Check jobs) files made input before after = OfFile jobs.now files (λ bytes. PrintsJobs IsChecked bytes before after)
 Does (FileOrder.Print jobs) files made input before after = OfFile jobs.now files (λ bytes. PrintsJobs IsPaper bytes before after)
 Does (FileOrder.Try order) files made input before after =
     OfFiles order.jobs.now order.script.now files (λ file script. PrintsRun file script before after)

@@ -1,11 +1,5 @@
-pub mod Keeping
-pub mod Answering
 pub mod Commands
 pub mod CommandFault
 pub mod Inside
+pub mod NamedFile
 pub mod Command
-pub mod Ending
-pub mod Patience
-pub mod Marking
-pub mod Tracing
-pub mod Watching

@@ -1,9 +1,8 @@
 //! Why a command fails.
 ghost use Rattle.std.specs.Prelude.{◌≡◌};
 ghost use Rattle.rje_commands.specs.declared.command_fault.CommandFault.TheVariants.{Deck, File, OutOfMemory};
-ghost use Rattle.rje_commands.specs.CommandFault.{of_broken_off, of_script, of_station, of_world};
+ghost use Rattle.rje_commands.specs.CommandFault.{of_script, of_station, of_world};
 
-use crate::broken_off::BrokenOff;
 use line_world::WorldFault;
 use rje_jobs::{DeckFault, FileFault};
 use rje_print::ScriptFault;
@@ -145,17 +144,6 @@ impl From<StationFault> for CommandFault<'_> {
             StationFault::BadJob(number) => CommandFault::BadJob(number),
             StationFault::Babble => CommandFault::Babble,
             StationFault::Line(_) | StationFault::Over => CommandFault::LineFailed,
-        }
-    }
-}
-
-impl<'a> From<BrokenOff<'a>> for CommandFault<'a> {
-    ghost from_gives = { λ broken told. told ≡ of_broken_off broken };
-
-    fn from(broken: BrokenOff<'a>) -> Self {
-        match broken {
-            BrokenOff::Line(fault) => CommandFault::from(fault),
-            BrokenOff::File(fault) => fault,
         }
     }
 }

@@ -7,7 +7,7 @@ use Rattle.rje_text.specs.declared.action.Action.TheVariants.{Plain, Single, Dou
 use Rattle.rje_text.specs.Action.{action_of}
 use Rattle.rje_text.proofs.ActionCodes.{code_of-action}
 use Rattle.rje_files.specs.JobFile.{action_byte}
-use Rattle.rje_files.specs.Reading.Grammar.{is_action_byte}
+use Rattle.rje_files.specs.Inside.Reading.Grammar.{is_action_byte}
 
 pub action_good : (a : Action) → is_action_byte (action_byte a) ≡ true
 unfolding action_of

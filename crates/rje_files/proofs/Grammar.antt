@@ -16,7 +16,7 @@ use Rattle.rje_files.specs.declared.job_file.version.FileVersion.{FileVersion}
 use Rattle.rje_files.specs.declared.job_file.version.FileVersion.TheVariants.{First, Second}
 use Rattle.rje_files.specs.Entry.{may_stand, is_name_from, whole_of, agrees, entry_of}
 use Rattle.rje_files.specs.JobFile.{record_bytes, records_bytes, select_byte, mode_byte, whole_byte, state_byte, version_byte, fields, entry_bytes, file_of, HasRoom, IsOfVersion, FitsFields, AreForFile, IsEntryFileOf, IsFileUpTo}
-use Rattle.rje_files.specs.Reading.Grammar.{Number, AnyBytes, Records, Name, FromState, Fields, Counted, Entries, AfterVersion, version_read, File}
+use Rattle.rje_files.specs.Inside.Reading.Grammar.{Number, AnyBytes, Records, Name, FromState, Fields, Counted, Entries, AfterVersion, version_read, File}
 use Rattle.rje_files.proofs.ActionBytes.{action_good, action_back}
 use Rattle.rje_files.proofs.Numbers.{number_there, number_back, below_all, none_above}
 use Rattle.rje_text.proofs.Both.{both, together}

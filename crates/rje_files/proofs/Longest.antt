@@ -9,8 +9,8 @@ use Rattle.rje_files.specs.declared.job_file.version.FileVersion.{FileVersion}
 use Rattle.rje_files.specs.declared.job_file.version.FileVersion.TheVariants.{First, Second}
 use Rattle.rje_files.specs.JobFile.{IsFileUpTo, head}
 use Rattle.rje_files.specs.FileFault.{Begins, IsLongest}
-use Rattle.rje_files.specs.Reading.Grammar.{TheseBytes, Number, AnyBytes, Records, Name as NameBytes, AfterMode, AfterSelect, FromSelect, FromState, Fields, Counted, Entries, FromVersion, File}
-use Rattle.rje_files.specs.Reading.Reader.{Expects, Rest, Follows, IsSound, IsStep, IsSkip, HasRead}
+use Rattle.rje_files.specs.Inside.Reading.Grammar.{TheseBytes, Number, AnyBytes, Records, Name as NameBytes, AfterMode, AfterSelect, FromSelect, FromState, Fields, Counted, Entries, FromVersion, File}
+use Rattle.rje_files.specs.Inside.Reading.Reader.{Expects, Rest, Follows, IsSound, IsStep, IsSkip, HasRead}
 use Rattle.rje_files.proofs.Steps.{at_due, from_due}
 use Rattle.rje_files.proofs.Grammar.{file_there, file_back}
 

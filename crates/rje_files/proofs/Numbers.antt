@@ -2,7 +2,7 @@
 use Rattle.std.proofs.Common.{◌≡◌, ℕ, zero, suc, ◌+◌, ◌-◌, ◌*◌, ◌/◌, ◌%◌, ◌^◌, ◌<◌, ◌≤◌, List, [], ◌∷◌, ◌++◌, refl, ap, sym, ◌∙◌, subst, arith}
 use Rattle.std.proofs.Math.Nat.{div-one, div-div-eq-div-mul, pow-suc, mod-add-div, mod-lt, pow-le-pow_right}
 use Rattle.std.specs.Int.{byte_at, bytes_high_first}
-use Rattle.rje_files.specs.Reading.Grammar.{Number}
+use Rattle.rje_files.specs.Inside.Reading.Grammar.{Number}
 
 pub byte_is : (k x : ℕ) → byte_at k x ≡ x / 256 ^ k % 256
 byte_is zero x = ap (λ (y : ℕ). y % 256) (sym (div-one x))

@@ -3,8 +3,8 @@ use Rattle.std.proofs.Common.{◌≡◌, ℕ, suc, ◌+◌, ◌<◌, List, [], �
 use Rattle.rje_files.specs.declared.job_file.reader.Due.{Due}
 use Rattle.rje_files.specs.declared.job_file.reader.Due.TheVariants.{Head, Version, JobCount, Name, State, Select, Mode, Whole, RecordCount, Action, Length, Data, Nothing}
 use Rattle.rje_files.specs.declared.job_file.reader.Reader.{Reader}
-use Rattle.rje_files.specs.Reading.Grammar.{AnyBytes, Records, Entries}
-use Rattle.rje_files.specs.Reading.Reader.{Expects, IsSound, IsSkip, data_left}
+use Rattle.rje_files.specs.Inside.Reading.Grammar.{AnyBytes, Records, Entries}
+use Rattle.rje_files.specs.Inside.Reading.Reader.{Expects, IsSound, IsSkip, data_left}
 use Rattle.rje_files.proofs.Steps.{at_due, from_due}
 
 -- any bytes of which the first are these

@@ -8,8 +8,8 @@ use Rattle.rje_files.specs.declared.job_file.version.FileVersion.{FileVersion}
 use Rattle.rje_files.specs.declared.job_file.version.FileVersion.TheVariants.{First, Second}
 use Rattle.rje_files.specs.Entry.{may_stand}
 use Rattle.rje_files.specs.JobFile.{head}
-use Rattle.rje_files.specs.Reading.Grammar.{TheseBytes, Number, Records, Entries, FromVersion, is_action_byte}
-use Rattle.rje_files.specs.Reading.Reader.{Expects, Follows, IsSound, IsSoundDue, IsStep}
+use Rattle.rje_files.specs.Inside.Reading.Grammar.{TheseBytes, Number, Records, Entries, FromVersion, is_action_byte}
+use Rattle.rje_files.specs.Inside.Reading.Reader.{Expects, Follows, IsSound, IsSoundDue, IsStep}
 
 -- what follows, where the reader's due is known
 pub at_due : (d : Reader) (due : Due) (xs : List ℕ) → d.due ≡ due → Expects d xs → Follows due d.version d.jobs d.records xs

@@ -3,6 +3,6 @@ pub mod JobFile
 pub mod FileFault
 pub mod Unsent
 pub mod Laws
-pub mod Reading
+pub mod Inside
 pub mod Growth
 pub mod Marks

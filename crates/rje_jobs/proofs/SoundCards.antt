@@ -14,7 +14,7 @@ use Rattle.rje_text.specs.declared.mode.Mode.TheVariants.{Normal, Transparent}
 use Rattle.rje_text.specs.declared.select.Select.{Select}
 use Rattle.rje_text.specs.declared.select.Select.TheVariants.{Unset, Printer, Punch}
 use Rattle.rje_text.specs.declared.pack_fault.PackFault.TheVariants.{CardLength}
-use Rattle.rje_text.specs.PackFault.{is_no_data_byte, bad_byte, card_length, pack_fault, Fits}
+use Rattle.rje_text.specs.PackFault.{is_no_data_byte, bad_byte, card_length, pack_fault, RecordsFit}
 use Rattle.rje_jobs.specs.declared.deck_fault.DeckFault.{DeckFault}
 use Rattle.rje_jobs.specs.Deck.{line_fault, first_fault, deck_fault, filled, card_of, deck_select, job_of}
 
@@ -110,7 +110,7 @@ punched select Normal h = cc
 punched select Transparent h = refl
 
 pub deck_job_fits : (deck : List ℕ) (select : Select) (mode : Mode) → deck_fault deck ≡ None
-    → Fits (job_of select mode deck).select (job_of select mode deck).mode (job_of select mode deck).records
+    → RecordsFit (job_of select mode deck).select (job_of select mode deck).mode (job_of select mode deck).records
 deck_job_fits deck select mode h = record {
   room = room select mode 1 (lines deck) h;
   sent = sent select mode 1 (lines deck) h;

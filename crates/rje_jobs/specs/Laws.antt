@@ -3,7 +3,7 @@ use Rattle.std.specs.Prelude.{◌≡◌, ℕ, List, None}
 use Rattle.bsc_codes.specs.declared.block.Block.{Block}
 use Rattle.rje_text.specs.declared.mode.Mode.{Mode}
 use Rattle.rje_text.specs.declared.select.Select.{Select}
-use Rattle.rje_text.specs.PackFault.{Fits}
+use Rattle.rje_text.specs.PackFault.{RecordsFit}
 use Rattle.rje_text.specs.Cut.{IsCut, cut}
 use Rattle.rje_jobs.specs.declared.job.Job.{Job}
 use Rattle.rje_jobs.specs.Deck.{deck_fault, job_of}
@@ -12,7 +12,7 @@ use Rattle.rje_jobs.specs.Fitting.{JobFits}
 -- the job of a deck without a fault can be sent
 abbrev pub DeckJobsFit : Type 0
 DeckJobsFit = (deck : List ℕ) (select : Select) (mode : Mode) → deck_fault deck ≡ None
-    → Fits (job_of select mode deck).select (job_of select mode deck).mode (job_of select mode deck).records
+    → RecordsFit (job_of select mode deck).select (job_of select mode deck).mode (job_of select mode deck).records
 
 -- a job that can be sent has a canonical cut, and no other
 abbrev pub FittingJobsAreCut : Type 0

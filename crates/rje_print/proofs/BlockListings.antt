@@ -12,7 +12,7 @@ use Rattle.rje_text.specs.declared.record.Record.{Record}
 use Rattle.rje_text.specs.declared.unpacked.Unpacked.{Unpacked}
 use Rattle.rje_text.specs.Reading.{IsRead}
 use Rattle.rje_text.specs.Cut.{cut}
-use Rattle.rje_text.specs.PackFault.{pack_fault, Fits}
+use Rattle.rje_text.specs.PackFault.{pack_fault, RecordsFit}
 use Rattle.rje_text.specs.Packing.{Packing, packed, new_packing, block_in_hand}
 use Rattle.rje_text.specs.Laws.{AreRead, CutReadsBack, PackingIsTheCut}
 use Rattle.rje_print.specs.BlockLines.{block_line, block_lines, back_line, closing_name, hex_or_hyphen}
@@ -45,7 +45,7 @@ record_count_is (u ∷ us) =
     count_first u us ∙ ap (λ n. length u.records + n) (record_count_is us) ∙ sym (length-append u.records (flat_map (λ v. v.records) us))
 
 pub begun : (all : List Record) (p : Packing) (rest : List Record) (text : List ℕ) (number : ℕ) (so_far : Option Mode) (count : ℕ)
-    → CutReadsBack → PackingIsTheCut → Fits Unset Normal all → length all < 2 ^ 64
+    → CutReadsBack → PackingIsTheCut → RecordsFit Unset Normal all → length all < 2 ^ 64
     → p ≡ new_packing Unset Normal → rest ≡ all → text ≡ [] → number ≡ 1 → so_far ≡ None → count ≡ 0
     → IsOnTheWay all p rest text number so_far count
 begun all p rest text number so_far count reads_back packs fits small p_is rest_is text_is number_is so_far_is count_is =

@@ -71,8 +71,8 @@ abbrev pub IsShown : List Entry → List ℕ → Type 0
 IsShown entries text = text ≡ entry_lines 1 entries
 
 -- what `check` prints of jobs that can all be sent
-abbrev pub IsGood : List Job → List ℕ → Type 0
-IsGood jobs text = AllByRecursion JobFits jobs × (text ≡ good_line (length jobs))
+abbrev pub IsChecked : List Job → List ℕ → Type 0
+IsChecked jobs text = AllByRecursion JobFits jobs × (text ≡ good_line (length jobs))
 
 -- what `print` prints of jobs
 abbrev pub IsPaper : List Job → List ℕ → Type 0

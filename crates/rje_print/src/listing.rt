@@ -1,7 +1,7 @@
 //! The blocks of a deck's job, and how many records come back.
 ghost use Rattle.std.specs.Prelude.{◌≡◌, ◌+◌, ◌<◌, ◌≤◌, ◌^◌, ◌++◌, ◌∷◌, [], length, List, None, IfOk, IfErr, OnOk, option_to_list};
 ghost use Rattle.rje_jobs.specs.Deck.{IsDeckFault};
-ghost use Rattle.rje_text.specs.PackFault.{Fits, pack_fault};
+ghost use Rattle.rje_text.specs.PackFault.{RecordsFit, pack_fault};
 ghost use Rattle.rje_text.specs.Packing.{packed};
 ghost use Rattle.rje_text.specs.declared.record.Record.{Record as Item};
 ghost use Rattle.rje_print.specs.BlockListing.{IsBlockListing, ListsBlocks, AddsBlock, CanAdd, CountsBlock};
@@ -32,7 +32,7 @@ pub fn block_listing(alloc: Global, deck: &[u8]) -> Result<Vec<u8>, DeckFault>
 
 /// The lines of the blocks of a normal job for the default device.
 fn list_blocks(alloc: Global, cards: Cards) -> Result<Vec<u8>, AllocError>
-    requires fits { Fits Select.Unset Mode.Normal cards }
+    requires fits { RecordsFit Select.Unset Mode.Normal cards }
     requires few { length cards < 2 ^ 64 }
     ensures { IfOk result (λ text. ListsBlocks cards.entry text.items) }
 {

@@ -4,7 +4,7 @@ use Rattle.std.proofs.lemmas.List.{take-append-drop}
 use Rattle.bsc_frame.specs.declared.frame.Frame.{Frame}
 use Rattle.bsc_frame.specs.declared.heard.Heard.{Heard}
 use Rattle.bsc_frame.specs.declared.heard.Heard.TheVariants as heard
-use Rattle.bsc_frame.specs.Listening.HeardSoFar.{HeardSoFar}
+use Rattle.bsc_frame.specs.Inside.Listening.HeardSoFar.{HeardSoFar}
 use Rattle.bsc_frame.specs.Listener.{HasTaken}
 use Rattle.bsc_frame.specs.Transmission.{Transmission, HasNoFrame}
 use Rattle.bsc_frame.specs.Heard.{IsHeard}

@@ -15,7 +15,7 @@ use Rattle.rje_jobs.specs.declared.job.Job.{Job}
 use Rattle.rje_jobs.specs.Blocks.{blocks, blocks_of_job}
 use Rattle.rje_jobs.specs.Fitting.{JobFits}
 use Rattle.rje_station.specs.Sending.{next_after}
-use Rattle.rje_station.specs.Uncounted.{more_in, IsPlace}
+use Rattle.rje_station.specs.Inside.Uncounted.{more_in, IsPlace}
 
 -- ---- Cuts are never empty.
 

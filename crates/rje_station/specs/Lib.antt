@@ -3,9 +3,7 @@ pub mod Hearing
 pub mod Trace
 pub mod StationFault
 pub mod Sending
-pub mod Writing
-pub mod Uncounted
-pub mod SendingInside
+pub mod Inside
 pub mod JoinedJobs
 pub mod Receiving
 pub mod Laws

@@ -41,7 +41,7 @@ impl<'a> Model for SendingStation<'a> {
 
     ghost Value = { Sending };
 
-    ghost use Rattle.rje_station.specs.SendingInside.{sending_in, IsSending};
+    ghost use Rattle.rje_station.specs.Inside.Sending.{sending_in, IsSending};
 
     ghost view = { sending_in };
 

@@ -1,6 +1,6 @@
 //! Frames that can be written.
 ghost use Rattle.bsc_frame.specs.Written.{Written};
-ghost use Rattle.rje_station.specs.Writing.{CanBeWritten};
+ghost use Rattle.rje_station.specs.Inside.Writing.{CanBeWritten};
 
 use arrayvec::ArrayVec;
 use bsc_frame::{Frame, MAX_TRANSMISSION, write_frame};

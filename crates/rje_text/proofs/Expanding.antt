@@ -10,7 +10,7 @@ use Rattle.rje_text.specs.declared.action.Action.{Action}
 use Rattle.rje_text.specs.declared.action.Action.TheVariants.{Plain}
 use Rattle.rje_text.specs.Action.{action_of}
 use Rattle.rje_text.specs.Reading.{is_count, expanded, record_with, action_in, record_of}
-use Rattle.rje_text.specs.RecordText.{HasHead, reads_record}
+use Rattle.rje_text.specs.Inside.RecordText.{HasHead, reads_record}
 use Rattle.rje_text.specs.TextFault.{width_at, HasNoCount, LacksCount, PassesLimit}
 
 pub not_equal : (x y : ℕ) → x ≢ y → eqb x y ≡ false

@@ -6,7 +6,7 @@ use Rattle.std.proofs.lemmas.List.{append_assoc, append-nil, take_more, get_or-t
 use Rattle.bsc_codes.specs.Bytes.{IRS}
 use Rattle.rje_text.specs.declared.record.Record.{Record}
 use Rattle.rje_text.specs.Reading.{is_count, record_of, record_texts, onto_first, records_in}
-use Rattle.rje_text.specs.RecordText.{reads_record, reads_records}
+use Rattle.rje_text.specs.Inside.RecordText.{reads_record, reads_records}
 use Rattle.rje_text.specs.TextFault.{HasNoCount}
 use Rattle.rje_text.proofs.Expanding.{not_equal, no_count_past, no_count_at}
 use Rattle.rje_text.proofs.Lifting.{IsPart}

@@ -8,7 +8,7 @@ use Rattle.rje_text.specs.declared.text_fault.TextFault.{TextFault}
 use Rattle.rje_text.specs.declared.text_fault.TextFault.TheVariants.{OutOfMemory, BadCount, RecordTooLong, CardsNot80, MixedModes}
 use Rattle.rje_text.specs.Reading.{is_count}
 use Rattle.rje_text.specs.TextFault.{width_at, HasNoCount, LacksCount, PassesLimit}
-use Rattle.rje_text.specs.RecordText.{IsFaultFrom}
+use Rattle.rje_text.specs.Inside.RecordText.{IsFaultFrom}
 use Rattle.rje_text.proofs.Expanding.{no_count_past, no_count_at}
 
 width_positive : (text : List ℕ) (p : ℕ) → 0 < width_at text p

@@ -23,7 +23,7 @@ use Rattle.rje_text.specs.declared.unpacked.Unpacked.{Unpacked}
 use Rattle.rje_text.specs.declared.pack_fault.PackFault.{PackFault}
 use Rattle.rje_text.specs.declared.pack_fault.PackFault.TheVariants.{BadByte, CardLength, ActionHere}
 use Rattle.rje_text.specs.Action.{code_of, action_of}
-use Rattle.rje_text.specs.PackFault.{Fits, is_no_data_byte, card_length, action_here, pack_fault}
+use Rattle.rje_text.specs.PackFault.{RecordsFit, is_no_data_byte, card_length, action_here, pack_fault}
 use Rattle.rje_text.specs.Spelling.{spelling, selection, compressed, full_counts, rest_of_blanks, written_run, action_escape}
 use Rattle.rje_text.specs.Spelling.Run.{Blanks}
 use Rattle.rje_text.specs.Reading.{is_count, record_of, records_in, selection_in, normal_reading, is_cards, cards, card_reading, IsRead}
@@ -392,12 +392,12 @@ transparent_reads : (rs : List Record) → AreSent Punch Transparent rs → AreR
 unfolding cut
 transparent_reads rs h = job_reads Punch Transparent Punch later_cards [] Punch first_cards rs h (omega arith)
 
-cut_reads : (select : Select) (mode : Mode) (rs : List Record) → Fits select mode rs → AreReadAs None select mode rs (cut select mode rs)
+cut_reads : (select : Select) (mode : Mode) (rs : List Record) → RecordsFit select mode rs → AreReadAs None select mode rs (cut select mode rs)
 cut_reads select Normal rs h = normal_reads select select rs (all_sent select Normal rs h.room h.sent)
 cut_reads select Transparent rs h =
     let punch = h.punched refl in
     subst (λ s. AreReadAs None s Transparent rs (cut s Transparent rs)) (sym punch)
     (transparent_reads rs (subst (λ s. AreSent s Transparent rs) punch (all_sent select Transparent rs h.room h.sent)))
 
-pub reads_back : (select : Select) (mode : Mode) (rs : List Record) → Fits select mode rs → (us : List Unpacked) × AreRead None (cut select mode rs) us × IsJobRead select mode rs us
+pub reads_back : (select : Select) (mode : Mode) (rs : List Record) → RecordsFit select mode rs → (us : List Unpacked) × AreRead None (cut select mode rs) us × IsJobRead select mode rs us
 reads_back select mode rs h = let c = cut_reads select mode rs h in (c.us, c.are, c.job)

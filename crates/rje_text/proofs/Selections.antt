@@ -14,7 +14,7 @@ use Rattle.rje_text.specs.declared.text_fault.TextFault.{TextFault}
 use Rattle.rje_text.specs.declared.text_fault.TextFault.TheVariants.{OutOfMemory, BadCount, RecordTooLong, CardsNot80, MixedModes}
 use Rattle.rje_text.specs.Reading.{records_in, selection_in, normal_reading, cards, card_reading}
 use Rattle.rje_text.specs.TextFault.{LacksCount, PassesLimit, reads_normal}
-use Rattle.rje_text.specs.RecordText.{HasFront, unpacked, reads_records, IsFaultFrom, IsNormalFault}
+use Rattle.rje_text.specs.Inside.RecordText.{HasFront, unpacked, reads_records, IsFaultFrom, IsNormalFault}
 use Rattle.rje_text.proofs.Expanding.{not_equal}
 use Rattle.rje_text.proofs.Lifting.{IsPart, rest_is_part, lift_fault}
 use Rattle.std.proofs.lemmas.Option.{none-some}

@@ -12,7 +12,7 @@ use Rattle.rje_text.specs.Action.{code_of, action_of}
 use Rattle.rje_text.specs.Spelling.{spelling}
 use Rattle.rje_text.specs.Reading.{IsRead}
 use Rattle.rje_text.specs.TextFault.{IsTextFault}
-use Rattle.rje_text.specs.PackFault.{Fits}
+use Rattle.rje_text.specs.PackFault.{RecordsFit}
 use Rattle.rje_text.specs.Cut.{IsCut, cut}
 use Rattle.rje_text.specs.Packing.{new_packing, packed}
 use Rattle.rje_text.specs.NextBlock.{IsNextBlock, AreBlocksBefore, AreBlocksTo}
@@ -46,12 +46,12 @@ pub record IsJobRead (select : Select) (mode : Mode) (records : List Record) (us
 -- the blocks of a job's canonical cut are all read, and give the job's selection, mode and records
 abbrev pub CutReadsBack : Type 0
 CutReadsBack =
-    (select : Select) (mode : Mode) (records : List Record) → Fits select mode records
+    (select : Select) (mode : Mode) (records : List Record) → RecordsFit select mode records
     → (us : List Unpacked) × AreRead None (cut select mode records) us × IsJobRead select mode records us
 
 -- a job that can be sent has a canonical cut
 abbrev pub CutIsCut : Type 0
-CutIsCut = (select : Select) (mode : Mode) (records : List Record) → Fits select mode records → IsCut select mode records (cut select mode records)
+CutIsCut = (select : Select) (mode : Mode) (records : List Record) → RecordsFit select mode records → IsCut select mode records (cut select mode records)
 
 -- and no other
 abbrev pub CutIsTheOnlyOne : Type 0

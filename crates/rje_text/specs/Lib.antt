@@ -2,7 +2,7 @@ pub mod Action
 pub mod Spelling
 pub mod Reading
 pub mod TextFault
-pub mod RecordText
+pub mod Inside
 pub mod PackFault
 pub mod Cut
 pub mod Packing

@@ -49,7 +49,7 @@ pack_fault select mode r =
     (option_or (card_length select mode (length r.bytes.items)) (action_here (is_of_cards select mode) r.action))
 
 -- a job of these records can be sent
-pub record Fits (select : Select) (mode : Mode) (records : List Record) : Type 0 where
+pub record RecordsFit (select : Select) (mode : Mode) (records : List Record) : Type 0 where
   pub room : AllByRecursion (λ r. length r.bytes.items ≤ 144) records
   pub sent : AllByRecursion (λ r. pack_fault select mode r ≡ None) records
   pub punched : mode ≡ Transparent → select ≡ Punch

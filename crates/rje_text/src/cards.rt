@@ -1,12 +1,13 @@
 //! Transparent text: cards of 80 bytes, as they are.
 ghost use Rattle.std.specs.Prelude.{◌≡◌, ◌≤◌, ◌%◌, ◌/◌, IfOk, IfErr, Some, length};
 ghost use Rattle.rje_text.specs.Reading.{cards, card_reading, Agrees};
-ghost use Rattle.rje_text.specs.RecordText.{IsCardFault};
+ghost use Rattle.rje_text.specs.Inside.RecordText.{IsCardFault};
 
 use crate::spelling::append;
 use crate::unpacking::agrees;
 use crate::{Action, Mode, Record, Records, Select, TextFault, Unpacked};
 use arrayvec::ArrayVec;
+use bsc_codes::MAX_TEXT;
 use std::alloc::{AllocError, Global};
 
 /// The bytes of a card.
@@ -18,7 +19,7 @@ pub(crate) fn unpack_cards(
     text: &[u8],
     so_far: Option<Mode>,
 ) -> Result<Unpacked, TextFault>
-    requires { length text.now ≤ 512 }
+    requires { length text.now ≤ MAX_TEXT }
     ensures read { IfOk result (λ u. (card_reading text.now ≡ Some u)
         × Agrees Mode.Transparent so_far) }
     ensures told { IfErr result (λ fault. IsCardFault so_far text.now fault) }
@@ -40,7 +41,7 @@ pub(crate) fn unpack_cards(
 }
 
 fn collect_cards(alloc: Global, text: &[u8]) -> Result<Vec<Record>, AllocError>
-    requires { length text.now % 80 ≡ 0 }
+    requires { length text.now % CARD ≡ 0 }
     ensures { IfOk result (λ records. records.items ≡ cards (length text.now / 80) text.now) }
 {
     let mut records = Vec::new(alloc);
@@ -54,7 +55,7 @@ fn collect_cards(alloc: Global, text: &[u8]) -> Result<Vec<Record>, AllocError>
 }
 
 fn card_record(card: &[u8]) -> Record
-    requires { length card.now ≤ 80 }
+    requires { length card.now ≤ CARD }
     ensures action { result.action ≡ Action.Plain }
     ensures bytes { result.bytes.items ≡ card.now }
 {

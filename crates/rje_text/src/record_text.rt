@@ -2,7 +2,7 @@
 ghost use Rattle.std.specs.Prelude.{◌≡◌, ◌≢◌, ℕ, ◌+◌, ◌<◌, ◌≤◌, ◌^◌, ◌++◌, length, replicate, IsTrue, IsSome, OnOk, IfErr, Some, slice_index};
 ghost use Rattle.arrayvec.specs.ArrayVec.{array_vec_len};
 ghost use Rattle.rje_text.specs.Reading.{is_count, record_of};
-ghost use Rattle.rje_text.specs.RecordText.{HasHead, reads_record, IsFaultFrom};
+ghost use Rattle.rje_text.specs.Inside.RecordText.{HasHead, reads_record, IsFaultFrom};
 
 use crate::{Action, MAX_RECORD, Record, TextFault};
 use arrayvec::ArrayVec;
@@ -81,7 +81,7 @@ fn is_blank_count(byte: u8) -> bool
 }
 
 fn fill(bytes: &mut ArrayVec<u8, MAX_RECORD>, count: usize)
-    requires { array_vec_len bytes.old + count ≤ 144 }
+    requires { array_vec_len bytes.old + count ≤ MAX_RECORD }
     ensures { bytes.new.items ≡ bytes.old.items ++ replicate count BLANK }
 {
     for _i in 0..count {

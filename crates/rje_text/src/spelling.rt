@@ -20,7 +20,7 @@ const MAX_IN_HAND: usize = MAX_TEXT_SENT + MAX_SPELLING;
 
 /// Puts behind the text how a record stands in a text of this mode.
 pub(crate) fn spell(item: &Record, mode: Mode, text: &mut TextInHand)
-    requires { array_vec_len text.old ≤ 510 }
+    requires { array_vec_len text.old ≤ MAX_TEXT_SENT }
     ensures text { text.new.items ≡ text.old.items ++ spelling mode item.now }
     ensures short { array_vec_len text.new ≤ array_vec_len text.old + MAX_SPELLING }
 {
@@ -36,7 +36,7 @@ pub(crate) fn spell(item: &Record, mode: Mode, text: &mut TextInHand)
 
 /// Appends ESC and the action's code, if it has one.
 fn escape(action: Action, out: &mut TextInHand)
-    requires { array_vec_len out.old + 2 ≤ 657 }
+    requires { array_vec_len out.old + 2 ≤ MAX_IN_HAND }
     ensures text { out.new.items ≡ out.old.items ++ action_escape (code_of action) }
     ensures room { array_vec_len out.new ≤ array_vec_len out.old + 2 }
 {
@@ -48,7 +48,7 @@ fn escape(action: Action, out: &mut TextInHand)
 
 /// Appends the data with its runs of blanks replaced by counts.
 fn compress(bytes: &[u8], out: &mut TextInHand)
-    requires { array_vec_len out.old + length bytes.now ≤ 656 }
+    requires { array_vec_len out.old + length bytes.now + 1 ≤ MAX_IN_HAND }
     ensures text { out.new.items ≡ out.old.items ++ compressed bytes.now }
     ensures room { array_vec_len out.new ≤ array_vec_len out.old + length bytes.now }
 {
@@ -68,7 +68,7 @@ fn compress(bytes: &[u8], out: &mut TextInHand)
 
 /// Appends a run of blanks: a count for each 63 of them, and the rest.
 fn push_blanks(out: &mut TextInHand, run: usize)
-    requires { array_vec_len out.old + run ≤ 657 }
+    requires { array_vec_len out.old + run ≤ MAX_IN_HAND }
     ensures text { out.new.items ≡ out.old.items ++ written_run (Blanks run) }
     ensures room { array_vec_len out.new ≤ array_vec_len out.old + run }
 {

@@ -2,12 +2,12 @@
 ghost use Rattle.std.specs.Prelude.{◌≡◌, ◌↔◌, ◌+◌, ◌<◌, ◌≤◌, ◌^◌, IsTrue, IsSome, IfOk, IfErr, OnOk, Some, length};
 ghost use Rattle.rje_text.specs.Reading.{records_in, normal_reading, Agrees, IsRead};
 ghost use Rattle.rje_text.specs.TextFault.{IsTextFault};
-ghost use Rattle.rje_text.specs.RecordText.{HasFront, reads_records, IsFaultFrom, IsNormalFault};
+ghost use Rattle.rje_text.specs.Inside.RecordText.{HasFront, reads_records, IsFaultFrom, IsNormalFault};
 
 use crate::cards::unpack_cards;
 use crate::record_text::{check_record, record_end, record_from};
 use crate::{Mode, Record, Records, Select, TextFault, Unpacked};
-use bsc_codes::{Block, DC1, DC2, DC3};
+use bsc_codes::{Block, DC1, DC2, DC3, MAX_TEXT};
 use std::alloc::{AllocError, Global};
 
 /// What a block's text stands for. `so_far` is the mode of the job's earlier blocks; None: the block is the job's first.
@@ -25,7 +25,7 @@ pub fn unpack(alloc: Global, block: &Block, so_far: Option<Mode>) -> Result<Unpa
 }
 
 fn unpack_normal(alloc: Global, text: &[u8], so_far: Option<Mode>) -> Result<Unpacked, TextFault>
-    requires { length text.now ≤ 512 }
+    requires { length text.now ≤ MAX_TEXT }
     ensures read { IfOk result (λ u. (normal_reading so_far text.now ≡ Some u)
         × Agrees Mode.Normal so_far) }
     ensures told { IfErr result (λ fault. IsNormalFault so_far text.now fault) }

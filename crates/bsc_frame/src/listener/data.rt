@@ -1,8 +1,8 @@
 //! Data bytes, kept as many at once as come.
 ghost use Rattle.std.specs.Prelude.{◌≡◌, ◌≤◌, ◌<◌, ℕ, true, false, length, drop, slice_index};
-ghost use Rattle.bsc_frame.specs.Listening.Data.{IsData};
-ghost use Rattle.bsc_frame.specs.Listening.Run.{run};
-ghost use Rattle.bsc_frame.specs.Listening.Stage.{so_far_of, CheckRuns};
+ghost use Rattle.bsc_frame.specs.Inside.Listening.Data.{IsData};
+ghost use Rattle.bsc_frame.specs.Inside.Listening.Run.{run};
+ghost use Rattle.bsc_frame.specs.Inside.Listening.Stage.{so_far_of, CheckRuns};
 
 use super::stage::Stage;
 use crate::normal_text::first_bad;

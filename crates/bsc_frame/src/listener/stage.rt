@@ -1,7 +1,7 @@
 //! What has come of a transmission.
 ghost use Rattle.std.specs.Prelude.{◌≡◌, ◌≢◌, ℕ, List};
-ghost use Rattle.bsc_frame.specs.Listening.HeardSoFar.{heard_at};
-ghost use Rattle.bsc_frame.specs.Listening.Stage.{so_far_of};
+ghost use Rattle.bsc_frame.specs.Inside.Listening.HeardSoFar.{heard_at};
+ghost use Rattle.bsc_frame.specs.Inside.Listening.Stage.{so_far_of};
 
 use crate::{Frame, Heard};
 use bsc_codes::Closing;

@@ -1,7 +1,7 @@
 //! One byte.
 ghost use Rattle.std.specs.Prelude.{◌≡◌};
-ghost use Rattle.bsc_frame.specs.Listening.HeardSoFar.{next};
-ghost use Rattle.bsc_frame.specs.Listening.Stage.{so_far_of, progress_of, CheckRuns};
+ghost use Rattle.bsc_frame.specs.Inside.Listening.HeardSoFar.{next};
+ghost use Rattle.bsc_frame.specs.Inside.Listening.Stage.{so_far_of, progress_of, CheckRuns};
 
 use super::stage::Stage;
 use super::sync::{after_no_sync, after_one_syn, after_pads, at_body, at_dle};

@@ -1,7 +1,7 @@
 //! Bytes in front of a text: the synchronization pattern, control sequences, and bytes that belong to neither.
 ghost use Rattle.std.specs.Prelude.{◌≡◌, ℕ, List};
-ghost use Rattle.bsc_frame.specs.Listening.HeardSoFar.{next, Pads, OneSyn, Syns, Dle, On, is_pad as is_pad_of, after_no_sync as no_sync};
-ghost use Rattle.bsc_frame.specs.Listening.Stage.{so_far_of, progress_of, CheckRuns};
+ghost use Rattle.bsc_frame.specs.Inside.Listening.HeardSoFar.{next, Pads, OneSyn, Syns, Dle, On, is_pad as is_pad_of, after_no_sync as no_sync};
+ghost use Rattle.bsc_frame.specs.Inside.Listening.Stage.{so_far_of, progress_of, CheckRuns};
 
 use super::stage::Stage;
 use crate::Frame;

@@ -2,7 +2,7 @@
 ghost use Rattle.std.specs.Prelude.{◌≡◌, true, false};
 ghost use Rattle.bsc_check.specs.Check.{IsCheckOf};
 ghost use Rattle.bsc_frame.specs.Body.{covered};
-ghost use Rattle.bsc_frame.specs.Listening.HeardSoFar.{
+ghost use Rattle.bsc_frame.specs.Inside.Listening.HeardSoFar.{
   next,
   Text,
   TextDle,
@@ -12,7 +12,7 @@ ghost use Rattle.bsc_frame.specs.Listening.HeardSoFar.{
   closed,
   frame_of_enq as enq_frame,
 };
-ghost use Rattle.bsc_frame.specs.Listening.Stage.{so_far_of, progress_of, CheckRuns};
+ghost use Rattle.bsc_frame.specs.Inside.Listening.Stage.{so_far_of, progress_of, CheckRuns};
 
 use super::stage::Stage;
 use crate::Frame;

@@ -7,7 +7,7 @@ ghost use Rattle.rje_files.specs.JobFile.{IsEntryFile};
 ghost use Rattle.rje_words.specs.declared.order.FileOrder.{FileOrder};
 ghost use Rattle.rje_commands.specs.Commands.{Does, IsFault, Leaves, OfDeck, MakesFile};
 ghost use Rattle.rje_commands.specs.Commands.{AreEntriesOf, deck_job};
-ghost use Rattle.rje_commands.specs.Inside.{IsCardsFault, IsHeld, IsHeldFault, IsMade};
+ghost use Rattle.rje_commands.specs.Inside.Commands.{IsCardsFault, IsHeld, IsHeldFault, IsMade};
 ghost use Rattle.rje_commands.specs.CommandFault.{is_of_output};
 ghost use Rattle.rje_stores.specs.Store.{Discloses, IsSame};
 

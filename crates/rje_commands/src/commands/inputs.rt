@@ -2,7 +2,8 @@
 ghost use Rattle.std.specs.Prelude.{◌≡◌, IfOk, IfErr, option_map};
 ghost use Rattle.rje_files.specs.JobFile.{HasEntries, HasJobs};
 ghost use Rattle.rje_commands.specs.Commands.{OfDeck, OfFile};
-ghost use Rattle.rje_commands.specs.Inside.{IsReadFault, IsInputFault, IsThere};
+ghost use Rattle.rje_commands.specs.Inside.Commands.{IsThere};
+ghost use Rattle.rje_commands.specs.NamedFile.{IsReadFault, IsInputFault};
 ghost use Rattle.rje_stores.specs.Store.{Discloses, IsSame};
 
 use crate::command_fault::CommandFault;

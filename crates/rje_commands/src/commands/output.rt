@@ -1,7 +1,7 @@
 //! What a command gives: to its output, and to a file.
 ghost use Rattle.std.specs.Prelude.{◌≡◌, ◌≤◌, ◌+◌, length, IfOk, IfSome, OnOk, OnErr, IfErr, true};
 ghost use Rattle.std.specs.List.{flat_map};
-ghost use Rattle.rje_commands.specs.Inside.{IsWriteFault};
+ghost use Rattle.rje_commands.specs.NamedFile.{IsWriteFault};
 ghost use Rattle.rje_commands.specs.CommandFault.{is_of_output};
 ghost use Rattle.rje_stores.specs.Store.{Discloses, Extends, IsSame, Sets, SetsByte};
 ghost use Rattle.std.specs.Io.KnownBytes.{Appends};

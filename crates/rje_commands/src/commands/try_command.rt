@@ -2,7 +2,7 @@
 ghost use Rattle.std.specs.Prelude.{◌≡◌, IfErr, IfOk, OnOk, None, false};
 ghost use Rattle.rje_words.specs.declared.order.FileOrder.{FileOrder};
 ghost use Rattle.rje_commands.specs.Commands.{Does, IsFault, IsRunText};
-ghost use Rattle.rje_commands.specs.Inside.{IsTryFault};
+ghost use Rattle.rje_commands.specs.Inside.Commands.{IsTryFault};
 ghost use Rattle.rje_commands.specs.CommandFault.{is_of_output};
 ghost use Rattle.rje_stores.specs.Store.{Discloses, IsSame};
 

@@ -2,7 +2,7 @@
 ghost use Rattle.std.specs.Prelude.{◌≡◌, ◌∷◌, ◌<◌, List, ℕ, length, take, slice_index, IfSome, IfNone};
 ghost use Rattle.rje_files.specs.JobFile.{IsFileUpTo};
 ghost use Rattle.rje_files.specs.FileFault.{IsFileFault};
-ghost use Rattle.rje_files.specs.Reading.Reader.{Expects, HasRead};
+ghost use Rattle.rje_files.specs.Inside.Reading.Reader.{Expects, HasRead};
 
 use super::reader::Reader;
 use super::version::FileVersion;

@@ -4,8 +4,8 @@ ghost use Rattle.byteorder.specs.Endian.{big_bytes};
 ghost use Rattle.rje_files.specs.Entry.{entry_of};
 ghost use Rattle.rje_files.specs.JobFile.{IsFileOf, IsEntryFileOf, IsOfVersion, HasRoom, fields, record_bytes, action_byte, select_byte, mode_byte, state_byte};
 ghost use Rattle.rje_files.specs.declared.job_file.version.FileVersion.{FileVersion as Versions};
-ghost use Rattle.rje_files.specs.Reading.Grammar.{File, Entries, Records, Number, is_action_byte};
-ghost use Rattle.rje_files.specs.Reading.Collecting.{AnyRest, AreFields, IsFront, IsRecordHere, IsRecords, IsFirst, width};
+ghost use Rattle.rje_files.specs.Inside.Reading.Grammar.{File, Entries, Records, Number, is_action_byte};
+ghost use Rattle.rje_files.specs.Inside.Reading.Collecting.{AnyRest, AreFields, IsFront, IsRecordHere, IsRecords, IsFirst, width};
 
 use super::name::whole_in;
 use super::version::FileVersion;
@@ -167,7 +167,7 @@ fn record_at<'a>(bytes: &'a [u8]) -> (Record, &'a [u8])
 }
 
 fn data(items: &[u8]) -> ArrayVec<u8, MAX_RECORD>
-    requires { length items.now ≤ 144 }
+    requires { length items.now ≤ MAX_RECORD }
     ensures { result.items ≡ items.now }
 {
     let mut bytes: ArrayVec<u8, MAX_RECORD> = ArrayVec::new();

@@ -1,8 +1,8 @@
 //! A place in a job file, moved on byte by byte, and past data at once.
 ghost use Rattle.std.specs.Prelude.{◌≡◌, ℕ, ◌∷◌, [], List, ◌+◌, ◌*◌, ◌^◌, ◌-◌, ◌<◌, ◌≤◌, true, false, IfSome, IfNone};
-ghost use Rattle.rje_files.specs.Reading.Grammar.{Records, AfterMode, Entries, is_action_byte, version_read};
+ghost use Rattle.rje_files.specs.Inside.Reading.Grammar.{Records, AfterMode, Entries, is_action_byte, version_read};
 ghost use Rattle.rje_files.specs.Entry.{may_stand};
-ghost use Rattle.rje_files.specs.Reading.Reader.{Expects, Rest, IsSound, IsStep, IsSkip, data_due_in};
+ghost use Rattle.rje_files.specs.Inside.Reading.Reader.{Expects, Rest, IsSound, IsStep, IsSkip, data_due_in};
 
 use super::HEAD;
 use super::name::may_stand;

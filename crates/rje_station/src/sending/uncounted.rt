@@ -4,7 +4,7 @@ ghost use Rattle.std.specs.List.{AllByRecursion};
 ghost use Rattle.rje_jobs.specs.Blocks.{blocks};
 ghost use Rattle.rje_jobs.specs.Fitting.{JobFits};
 ghost use Rattle.rje_station.specs.Sending.{next_in, counted_by, IsFirstWritten};
-ghost use Rattle.rje_station.specs.Uncounted.{rest_in, more_in, IsAt, IsPlace, all_uncounted, after_count};
+ghost use Rattle.rje_station.specs.Inside.Uncounted.{rest_in, more_in, StandsAt, IsPlace, all_uncounted, after_count};
 
 use crate::writing::{Transmission, transmission_of};
 use bsc_codes::Closing;
@@ -28,7 +28,7 @@ pub(crate) struct Uncounted<'a> {
 }
 
 impl<'a> Model for Uncounted<'a> {
-    ghost use Rattle.rje_station.specs.Uncounted.{Remaining, remaining_in, IsUncounted};
+    ghost use Rattle.rje_station.specs.Inside.Uncounted.{Remaining, remaining_in, IsUncounted};
 
     ghost Value = { Remaining };
 
@@ -114,7 +114,7 @@ impl<'a> Uncounted<'a> {
 fn begin_job(jobs: &[Job], at: usize) -> (Frame, usize)
     requires fit { AllByRecursion JobFits jobs.now }
     ensures rest { rest_in (drop at jobs.now) result.0 result.1 ≡ blocks (drop at jobs.now) }
-    ensures at { IsAt (drop at jobs.now) result.0 result.1 }
+    ensures at { StandsAt (drop at jobs.now) result.0 result.1 }
 {
     if at < jobs.len() {
         let job = &jobs[at];
@@ -131,7 +131,7 @@ fn after_block(jobs: &[Job], at: usize, closing: Closing, place: usize) -> (Fram
     requires within { IsPlace (drop at jobs.now) closing place }
     ensures rest { rest_in (drop result.2 jobs.now) result.0 result.1
         ≡ more_in (drop at jobs.now) closing place }
-    ensures at { IsAt (drop result.2 jobs.now) result.0 result.1 }
+    ensures at { StandsAt (drop result.2 jobs.now) result.0 result.1 }
     ensures counted { result.2 ≡ counted_by closing at }
 {
     match closing {
@@ -149,7 +149,7 @@ fn after_block(jobs: &[Job], at: usize, closing: Closing, place: usize) -> (Fram
 
 /// What follows the outstanding block.
 fn next_of(jobs: &[Job], at: usize, outstanding: &Frame, place: usize) -> Next
-    requires at { IsAt (drop at jobs.now) outstanding.now place }
+    requires at { StandsAt (drop at jobs.now) outstanding.now place }
     ensures { result ≡ next_in (rest_in (drop at jobs.now) outstanding.now place) }
 {
     match outstanding {

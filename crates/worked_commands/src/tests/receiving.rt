@@ -1,7 +1,7 @@
 //! When `receive` leaves by itself, and what it answers on the line.
 use super::told_line::ToldLine;
 use arrayvec::ArrayVec;
-use rje_commands::receive_over;
+use rje_sockets::receive_over;
 use rje_stores::MemoryStore;
 use std::process::Abort;
 use std::test::Fail;

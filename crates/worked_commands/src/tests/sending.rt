@@ -3,7 +3,8 @@ ghost use Rattle.std.specs.Prelude.{None};
 
 use arrayvec::ArrayVec;
 use line_world::MemoryLine;
-use rje_commands::{command, receive_over, send_over};
+use rje_commands::command;
+use rje_sockets::{receive_over, send_over};
 use rje_stores::{MemoryStore, Place, Store, StoreFault};
 use std::alloc::Global;
 use std::process::Abort;

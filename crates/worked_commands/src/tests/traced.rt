@@ -2,8 +2,8 @@
 use arrayvec::ArrayVec;
 use bsc_link::{Reply, Say, Sound};
 use line_world::Spoken;
-use rje_commands::socket_command;
 use rje_print::{both_text, peer_text, receiver_text, sender_text};
+use rje_sockets::socket_command;
 use rje_station::Arrival;
 use rje_stores::{MemoryStore, Store};
 use std::cell::Cell;

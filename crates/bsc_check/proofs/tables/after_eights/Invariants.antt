@@ -1,5 +1,5 @@
 use Rattle.std.proofs.Common.{◌≡◌, length}
-use Rattle.bsc_check.specs.Shifts.{register_after}
+use Rattle.bsc_check.specs.Inside.Shifts.{register_after}
 use Rattle.bsc_check.proofs.tables.after_eights.Given as goal
 
 abbrev pub invariant-loop-eight : goal.invariant-loop-eight

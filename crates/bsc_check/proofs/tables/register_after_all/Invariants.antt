@@ -1,5 +1,5 @@
 use Rattle.std.proofs.Common.{◌≡◌, drop}
-use Rattle.bsc_check.specs.Shifts.{register_after}
+use Rattle.bsc_check.specs.Inside.Shifts.{register_after}
 use Rattle.bsc_check.proofs.tables.register_after_all.Given as goal
 
 abbrev pub invariant-loop-byte : goal.invariant-loop-byte

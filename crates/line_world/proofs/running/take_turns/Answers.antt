@@ -1,7 +1,7 @@
 -- Each turn of the loop is one turn of the conversation.
 use Rattle.std.proofs.Common.{rules, ◌≡◌, Some, None, length, slice_get, refl, ◌∙◌}
 use Rattle.std.proofs.lemmas.Option.{slice_get_read}
-use Rattle.line_world.specs.Driving.{Takes, TakesTurn}
+use Rattle.line_world.specs.Inside.Driving.{Takes, TakesTurn}
 use Rattle.line_world.proofs.RunLoop.{running_first, running_more, running_over, running_out, running_jobs, running_length, drive_fault}
 use Rattle.line_world.proofs.RunTurns.{Laws}
 use Rattle.line_world.proofs.running.take_turns.Goals as goal

@@ -6,7 +6,7 @@ use Rattle.rje_jobs.specs.Fitting.{JobFits}
 use Rattle.rje_station.specs.declared.station_fault.StationFault.{StationFault}
 use Rattle.rje_station.specs.StationFault.{IsNewCause}
 use Rattle.pair_world.specs.declared.pair_turn.PairTurn.{PairTurn}
-use Rattle.line_world.specs.Driving.{fault_of}
+use Rattle.line_world.specs.Faults.{fault_of}
 use Rattle.pair_world.specs.PairRun.{IsPairRunFault}
 use Rattle.line_world.proofs.ForPairs.{none_unfit}
 use Rattle.pair_world.proofs.pairing.run_pair.Goals as goal

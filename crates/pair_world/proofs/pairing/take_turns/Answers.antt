@@ -1,7 +1,7 @@
 -- Each turn of the loop is one turn of the conversation.
 use Rattle.std.proofs.Common.{rules, ◌≡◌, Some, None, length, slice_get, refl, ◌∙◌}
 use Rattle.std.proofs.lemmas.Option.{slice_get_read}
-use Rattle.pair_world.specs.PairDriving.{TakesPair}
+use Rattle.pair_world.specs.Inside.PairDriving.{TakesPair}
 use Rattle.pair_world.proofs.Alone.{Laws}
 use Rattle.pair_world.proofs.PairLoop.{pair_first, pair_more, pair_over, pair_out, pair_length}
 use Rattle.pair_world.proofs.PairFaults.{pair_drive_fault}

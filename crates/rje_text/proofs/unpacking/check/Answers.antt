@@ -1,6 +1,6 @@
 use Rattle.std.proofs.Common.{ap, ◌++◌, ◌∷◌, []}
 use Rattle.std.specs.Option.{is_some}
-use Rattle.rje_text.specs.RecordText.{reads_record, reads_records}
+use Rattle.rje_text.specs.Inside.RecordText.{reads_record, reads_records}
 use Rattle.rje_text.proofs.Lifting.{lift_fault}
 use Rattle.rje_text.proofs.Fronts.{piece_is_part, checked_step, checked_end, some_of, front_whole}
 use Rattle.rje_text.proofs.unpacking.check.Goals as goal

@@ -1,6 +1,6 @@
 use Rattle.std.proofs.Common.{ap, sym, ◌∙◌, Some}
 use Rattle.std.specs.Option.{option_map}
-use Rattle.rje_text.specs.RecordText.{unpacked}
+use Rattle.rje_text.specs.Inside.RecordText.{unpacked}
 use Rattle.rje_text.proofs.Selections.{whole_reading, whole_reads, rest_fault}
 use Rattle.rje_text.proofs.unpacking.unpack_normal.Goals as goal
 

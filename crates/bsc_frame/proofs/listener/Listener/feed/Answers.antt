@@ -1,7 +1,7 @@
 use Rattle.std.proofs.Common.{◌+◌, get_or, refl, sym, ap, ◌∙◌, arith}
 use Rattle.std.proofs.lemmas.List.{drop_all}
-use Rattle.bsc_frame.specs.Listening.Run.{run}
-use Rattle.bsc_frame.specs.Listening.Stage.{so_far_of}
+use Rattle.bsc_frame.specs.Inside.Listening.Run.{run}
+use Rattle.bsc_frame.specs.Inside.Listening.Stage.{so_far_of}
 use Rattle.bsc_frame.proofs.Feeding.{feed_found, feed_kept, feed_last, feed_more, feed_on, feed_none}
 use Rattle.bsc_frame.proofs.listener.Listener.feed.Goals as goal
 

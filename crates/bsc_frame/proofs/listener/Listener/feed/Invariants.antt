@@ -1,6 +1,6 @@
 use Rattle.std.proofs.Common.{◌≡◌, ◌-◌, ◌≤◌, length, drop}
-use Rattle.bsc_frame.specs.Listening.Run.{run}
-use Rattle.bsc_frame.specs.Listening.Stage.{so_far_of, CheckRuns}
+use Rattle.bsc_frame.specs.Inside.Listening.Run.{run}
+use Rattle.bsc_frame.specs.Inside.Listening.Stage.{so_far_of, CheckRuns}
 use Rattle.bsc_frame.proofs.listener.Listener.feed.Given as goal
 
 -- what is left of the piece does what the whole piece does, and the check runs

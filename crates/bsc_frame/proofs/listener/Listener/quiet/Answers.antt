@@ -1,6 +1,6 @@
 use Rattle.std.proofs.Common.{sym, ap, ◌∙◌, subst}
 use Rattle.bsc_frame.specs.Heard.{IsHeard}
-use Rattle.bsc_frame.specs.Listening.HeardSoFar.{heard_at}
+use Rattle.bsc_frame.specs.Inside.Listening.HeardSoFar.{heard_at}
 use Rattle.bsc_frame.proofs.Feeding.{feed_quiet}
 use Rattle.bsc_frame.proofs.listener.Listener.quiet.Goals as goal
 

@@ -2,9 +2,9 @@ use Rattle.std.proofs.Common.{◌≡◌, ◌≤◌, List, ℕ, true, Result, Ok,
 use Rattle.std.proofs.lemmas.List.{length-take-le}
 use Rattle.std.specs.Result.{is_ok}
 use Rattle.bsc_frame.specs.declared.listener.stage.Stage.{Stage}
-use Rattle.bsc_frame.specs.Listening.HeardSoFar.{Text}
-use Rattle.bsc_frame.specs.Listening.Run.{run}
-use Rattle.bsc_frame.specs.Listening.Stage.{so_far_of}
+use Rattle.bsc_frame.specs.Inside.Listening.HeardSoFar.{Text}
+use Rattle.bsc_frame.specs.Inside.Listening.Run.{run}
+use Rattle.bsc_frame.specs.Inside.Listening.Stage.{so_far_of}
 use Rattle.bsc_frame.proofs.DataRuns.{many}
 use Rattle.bsc_frame.proofs.listener.data.keep_data.Goals as goal
 

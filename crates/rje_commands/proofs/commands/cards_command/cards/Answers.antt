@@ -4,7 +4,7 @@ use Rattle.std.specs.Io.KnownBytes.{Appends}
 use Rattle.rje_print.specs.JobTexts.{cards_line}
 use Rattle.rje_words.specs.declared.order.FileOrder.{FileOrder}
 use Rattle.rje_commands.specs.Commands.{IsFault, MakesCards, MakesFile, deck_job}
-use Rattle.rje_commands.specs.Inside.{IsCardsFault}
+use Rattle.rje_commands.specs.Inside.Commands.{IsCardsFault}
 use Rattle.rje_commands.proofs.Inputs.{of_deck, told_as, done_as, cards_fault, held_fault, made_file, whatever}
 use Rattle.rje_commands.proofs.commands.cards_command.cards.Goals as goal
 

@@ -1,7 +1,7 @@
 use Rattle.rje_files.specs.FileFault.{IsFileFault}
 use Rattle.rje_files.specs.JobFile.{IsEntryFile}
 use Rattle.rje_commands.specs.declared.command_fault.CommandFault.TheVariants.{File}
-use Rattle.rje_commands.specs.Inside.{IsInputFault}
+use Rattle.rje_commands.specs.NamedFile.{IsInputFault}
 use Rattle.rje_commands.proofs.Inputs.{of_file, told_as}
 use Rattle.rje_commands.proofs.commands.inputs.read_entry_file.Goals as goal
 

@@ -1,5 +1,5 @@
 use Rattle.rje_commands.specs.CommandFault.{of_world}
-use Rattle.rje_commands.specs.Inside.{IsTryFault}
+use Rattle.rje_commands.specs.Inside.Commands.{IsTryFault}
 use Rattle.rje_commands.proofs.Inputs.{run_fault, told_as}
 use Rattle.line_world.specs.Run.{IsRunFault}
 use Rattle.rje_commands.proofs.commands.try_command.run_files.Goals as goal

@@ -1,7 +1,7 @@
 use Rattle.rje_words.specs.declared.order.FileOrder.{FileOrder}
 use Rattle.std.proofs.Common.{None}
 use Rattle.rje_commands.specs.Commands.{IsFault}
-use Rattle.rje_commands.specs.Inside.{IsTryFault}
+use Rattle.rje_commands.specs.Inside.Commands.{IsTryFault}
 use Rattle.rje_commands.proofs.Inputs.{told_as, try_fault}
 use Rattle.rje_commands.proofs.commands.try_command.trial.Goals as goal
 

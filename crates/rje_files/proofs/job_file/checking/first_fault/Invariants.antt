@@ -1,6 +1,6 @@
 use Rattle.std.proofs.Common.{◌-◌, ◌≤◌, length, take}
 use Rattle.rje_files.specs.JobFile.{IsFileUpTo}
-use Rattle.rje_files.specs.Reading.Reader.{HasRead}
+use Rattle.rje_files.specs.Inside.Reading.Reader.{HasRead}
 use Rattle.rje_files.proofs.job_file.checking.first_fault.Given as goal
 
 abbrev pub invariant-loop-place : goal.invariant-loop-place

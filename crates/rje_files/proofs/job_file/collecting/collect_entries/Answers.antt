@@ -1,6 +1,6 @@
 use Rattle.std.proofs.Common.{◌≡◌, ◌+◌, ◌-◌, ℕ, suc, subst, arith}
 use Rattle.rje_files.specs.JobFile.{entry_bytes, FitsFields}
-use Rattle.rje_files.specs.Reading.Grammar.{Entries}
+use Rattle.rje_files.specs.Inside.Reading.Grammar.{Entries}
 use Rattle.rje_files.proofs.Collected.{file_whole, more_items, one_longer, all_longer}
 use Rattle.rje_files.proofs.job_file.collecting.collect_entries.Goals as goal
 

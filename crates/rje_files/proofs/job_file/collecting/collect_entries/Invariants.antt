@@ -1,7 +1,7 @@
 use Rattle.std.proofs.Common.{◌≡◌, ◌++◌, ◌-◌, length}
 use Rattle.std.specs.List.{flat_map, AllByRecursion}
 use Rattle.rje_files.specs.JobFile.{entry_bytes, FitsFields}
-use Rattle.rje_files.specs.Reading.Grammar.{Entries}
+use Rattle.rje_files.specs.Inside.Reading.Grammar.{Entries}
 use Rattle.rje_files.proofs.job_file.collecting.collect_entries.Given as goal
 
 abbrev pub invariant-loop-i : goal.invariant-loop-i

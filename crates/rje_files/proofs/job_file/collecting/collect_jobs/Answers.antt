@@ -3,7 +3,7 @@ use Rattle.std.specs.Int.{bytes_high_first}
 use Rattle.rje_files.specs.declared.job_file.version.FileVersion.{FileVersion}
 use Rattle.rje_files.specs.declared.job_file.version.FileVersion.TheVariants.{First}
 use Rattle.rje_files.specs.JobFile.{head, version_byte}
-use Rattle.rje_files.specs.Reading.Grammar.{Entries}
+use Rattle.rje_files.specs.Inside.Reading.Grammar.{Entries}
 use Rattle.rje_files.proofs.Grammar.{only_first}
 use Rattle.rje_files.proofs.Collected.{job_bytes, FitsJob, mapped_length, mapped_fit, jobs_whole, job_spelled, job_fits, more_items, one_longer, all_longer}
 use Rattle.rje_files.proofs.job_file.collecting.collect_jobs.Goals as goal

@@ -1,6 +1,6 @@
 use Rattle.std.proofs.Common.{◌≡◌, ◌++◌, ◌-◌, length}
 use Rattle.std.specs.List.{flat_map, AllByRecursion}
-use Rattle.rje_files.specs.Reading.Grammar.{Entries}
+use Rattle.rje_files.specs.Inside.Reading.Grammar.{Entries}
 use Rattle.rje_files.proofs.Collected.{job_bytes, FitsJob}
 use Rattle.rje_files.proofs.job_file.collecting.collect_jobs.Given as goal
 

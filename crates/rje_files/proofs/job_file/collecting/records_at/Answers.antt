@@ -1,6 +1,6 @@
 use Rattle.std.proofs.Common.{◌≡◌, ◌+◌, ◌-◌, ℕ, suc, subst, arith}
 use Rattle.rje_files.specs.JobFile.{record_bytes, HasRoom}
-use Rattle.rje_files.specs.Reading.Grammar.{Records, Entries}
+use Rattle.rje_files.specs.Inside.Reading.Grammar.{Records, Entries}
 use Rattle.rje_files.proofs.Collected.{record_here, record_rest, more_items, one_longer, all_longer}
 use Rattle.rje_files.proofs.job_file.collecting.records_at.Goals as goal
 

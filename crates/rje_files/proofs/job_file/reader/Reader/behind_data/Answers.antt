@@ -1,7 +1,7 @@
 use Rattle.std.proofs.Common.{◌+◌, ◌-◌, sym, subst, arith}
 use Rattle.rje_files.specs.declared.job_file.reader.Due.TheVariants.{Data}
 use Rattle.rje_files.specs.declared.job_file.reader.Reader.{Reader}
-use Rattle.rje_files.specs.Reading.Reader.{IsSkip}
+use Rattle.rje_files.specs.Inside.Reading.Reader.{IsSkip}
 use Rattle.rje_files.proofs.Skips.{data_is, skip}
 use Rattle.rje_files.proofs.job_file.reader.Reader.behind_data.Goals as goal
 

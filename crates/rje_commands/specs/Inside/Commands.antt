@@ -1,0 +1,49 @@
+-- Of what the private functions of the commands tell; no promise rests on it.
+use Rattle.std.specs.Prelude.{◌≡◌, ℕ, List, [], ◌∷◌, ◌++◌, Option, None, IfSome, true, false, ⊤}
+use Rattle.std.specs.Option.{IsSomeAnd}
+use Rattle.rje_jobs.specs.Deck.{IsDeckFault}
+use Rattle.rje_files.specs.FileFault.{IsFileFault}
+use Rattle.rje_files.specs.declared.entry.Entry.{Entry}
+use Rattle.rje_files.specs.declared.job_file.version.FileVersion.TheVariants.{Second}
+use Rattle.rje_files.specs.JobFile.{IsEntryFile, IsEntryFileOf}
+use Rattle.line_world.specs.declared.world_fault.WorldFault.TheVariants as world
+use Rattle.rje_print.specs.Script.{IsFirstBadLine}
+use Rattle.rje_commands.specs.declared.command_fault.CommandFault.{CommandFault}
+use Rattle.rje_words.specs.declared.order.CardsOrder.{CardsOrder}
+use Rattle.rje_commands.specs.Commands.{AreEntriesOf, IsFaultOfRun, deck_entry}
+use Rattle.rje_commands.specs.NamedFile.{IsReadFault}
+use Rattle.rje_stores.specs.Store.{FileMap}
+
+-- where the files are told, this is what this name has
+abbrev pub IsThere : List ℕ → Option FileMap → Option (List ℕ) → Type 0
+IsThere name files found = IfSome files (λ known. known name ≡ found)
+
+-- this is the job file to which the job is added, where there is one
+abbrev pub IsHeld : CardsOrder → Option FileMap → Option (List ℕ) → Type 0
+IsHeld order files held = (order.append ≡ true → IsThere order.jobs.now files held) × (order.append ≡ false → held ≡ None)
+
+-- the job file to which the job is added can't be read
+abbrev pub IsHeldFault : CardsOrder → CommandFault → Type 0
+IsHeldFault order fault = (order.append ≡ true) × IsReadFault order.jobs.now fault
+
+-- these are the bytes of the version 2 file of what this file holds and, behind it, of the job of this deck
+abbrev pub IsMade : CardsOrder → (deck : List ℕ) → (held : Option (List ℕ)) → (bytes : List ℕ) → Type 0
+IsMade order deck held bytes =
+    (front : List Entry) × AreEntriesOf held front × IsEntryFileOf Second (front ++ deck_entry order.device order.name deck ∷ []) bytes
+
+-- there is no memory for the file of this deck, the deck has this fault, or the file to which its job is added is no job file
+abbrev pub IsCardsFault : (deck : List ℕ) → (held : Option (List ℕ)) → CommandFault → Type 0
+IsCardsFault deck held CommandFault.OutOfMemory = ⊤
+IsCardsFault deck held (CommandFault.Deck fault) = IsDeckFault deck fault
+IsCardsFault deck held (CommandFault.File fault) = IsSomeAnd held (λ file. IsFileFault IsEntryFile file fault)
+IsCardsFault deck held _ = ⊥
+
+-- there is no memory for the run of this file over this script, one of them isn't read, or the run has this fault
+abbrev pub IsTryFault : (file script : List ℕ) → CommandFault → Type 0
+IsTryFault file script CommandFault.OutOfMemory = ⊤
+IsTryFault file script (CommandFault.File fault) = IsFileFault IsEntryFile file fault
+IsTryFault file script (CommandFault.Script line) = IsEntryFile file × IsFirstBadLine script line
+IsTryFault file script (CommandFault.BadJob number) = IsFaultOfRun (world.BadJob number) file script
+IsTryFault file script (CommandFault.NotDamage turn) = (attempt : ℕ) × IsFaultOfRun (world.NotDamage attempt turn) file script
+IsTryFault file script (CommandFault.BadCut turn) = (attempt : ℕ) × IsFaultOfRun (world.BadCut attempt turn) file script
+IsTryFault file script _ = ⊥

@@ -1,0 +1,24 @@
+-- Why a file of a name isn't read, or not written (own profile).
+use Rattle.std.specs.Prelude.{◌≡◌, ℕ, List, Option, ⊤}
+use Rattle.rje_files.specs.FileFault.{IsFileFault}
+use Rattle.rje_files.specs.JobFile.{IsEntryFile}
+use Rattle.rje_commands.specs.declared.command_fault.CommandFault.{CommandFault}
+use Rattle.rje_commands.specs.Commands.{OfFile}
+use Rattle.rje_stores.specs.Store.{FileMap}
+
+-- there is no memory for what has this name, or it can't be read
+abbrev pub IsReadFault : List ℕ → CommandFault → Type 0
+IsReadFault name CommandFault.OutOfMemory = ⊤
+IsReadFault name (CommandFault.CannotRead named) = named.now ≡ name
+IsReadFault name _ = ⊥
+
+-- or it is no job file
+abbrev pub IsInputFault : List ℕ → Option FileMap → CommandFault → Type 0
+IsInputFault name files (CommandFault.File fault) = OfFile name files (λ file. IsFileFault IsEntryFile file fault)
+IsInputFault name files fault = IsReadFault name fault
+
+-- there is no memory to write what has this name, or it can't be written
+abbrev pub IsWriteFault : List ℕ → CommandFault → Type 0
+IsWriteFault name CommandFault.OutOfMemory = ⊤
+IsWriteFault name (CommandFault.CannotWrite named) = named.now ≡ name
+IsWriteFault name _ = ⊥

@@ -1,0 +1,9 @@
+pub mod Sending
+pub mod Patience
+pub mod Keeping
+pub mod Growing
+pub mod Answering
+pub mod Received
+pub mod Failing
+pub mod Marked
+pub mod Watched

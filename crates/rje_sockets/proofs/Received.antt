@@ -1,0 +1,143 @@
+-- One transmission that was received: what it comes to, and what is kept of it whatever ends it.
+use Rattle.std.proofs.Common.{◌≡◌, ◌⊎◌, inl, inr, true≢false, ℕ, List, [], ◌∷◌, take, drop, Option, Some, None, Result, Ok, Err, IfErr, IfOk, OnErr, OnOk, refl, ap, sym, ◌∙◌, subst, arith}
+use Rattle.std.proofs.lemmas.List.{append-nil, take-append-drop}
+use Rattle.std.specs.Prelude.{IfSome, IsOk}
+use Rattle.std.specs.Result.{IsOkAnd}
+use Rattle.std.specs.Io.KnownBytes.{Appends}
+use Rattle.rje_jobs.specs.declared.job.Job.{Job}
+use Rattle.rje_station.specs.Receiving.{Receiving, first_receiving}
+use Rattle.rje_sockets.specs.declared.broken_off.BrokenOff.{BrokenOff}
+use Rattle.rje_commands.specs.declared.command_fault.CommandFault.{CommandFault}
+use Rattle.rje_sockets.specs.declared.exchange.Left.{Left}
+use Rattle.rje_sockets.specs.declared.keeper.Keeper.{Keeper}
+use Rattle.rje_sockets.specs.declared.socket_commands.ending.Ending.{Ending}
+use Rattle.rje_stores.specs.declared.store.Place.TheVariants.{Growing}
+use Rattle.rje_sockets.specs.Answering.{HasWhole, KeepsAnswered, KeepsToBreak, KeepsToEnd}
+use Rattle.rje_sockets.specs.Ending.{MakesJobFile, Receives, ending_of_left, received_text}
+use Rattle.rje_sockets.specs.Keeping.{AreKept, GoesOnKeeping, IsOfFile, KeepsJobs, whole_in_front}
+use Rattle.rje_sockets.specs.Patience.{LeavesSo}
+use Rattle.rje_stores.specs.Store.{FileMap, Discloses, IsSame}
+use Rattle.rje_sockets.proofs.Answering.{none_answered}
+use Rattle.rje_commands.proofs.Inputs.{done_as}
+use Rattle.rje_sockets.proofs.Growing.{kept_still, none_kept}
+
+-- WHERE ALL IS WELL
+
+pub receives : (r : Result Ending CommandFault) (left : Result Left BrokenOff) (written printed : Result (Unit {0}) CommandFault) (name : List ℕ) (files made : Option FileMap)
+    (before after : Option (List ℕ)) (station : Receiving)
+    → IfOk r (λ ending. IsOkAnd left (λ l. ending ≡ ending_of_left l) × IsOk written × IsOk printed) → IfOk left (λ l. LeavesSo l first_receiving station)
+    → IfOk left (λ l. OnOk written (MakesJobFile station.jobs name files made)) → OnOk printed (Appends before after (received_text station.jobs))
+    → IfOk r (λ ending. Receives ending name files made before after)
+receives (Err e) left written printed name files made before after station well leaves makes text = tt
+receives (Ok ending) (Err b) written printed name files made before after station well leaves makes text = absurd well.0
+receives (Ok ending) (Ok l) (Err e) printed name files made before after station well leaves makes text = absurd (true≢false (sym well.1))
+receives (Ok ending) (Ok l) (Ok w) (Err e) name files made before after station well leaves makes text = absurd (true≢false (sym well.2))
+receives (Ok ending) (Ok l) (Ok w) (Ok p) name files made before after station well leaves makes text =
+    record { left = l; station = station; leaves = leaves; ending_is = well.0; writes = (makes, text) }
+
+-- where it came to an end, the file is that of its jobs
+pub made_at_end : (written : Result (Unit {0}) CommandFault) (first last : Keeper) (station : Receiving) (name : List ℕ) (f looked kept made : Option FileMap) (before after : ℕ) (left : Result Left BrokenOff)
+    → first.name.now ≡ name → first.kept ≡ 0 → Discloses f looked IsSame → OnOk left (KeepsToEnd first last first_receiving station before after looked kept)
+    → OnOk written ((files : Option FileMap) → IfErr left (λ broken. IsOfFile broken → ⊥) → KeepsJobs last station.jobs files kept → MakesJobFile station.jobs last.name.now files made)
+    → IfOk left (λ _. OnOk written (MakesJobFile station.jobs name f made))
+made_at_end written first last station name f looked kept made before after (Err e) named none same ends makes = tt
+made_at_end written first last station name f looked kept made before after (Ok l) named none same (far, answered, jobs, (one, place, on)) makes =
+    let now : KeepsJobs last station.jobs f kept = subst (λ (js : List Job). KeepsJobs last js f kept) (sym jobs) (on f (none_kept first f looked none same)) in
+    done_as written _ (MakesJobFile station.jobs name f made) makes (λ m. subst (λ (n : List ℕ). MakesJobFile station.jobs n f made) (ap (λ (n : _). n.now) one ∙ named) (m f tt now))
+
+-- WHATEVER ENDS IT
+
+-- what a keeper has kept
+of_kept : (kept : List Job) (long : ℕ) (name : List ℕ) (files made : Option FileMap) → AreKept kept long name files made → MakesJobFile kept name files made ⊎ ((kept ≡ []) × Discloses files made IsSame)
+of_kept [] long name files made same = inr (refl, same)
+of_kept (j ∷ js) long name files made (bytes, file, l, few, sets) = inl (bytes, file, omega (arith, l, few), sets)
+
+has_kept : (keeper : Keeper) (jobs : List Job) (files made : Option FileMap) → keeper.place ≡ Growing → KeepsJobs keeper jobs files made → HasWhole jobs keeper.name.now files made
+has_kept keeper jobs files made grows k = (
+  take keeper.kept jobs,
+  [],
+  ap (λ (n : ℕ). take n jobs) (k.all grows) ∙ sym (append-nil (take (whole_in_front jobs) jobs)),
+  of_kept (take keeper.kept jobs) keeper.long keeper.name.now files made k.file,
+)
+
+-- all of the jobs
+has_all : (jobs : List Job) (name : List ℕ) (files made : Option FileMap) → MakesJobFile jobs name files made → HasWhole jobs name files made
+has_all jobs name files made makes = (jobs, drop (whole_in_front jobs) jobs, sym (take-append-drop (whole_in_front jobs) jobs), inl makes)
+
+still_keeps : (keeper : Keeper) (jobs : List Job) (files f g : Option FileMap) → KeepsJobs keeper jobs files f → Discloses f g IsSame → KeepsJobs keeper jobs files g
+still_keeps keeper jobs files f g k still = record {
+  few = k.few;
+  all = k.all;
+  cut = k.cut;
+  file = kept_still (take keeper.kept jobs) keeper.long keeper.name.now files f g k.file still;
+}
+
+-- the rest is kept, or nothing changes
+has_rest : (written : Result (Unit {0}) CommandFault) (keeper : Keeper) (jobs : List Job) (files kept made : Option FileMap) → keeper.place ≡ Growing → KeepsJobs keeper jobs files kept
+    → OnOk written (KeepsJobs keeper jobs files kept → MakesJobFile jobs keeper.name.now files made) → OnErr written (Discloses kept made IsSame) → HasWhole jobs keeper.name.now files made
+has_rest (Ok x) keeper jobs files kept made grows k makes same = has_all jobs keeper.name.now files made (makes k)
+has_rest (Err e) keeper jobs files kept made grows k makes same = has_kept keeper jobs files made grows (still_keeps keeper jobs files kept made k same)
+
+module _ (written : Result (Unit {0}) CommandFault) (first last : Keeper) (station : Receiving) (name : List ℕ) (f looked kept made : Option FileMap) (before after : ℕ)
+    (named : first.name.now ≡ name) (none : first.kept ≡ 0) (grows : first.place ≡ Growing) (same : Discloses f looked IsSame) where
+  -- what goes on from nothing
+  from_none : (near : Keeper) (jobs : List Job) (g : Option FileMap) → GoesOnKeeping first near [] jobs looked g → KeepsJobs near jobs f g × (near.place ≡ Growing) × (near.name.now ≡ name)
+  from_none near jobs g (one, place, on) = (on f (none_kept first f looked none same), place ∙ grows, ap (λ (n : _). n.now) one ∙ named)
+
+  at_name : (keeper : Keeper) (jobs : List Job) → keeper.name.now ≡ name → HasWhole jobs keeper.name.now f made → HasWhole jobs name f made
+  at_name keeper jobs is has = subst (λ (n : List ℕ). HasWhole jobs n f made) is has
+
+  pub kept_to_end : KeepsToEnd first last first_receiving station before after looked kept
+      → OnOk written (KeepsJobs last station.jobs f kept → MakesJobFile station.jobs last.name.now f made) → OnErr written (Discloses kept made IsSame) → KeepsAnswered name f made before after
+  kept_to_end (far, answered, jobs, goes) makes still =
+      let k = from_none last far.jobs kept goes in
+      let now : KeepsJobs last station.jobs f kept = subst (λ (js : List Job). KeepsJobs last js f kept) (sym jobs) k.0 in
+      (far, after, answered, inl (refl, subst (λ (js : List Job). HasWhole js name f made) jobs (at_name last station.jobs k.2 (has_rest written last station.jobs f kept made k.1 now makes still))))
+
+  -- it broke off, and what was kept by then is there
+  kept_by : (broken : BrokenOff) → KeepsToBreak first last first_receiving station before after looked kept broken
+      → ((jobs : List Job) → (station.jobs ≡ jobs) ⊎ IsOfFile broken → last.place ≡ Growing → KeepsJobs last jobs f kept → HasWhole jobs last.name.now f made) → KeepsAnswered name f made before after
+  kept_by broken (far, near, sent, then, answered, goes, inl (silent, more, why)) has =
+      let k = from_none near far.jobs then goes in
+      let name_is : last.name.now ≡ name = ap (λ (n : _). n.now) more.0 ∙ k.2 in
+      (far, sent, answered, inl (silent, at_name last far.jobs name_is (has far.jobs (turned why) (more.1 ∙ k.1) (more.2 f k.0)))) where
+        turned : IsOfFile broken ⊎ (station.jobs ≡ far.jobs) → (station.jobs ≡ far.jobs) ⊎ IsOfFile broken
+        turned (inl x) = inr x
+        turned (inr x) = inl x
+  kept_by broken (far, near, sent, then, answered, goes, inr (one, (what, refused, may, jobs, more))) has =
+      let k = from_none near far.jobs then goes in
+      let name_is : last.name.now ≡ name = ap (λ (n : _). n.now) more.0 ∙ k.2 in
+      (far, sent, answered, inr (one, (what, refused, may, subst (λ (js : List Job). HasWhole js name f made) jobs (at_name last station.jobs name_is (has station.jobs (inl refl) (more.1 ∙ k.1) (more.2 f k.0))))))
+
+  -- whatever is left of it
+  pub kept_whatever : (left : Result Left BrokenOff) → OnOk left (KeepsToEnd first last first_receiving station before after looked kept)
+      → IfErr left (KeepsToBreak first last first_receiving station before after looked kept)
+      → OnOk written ((files : Option FileMap) → IfErr left (λ broken. IsOfFile broken → ⊥) → KeepsJobs last station.jobs files kept → MakesJobFile station.jobs last.name.now files made)
+      → IfErr left (λ broken. IsOfFile broken → Discloses kept made IsSame) → OnErr written (Discloses kept made IsSame) → KeepsAnswered name f made before after
+  kept_whatever (Ok l) ends breaks makes refused still = kept_to_end ends (done_as written _ (KeepsJobs last station.jobs f kept → MakesJobFile station.jobs last.name.now f made) makes (λ m. m f tt)) still
+  kept_whatever (Err (BrokenOff.File e)) ends breaks makes refused still =
+      kept_by (BrokenOff.File e) breaks (λ jobs why grown k. has_kept last jobs f made grown (still_keeps last jobs f kept made k (refused tt)))
+  kept_whatever (Err (BrokenOff.Line e)) ends breaks makes refused still = kept_by (BrokenOff.Line e) breaks has where
+    rest : last.place ≡ Growing → KeepsJobs last station.jobs f kept → HasWhole station.jobs last.name.now f made
+    rest grown k =
+        has_rest written last station.jobs f kept made grown k (done_as written _ (KeepsJobs last station.jobs f kept → MakesJobFile station.jobs last.name.now f made) makes (λ m. m f (λ never. absurd never))) still
+
+    has : (jobs : List Job) → (station.jobs ≡ jobs) ⊎ IsOfFile (BrokenOff.Line e) → last.place ≡ Growing → KeepsJobs last jobs f kept → HasWhole jobs last.name.now f made
+    has jobs (inr never) grown k = absurd never
+    has jobs (inl same_jobs) grown k =
+        subst (λ (js : List Job). HasWhole js last.name.now f made) same_jobs (rest grown (subst (λ (js : List Job). KeepsJobs last js f kept) (sym same_jobs) k))
+
+-- over a store that tells its files
+pub received_kept : (written : Result (Unit {0}) CommandFault) (first last : Keeper) (station : Receiving) (name : List ℕ) (f looked kept made : Option FileMap) (before after : ℕ) (left : Result Left BrokenOff)
+    → first.name.now ≡ name → first.kept ≡ 0 → IfSome f (λ _. first.place ≡ Growing) → Discloses f looked IsSame
+    → OnOk left (KeepsToEnd first last first_receiving station before after looked kept) → IfErr left (KeepsToBreak first last first_receiving station before after looked kept)
+    → OnOk written ((files : Option FileMap) → IfErr left (λ broken. IsOfFile broken → ⊥) → KeepsJobs last station.jobs files kept → MakesJobFile station.jobs last.name.now files made)
+    → IfErr left (λ broken. IsOfFile broken → Discloses kept made IsSame) → OnErr written (Discloses kept made IsSame) → IfSome f (λ _. KeepsAnswered name f made before after)
+received_kept written first last station name None looked kept made before after left named none grows same ends breaks makes refused still = tt
+received_kept written first last station name (Some f) looked kept made before after left named none grows same ends breaks makes refused still =
+    kept_whatever written first last station name (Some f) looked kept made before after named none grows same left ends breaks makes refused still
+
+-- nothing was heard
+pub nothing_kept : (name : List ℕ) (f made : Option FileMap) (before after : ℕ) → Discloses f made IsSame → after ≡ before → IfSome f (λ _. KeepsAnswered name f made before after)
+nothing_kept name None made before after same silent = tt
+nothing_kept name (Some f) made before after same silent = (first_receiving, before, none_answered first_receiving before, inl (silent, ([], [], refl, inr (refl, same))))

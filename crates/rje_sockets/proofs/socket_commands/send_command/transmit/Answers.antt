@@ -1,0 +1,75 @@
+use Rattle.std.proofs.Common.{rules, ◌≡◌, ℕ, Ok, Err, OnOk, subst, sym}
+use Rattle.rje_files.specs.Unsent.{IsLeft}
+use Rattle.rje_sockets.specs.Marking.{GoesOnMarking}
+use Rattle.rje_sockets.specs.Ending.{MarksSent}
+use Rattle.rje_sockets.proofs.Marked.{all_marked, counted_alone}
+use Rattle.rje_sockets.proofs.socket_commands.send_command.transmit.Goals as goal
+
+pub returns-clause-marked : goal.returns-clause-marked
+returns-clause-marked g c =
+    let f = g.S.Store.files c.args.store.now in
+    let mid = g.S.Store.files c.send_all-sent.new.store in
+    let made = g.S.Store.files c.write-marked.new.store in
+    let old = c.args.marker.now in
+    let new = c.send_all-sent.new.marker in
+    let station = c.send_all-sent.new.station in
+    let on : GoesOnMarking old new c.args.station.now.counted station.counted f mid = search rules in
+    let sets : MarksSent new.file.items station.counted new.name.now mid made = rw c.counted-counted.ensures at c.in_ok-marked.ensures.marked in
+    all_marked old new c.args.station.now.counted station.counted f mid made on sets
+
+pub returns-in_err-marked-clause-status : goal.returns-in_err-marked-clause-status
+returns-in_err-marked-clause-status g c =
+    let f = g.S.Store.files c.args.store.now in
+    let mid = g.S.Store.files c.send_all-sent.new.store in
+    let old = c.args.marker.now in
+    let new = c.send_all-sent.new.marker in
+    let on : GoesOnMarking old new c.args.station.now.counted c.send_all-sent.new.station.counted f mid = search rules in
+    let is : c.from_residual-in_err-marked.result ≡ Err c.in_err-marked.field-0.0 = search rules in
+    rw is (λ jobs left. c.in_err-marked.ensures.status jobs (subst (λ file. IsLeft file.items jobs) (sym on.1) left))
+
+pub returns-in_err-sent-clause-count : goal.returns-in_err-sent-clause-count
+returns-in_err-sent-clause-count g c =
+    let f = g.S.Store.files c.args.store.now in
+    let mid = g.S.Store.files c.send_all-sent.new.store in
+    let made = g.S.Store.files c.write-marked.new.store in
+    let old = c.args.marker.now in
+    let new = c.send_all-sent.new.marker in
+    let station = c.send_all-sent.new.station in
+    let sets : OnOk c.write-marked.result (MarksSent new.file.items station.counted new.name.now mid made) = rw c.counted-counted.ensures at c.write-marked.ensures.marked in
+    counted_alone {X = ℕ} (Err c.in_err-sent.field-0.0) c.write-marked.result old new c.args.station.now station f mid made tt c.in_err-sent.ensures.broken c.in_err-sent.ensures.count
+    tt c.in_err-sent.ensures.fault sets c.write-marked.ensures.same
+
+pub returns-in_err-marked-clause-count : goal.returns-in_err-marked-clause-count
+returns-in_err-marked-clause-count g c =
+    let f = g.S.Store.files c.args.store.now in
+    let mid = g.S.Store.files c.send_all-sent.new.store in
+    let made = g.S.Store.files c.write-marked.new.store in
+    let old = c.args.marker.now in
+    let new = c.send_all-sent.new.marker in
+    let station = c.send_all-sent.new.station in
+    counted_alone {Y = ℕ} (Ok c.in_ok-sent.field-0) (Err c.in_err-marked.field-0.0) old new c.args.station.now station f mid made c.in_ok-sent.ensures.marked tt c.in_ok-sent.ensures.count
+    c.in_ok-sent.ensures.took tt tt c.in_err-marked.ensures.same
+
+pub returns-in_err-printed-clause-count : goal.returns-in_err-printed-clause-count
+returns-in_err-printed-clause-count g c =
+    let f = g.S.Store.files c.args.store.now in
+    let mid = g.S.Store.files c.send_all-sent.new.store in
+    let made = g.S.Store.files c.write-marked.new.store in
+    let old = c.args.marker.now in
+    let new = c.send_all-sent.new.marker in
+    let station = c.send_all-sent.new.station in
+    let sets : MarksSent new.file.items station.counted new.name.now mid made = rw c.counted-counted.ensures at c.in_ok-marked.ensures.marked in
+    counted_alone (Ok c.in_ok-sent.field-0) (Ok c.in_ok-marked.field-0) old new c.args.station.now station f mid made c.in_ok-sent.ensures.marked tt c.in_ok-sent.ensures.count
+    c.in_ok-sent.ensures.took tt sets tt
+
+pub returns-clause-count : goal.returns-clause-count
+returns-clause-count g c =
+    let f = g.S.Store.files c.args.store.now in
+    let mid = g.S.Store.files c.send_all-sent.new.store in
+    let made = g.S.Store.files c.write-marked.new.store in
+    let old = c.args.marker.now in
+    let new = c.send_all-sent.new.marker in
+    let station = c.send_all-sent.new.station in
+    let sets : MarksSent new.file.items station.counted new.name.now mid made = rw c.counted-counted.ensures at c.in_ok-marked.ensures.marked in
+    counted_alone (Ok c.in_ok-sent.field-0) (Ok c.in_ok-marked.field-0) old new c.args.station.now station f mid made c.in_ok-sent.ensures.marked tt c.in_ok-sent.ensures.count
+    c.in_ok-sent.ensures.took tt sets tt

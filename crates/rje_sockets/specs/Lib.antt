@@ -1,0 +1,9 @@
+pub mod Keeping
+pub mod Answering
+pub mod BrokenOff
+pub mod Inside
+pub mod Ending
+pub mod Patience
+pub mod Marking
+pub mod Tracing
+pub mod Watching

@@ -1,0 +1,33 @@
+-- How a receiving station left a transmission over a line: after an end that it heard, or when its patience ended (own profile).
+use Rattle.std.specs.Prelude.{◌≡◌, ◌⊎◌, ◌<◌, ◌+◌, ℕ, Bool, true, false, [], ◌∷◌, length, Option, Some, None}
+use Rattle.bsc_link.specs.declared.sound.Sound.{Sound}
+use Rattle.bsc_history.specs.History.{History}
+use Rattle.rje_station.specs.declared.arrival.Arrival.{Arrival}
+use Rattle.rje_station.specs.Receiving.{Receiving, after_abandon}
+use Rattle.line_world.specs.AnyLines.{ReceiverTook}
+use Rattle.rje_sockets.specs.declared.exchange.Left.{Left}
+
+-- how many of the last turns brought nothing, without a break
+abbrev pub quiet_turns : History → ℕ
+quiet_turns [] = 0
+quiet_turns (t ∷ past) = elim t.arrived [ Sound.Quiet ↦ quiet_turns past + 1 | _ ↦ 0 ]
+
+-- the last hearing brought nothing
+abbrev pub was_quiet : Option Arrival → Bool
+was_quiet None = false
+was_quiet (Some arrival) = elim arrival.sound [ Sound.Quiet ↦ true | _ ↦ false ]
+
+-- it went on only as long as these weren't forty
+abbrev pub WentOn : History → Type 0
+WentOn [] = Unit {0}
+WentOn (t ∷ past) = (quiet_turns past < 40) × WentOn past
+
+-- the sender ended it; or forty quiet turns came one after another, or so many turns in all
+abbrev pub HearsOut : Left → Receiving → Receiving → Type 0
+HearsOut Left.Ended r r' = (h : History) × WentOn h × ReceiverTook r h r' × (r'.over ≡ true)
+HearsOut Left.Abandoned r r' = (h : History) × WentOn h × ((quiet_turns h ≡ 40) ⊎ (length h ≡ 1000000000)) × ReceiverTook r h r'
+
+-- so, and in the second case the station was told to end
+abbrev pub LeavesSo : Left → Receiving → Receiving → Type 0
+LeavesSo Left.Ended r r' = HearsOut Left.Ended r r'
+LeavesSo Left.Abandoned r r' = (far : Receiving) × HearsOut Left.Abandoned r far × (r' ≡ after_abandon far)

@@ -1,0 +1,311 @@
+//! Stations that take turns over a line, until the transmission ends.
+ghost use Rattle.std.specs.Prelude.{◌≡◌, ◌⊎◌, ◌<◌, ◌+◌, ℕ, List, true, false, if◌then◌else◌, IfOk, OnOk, IfErr, OnErr};
+ghost use Rattle.bsc_history.specs.History.{History};
+ghost use Rattle.bsc_history.specs.declared.spoken_turn.SpokenTurn.{SpokenTurn};
+ghost use Rattle.line_world.specs.declared.spoken.Spoken.{Spoken as Turn};
+ghost use Rattle.rje_station.specs.Receiving.{Receiving, after_abandon};
+ghost use Rattle.rje_sockets.specs.Answering.{BreaksKeeping, KeepsToBreak, KeepsToEnd, with_answer};
+ghost use Rattle.rje_commands.specs.CommandFault.{IsFailing, of_station, status_of};
+ghost use Rattle.rje_sockets.specs.BrokenOff.{of_broken_off};
+ghost use Rattle.rje_sockets.specs.Keeping.{BreaksOff, BreaksOffNow, GoesOnKeeping, IsOfFile};
+ghost use Rattle.rje_sockets.specs.Marking.{GoesOnMarking, WereCounted};
+ghost use Rattle.rje_sockets.specs.Patience.{LeavesSo, HearsOut, was_quiet};
+ghost use Rattle.rje_stores.specs.Store.{Discloses, IsSame};
+ghost use Rattle.rje_sockets.specs.Watching.{SenderWatched, SenderWatchedAll, ReceiverWatched, ReceiverWatchedAll, BothWatchedAll};
+ghost use Rattle.line_world.specs.AnyLines.{SenderTakes, SenderFails, SendsToEnd, SendsToFault, ReceiverTakes, BothTake, BothFail, BothToEnd, BothToFault};
+
+use crate::broken_off::BrokenOff;
+use crate::keeper::Keeper;
+use crate::marker::Marker;
+use crate::watch::Watch;
+use bsc_link::{Say, Sound, Wish};
+use line_world::Spoken;
+use rje_station::{Arrival, Line, ReceivingStation, SendingStation, StationFault};
+use rje_stores::Store;
+
+/// After so many quiet hearings in a row a receiving station leaves.
+const MAX_QUIET: u32 = 40;
+
+/// After so many hearings in all it leaves too.
+const MAX_HEARINGS: u32 = 1_000_000_000;
+
+/// How a receiving station left a transmission.
+#[derive(Clone, Copy, Debug, PartialEq, Eq)]
+pub enum Left {
+    /// The sender ended it.
+    Ended,
+    /// It gave up hope of the sender.
+    Abandoned,
+}
+
+/// Sends what the station has, to the end of its transmission. Each job is marked in its file as soon as it is counted; where that fails, no
+/// more are, and the transmission goes on.
+pub fn send_all<'a, L: Line, S: Store, W: Watch>(
+    station: &mut SendingStation,
+    line: &mut L,
+    marker: &mut Marker<'a>,
+    store: &mut S,
+    watch: &mut W,
+) -> Result<(), StationFault>
+    ensures took { OnOk result (SendsToEnd station.old station.new) }
+    ensures fault { IfErr result (SendsToFault station.old station.new) }
+    ensures status { IfErr result (λ fault. IsFailing (status_of (of_station fault))) }
+    ensures marked { OnOk result (GoesOnMarking marker.old marker.new station.old.counted
+        station.new.counted (S.files store.old) (S.files store.new)) }
+    ensures broken { OnErr result ((n : ℕ) × GoesOnMarking marker.old marker.new
+        station.old.counted n (S.files store.old) (S.files store.new)) }
+    ensures count { (marker.new.marked ≡ marker.old.marked)
+        ⊎ WereCounted station.old marker.new.marked }
+    ensures told { OnOk result ((h : History)
+        × SenderWatchedAll W.saw_sender station.old watch.old station.new watch.new h) }
+{
+    for _ in 0..u64::MAX {
+        if !speak_hear_and_mark(station, line, marker, store, watch)? {
+            return Ok(());
+        }
+    }
+    Ok(())
+}
+
+/// One turn of a sending station, and whether there is one; then as many jobs are marked as it has counted.
+fn speak_hear_and_mark<'a, L: Line, S: Store, W: Watch>(
+    station: &mut SendingStation,
+    line: &mut L,
+    marker: &mut Marker<'a>,
+    store: &mut S,
+    watch: &mut W,
+) -> Result<bool, StationFault>
+    ensures takes { IfOk result (λ is_turn. is_turn ≡ true → (t : SpokenTurn)
+        × SenderTakes station.old station.new t) }
+    ensures over { IfOk result (λ is_turn. is_turn ≡ false → (station.old.over ≡ true)
+        × (station.new ≡ station.old)) }
+    ensures fault { IfErr result (SenderFails station.old station.new) }
+    ensures status { IfErr result (λ fault. IsFailing (status_of (of_station fault))) }
+    ensures marked { OnOk result (GoesOnMarking marker.old marker.new station.old.counted
+        station.new.counted (S.files store.old) (S.files store.new)) }
+    ensures count { (marker.new.marked ≡ marker.old.marked)
+        ⊎ (marker.new.marked ≡ station.new.counted) }
+    ensures unmarked { OnErr result ((marker.new ≡ marker.old) × (store.new ≡ store.old)) }
+    ensures still { marker.new.marked ≡ marker.old.marked
+        → Discloses (S.files store.old) (S.files store.new) IsSame }
+    ensures told { IfOk result (λ is_turn. is_turn ≡ true → (t : SpokenTurn)
+        × SenderWatched W.saw_sender station.old watch.old station.new watch.new t) }
+    ensures untold { IfOk result (λ is_turn. is_turn ≡ false → watch.new ≡ watch.old) }
+{
+    let is_turn = speak_and_hear(station, line, watch)?;
+    marker.mark(station.counted(), store);
+    Ok(is_turn)
+}
+
+/// One turn of a sending station, and whether there is one: it says what is due, and but for EOT it listens.
+fn speak_and_hear<L: Line, W: Watch>(
+    station: &mut SendingStation,
+    line: &mut L,
+    watch: &mut W,
+) -> Result<bool, StationFault>
+    ensures takes { IfOk result (λ is_turn. is_turn ≡ true → (t : SpokenTurn)
+        × SenderTakes station.old station.new t) }
+    ensures over { IfOk result (λ is_turn. is_turn ≡ false → (station.old.over ≡ true)
+        × (station.new ≡ station.old)) }
+    ensures fault { IfErr result (SenderFails station.old station.new) }
+    ensures status { IfErr result (λ fault. IsFailing (status_of (of_station fault))) }
+    ensures told { IfOk result (λ is_turn. is_turn ≡ true → (t : SpokenTurn)
+        × SenderWatched W.saw_sender station.old watch.old station.new watch.new t) }
+    ensures untold { IfOk result (λ is_turn. is_turn ≡ false → watch.new ≡ watch.old) }
+{
+    match station.speak(line) {
+        Ok(Say::End) => {
+            watch.sender_took(Say::End, Sound::Quiet);
+            Ok(true)
+        }
+        Ok(said) => {
+            let heard = station.hear(line, false)?;
+            watch.sender_took(said, heard);
+            Ok(true)
+        }
+        Err(StationFault::Over) => Ok(false),
+        Err(fault) => Err(fault),
+    }
+}
+
+/// Receives what comes, until the sender ends the transmission or stays quiet for long. Each job is kept before its last block is
+/// answered; where it can't be, the station leaves.
+pub fn receive_all<'a, L: Line, S: Store, W: Watch>(
+    station: &mut ReceivingStation,
+    line: &mut L,
+    keeper: &mut Keeper<'a>,
+    store: &mut S,
+    watch: &mut W,
+) -> Result<Left, BrokenOff<'a>>
+    ensures left { IfOk result (λ left. LeavesSo left station.old station.new) }
+    ensures fault { IfErr result (BreaksOff station.old station.new) }
+    ensures status { IfErr result (λ broken. IsFailing (status_of (of_broken_off broken))) }
+    ensures kept { OnOk result (KeepsToEnd keeper.old keeper.new station.old station.new
+        (L.transmissions line.old) (L.transmissions line.new)
+        (S.files store.old) (S.files store.new)) }
+    ensures broken { IfErr result (KeepsToBreak keeper.old keeper.new station.old station.new
+        (L.transmissions line.old) (L.transmissions line.new)
+        (S.files store.old) (S.files store.new)) }
+    ensures told { OnOk result ((h : History) × (far : Receiving)
+        × ReceiverWatchedAll W.saw_receiver station.old watch.old far watch.new h
+        × ((station.new ≡ far) ⊎ (station.new ≡ after_abandon far))) }
+{
+    let left = hear_out(station, line, keeper, store, watch)?;
+    if left == Left::Abandoned {
+        station.abandon();
+    }
+    Ok(left)
+}
+
+/// Receives until the sender ends the transmission, or there is no more hope of it.
+fn hear_out<'a, L: Line, S: Store, W: Watch>(
+    station: &mut ReceivingStation,
+    line: &mut L,
+    keeper: &mut Keeper<'a>,
+    store: &mut S,
+    watch: &mut W,
+) -> Result<Left, BrokenOff<'a>>
+    ensures heard { IfOk result (λ left. HearsOut left station.old station.new) }
+    ensures fault { IfErr result (BreaksOff station.old station.new) }
+    ensures status { IfErr result (λ broken. IsFailing (status_of (of_broken_off broken))) }
+    ensures kept { OnOk result (KeepsToEnd keeper.old keeper.new station.old station.new
+        (L.transmissions line.old) (L.transmissions line.new)
+        (S.files store.old) (S.files store.new)) }
+    ensures broken { IfErr result (KeepsToBreak keeper.old keeper.new station.old station.new
+        (L.transmissions line.old) (L.transmissions line.new)
+        (S.files store.old) (S.files store.new)) }
+    ensures told { OnOk result ((h : History)
+        × ReceiverWatchedAll W.saw_receiver station.old watch.old station.new watch.new h) }
+{
+    let mut quiet = 0;
+    for _ in 0..MAX_HEARINGS {
+        if !hear_keep_and_speak(station, line, keeper, store, watch)? {
+            return Ok(Left::Ended);
+        }
+        quiet = quiet_after(quiet, station);
+        if quiet == MAX_QUIET {
+            return Ok(Left::Abandoned);
+        }
+    }
+    Ok(Left::Abandoned)
+}
+
+/// How many quiet hearings in a row there are, with the last one.
+fn quiet_after(quiet: u32, station: &ReceivingStation) -> u32
+    requires few { quiet < MAX_QUIET }
+    ensures { result ≡ (if was_quiet station.now.arrival then quiet + 1 else 0) }
+{
+    match station.arrival() {
+        Some(
+            Arrival {
+                sound: Sound::Quiet,
+                refused: _,
+            },
+        ) => quiet + 1,
+        _ => 0,
+    }
+}
+
+/// One turn of a receiving station: it listens, it keeps the job that has come to its end, and it replies where the transmission isn't
+/// over, which is answered. Where the job can't be kept, it leaves and doesn't reply.
+fn hear_keep_and_speak<'a, L: Line, S: Store, W: Watch>(
+    station: &mut ReceivingStation,
+    line: &mut L,
+    keeper: &mut Keeper<'a>,
+    store: &mut S,
+    watch: &mut W,
+) -> Result<bool, BrokenOff<'a>>
+    ensures takes { OnOk result ((t : SpokenTurn) × ReceiverTakes station.old station.new t
+        × (L.transmissions line.new ≡ with_answer t (L.transmissions line.old))) }
+    ensures over { IfOk result (λ goes_on. goes_on ≡ false → station.new.over ≡ true) }
+    ensures fault { IfErr result (BreaksOffNow station.old station.new) }
+    ensures kept { OnOk result (GoesOnKeeping keeper.old keeper.new station.old.jobs
+        station.new.jobs (S.files store.old) (S.files store.new)) }
+    ensures status { IfErr result (λ broken. IsFailing (status_of (of_broken_off broken))) }
+    ensures silent { IfErr result (λ broken. IsOfFile broken
+        → L.transmissions line.new ≡ L.transmissions line.old) }
+    ensures broken { IfErr result (BreaksKeeping keeper.old keeper.new station.old station.new
+        (L.transmissions line.old) (L.transmissions line.new)
+        (S.files store.old) (S.files store.new)) }
+    ensures told { OnOk result ((t : SpokenTurn)
+        × ReceiverWatched W.saw_receiver station.old watch.old station.new watch.new t) }
+{
+    let reply = station.hear(line, Wish::Go)?;
+    let Some(arrival) = station.arrival() else {
+        unreachable!()
+    };
+    if let Err(fault) = keeper.keep(station.jobs(), store) {
+        station.abandon();
+        watch.receiver_took(arrival, None);
+        return Err(BrokenOff::File(fault));
+    }
+    match station.speak(line) {
+        Ok(_) => {
+            watch.receiver_took(arrival, reply);
+            Ok(true)
+        }
+        Err(StationFault::Over) => {
+            watch.receiver_took(arrival, reply);
+            Ok(false)
+        }
+        Err(fault) => Err(BrokenOff::Line(fault)),
+    }
+}
+
+/// Lets a sender and a receiver take turns, each at its end of a line, to the end of the transmission.
+pub fn take_turns<N: Line, F: Line, W: Watch>(
+    sender: &mut SendingStation,
+    near: &mut N,
+    receiver: &mut ReceivingStation,
+    far: &mut F,
+    watch: &mut W,
+) -> Result<(), StationFault>
+    ensures took { OnOk result (BothToEnd sender.old sender.new receiver.old receiver.new) }
+    ensures fault { IfErr result (BothToFault sender.old sender.new receiver.old receiver.new) }
+    ensures told { OnOk result ((turns : List Turn) × BothWatchedAll W.saw_both
+        sender.old receiver.old watch.old sender.new receiver.new watch.new turns) }
+{
+    for _ in 0..u64::MAX {
+        let Some(turn) = take_turn(sender, near, receiver, far)? else {
+            return Ok(());
+        };
+        watch.both_took(&turn);
+    }
+    Ok(())
+}
+
+/// One turn of a sender and a receiver; None where the sender has nothing to say any more.
+fn take_turn<N: Line, F: Line>(
+    sender: &mut SendingStation,
+    near: &mut N,
+    receiver: &mut ReceivingStation,
+    far: &mut F,
+) -> Result<Option<Spoken>, StationFault>
+    ensures takes { IfOk result (λ spoken.
+        BothTake spoken sender.old sender.new receiver.old receiver.new) }
+    ensures fault { IfErr result (BothFail sender.old sender.new receiver.old receiver.new) }
+{
+    let said = match sender.speak(near) {
+        Ok(said) => said,
+        Err(StationFault::Over) => return Ok(None),
+        Err(fault) => return Err(fault),
+    };
+    let reply = receiver.hear(far, Wish::Go)?;
+    let Some(Arrival { sound, refused }) = receiver.arrival() else {
+        unreachable!()
+    };
+    let heard = match said {
+        Say::End => Sound::Quiet,
+        _ => {
+            receiver.speak(far)?;
+            sender.hear(near, false)?
+        }
+    };
+    Ok(Some(Spoken {
+        said,
+        arrived: sound,
+        refused,
+        reply,
+        heard,
+    }))
+}

@@ -1,0 +1,16 @@
+//! The program's commands over sockets: one transmission over a line, whose jobs are kept as they come and marked as they are counted.
+#![tactic(auto)]
+
+mod broken_off;
+mod exchange;
+mod keeper;
+mod marker;
+mod over_sockets;
+mod socket_commands;
+mod socket_line;
+mod tracer;
+mod watch;
+
+pub use over_sockets::{is_for_sockets, socket_command};
+pub use socket_commands::{receive_over, send_over};
+pub use socket_line::SocketLine;

@@ -1,0 +1,113 @@
+//! Marks the jobs of a transmission in their file while they are counted.
+ghost use Rattle.std.specs.Prelude.{◌≡◌, ◌⊎◌, ◌+◌, ◌<◌, ℕ, List, Option, Some, true, false, IfErr, IfOk, IfSome, OnOk, OnErr};
+ghost use Rattle.std.specs.List.{slice_get};
+ghost use Rattle.rje_jobs.specs.declared.job.Job.{Job};
+ghost use Rattle.rje_files.specs.Marks.{AreMarks};
+ghost use Rattle.rje_files.specs.Unsent.{IsLeft};
+ghost use Rattle.rje_commands.specs.CommandFault.{IsFailing, status_of};
+ghost use Rattle.rje_sockets.specs.Ending.{MarksSent};
+ghost use Rattle.rje_sockets.specs.Marking.{AreMarked, GoesOnMarking};
+ghost use Rattle.rje_stores.specs.Store.{FileMap, Discloses, IsSame};
+
+use rje_commands::{CommandFault, look_at_file, set_byte_of_file, write_file};
+use rje_files::{MARK, sent_file};
+use rje_stores::{Place, Store};
+use std::alloc::Global;
+
+/// Marks the jobs of a job file as they are counted: the first by a new file in its place, and each further one by a byte in that.
+#[derive(Drop)]
+pub struct Marker<'a> {
+    alloc: Global,
+    name: &'a str,
+    /// The file as it was read.
+    file: Vec<u8>,
+    /// Where its jobs are marked.
+    places: Vec<usize>,
+    /// So many are marked.
+    marked: usize,
+    /// A mark failed, and no more are made.
+    gave_up: bool,
+}
+
+impl<'a> Marker<'a> {
+    /// Marks the jobs of the file of this name, which has these bytes, at these places. No job is marked yet.
+    pub fn new(alloc: Global, name: &'a str, file: Vec<u8>, places: Vec<usize>) -> Marker<'a>
+        ensures name { result.name.now ≡ name.entry.now }
+        ensures file { result.file ≡ file }
+        ensures places { result.places ≡ places }
+        ensures none { result.marked ≡ 0 }
+        ensures marking { result.gave_up ≡ false }
+    {
+        Marker {
+            alloc,
+            name,
+            file,
+            places,
+            marked: 0,
+            gave_up: false,
+        }
+    }
+
+    /// Marks as many jobs as are counted. Where it can't, it changes no file, and marks no more from then on.
+    pub fn mark<S: Store>(&mut self, counted: usize, store: &mut S)
+        ensures marked { (before : ℕ) → GoesOnMarking self.old self.new before counted
+            (S.files store.old) (S.files store.new) }
+        ensures count { (self.new.marked ≡ self.old.marked) ⊎ (self.new.marked ≡ counted) }
+        ensures still { self.new.marked ≡ self.old.marked
+            → Discloses (S.files store.old) (S.files store.new) IsSame }
+    {
+        if self.gave_up || counted == self.marked {
+            return;
+        }
+        match self.put(counted, store) {
+            Ok(()) => self.marked = counted,
+            Err(_) => self.gave_up = true,
+        }
+    }
+
+    /// Marks so many jobs in the file that was read, written as a whole in the place of what stands there.
+    pub fn write<S: Store>(&self, counted: usize, store: &mut S) -> Result<(), CommandFault<'a>>
+        ensures marked { OnOk result (MarksSent self.now.file.items counted self.now.name.now
+            (S.files store.old) (S.files store.new)) }
+        ensures status { IfErr result (λ fault. (jobs : List Job)
+            → IsLeft self.now.file.items jobs → IsFailing (status_of fault)) }
+        ensures same { OnErr result (Discloses (S.files store.old) (S.files store.new) IsSame) }
+    {
+        let bytes = sent_file(self.alloc, self.file.as_slice(), counted)?;
+        write_file(self.name, bytes.as_slice(), store)
+    }
+
+    /// Makes another number of jobs marked.
+    fn put<S: Store>(&self, counted: usize, store: &mut S) -> Result<(), CommandFault<'a>>
+        ensures marked { OnOk result ((files : Option FileMap)
+            → AreMarks self.now.file.items self.now.places.items
+            → AreMarked self.now.file.items self.now.marked self.now.name.now files
+            (S.files store.old)
+            → MarksSent self.now.file.items counted self.now.name.now files
+            (S.files store.new)) }
+        ensures same { OnErr result (Discloses (S.files store.old) (S.files store.new) IsSame) }
+    {
+        if let Some(place) = self.next_place(counted) {
+            return set_byte_of_file(self.alloc, self.name, place, MARK, store);
+        }
+        match look_at_file(self.name, store)? {
+            Place::Growing => self.write(counted, store),
+            Place::Once => Err(CommandFault::CannotWrite(self.name)),
+        }
+    }
+
+    /// Where the next job is marked, where some are and just one more is to be.
+    fn next_place(&self, counted: usize) -> Option<usize>
+        ensures place { IfSome result (λ place.
+            slice_get self.now.places.items self.now.marked ≡ Some place) }
+        ensures one { IfSome result (λ _. counted ≡ self.now.marked + 1) }
+        ensures some { IfSome result (λ _. 0 < self.now.marked) }
+    {
+        let marked = self.marked;
+        if 0 < marked && marked < counted && counted - marked == 1 && marked < self.places.len() {
+            Some(self.places[marked])
+        } else {
+            None
+        }
+    }
+}

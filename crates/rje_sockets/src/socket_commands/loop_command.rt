@@ -1,0 +1,95 @@
+//! `loop`: both ends in one process, over a connection on this machine.
+ghost use Rattle.std.specs.Prelude.{◌≡◌, List, IfOk, OnOk};
+ghost use Rattle.std.specs.Io.KnownBytes.{Appends};
+ghost use Rattle.rje_station.specs.Sending.{outcome_of};
+ghost use Rattle.line_world.specs.AnyLines.{BothToEnd};
+ghost use Rattle.line_world.specs.declared.spoken.Spoken.{Spoken};
+ghost use Rattle.rje_sockets.specs.Ending.{ending_of, loop_text};
+ghost use Rattle.rje_sockets.specs.Watching.{BothWatchedAll};
+
+use crate::exchange::take_turns;
+use crate::socket_commands::Ending;
+use crate::socket_line::SocketLine;
+use crate::tracer::Tracer;
+use crate::watch::Watch;
+use rje_commands::{CommandFault, put_lines, read_job_file};
+use rje_print::{counted_text, handed_text, outcome_text};
+use rje_station::{Line, ReceivingStation, SendingStation};
+use rje_stores::Store;
+use rje_words::LoopOrder;
+use std::alloc::Global;
+use std::io::{self, Write};
+use std::net::{Ipv4Addr, Net, OpenListener, SocketAddr, TcpListener, TcpStream};
+use std::time::Clock;
+
+/// Sends the jobs of a job file from one end of a connection to the other, and prints how many were counted, how many handed out, and how
+/// it ended. Where that is asked for, each turn is told to `err` as it happens.
+pub fn loopback<'a, R: Net + Clock, S: Store, O: Write, E: Write>(
+    rt: &R,
+    alloc: Global,
+    order: LoopOrder<'a>,
+    store: &mut S,
+    out: &mut O,
+    err: &mut E,
+) -> Result<Ending, CommandFault<'a>> {
+    let jobs = read_job_file(alloc, order.jobs, store)?;
+    let mut sender = SendingStation::new(alloc, jobs.as_slice())?;
+    let mut receiver = ReceivingStation::new(alloc)?;
+    let Ok((mut near, mut far)) = both_ends(rt, order.timeout) else {
+        return Err(CommandFault::LineFailed);
+    };
+    let mut tracer = Tracer::new(rt, order.trace, err);
+    loop_over(
+        &mut sender,
+        &mut near,
+        &mut receiver,
+        &mut far,
+        jobs.len(),
+        &mut tracer,
+        out,
+    )
+}
+
+/// Sends what the sender has to the receiver, each at its end of a line, and prints the lines of it, also after a fault of the line.
+fn loop_over<'a, N: Line, F: Line, W: Watch, O: Write>(
+    sender: &mut SendingStation,
+    near: &mut N,
+    receiver: &mut ReceivingStation,
+    far: &mut F,
+    given: usize,
+    watch: &mut W,
+    out: &mut O,
+) -> Result<Ending, CommandFault<'a>>
+    ensures took { OnOk result (BothToEnd sender.old sender.new receiver.old receiver.new) }
+    ensures ended { IfOk result (λ ending. ending ≡ ending_of (outcome_of sender.new)) }
+    ensures printed { OnOk result (Appends (O.contents out.old) (O.contents out.new)
+        (loop_text sender.new.counted given receiver.new.jobs (outcome_of sender.new))) }
+    ensures told { OnOk result ((turns : List Spoken) × BothWatchedAll W.saw_both
+        sender.old receiver.old watch.old sender.new receiver.new watch.new turns) }
+{
+    let taken = take_turns(sender, near, receiver, far, watch);
+    let lines = [
+        counted_text(sender.counted(), given),
+        handed_text(receiver.jobs()),
+        outcome_text(sender.outcome()),
+    ];
+    let printed = put_lines(&lines, out);
+    taken?;
+    printed?;
+    Ok(Ending::from(sender.outcome()))
+}
+
+/// Both ends of a line: a connection to a free port of this machine.
+fn both_ends<R: Net>(
+    rt: &R,
+    timeout: u16,
+) -> io::Result<(SocketLine<R::Stream>, SocketLine<R::Stream>)> {
+    let any = SocketAddr::from((Ipv4Addr::LOCALHOST, 0));
+    let listener = TcpListener::bind(rt, any)?;
+    let near = TcpStream::connect(rt, listener.local_addr()?)?;
+    let (far, _) = listener.accept()?;
+    Ok((
+        SocketLine::new(near, timeout)?,
+        SocketLine::new(far, timeout)?,
+    ))
+}

@@ -1,0 +1,155 @@
+//! `receive`: one transmission from whoever connects, into a job file.
+ghost use Rattle.std.specs.Prelude.{◌≡◌, ◌⊎◌, Option, IfErr, IfOk, IfSome, IsErrOf, IsOk, OnErr, OnOk};
+ghost use Rattle.std.specs.Result.{IsOkAnd};
+ghost use Rattle.rje_sockets.specs.Answering.{KeepsAnswered};
+ghost use Rattle.rje_commands.specs.CommandFault.{IsFailing, status_of};
+ghost use Rattle.rje_sockets.specs.BrokenOff.{of_broken_off};
+ghost use Rattle.rje_sockets.specs.Ending.{ending_of_left, MakesJobFile, Receives, EndsReceiving};
+ghost use Rattle.rje_sockets.specs.Keeping.{IsOfFile, KeepsJobs};
+ghost use Rattle.rje_stores.specs.Store.{FileMap, Discloses, IsSame};
+
+use crate::broken_off::BrokenOff;
+use crate::exchange::{Left, receive_all};
+use crate::keeper::Keeper;
+use crate::socket_commands::Ending;
+use crate::socket_line::SocketLine;
+use crate::tracer::Tracer;
+use crate::watch::{Unwatched, Watch};
+use rje_commands::{CommandFault, look_at_file, put, tell};
+use rje_jobs::Job;
+use rje_print::handed_text;
+use rje_station::{Line, ReceivingStation};
+use rje_stores::Store;
+use rje_words::PeerOrder;
+use std::alloc::Global;
+use std::io::{self, Write};
+use std::net::{Net, OpenListener, SocketAddr, TcpListener};
+use std::time::Clock;
+
+/// Looks whether the job file can be written, takes one connection at this address and one transmission, writes its jobs into the file
+/// and prints how many there are. Where that is asked for, who is connected and each turn is told to `err` as it happens.
+pub fn receive<'a, R: Net + Clock, S: Store, O: Write, E: Write>(
+    rt: &R,
+    alloc: Global,
+    order: PeerOrder<'a>,
+    store: &mut S,
+    out: &mut O,
+    err: &mut E,
+) -> Result<Ending, CommandFault<'a>> {
+    look_at_file(order.jobs, store)?;
+    let Ok((mut line, peer)) = accepted(rt, order.address, order.timeout) else {
+        return Err(CommandFault::LineFailed);
+    };
+    let mut tracer = Tracer::new(rt, order.trace, err);
+    tracer.connected(peer);
+    received(alloc, &mut line, order.jobs, store, &mut tracer, out)
+}
+
+/// A line to whoever connects first, and the peer's address.
+fn accepted<R: Net>(
+    rt: &R,
+    address: SocketAddr,
+    timeout: u16,
+) -> io::Result<(SocketLine<R::Stream>, SocketAddr)> {
+    let listener = TcpListener::bind(rt, address)?;
+    let (stream, peer) = listener.accept()?;
+    Ok((SocketLine::new(stream, timeout)?, peer))
+}
+
+/// Receives one transmission over a line into the job file of this name, also where the line fails, and prints how many jobs there are.
+/// Each job is in the file before its last block is answered. Answers the exit status, and tells why it isn't 0.
+pub fn receive_over<L: Line, S: Store, O: Write, E: Write>(
+    alloc: Global,
+    line: &mut L,
+    name: &str,
+    store: &mut S,
+    out: &mut O,
+    err: &mut E,
+) -> u8
+    ensures received { (result ≡ 0) ⊎ (result ≡ 4) → EndsReceiving result name.now
+        (S.files store.old) (S.files store.new) (O.contents out.old) (O.contents out.new) }
+    ensures status { (result ≡ 0) ⊎ ((result ≡ 4) ⊎ IsFailing result) }
+    ensures kept { IfSome (S.files store.old) (λ _. KeepsAnswered name.now
+        (S.files store.old) (S.files store.new)
+        (L.transmissions line.old) (L.transmissions line.new)) }
+{
+    match received(alloc, line, name, store, &mut Unwatched, out) {
+        Ok(ending) => ending.status(),
+        Err(fault) => tell(&fault, err),
+    }
+}
+
+fn received<'a, L: Line, S: Store, W: Watch, O: Write>(
+    alloc: Global,
+    line: &mut L,
+    name: &'a str,
+    store: &mut S,
+    watch: &mut W,
+    out: &mut O,
+) -> Result<Ending, CommandFault<'a>>
+    ensures received { IfOk result (λ ending. Receives ending name.entry.now
+        (S.files store.old) (S.files store.new) (O.contents out.old) (O.contents out.new)) }
+    ensures status { IfErr result (λ fault. IsFailing (status_of fault)) }
+    ensures kept { IfSome (S.files store.old) (λ _. KeepsAnswered name.entry.now
+        (S.files store.old) (S.files store.new)
+        (L.transmissions line.old) (L.transmissions line.new)) }
+{
+    let mut station = ReceivingStation::new(alloc)?;
+    let mut keeper = Keeper::new(alloc, name, store)?;
+    let left = receive_all(&mut station, line, &mut keeper, store, watch);
+    let handed = handed_text(station.jobs());
+    let written = keep_rest(&left, &mut keeper, station.take(), store);
+    let printed = put(handed.as_slice(), out);
+    ending_after(left, written, printed)
+}
+
+/// Keeps what is left of the jobs, where none of them was refused by the file before.
+fn keep_rest<'a, S: Store>(
+    left: &Result<Left, BrokenOff<'a>>,
+    keeper: &mut Keeper<'a>,
+    jobs: Vec<Job>,
+    store: &mut S,
+) -> Result<(), CommandFault<'a>>
+    ensures file { OnOk result ((files : Option FileMap) → IfErr left.now (λ broken. IsOfFile broken → ⊥)
+        → KeepsJobs keeper.old jobs.items files (S.files store.old)
+        → MakesJobFile jobs.items keeper.old.name.now files (S.files store.new)) }
+    ensures refused { IfErr left.now (λ broken. IsOfFile broken
+        → Discloses (S.files store.old) (S.files store.new) IsSame) }
+    ensures status { IfErr result (λ fault. IsFailing (status_of fault)) }
+    ensures same { OnErr result (Discloses (S.files store.old) (S.files store.new) IsSame) }
+{
+    let written = match left {
+        Err(BrokenOff::File(_)) => Ok(()),
+        _ => keeper.finish(jobs, store),
+    };
+    store.settle();
+    written
+}
+
+/// How the transmission ends, where nothing failed of it, of its file and of its line on the output; else the first of their faults.
+fn ending_after<'a>(
+    left: Result<Left, BrokenOff<'a>>,
+    written: Result<(), CommandFault<'a>>,
+    printed: Result<(), CommandFault<'a>>,
+) -> Result<Ending, CommandFault<'a>>
+    ensures ending { IfOk result (λ ending.
+        IsOkAnd left.entry (λ left. ending ≡ ending_of_left left)
+        × IsOk written.entry × IsOk printed.entry) }
+    ensures first { IfErr left.entry (λ broken. IsErrOf result (of_broken_off broken)) }
+    ensures second { IsOk left.entry → IfErr written.entry (λ fault. IsErrOf result fault) }
+    ensures third { IsOk left.entry → IsOk written.entry
+        → IfErr printed.entry (λ fault. IsErrOf result fault) }
+    ensures none { IsOk left.entry → IsOk written.entry → IsOk printed.entry → IsOk result }
+    ensures status { IfErr left.entry (λ broken. IsFailing (status_of (of_broken_off broken)))
+        → IfErr written.entry (λ fault. IsFailing (status_of fault))
+        → IfErr printed.entry (λ fault. IsFailing (status_of fault))
+        → IfErr result (λ fault. IsFailing (status_of fault)) }
+{
+    let left = left?;
+    written?;
+    printed?;
+    match left {
+        Left::Ended => Ok(Ending::Done),
+        Left::Abandoned => Ok(Ending::Other),
+    }
+}

@@ -1,0 +1,207 @@
+//! `send`: one transmission of what is left of a job file to a listening receiver.
+ghost use Rattle.std.specs.Prelude.{◌≡◌, ◌⊎◌, List, Option, length, IfErr, IfOk, OnOk};
+ghost use Rattle.std.specs.Io.KnownBytes.{Appends};
+ghost use Rattle.rje_jobs.specs.declared.job.Job.{Job};
+ghost use Rattle.bsc_history.specs.History.{History};
+ghost use Rattle.rje_files.specs.Marks.{AreMarks};
+ghost use Rattle.rje_files.specs.Unsent.{IsLeft};
+ghost use Rattle.rje_station.specs.Sending.{outcome_of};
+ghost use Rattle.line_world.specs.AnyLines.{SendsToEnd};
+ghost use Rattle.rje_commands.specs.Commands.{OfFile};
+ghost use Rattle.rje_commands.specs.CommandFault.{IsFailing, status_of};
+ghost use Rattle.rje_sockets.specs.Ending.{ending_of, sent_text, IsRefusedFile, IsUnsentFault, MarksSent, SendsLeft, EndsSending};
+ghost use Rattle.rje_sockets.specs.Inside.Sending.{IsSendFault};
+ghost use Rattle.rje_sockets.specs.Marking.{Marks, MarksCounted, MarksNoMore};
+ghost use Rattle.rje_stores.specs.Store.{FileMap, Discloses, IsSame};
+ghost use Rattle.rje_sockets.specs.Watching.{SenderWatchedAll};
+
+use crate::exchange::send_all;
+use crate::marker::Marker;
+use crate::socket_commands::Ending;
+use crate::socket_line::SocketLine;
+use crate::tracer::Tracer;
+use crate::watch::{Unwatched, Watch};
+use rje_commands::{CommandFault, put_lines, read_file, tell};
+use rje_files::{first_unsendable, mark_places, read_entries, unsent_jobs};
+use rje_jobs::Jobs;
+use rje_print::{counted_text, outcome_text};
+use rje_station::{Line, SendingStation};
+use rje_stores::Store;
+use rje_words::PeerOrder;
+use std::alloc::Global;
+use std::io::{self, Write};
+use std::net::{Net, SocketAddr, TcpStream};
+use std::time::{Clock, Duration};
+
+/// Sends the jobs of a job file that were not sent to this address, marks those that were counted, and prints how many there are and how
+/// it ended. Where that is asked for, who is connected and each turn is told to `err` as it happens.
+pub fn send<'a, R: Net + Clock, S: Store, O: Write, E: Write>(
+    rt: &R,
+    alloc: Global,
+    order: PeerOrder<'a>,
+    store: &mut S,
+    out: &mut O,
+    err: &mut E,
+) -> Result<Ending, CommandFault<'a>> {
+    let file = job_file(alloc, order.jobs, store)?;
+    let Unsent { jobs, places } = unsent_of(alloc, file.bytes.as_slice())?;
+    let mut station = SendingStation::new(alloc, jobs.as_slice())?;
+    let mut marker = Marker::new(alloc, file.name, file.bytes, places);
+    let Ok(mut line) = connected(rt, order.address, order.timeout) else {
+        return Err(CommandFault::LineFailed);
+    };
+    let mut tracer = Tracer::new(rt, order.trace, err);
+    tracer.connected(order.address);
+    transmit(
+        &mut station,
+        &mut marker,
+        &mut line,
+        store,
+        &mut tracer,
+        out,
+    )
+}
+
+/// Sends over a line what is left of the job file of this name. Then, also after a fault of the line, marks in
+/// it what was counted, and prints how many of the jobs were counted and how it ended. Answers the exit status,
+/// and tells why it isn't 0.
+pub fn send_over<L: Line, S: Store, O: Write, E: Write>(
+    alloc: Global,
+    line: &mut L,
+    name: &str,
+    store: &mut S,
+    out: &mut O,
+    err: &mut E,
+) -> u8
+    ensures sent { (result ≡ 0) ⊎ (result ≡ 4) → EndsSending result name.now
+        (S.files store.old) (S.files store.new) (O.contents out.old) (O.contents out.new) }
+    ensures status { (result ≡ 0) ⊎ ((result ≡ 4) ⊎ ((result ≡ 1) ⊎ IsFailing result)) }
+    ensures refused { result ≡ 1 → OfFile name.now (S.files store.old) IsRefusedFile }
+    ensures marked { MarksNoMore name.now (S.files store.old) (S.files store.new) }
+    ensures files_kept { result ≡ 1 → Discloses (S.files store.old) (S.files store.new) IsSame }
+    ensures silent { result ≡ 1 → (line.new ≡ line.old) × (out.new ≡ out.old) }
+{
+    match sent(alloc, line, name, store, out) {
+        Ok(ending) => ending.status(),
+        Err(fault) => tell(&fault, err),
+    }
+}
+
+fn sent<'a, L: Line, S: Store, O: Write>(
+    alloc: Global,
+    line: &mut L,
+    name: &'a str,
+    store: &mut S,
+    out: &mut O,
+) -> Result<Ending, CommandFault<'a>>
+    ensures sent { IfOk result (λ ending. OfFile name.entry.now (S.files store.old) (λ file.
+        SendsLeft ending name.entry.now file (S.files store.old) (S.files store.new)
+        (O.contents out.old) (O.contents out.new))) }
+    ensures fault { IfErr result (IsSendFault name.entry.now (S.files store.old)) }
+    ensures marked { MarksNoMore name.entry.now (S.files store.old) (S.files store.new) }
+    ensures files_kept { IfErr result (λ fault. status_of fault ≡ 1
+        → Discloses (S.files store.old) (S.files store.new) IsSame) }
+    ensures silent { IfErr result (λ fault. status_of fault ≡ 1
+        → (line.new ≡ line.old) × (out.new ≡ out.old)) }
+{
+    let file = job_file(alloc, name, store)?;
+    let Unsent { jobs, places } = unsent_of(alloc, file.bytes.as_slice())?;
+    let mut station = SendingStation::new(alloc, jobs.as_slice())?;
+    let mut marker = Marker::new(alloc, file.name, file.bytes, places);
+    transmit(&mut station, &mut marker, line, store, &mut Unwatched, out)
+}
+
+/// A job file as it was read.
+#[derive(Drop)]
+struct JobFile<'a> {
+    name: &'a str,
+    bytes: Vec<u8>,
+}
+
+fn job_file<'a, S: Store>(
+    alloc: Global,
+    name: &'a str,
+    store: &mut S,
+) -> Result<JobFile<'a>, CommandFault<'a>>
+    ensures name { IfOk result (λ file. file.name.now ≡ name.entry.now) }
+    ensures bytes { IfOk result (λ file. OfFile name.entry.now (S.files store.old)
+        (λ read. file.bytes.items ≡ read)) }
+    ensures status { IfErr result (λ fault. IsFailing (status_of fault)) }
+    ensures same { Discloses (S.files store.old) (S.files store.new) IsSame }
+{
+    let bytes = read_file(alloc, name, store)?;
+    Ok(JobFile { name, bytes })
+}
+
+/// What is left to send of a job file: its jobs that were not sent, and where they are marked.
+#[derive(Drop)]
+struct Unsent {
+    jobs: Jobs,
+    places: Vec<usize>,
+}
+
+/// What is left to send of a job file, where all of it can be sent.
+fn unsent_of<'a>(alloc: Global, file: &[u8]) -> Result<Unsent, CommandFault<'a>>
+    ensures left { IfOk result (λ left. IsLeft file.now left.jobs) }
+    ensures marks { IfOk result (λ left. AreMarks file.now left.places.items) }
+    ensures fault { IfErr result (λ fault. IsFailing (status_of fault)
+        ⊎ IsUnsentFault file.now fault) }
+{
+    let entries = read_entries(alloc, file)?;
+    if let Some(number) = first_unsendable(entries.as_slice()) {
+        return Err(CommandFault::BadJob(number));
+    }
+    let places = mark_places(alloc, entries.as_slice())?;
+    let jobs = unsent_jobs(alloc, entries)?;
+    Ok(Unsent { jobs, places })
+}
+
+fn connected<R: Net>(
+    rt: &R,
+    address: SocketAddr,
+    timeout: u16,
+) -> io::Result<SocketLine<R::Stream>> {
+    let time = Duration::from_millis(u64::from(timeout));
+    SocketLine::new(TcpStream::connect_timeout(rt, &address, time)?, timeout)
+}
+
+/// Sends what the station has over a line, marks what is counted, at the end in the whole file, and prints the lines of it.
+fn transmit<'a, L: Line, S: Store, W: Watch, O: Write>(
+    station: &mut SendingStation,
+    marker: &mut Marker<'a>,
+    line: &mut L,
+    store: &mut S,
+    watch: &mut W,
+    out: &mut O,
+) -> Result<Ending, CommandFault<'a>>
+    ensures took { OnOk result (SendsToEnd station.old station.new) }
+    ensures ended { IfOk result (λ ending. ending ≡ ending_of (outcome_of station.new)) }
+    ensures printed { OnOk result (Appends (O.contents out.old) (O.contents out.new)
+        (sent_text station.new.counted (length station.old.jobs) (outcome_of station.new))) }
+    ensures marked { OnOk result ((files : Option FileMap)
+        → Marks marker.old station.old.counted files (S.files store.old)
+        → MarksSent marker.old.file.items station.new.counted marker.old.name.now files
+        (S.files store.new)) }
+    ensures count { (files : Option FileMap) → marker.old.marked ≡ station.old.counted
+        → Marks marker.old station.old.counted files (S.files store.old)
+        → MarksCounted station.old marker.old.file.items marker.old.name.now files
+        (S.files store.new) }
+    ensures status { IfErr result (λ fault. (jobs : List Job)
+        → IsLeft marker.old.file.items jobs → IsFailing (status_of fault)) }
+    ensures told { OnOk result ((h : History)
+        × SenderWatchedAll W.saw_sender station.old watch.old station.new watch.new h) }
+{
+    let given = station.jobs().len();
+    let sent = send_all(station, line, marker, store, watch);
+    let counted = station.counted();
+    let marked = marker.write(counted, store);
+    let lines = [
+        counted_text(counted, given),
+        outcome_text(station.outcome()),
+    ];
+    let printed = put_lines(&lines, out);
+    sent?;
+    marked?;
+    printed?;
+    Ok(Ending::from(station.outcome()))
+}

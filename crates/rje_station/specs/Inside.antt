@@ -1,0 +1,4 @@
+-- What private functions cite; no promise rests on it.
+pub mod Writing
+pub mod Sending
+pub mod Uncounted
