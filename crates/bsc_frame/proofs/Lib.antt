@@ -9,3 +9,4 @@ pub mod Quiet
 pub mod DataRuns
 pub mod Feeding
 pub mod Sending
+pub mod WrittenRuns

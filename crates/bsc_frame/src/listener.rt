@@ -14,6 +14,7 @@ use crate::{Fed, Frame, Heard};
 use arrayvec::ArrayVec;
 use bsc_check::Check;
 use bsc_codes::MAX_TEXT;
+pub(crate) use data::in_front_of_dle;
 use data::keep_data;
 use stage::{Stage, heard_in};
 use std::marker::Model;

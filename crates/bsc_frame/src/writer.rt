@@ -1,16 +1,17 @@
 //! The writer of frames.
-ghost use Rattle.std.specs.Prelude.{◌≡◌, ◌≤◌, ◌+◌, ◌*◌, ◌∷◌, [], ◌++◌, length, IfErr, OnOk, OnErr, MatchOption, Some};
+ghost use Rattle.std.specs.Prelude.{◌≡◌, ◌≤◌, ◌+◌, ◌*◌, ◌∷◌, [], ◌++◌, length, IfErr, OnOk, OnErr, MatchOption, true};
 ghost use Rattle.std.specs.Bool.{OnFalse};
 ghost use Rattle.std.specs.List.{AllByRecursion};
 ghost use Rattle.std.specs.Option.{option_to_list};
 ghost use Rattle.arrayvec.specs.ArrayVec.{array_vec_len};
-ghost use Rattle.bsc_frame.specs.Body.{IsNormalText, on_line, start_of_text, block_end};
+ghost use Rattle.bsc_frame.specs.Body.{IsNormalText, start_of_text, block_end};
 ghost use Rattle.bsc_frame.specs.declared.frame.Frame.TheVariants as frame;
 ghost use Rattle.bsc_frame.specs.FrameFault.{IsTextRefused, Refused};
 ghost use Rattle.bsc_frame.specs.Written.{Written, text_without_fill, body_without_fill};
 
 use crate::closing::closing_byte;
 use crate::frame::{ACK0, ACK1, RVI, WACK};
+use crate::listener::in_front_of_dle;
 use crate::normal_text::first_bad;
 use crate::{Frame, FrameFault};
 use arrayvec::ArrayVec;
@@ -130,21 +131,42 @@ fn put_text(out: &mut ArrayVec<u8, MAX_TRANSMISSION>, transparent: bool, text: &
     ensures items { out.new.items ≡ out.old.items ++ text_without_fill transparent text.now }
     ensures len { array_vec_len out.new ≤ array_vec_len out.old + 2 * length text.now }
 {
-    for byte in text {
-        put_byte(out, transparent, *byte);
+    if transparent {
+        put_transparent(out, text);
+    } else {
+        append(out, text);
     }
 }
 
-/// Appends one data byte.
-fn put_byte(out: &mut ArrayVec<u8, MAX_TRANSMISSION>, transparent: bool, byte: u8)
-    requires { array_vec_len out.old + 2 ≤ MAX_TRANSMISSION }
-    ensures items { out.new.items ≡ out.old.items ++ on_line transparent (Some byte) }
-    ensures len { array_vec_len out.new ≤ array_vec_len out.old + 2 }
+/// Appends a transparent text without fill: the bytes in front of a DLE at once, and each DLE twice.
+fn put_transparent(out: &mut ArrayVec<u8, MAX_TRANSMISSION>, text: &[u8])
+    requires { array_vec_len out.old + 2 * length text.now ≤ MAX_TRANSMISSION }
+    ensures items { out.new.items ≡ out.old.items ++ text_without_fill true text.now }
+    ensures len { array_vec_len out.new ≤ array_vec_len out.old + 2 * length text.now }
 {
-    if transparent && byte == DLE {
-        out.push(DLE);
+    let mut place = 0;
+    while place < text.len() {
+        let (_, rest) = text.split_at(place);
+        let run = in_front_of_dle(rest);
+        let (data, _) = rest.split_at(run);
+        append(out, data);
+        place += run;
+        if place < text.len() {
+            append(out, &[DLE, DLE]);
+            place += 1;
+        }
     }
-    out.push(byte);
+}
+
+/// Appends bytes for which there is room.
+fn append(out: &mut ArrayVec<u8, MAX_TRANSMISSION>, bytes: &[u8])
+    requires { array_vec_len out.old + length bytes.now ≤ MAX_TRANSMISSION }
+    ensures items { out.new.items ≡ out.old.items ++ bytes.now }
+    ensures len { array_vec_len out.new ≡ array_vec_len out.old + length bytes.now }
+{
+    let Ok(()) = out.try_extend_from_slice(bytes) else {
+        unreachable!()
+    };
 }
 
 /// Appends what ends a block of this text.

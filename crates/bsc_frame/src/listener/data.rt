@@ -49,9 +49,11 @@ fn data_in_front(transparent: bool, bytes: &[u8]) -> usize
     }
 }
 
-fn in_front_of_dle(bytes: &[u8]) -> usize
+/// The place of the first DLE, or how many bytes there are.
+pub(crate) fn in_front_of_dle(bytes: &[u8]) -> usize
     ensures within { result ≤ length bytes.now }
     ensures data { (k : ℕ) → k < result → IsData true (slice_index bytes.now k) }
+    ensures at { result < length bytes.now → slice_index bytes.now result ≡ DLE }
 {
     match memchr(DLE, bytes) {
         Some(place) => place,
