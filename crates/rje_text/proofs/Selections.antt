@@ -125,6 +125,11 @@ whole_cards text l h = rw (equal (length text % 80) h, below (length text) (omeg
     below : (n : ℕ) → n ≤ 480 → leb n 480 ≡ true
     below n h = grind (arith, nat_tests)
 
+-- the first n cards are n
+pub card_count : (n : ℕ) (text : List ℕ) → length (cards n text) ≡ n
+card_count zero text = refl
+card_count (suc n) text = ap suc (card_count n (drop 80 text))
+
 -- below, rest is what is left of a text of cards
 module _ (rest card others : List ℕ) (r : Record) (some : eqb (length rest) 0 ≡ false) (whole : length rest % 80 ≡ 0)
     (card_is : card ≡ take 80 rest) (others_are : others ≡ drop 80 rest) (plain : r.action ≡ Plain) (bytes : r.bytes.items ≡ card) where

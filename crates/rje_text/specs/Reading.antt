@@ -11,6 +11,7 @@ use Rattle.rje_text.specs.declared.action.Action.{Action}
 use Rattle.rje_text.specs.declared.action.Action.TheVariants.{Plain}
 use Rattle.rje_text.specs.declared.record.Record.{Record}
 use Rattle.rje_text.specs.declared.unpacked.Unpacked.{Unpacked}
+use Rattle.rje_text.specs.declared.counted.Counted.{Counted}
 use Rattle.rje_text.specs.Action.{action_of}
 
 -- a byte that may follow an IGS: 40 and a number of blanks from 1 to 63
@@ -113,3 +114,15 @@ HasMode block so_far = Agrees (mode_of block.transparent) so_far
 -- the block stands for this, in its job's mode
 abbrev pub IsRead : Block → Option Mode → Unpacked → Type 0
 IsRead block so_far u = (reading block so_far ≡ Some u) × HasMode block so_far
+
+-- what is read, with the number of its records in their place
+abbrev pub counted_of : Unpacked → Counted
+counted_of u = record { select = u.select; mode = u.mode; count = length u.records }
+
+-- something is read, and this is it with its records counted
+abbrev pub IsCountOf : Option Unpacked → Counted → Type 0
+IsCountOf reading counted = (u : Unpacked) × (reading ≡ Some u) × (counted ≡ counted_of u)
+
+-- the block stands for something in its job's mode, and this is it with its records counted
+abbrev pub IsCounted : Block → Option Mode → Counted → Type 0
+IsCounted block so_far counted = IsCountOf (reading block so_far) counted × HasMode block so_far

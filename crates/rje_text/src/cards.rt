@@ -1,11 +1,11 @@
 //! Transparent text: cards of 80 bytes, as they are.
-ghost use Rattle.std.specs.Prelude.{◌≡◌, ◌≤◌, ◌%◌, ◌/◌, IfOk, IfErr, Some, length};
-ghost use Rattle.rje_text.specs.Reading.{cards, card_reading, Agrees};
+ghost use Rattle.std.specs.Prelude.{◌≡◌, ◌≢◌, ◌≤◌, ◌%◌, ◌/◌, IfOk, IfErr, OnOk, Some, length};
+ghost use Rattle.rje_text.specs.Reading.{cards, card_reading, Agrees, IsCountOf};
 ghost use Rattle.rje_text.specs.Inside.RecordText.{IsCardFault};
 
 use crate::spelling::append;
 use crate::unpacking::agrees;
-use crate::{Action, Mode, Record, Records, Select, TextFault, Unpacked};
+use crate::{Action, Counted, Mode, Record, Records, Select, TextFault, Unpacked};
 use arrayvec::ArrayVec;
 use bsc_codes::MAX_TEXT;
 use std::alloc::{AllocError, Global};
@@ -24,11 +24,8 @@ pub(crate) fn unpack_cards(
         × Agrees Mode.Transparent so_far) }
     ensures told { IfErr result (λ fault. IsCardFault so_far text.now fault) }
 {
-    if text.len() % CARD != 0 {
-        return Err(TextFault::CardsNot80);
-    }
-    if !agrees(Mode::Transparent, so_far) {
-        return Err(TextFault::MixedModes);
+    if let Err(fault) = check_cards(text, so_far) {
+        return Err(fault);
     }
     match collect_cards(alloc, text) {
         Ok(records) => Ok(Unpacked {
@@ -40,11 +37,46 @@ pub(crate) fn unpack_cards(
     }
 }
 
+/// What a transparent text stands for, its cards only counted.
+pub(crate) fn count_cards(text: &[u8], so_far: Option<Mode>) -> Result<Counted, TextFault>
+    requires { length text.now ≤ MAX_TEXT }
+    ensures counted { IfOk result (λ counted. IsCountOf (card_reading text.now) counted
+        × Agrees Mode.Transparent so_far) }
+    ensures told { IfErr result (λ fault. IsCardFault so_far text.now fault) }
+    ensures no_memory { IfErr result (λ fault. fault ≢ TextFault.OutOfMemory) }
+{
+    match check_cards(text, so_far) {
+        Ok(()) => Ok(Counted {
+            select: Select::Punch,
+            mode: Mode::Transparent,
+            count: text.len() / CARD,
+        }),
+        Err(fault) => Err(fault),
+    }
+}
+
+/// Refuses a text that isn't cards in its job's mode.
+fn check_cards(text: &[u8], so_far: Option<Mode>) -> Result<(), TextFault>
+    requires { length text.now ≤ MAX_TEXT }
+    ensures cards { OnOk result (length text.now % CARD ≡ 0) }
+    ensures agrees { OnOk result (Agrees Mode.Transparent so_far) }
+    ensures told { IfErr result (λ fault. IsCardFault so_far text.now fault) }
+    ensures no_memory { IfErr result (λ fault. fault ≢ TextFault.OutOfMemory) }
+{
+    if text.len() % CARD != 0 {
+        return Err(TextFault::CardsNot80);
+    }
+    if !agrees(Mode::Transparent, so_far) {
+        return Err(TextFault::MixedModes);
+    }
+    Ok(())
+}
+
 fn collect_cards(alloc: Global, text: &[u8]) -> Result<Vec<Record>, AllocError>
     requires { length text.now % CARD ≡ 0 }
     ensures { IfOk result (λ records. records.items ≡ cards (length text.now / 80) text.now) }
 {
-    let mut records = Vec::new(alloc);
+    let mut records = Vec::with_capacity(alloc, text.len() / CARD)?;
     let mut rest = text;
     while !rest.is_empty() {
         let (card, others) = rest.split_at(CARD);

@@ -4,6 +4,7 @@
 mod action;
 mod block_at;
 mod cards;
+mod counted;
 mod laws;
 mod mode;
 mod pack_fault;
@@ -22,6 +23,7 @@ mod unpacking;
 
 pub use action::Action;
 pub use block_at::next_block;
+pub use counted::Counted;
 pub use laws::{
     action_codes_are_inverse, blocks_are_of_the_cut, cut_is_canonical, cut_reads_back, one_fault,
     packing_is_the_cut, spelling_is_short,
@@ -35,4 +37,4 @@ pub use records::Records;
 pub use select::Select;
 pub use text_fault::TextFault;
 pub use unpacked::Unpacked;
-pub use unpacking::unpack;
+pub use unpacking::{count_records, unpack};

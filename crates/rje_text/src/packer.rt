@@ -1,5 +1,5 @@
 //! Records into blocks.
-ghost use Rattle.std.specs.Prelude.{◌≡◌, ◌≤◌, [], length, false, IfOk, if◌then◌else◌};
+ghost use Rattle.std.specs.Prelude.{◌≡◌, ◌≤◌, [], length, true, false, None, IfOk, if◌then◌else◌};
 
 use crate::spelling::{TextInHand, append, spell};
 use crate::{Mode, PackFault, Pushed, Record, Select};
@@ -32,6 +32,7 @@ impl Model for Packer {
 impl Packer {
     ghost use Rattle.rje_text.specs.Packing.{new_packing, Pushes, block_in_hand, after_close, has_room, with_record};
     ghost use Rattle.rje_text.specs.Spelling.{spelling};
+    ghost use Rattle.rje_text.specs.PackFault.{pack_fault};
 
     /// A packer for jobs of this selection and mode, at the beginning of a job.
     pub fn new(select: Select, mode: Mode) -> Self
@@ -69,6 +70,18 @@ impl Packer {
         } else {
             Ok(Pushed::Full(item))
         }
+    }
+
+    /// Puts a record that can be sent into the block in hand, if there is room for it; else the packer stays as it was.
+    pub fn push_sendable(&mut self, item: &Record) -> bool
+        requires { pack_fault self.old.select self.old.mode item.now ≡ None }
+        ensures room { result ≡ has_room self.old item.now }
+        ensures taken { self.new ≡ (if result then with_record self.old item.now else self.old) }
+
+        // Into a text of at most 363 bytes goes every record that can be sent.
+        ensures short { length self.old.text ≤ 363 → result ≡ true }
+    {
+        self.take(item)
     }
 
     /// Puts a record into the block in hand, if there is room for it.

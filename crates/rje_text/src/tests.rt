@@ -1,7 +1,10 @@
 //! What no clause says: worked records, and the texts that carry them.
 mod refusals;
 
-use crate::{Action, Mode, PackFault, Packer, Pushed, Record, Records, Select, TextFault, unpack};
+use crate::{
+    Action, Counted, Mode, PackFault, Packer, Pushed, Record, Records, Select, TextFault,
+    count_records, unpack,
+};
 use arrayvec::ArrayVec;
 use bsc_codes::{Block, Closing};
 use std::process::Abort;
@@ -241,6 +244,38 @@ fn transparent_texts_are_cards(rt: HostRuntime) -> Result<(), Fail> {
             .all(|card| card.bytes.as_slice() == CARD.as_slice())
     );
     Ok(())
+}
+
+#[test]
+fn records_are_counted(rt: HostRuntime) {
+    let read = count_records(&block(&rt, b"\x11\x1E\xC1\x1E\xC2", false), None);
+    let printed = Counted {
+        select: Select::Printer,
+        mode: Mode::Normal,
+        count: 3,
+    };
+    assert!(rt; read == Ok(printed));
+    let read = count_records(&block(&rt, &[0xC1; 480], true), None);
+    let cards = Counted {
+        select: Select::Punch,
+        mode: Mode::Transparent,
+        count: 6,
+    };
+    assert!(rt; read == Ok(cards));
+    let read = count_records(&block(&rt, b"\xC1\x1E\x1D\x40", false), None);
+    assert!(rt; read == Err(TextFault::BadCount(3)));
+}
+
+#[test]
+fn a_sendable_record_is_taken_where_there_is_room(rt: HostRuntime) {
+    let mut packer = Packer::new(Select::Unset, Mode::Normal);
+    let card = record(&rt, Action::Plain, &CARD);
+    for _ in 0..6 {
+        assert!(rt; packer.push_sendable(&card));
+    }
+    assert!(rt; !packer.push_sendable(&card));
+    assert!(rt; packer.close(false).text.len() == 486);
+    assert!(rt; packer.push_sendable(&card));
 }
 
 #[test]

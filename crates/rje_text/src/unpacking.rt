@@ -1,12 +1,12 @@
 //! Blocks into records.
-ghost use Rattle.std.specs.Prelude.{◌≡◌, ◌↔◌, ◌+◌, ◌<◌, ◌≤◌, ◌^◌, IsTrue, IsSome, IfOk, IfErr, OnOk, Some, length};
-ghost use Rattle.rje_text.specs.Reading.{records_in, normal_reading, Agrees, IsRead};
+ghost use Rattle.std.specs.Prelude.{◌≡◌, ◌≢◌, ◌↔◌, ◌+◌, ◌<◌, ◌≤◌, ◌^◌, IsTrue, IsSome, IfOk, IfErr, Some, length};
+ghost use Rattle.rje_text.specs.Reading.{records_in, normal_reading, Agrees, IsRead, IsCountOf, IsCounted};
 ghost use Rattle.rje_text.specs.TextFault.{IsTextFault};
-ghost use Rattle.rje_text.specs.Inside.RecordText.{HasFront, reads_records, IsFaultFrom, IsNormalFault};
+ghost use Rattle.rje_text.specs.Inside.RecordText.{HasFront, HasParts, HasRecords, reads_records, IsFaultFrom, IsNormalFault};
 
-use crate::cards::unpack_cards;
+use crate::cards::{count_cards, unpack_cards};
 use crate::record_text::{check_record, record_end, record_from};
-use crate::{Mode, Record, Records, Select, TextFault, Unpacked};
+use crate::{Counted, Mode, Record, Records, Select, TextFault, Unpacked};
 use bsc_codes::{Block, DC1, DC2, DC3, MAX_TEXT};
 use std::alloc::{AllocError, Global};
 
@@ -24,21 +24,31 @@ pub fn unpack(alloc: Global, block: &Block, so_far: Option<Mode>) -> Result<Unpa
     }
 }
 
+/// What a block's text stands for, its records only counted. It tells the same faults as `unpack` but want of memory, for it takes none.
+pub fn count_records(block: &Block, so_far: Option<Mode>) -> Result<Counted, TextFault>
+    ensures counted { IfOk result (λ counted. IsCounted block.now so_far counted) }
+    ensures told { IfErr result (λ fault. IsTextFault block.now so_far fault) }
+    ensures no_memory { IfErr result (λ fault. fault ≢ TextFault.OutOfMemory) }
+{
+    let text = block.text.as_slice();
+    if block.transparent {
+        count_cards(text, so_far)
+    } else {
+        count_normal(text, so_far)
+    }
+}
+
 fn unpack_normal(alloc: Global, text: &[u8], so_far: Option<Mode>) -> Result<Unpacked, TextFault>
     requires { length text.now ≤ MAX_TEXT }
     ensures read { IfOk result (λ u. (normal_reading so_far text.now ≡ Some u)
         × Agrees Mode.Normal so_far) }
     ensures told { IfErr result (λ fault. IsNormalFault so_far text.now fault) }
 {
-    let (select, front) = front_of(text, so_far);
-    let (_, rest) = text.split_at(front);
-    if let Err(fault) = check(rest, front) {
-        return Err(fault);
-    }
-    if !agrees(Mode::Normal, so_far) {
-        return Err(TextFault::MixedModes);
-    }
-    match collect(alloc, rest) {
+    let (select, rest, count) = match parts_of(text, so_far) {
+        Ok(parts) => parts,
+        Err(fault) => return Err(fault),
+    };
+    match collect(alloc, rest, count) {
         Ok(records) => Ok(Unpacked {
             select,
             mode: Mode::Normal,
@@ -46,6 +56,45 @@ fn unpack_normal(alloc: Global, text: &[u8], so_far: Option<Mode>) -> Result<Unp
         }),
         Err(AllocError) => Err(TextFault::OutOfMemory),
     }
+}
+
+fn count_normal(text: &[u8], so_far: Option<Mode>) -> Result<Counted, TextFault>
+    requires { length text.now ≤ MAX_TEXT }
+    ensures counted { IfOk result (λ counted. IsCountOf (normal_reading so_far text.now) counted
+        × Agrees Mode.Normal so_far) }
+    ensures told { IfErr result (λ fault. IsNormalFault so_far text.now fault) }
+    ensures no_memory { IfErr result (λ fault. fault ≢ TextFault.OutOfMemory) }
+{
+    match parts_of(text, so_far) {
+        Ok((select, _, count)) => Ok(Counted {
+            select,
+            mode: Mode::Normal,
+            count,
+        }),
+        Err(fault) => Err(fault),
+    }
+}
+
+/// A normal text that reads in its job's mode: its selection, the text of its records, and how many they are.
+fn parts_of<'a>(
+    text: &'a [u8],
+    so_far: Option<Mode>,
+) -> Result<(Select, &'a [u8], usize), TextFault>
+    requires { length text.now ≤ MAX_TEXT }
+    ensures parts { IfOk result (λ p. HasParts so_far text.now p.0 p.1.now p.2) }
+    ensures told { IfErr result (λ fault. IsNormalFault so_far text.now fault) }
+    ensures no_memory { IfErr result (λ fault. fault ≢ TextFault.OutOfMemory) }
+{
+    let (select, front) = front_of(text, so_far);
+    let (_, rest) = text.split_at(front);
+    let count = match check(rest, front) {
+        Ok(count) => count,
+        Err(fault) => return Err(fault),
+    };
+    if !agrees(Mode::Normal, so_far) {
+        return Err(TextFault::MixedModes);
+    }
+    Ok((select, rest, count))
 }
 
 /// The selection that a normal text makes, and how many bytes it takes in front.
@@ -74,12 +123,13 @@ pub(crate) fn agrees(mode: Mode, so_far: Option<Mode>) -> bool
     }
 }
 
-/// The first fault of a text of records that stands at `base` in its block's text.
-fn check(text: &[u8], base: usize) -> Result<(), TextFault>
+/// How many records a text has that stands at `base` in its block's text, or its first fault.
+fn check(text: &[u8], base: usize) -> Result<usize, TextFault>
     requires { base + length text.now < 2 ^ 63 }
-    ensures read { OnOk result (IsSome (records_in text.now)) }
+    ensures read { IfOk result (λ count. HasRecords count text.now) }
     ensures fault { IfErr result (IsFaultFrom reads_records base text.now) }
 {
+    let mut count = 0;
     let mut start = 0;
     while start < text.len() {
         let (_, rest) = text.split_at(start);
@@ -88,20 +138,21 @@ fn check(text: &[u8], base: usize) -> Result<(), TextFault>
         if let Err(fault) = check_record(piece, base + start) {
             return Err(fault);
         }
+        count += 1;
         if end == rest.len() {
-            return Ok(());
+            return Ok(count);
         }
         start += end + 1;
     }
-    Ok(())
+    Ok(count)
 }
 
-/// The records of a text that reads.
-fn collect(alloc: Global, text: &[u8]) -> Result<Vec<Record>, AllocError>
-    requires { IsSome (records_in text.now) }
+/// The records of a text that has so many, in just the memory that they take.
+fn collect(alloc: Global, text: &[u8], count: usize) -> Result<Vec<Record>, AllocError>
+    requires { HasRecords count text.now }
     ensures { IfOk result (λ records. records_in text.now ≡ Some records.items) }
 {
-    let mut records = Vec::new(alloc);
+    let mut records = Vec::with_capacity(alloc, count)?;
     let mut start = 0;
     while start < text.len() {
         let (_, rest) = text.split_at(start);

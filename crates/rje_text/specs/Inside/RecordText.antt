@@ -1,5 +1,5 @@
 -- A text taken apart: what private functions say of a record's text and of a text behind its selection. No public clause cites it.
-use Rattle.std.specs.Prelude.{◌≡◌, ℕ, ◌+◌, ◌≤◌, Bool, List, length, take, drop, Option, option_map, option_and_then, is_some, IsSome, IsNone}
+use Rattle.std.specs.Prelude.{◌≡◌, ℕ, ◌+◌, ◌≤◌, Bool, List, length, take, drop, Option, option_map, option_and_then, Some, is_some, IsSome, IsNone}
 use Rattle.rje_text.specs.declared.mode.Mode.TheVariants.{Normal, Transparent}
 use Rattle.rje_text.specs.declared.mode.Mode.{Mode}
 use Rattle.rje_text.specs.declared.select.Select.{Select}
@@ -24,6 +24,16 @@ unpacked select rs = record { select = select; mode = Normal; records = rs }
 pub record HasFront (so_far : Option Mode) (text : List ℕ) (n : ℕ) (select : Select) : Type 0 where
   pub within : n ≤ length text
   pub reads : (k : ℕ) → n ≤ k → normal_reading so_far (take k text) ≡ option_map (unpacked select) (records_in (drop n (take k text)))
+
+-- the text is that of so many records
+abbrev pub HasRecords : ℕ → List ℕ → Type 0
+HasRecords count text = (records : List Record) × (records_in text ≡ Some records) × (length records ≡ count)
+
+-- a normal text that reads in its job's mode: the selection that it makes, and the text of its records, so many
+pub record HasParts (so_far : Option Mode) (text : List ℕ) (select : Select) (rest : List ℕ) (count : ℕ) : Type 0 where
+  pub reading : normal_reading so_far text ≡ option_map (unpacked select) (records_in rest)
+  pub records : HasRecords count rest
+  pub agrees : Agrees Normal so_far
 
 abbrev pub reads_record : List ℕ → Bool
 reads_record text = is_some (record_of text)

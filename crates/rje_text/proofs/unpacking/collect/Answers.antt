@@ -1,13 +1,13 @@
 use Rattle.std.proofs.Common.{◌++◌, ◌∷◌, [], List, ℕ, ap, sym, ◌∙◌, Some, arith}
 use Rattle.std.proofs.lemmas.List.{append_assoc, append-nil}
 use Rattle.rje_text.specs.Reading.{records_in}
-use Rattle.rje_text.proofs.Fronts.{piece_reads, collected_step, collected_end, some_of, none_left}
+use Rattle.rje_text.proofs.Fronts.{piece_reads, collected_step, collected_end, none_left}
 use Rattle.rje_text.proofs.unpacking.collect.Goals as goal
 
 pub loop-start-init : goal.loop-start-init
 loop-start-init c =
-    let (rs, read) = some_of _ c.requires in
-    record { within = omega arith; rest = (rs, read, read ∙ ap (λ zs. Some (zs ++ rs)) (sym c.new-records.ensures.items)) }
+    let (rs, read, many) = c.requires in
+    record { within = omega arith; rest = (rs, read, read ∙ ap (λ zs. Some (zs ++ rs)) (sym c.in_ok-records.ensures.items)) }
 
 pub record_from-requires : goal.record_from-requires
 record_from-requires c =
