@@ -78,7 +78,8 @@ pub fn growth_of(alloc: Global, count: usize, job: &Job) -> Result<Growth, Alloc
     Ok(Growth { front, tail })
 }
 
-/// The jobs whose version 1 file these bytes are. All bytes are checked before any memory is taken, and none is set aside by the counts in them.
+/// The jobs whose version 1 file these bytes are. All bytes are checked before any memory is taken, so none is set aside by counts that
+/// don't hold.
 pub fn read_jobs(alloc: Global, bytes: &[u8]) -> Result<Jobs, FileFault>
     ensures file { IfOk result (λ jobs. IsFileOf jobs bytes.now) }
     ensures told { IfErr result (λ fault. IsFileFault IsJobFile bytes.now fault) }
@@ -92,8 +93,8 @@ pub fn read_jobs(alloc: Global, bytes: &[u8]) -> Result<Jobs, FileFault>
     }
 }
 
-/// The entries whose file these bytes are, of either version. All bytes are checked before any memory is taken, and none is set aside by the
-/// counts in them.
+/// The entries whose file these bytes are, of either version. All bytes are checked before any memory is taken, so none is set aside by counts
+/// that don't hold.
 pub fn read_entries(alloc: Global, bytes: &[u8]) -> Result<Vec<Entry>, FileFault>
     ensures file { IfOk result (λ entries. HasEntries entries.items bytes.now) }
     ensures told { IfErr result (λ fault. IsFileFault IsEntryFile bytes.now fault) }

@@ -1,4 +1,4 @@
-//! The jobs and entries of a job file, once its bytes were checked.
+//! The jobs and entries of a job file, once its bytes were checked: the counts in it hold, and so much memory is taken as they say.
 ghost use Rattle.std.specs.Prelude.{◌≡◌, ℕ, ◌∷◌, ◌++◌, ◌<◌, ◌≤◌, List, length, drop, suc, true, slice_index, IfOk};
 ghost use Rattle.byteorder.specs.Endian.{big_bytes};
 ghost use Rattle.rje_files.specs.Entry.{entry_of};
@@ -22,7 +22,7 @@ pub(super) fn collect_jobs(alloc: Global, bytes: &[u8]) -> Result<Vec<Job>, Allo
     ensures { IfOk result (λ v. IsFileOf v.items bytes.now) }
 {
     let (version, count, items) = front_at(FileVersion::First, bytes);
-    let mut jobs = Vec::new(alloc);
+    let mut jobs = Vec::with_capacity(alloc, count as usize)?;
     let mut rest = items;
     for i in 0..count {
         let (entry, more) = entry_at(alloc, version, rest, count - i - 1)?;
@@ -39,7 +39,7 @@ pub(super) fn collect_entries(alloc: Global, bytes: &[u8]) -> Result<Vec<Entry>,
     ensures { IfOk result (λ v. (version : Versions) × IsEntryFileOf version v.items bytes.now) }
 {
     let (version, count, items) = front_at(FileVersion::Second, bytes);
-    let mut entries = Vec::new(alloc);
+    let mut entries = Vec::with_capacity(alloc, count as usize)?;
     let mut rest = items;
     for i in 0..count {
         let (entry, more) = entry_at(alloc, version, rest, count - i - 1)?;
@@ -140,7 +140,7 @@ fn records_at<'a>(
     requires { Records count (Entries version left) bytes.now }
     ensures { IfOk result (λ p. IsRecords version bytes.now count left p.0.items p.1.now) }
 {
-    let mut records = Vec::new(alloc);
+    let mut records = Vec::with_capacity(alloc, count as usize)?;
     let mut rest = bytes;
     for _i in 0..count {
         let (item, behind) = record_at(rest);
