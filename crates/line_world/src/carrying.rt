@@ -27,7 +27,10 @@ pub fn carry(
     ensures fault { IfErr result (λ fault. (said : Sound)
         → IsFateFault fate.now said from.now.sent fault) }
 {
-    to.put(pieces_of(alloc, fate, from.sent())?);
+    match fate {
+        Fate::Arrives { cuts } if cuts.is_empty() => to.put_whole(alloc, from.sent())?,
+        _ => to.put(pieces_of(alloc, fate, from.sent())?),
+    }
     Ok(())
 }
 

@@ -1,13 +1,14 @@
 //! A line in memory.
-ghost use Rattle.std.specs.Prelude.{◌≡◌, ◌≢◌, ◌⊎◌, ◌<◌, ◌≤◌, ◌+◌, ℕ, Some, ◌↔◌, ◌==◌, ◌||◌, length, map, min, take, drop, IfOk, OnOk, IfErr, OnErr, IsErr, IsTrue, true, false};
+ghost use Rattle.std.specs.Prelude.{◌≡◌, ◌≢◌, ◌⊎◌, ◌<◌, ◌≤◌, ◌+◌, ℕ, ◌∷◌, [], Some, ◌↔◌, ◌==◌, ◌||◌, length, map, min, take, drop, IfOk, OnOk, IfErr, OnErr, IsErr, IsTrue, true, false};
 ghost use Rattle.rje_station.specs.Line.{Rose, Sends, Hears, IsWithin, one_more};
 ghost use Rattle.line_world.specs.MemoryLine.{empty_line, pieces_in, ready, given_to, pieces_left, came_with, laid, talk_of, may_fail_on, last_fault_of, after_put, after_fail_at, after_call, after_failing, after_transmitting, after_listening};
 
 use arrayvec::ArrayVec;
 use bsc_frame::MAX_TRANSMISSION;
 use rje_station::{Came, Line, LineFault};
-use std::alloc::Global;
+use std::alloc::{AllocError, Global};
 use std::marker::Model;
+use std::mem::replace;
 
 /// A line in memory: the bytes that come are handed in, and the last transmission is kept. No call takes memory.
 #[derive(Drop)]
@@ -62,6 +63,25 @@ impl MemoryLine {
         self.pieces = pieces;
         self.piece = 0;
         self.given = 0;
+    }
+
+    /// Hands in bytes that come in one piece, in place of what wasn't given yet. They take the room of a piece that came before, where there is
+    /// one.
+    pub(crate) fn put_whole(&mut self, alloc: Global, bytes: &[u8]) -> Result<(), AllocError>
+        ensures put { OnOk result (self.new ≡ after_put (bytes.now ∷ []) self.old) }
+        ensures calm { self.new.until_failure ≡ self.old.until_failure }
+    {
+        let mut piece = match self.pieces.pop() {
+            Some(piece) => piece,
+            None => Vec::new(alloc),
+        };
+        piece.clear();
+        piece.extend_from_slice(bytes)?;
+        let mut pieces = replace(&mut self.pieces, Vec::new(alloc));
+        pieces.clear();
+        pieces.push(piece)?;
+        self.put(pieces);
+        Ok(())
     }
 
     /// The last transmission.
