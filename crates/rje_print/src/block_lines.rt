@@ -4,9 +4,7 @@ ghost use Rattle.rje_print.specs.BlockLines.{hex_digit, hex, hex_or_hyphen, clos
 ghost use Rattle.rje_print.specs.declared.printed_line.TheConstants.{MAX_LINE};
 
 use crate::printed_line::{PrintedLine, push, push_number};
-use bsc_codes::{Block, Closing};
-
-const HEX_DIGITS: [u8; 16] = *b"0123456789ABCDEF";
+use bsc_codes::{Block, Closing, MAX_TEXT};
 
 /// Puts the line of a block into an empty line.
 #[tactic(auto, unfolding(crate::specs::BlockLines::block_line))]
@@ -46,7 +44,8 @@ fn closing_text(closing: Closing) -> &'static [u8]
 
 /// The bytes in hexadecimal, or a hyphen where there are none.
 fn push_hex(line: &mut PrintedLine, bytes: &[u8])
-    requires { length line.old.items + 2 * length bytes.now + 1 ≤ MAX_LINE }
+    requires room { length line.old.items + 2 * length bytes.now + 1 ≤ MAX_LINE }
+    requires few { length bytes.now ≤ MAX_TEXT }
     ensures hex { line.new.items ≡ line.old.items ++ hex_or_hyphen bytes.now }
     ensures digits { length line.new.items ≤ length line.old.items + 2 * length bytes.now + 1 }
 {
@@ -58,19 +57,27 @@ fn push_hex(line: &mut PrintedLine, bytes: &[u8])
 }
 
 fn push_digits(line: &mut PrintedLine, bytes: &[u8])
-    requires { length line.old.items + 2 * length bytes.now ≤ MAX_LINE }
+    requires room { length line.old.items + 2 * length bytes.now ≤ MAX_LINE }
+    requires few { length bytes.now ≤ MAX_TEXT }
     ensures hex { line.new.items ≡ line.old.items ++ hex bytes.now }
     ensures digits { length line.new.items ≡ length line.old.items + 2 * length bytes.now }
 {
-    for byte in bytes {
-        line.push(digit(byte / 16));
-        line.push(digit(byte % 16));
+    // Made in a local, many at a time, and put into the line at once.
+    let mut digits = [0; 2 * MAX_TEXT];
+    for (place, byte) in bytes.iter().enumerate() {
+        digits[2 * place] = digit(byte / 16);
+        digits[2 * place + 1] = digit(byte % 16);
     }
+    push(line, &digits[..2 * bytes.len()]);
 }
 
 fn digit(value: u8) -> u8
     requires { value < 16 }
     ensures { result ≡ hex_digit value }
 {
-    HEX_DIGITS[value as usize]
+    if value < 10 {
+        b'0' + value
+    } else {
+        b'A' - 10 + value
+    }
 }

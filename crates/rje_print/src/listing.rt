@@ -12,8 +12,7 @@ use crate::printed_line::PrintedLine;
 use bsc_codes::Block;
 use rje_jobs::{Cards, DeckFault, cards_of_deck, deck_jobs_fit};
 use rje_text::{
-    Mode, Packer, Pushed, Record, Records, Select, TextFault, cut_reads_back, one_fault,
-    packing_is_the_cut, unpack,
+    Mode, Packer, Record, Select, count_records, cut_reads_back, one_fault, packing_is_the_cut,
 };
 use std::alloc::{AllocError, Global};
 
@@ -41,7 +40,7 @@ fn list_blocks(alloc: Global, cards: Cards) -> Result<Vec<u8>, AllocError>
     let mut listing = Listing::new(alloc);
     let mut packer = Packer::new(Select::Unset, Mode::Normal);
     for item in cards {
-        if let Some(block) = pack(&mut packer, item) {
+        if let Some(block) = pack(&mut packer, &item) {
             listing.add(&block)?;
         }
     }
@@ -50,28 +49,24 @@ fn list_blocks(alloc: Global, cards: Cards) -> Result<Vec<u8>, AllocError>
 }
 
 /// Packs a record, and gives the block that was full before it.
-fn pack(packer: &mut Packer, item: Record) -> Option<Block>
-    requires { pack_fault packer.old.select packer.old.mode item ≡ None }
-    ensures blocks { (rest : List Item) → packed packer.old (item ∷ rest)
+fn pack(packer: &mut Packer, item: &Record) -> Option<Block>
+    requires { pack_fault packer.old.select packer.old.mode item.now ≡ None }
+    ensures blocks { (rest : List Item) → packed packer.old (item.now ∷ rest)
         ≡ option_to_list result ++ packed packer.new rest }
     ensures select { packer.new.select ≡ packer.old.select }
     ensures mode { packer.new.mode ≡ packer.old.mode }
 {
-    match packer.push(item) {
-        Ok(Pushed::Taken) => None,
-        Ok(Pushed::Full(item)) => {
-            let block = packer.close(false);
-            let _ = packer.push(item);
-            Some(block)
-        }
-        Err(_) => unreachable!(),
+    if packer.push_sendable(item) {
+        return None;
     }
+    let block = packer.close(false);
+    let _ = packer.push_sendable(item);
+    Some(block)
 }
 
 /// The listing of a job's blocks, as it grows.
 #[derive(Drop)]
 struct Listing {
-    alloc: Global,
     text: Vec<u8>,
     number: usize,
     so_far: Option<Mode>,
@@ -87,7 +82,6 @@ impl Listing {
         ensures count { result.count ≡ 0 }
     {
         Listing {
-            alloc,
             text: Vec::new(alloc),
             number: 1,
             so_far: None,
@@ -107,19 +101,14 @@ impl Listing {
         let mut line = PrintedLine::new();
         push_block(&mut line, self.number, block);
         self.text.extend_from_slice(line.as_slice())?;
-        match unpack(self.alloc, block, self.so_far) {
-            Ok(unpacked) => {
-                self.number += 1;
-                self.so_far = Some(unpacked.mode);
-                self.count += unpacked.records.len();
-                Ok(())
-            }
-            Err(fault) => {
-                // The block reads in its job's mode, so only memory can be missing.
-                prove!(matches!(&fault, TextFault::OutOfMemory));
-                Err(AllocError)
-            }
-        }
+        let Ok(counted) = count_records(block, self.so_far) else {
+            // The block reads in its job's mode, and nothing but memory could be missing.
+            unreachable!()
+        };
+        self.number += 1;
+        self.so_far = Some(counted.mode);
+        self.count += counted.count;
+        Ok(())
     }
 
     /// The whole listing: the lines, and how many records came back.

@@ -24,9 +24,10 @@ fn turns_text(alloc: Global, turns: &[Spoken]) -> Result<Vec<u8>, AllocError>
     ensures { IfOk result (λ text. text.items ≡ turn_lines 1 turns.now) }
 {
     let mut text = Vec::new(alloc);
+    let mut line = PrintedLine::new();
     let mut number = 1;
     for turn in turns {
-        let mut line = PrintedLine::new();
+        line.clear();
         push_turn(&mut line, number, turn);
         text.extend_from_slice(line.as_slice())?;
         number += 1;

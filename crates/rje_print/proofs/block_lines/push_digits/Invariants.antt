@@ -1,9 +1,9 @@
-use Rattle.std.proofs.Common.{◌≡◌, ◌+◌, ◌*◌, ◌++◌, length, drop}
+use Rattle.std.proofs.Common.{◌≡◌, ◌*◌, length, take}
 use Rattle.rje_print.specs.BlockLines.{hex}
 use Rattle.rje_print.proofs.block_lines.push_digits.Given as goal
 
-abbrev pub invariant-loop-byte : goal.invariant-loop-byte
-invariant-loop-byte l = record {
-  digits : length l.line.items ≡ length l.initial.line.items + 2 * l.byte-index;
-  hex : l.line.items ++ hex (drop l.byte-index l.bytes) ≡ l.initial.line.items ++ hex l.bytes;
+abbrev pub invariant-loop-place : goal.invariant-loop-place
+invariant-loop-place l = record {
+  size : length l.digits ≡ 1024;
+  hex : take (2 * l.place) l.digits ≡ hex (take l.place l.bytes);
 }

@@ -4,17 +4,16 @@ use Rattle.std.proofs.lemmas.List.{length-append}
 use Rattle.rje_print.proofs.BlockListings.{line_some}
 use Rattle.rje_text.specs.declared.text_fault.TextFault.TheVariants.{OutOfMemory}
 use Rattle.rje_print.proofs.listing.Listing.add.Goals as goal
-use Rattle.rje_print.proofs.listing.Listing.add.Goals.{in-OutOfMemory, in_default}
 
-pub prove-unreachable-requires : goal.prove-unreachable-requires
-prove-unreachable-requires c =
+pub unreachable-requires : goal.unreachable-requires
+unreachable-requires c =
     let (u, read, fits) = c.requires in
-    let memory : c.in-Err.fault ≡ OutOfMemory =
-    c.one_fault.ensures c.args.block.now c.args.self.now.so_far c.in-Err.fault OutOfMemory c.in-Err.ensures.told (ap is_some read.0, read.1) in
-    elim c.match-matches.branch [ in-OutOfMemory w ↦ (let h = w.matches-is in cc) | in_default w ↦ w.in_default.not-OutOfMemory memory ]
+    let memory : c.in_default.field-0 ≡ OutOfMemory =
+    c.one_fault.ensures c.args.block.now c.args.self.now.so_far c.in_default.field-0 OutOfMemory c.in_default.ensures.told (ap is_some read.0, read.1) in
+    c.in_default.ensures.no_memory memory
 
-pub invariant_of-self-in-Ok : goal.invariant_of-self-in-Ok
-invariant_of-self-in-Ok c =
+pub invariant_of-self-2 : goal.invariant_of-self-2
+invariant_of-self-2 c =
     let line = c.as_slice.ensures.value ∙ c.push_block.ensures in
     let items = c.in_ok-extend_from_slice.ensures.items in
     record {
