@@ -33,19 +33,22 @@ pub fn trial<'a, S: Store, O: Write>(
 {
     let file = read_file(alloc, order.jobs, store)?;
     let script = read_file(alloc, order.script, store)?;
-    let text = run_files(alloc, file.as_slice(), script.as_slice())?;
+    let text = run_files(alloc, file, script)?;
     put(text.as_slice(), out)
 }
 
-/// What is printed of the run of a job file over a script.
-fn run_files<'a>(alloc: Global, file: &[u8], script: &[u8]) -> Result<Vec<u8>, CommandFault<'a>>
-    ensures text { IfOk result (λ text. IsRunText file.now script.now text.items) }
-    ensures fault { IfErr result (IsTryFault file.now script.now) }
+/// What is printed of the run of a job file over a script. What isn't wanted any more gives its memory back at once.
+fn run_files<'a>(alloc: Global, file: Vec<u8>, script: Vec<u8>) -> Result<Vec<u8>, CommandFault<'a>>
+    ensures text { IfOk result (λ text. IsRunText file.items script.items text.items) }
+    ensures fault { IfErr result (IsTryFault file.items script.items) }
 {
-    let entries = read_entries(alloc, file)?;
+    let entries = read_entries(alloc, file.as_slice())?;
+    drop(file);
     let jobs = jobs_of(alloc, entries)?;
-    let turns = read_script(alloc, script)?;
+    let turns = read_script(alloc, script.as_slice())?;
+    drop(script);
     let report = run(alloc, jobs.as_slice(), turns.as_slice())?;
+    drop(turns);
     match run_text(alloc, jobs.len(), &report) {
         Ok(text) => Ok(text),
         Err(AllocError) => Err(CommandFault::OutOfMemory),
