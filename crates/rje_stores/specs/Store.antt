@@ -45,3 +45,7 @@ IsMissing (Some f) name = f name ≡ None
 -- there is such a file, and it is too long to be read
 abbrev pub IsTooLong : Option (List ℕ) → Type 0
 IsTooLong file = IsSomeAnd file (λ bytes. MAX_INPUT < length bytes)
+
+-- there is such a file, and it has fewer bytes than so many
+abbrev pub HasFewer : ℕ → Option (List ℕ) → Type 0
+HasFewer count file = IsSomeAnd file (λ bytes. length bytes < count)

@@ -1,10 +1,10 @@
 //! Files in memory.
-ghost use Rattle.std.specs.Prelude.{◌≡◌, ◌≤◌, ◌↔◌, ℕ, List, None, Some, length, IfOk, OnOk, OnErr, IsErrOf, IsOkUnless};
-ghost use Rattle.rje_stores.specs.Store.{IsSame, Sets, IsTooLong};
+ghost use Rattle.std.specs.Prelude.{◌≡◌, ◌+◌, ◌≤◌, ◌↔◌, ℕ, List, None, Some, Ok, length, IfOk, OnOk, OnErr, IsErrOf, IsOkUnless};
+ghost use Rattle.rje_stores.specs.Store.{IsSame, Sets, SetsByte, Extends, IsTooLong, HasFewer};
 ghost use Rattle.rje_stores.specs.MemoryStore.{files_of};
 
 use crate::reading::MAX_INPUT;
-use crate::store::{Store, StoreFault};
+use crate::store::{Place, Store, StoreFault, grown_bytes};
 use std::alloc::Global;
 use std::collections::BTreeMap;
 
@@ -63,5 +63,58 @@ impl Store for MemoryStore {
             Ok(_) => Ok(()),
             Err(_) => Err(StoreFault::OutOfMemory),
         }
+    }
+
+    fn look(&mut self, _name: &str) -> Result<Place, StoreFault>
+        ensures grows { result ≡ Ok Place.Growing }
+        ensures same { IsSame (files_of self.old) (files_of self.new) }
+    {
+        Ok(Place::Growing)
+    }
+
+    fn extend(
+        &mut self,
+        alloc: Global,
+        name: &str,
+        front: &[u8],
+        tail: &[u8],
+    ) -> Result<(), StoreFault>
+        ensures extends { OnOk result (Extends name.now front.now tail.now (files_of self.old)
+            (files_of self.new)) }
+        ensures missing { IsErrOf result StoreFault.Missing ↔ files_of self.old name.now ≡ None }
+        ensures failed { IsErrOf result StoreFault.Failed
+            ↔ HasFewer (length front.now) (files_of self.old name.now) }
+        ensures same { OnErr result (IsSame (files_of self.old) (files_of self.new)) }
+    {
+        let Some(bytes) = self.files.get(name) else {
+            return Err(StoreFault::Missing);
+        };
+        let longer = grown_bytes(alloc, bytes.as_slice(), front, tail)?;
+        self.write(name, longer.as_slice())
+    }
+
+    fn set_byte(
+        &mut self,
+        _alloc: Global,
+        name: &str,
+        place: usize,
+        byte: u8,
+    ) -> Result<(), StoreFault>
+        ensures sets { OnOk result (SetsByte name.now place byte (files_of self.old)
+            (files_of self.new)) }
+        ensures missing { IsErrOf result StoreFault.Missing ↔ files_of self.old name.now ≡ None }
+        ensures failed { IsErrOf result StoreFault.Failed
+            ↔ HasFewer (place + 1) (files_of self.old name.now) }
+        ensures memory { ¬ (IsErrOf result StoreFault.OutOfMemory) }
+        ensures same { OnErr result (IsSame (files_of self.old) (files_of self.new)) }
+    {
+        let Some(bytes) = self.files.get_mut(name) else {
+            return Err(StoreFault::Missing);
+        };
+        if bytes.len() <= place {
+            return Err(StoreFault::Failed);
+        }
+        bytes[place] = byte;
+        Ok(())
     }
 }

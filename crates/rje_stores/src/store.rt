@@ -1,5 +1,5 @@
 //! The files that the program reads and writes by name.
-ghost use Rattle.std.specs.Prelude.{◌≡◌, ℕ, ◌≤◌, ◌++◌, List, Option, length, IfOk, IfSome, IsErrOf, OnOk, OnErr};
+ghost use Rattle.std.specs.Prelude.{◌≡◌, ℕ, ◌<◌, ◌≤◌, ◌↔◌, ◌++◌, List, Option, length, IfOk, IfSome, IsErrOf, IsOkUnless, OnOk, OnErr};
 ghost use Rattle.rje_files.specs.Growth.{grown};
 ghost use Rattle.rje_stores.specs.Store.{FileMap, Discloses, IsSame, Sets, SetsByte, Extends, Has, IsMissing};
 
@@ -103,8 +103,8 @@ pub trait Store {
     {}
 }
 
-/// These bytes with one piece in front, in place of as many, and another behind.
-fn grown_bytes(
+/// These bytes with one piece in front, in place of as many, and another behind. Failed where they are fewer than the piece in front.
+pub(crate) fn grown_bytes(
     alloc: Global,
     bytes: &[u8],
     front: &[u8],
@@ -112,6 +112,8 @@ fn grown_bytes(
 ) -> Result<Vec<u8>, StoreFault>
     ensures grown { IfOk result (λ longer. longer.items ≡ grown front.now tail.now bytes.now) }
     ensures room { IfOk result (λ _. length front.now ≤ length bytes.now) }
+    ensures failed { IsErrOf result StoreFault.Failed ↔ length bytes.now < length front.now }
+    ensures there { ¬ (IsErrOf result StoreFault.Missing) }
 {
     let Some((_, rest)) = bytes.split_at_checked(front.len()) else {
         return Err(StoreFault::Failed);
@@ -124,7 +126,8 @@ fn grown_bytes(
 }
 
 fn append(piece: &[u8], bytes: &mut Vec<u8>) -> Result<(), StoreFault>
-    ensures { OnOk result (bytes.new.items ≡ bytes.old.items ++ piece.now) }
+    ensures appends { OnOk result (bytes.new.items ≡ bytes.old.items ++ piece.now) }
+    ensures memory { IsOkUnless result StoreFault.OutOfMemory }
 {
     match bytes.extend_from_slice(piece) {
         Ok(()) => Ok(()),
