@@ -128,7 +128,7 @@ impl ReceivingStation {
     }
 
     /// Whether it neither speaks nor hears any more.
-    pub(crate) fn is_over(&self) -> bool
+    pub fn is_over(&self) -> bool
         ensures { result ≡ self.now.over }
     {
         self.over

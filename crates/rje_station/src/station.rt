@@ -7,7 +7,7 @@ ghost use Rattle.rje_jobs.specs.Fitting.{JobFits};
 ghost use Rattle.rje_station.specs.Hearing.{HearsSound, Hearing, Babbling};
 ghost use Rattle.rje_station.specs.Line.{Passes, Ages, MayNotHear, MayNotSend, Fails, one_more};
 ghost use Rattle.rje_station.specs.Receiving.{Replied, with_reply};
-ghost use Rattle.rje_station.specs.Station.{first_contending, due_at, after_own_speaking, SpokeDue, with_said, IfSilent, HeardAnswer, after_answer, after_own_refusal, HeardOther, after_own_reply, after_other_refusal, after_other_ended, after_note, is_deaf, lets_in, contender_said, contender_answered, contender_hears};
+ghost use Rattle.rje_station.specs.Station.{first_contending, due_at, is_receiving, after_own_speaking, SpokeDue, with_said, IfSilent, HeardAnswer, after_answer, after_own_refusal, HeardOther, after_own_reply, after_other_refusal, after_other_ended, after_note, is_deaf, lets_in, contender_said, contender_answered, contender_hears};
 ghost use Rattle.rje_station.specs.StationFault.{IsCause, IsNewCause, IfLine, IfOver};
 
 use crate::sound_heard::sound_of;
@@ -55,6 +55,13 @@ impl<'a> Station<'a> {
         })
     }
 
+    /// Its rank: a secondary gives way where both bid at once.
+    pub fn rank(&self) -> Rank
+        ensures { result ≡ self.now.contender.rank }
+    {
+        self.contender.rank()
+    }
+
     /// The station that sends its jobs.
     pub fn sender(&self) -> &SendingStation<'a>
         ensures { result.now ≡ self.now.sender }
@@ -91,6 +98,13 @@ impl<'a> Station<'a> {
         } else {
             self.sender.due()
         }
+    }
+
+    /// Whether it receives: it took the other station's bid, and the other's transmission goes on.
+    pub fn is_receiving(&self) -> bool
+        ensures { result ≡ is_receiving self.now.contender.place }
+    {
+        self.contender.place() == ContenderPlace::Receiving
     }
 
     /// Sends what is due, and the same again where it is called twice. Where nothing is due it touches no line.
