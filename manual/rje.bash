@@ -1,12 +1,13 @@
 # Completions of rje for bash: source this file.
 _rje() {
     local word=${COMP_WORDS[COMP_CWORD]} before=${COMP_WORDS[COMP_CWORD - 1]} command=${COMP_WORDS[1]}
-    local commands='blocks cards show check print try loop send receive help' words=--help
+    local commands='blocks cards show check print try loop send receive exchange help' words=--help
     case $command in
     cards) words+=' --printer --punch --transparent --name --append' ;;
     loop) words+=' --timeout --trace' ;;
     send) words+=' --to --timeout --trace' ;;
     receive) words+=' --listen --timeout --trace' ;;
+    exchange) words+=' --to --listen --timeout --trace' ;;
     esac
     COMPREPLY=()
     if [ "$COMP_CWORD" = 1 ]; then

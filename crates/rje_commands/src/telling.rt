@@ -34,7 +34,10 @@ pub fn tell_words<O: Write, E: Write>(fault: &WordsFault, out: &mut O, err: &mut
 {
     match fault {
         WordsFault::Refused(error) => tell_error(error, out, err),
-        WordsFault::TwoDevices | WordsFault::BadName | WordsFault::BadAddress => {
+        WordsFault::TwoDevices
+        | WordsFault::BadName
+        | WordsFault::BadAddress
+        | WordsFault::NoMeeting => {
             match writeln!(err, "rje: {fault}") {
                 Ok(()) => 2,
                 Err(_) => CommandFault::Output.status(),

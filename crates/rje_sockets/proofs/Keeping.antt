@@ -65,7 +65,7 @@ pub record Comes (js more : List Job) : Type 0 where
   pub next : kept_after Growing (whole_in_front js) more ≡ whole_in_front more
   pub cut : length js ≤ whole_in_front js + 1 → length more ≤ whole_in_front more + 1
 
-nothing : (js : List Job) → Comes js js
+pub nothing : (js : List Job) → Comes js js
 nothing js = record { front = λ k l. refl; least = omega arith; next = none_more js; cut = λ l. l }
 
 fewer : (k : ℕ) (j : Job) (js : List Job) → suc k ≤ whole_in_front (j ∷ js) → k ≤ whole_in_front js

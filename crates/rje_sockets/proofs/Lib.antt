@@ -1,3 +1,6 @@
+pub mod BothFiles
+pub mod BothWays
+pub mod Exchanged
 pub mod Sending
 pub mod Patience
 pub mod Keeping

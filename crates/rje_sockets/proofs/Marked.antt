@@ -50,7 +50,7 @@ whole_marked (Ok x) file places name n counted g looked h same sets = λ files a
     written_over file name n counted files g h marked (marked_after file name counted g looked h same sets)
 
 -- a mark that fails
-stays : (file name : List ℕ) (n : ℕ) (files g h : Option FileMap) → Discloses g h IsSame → AreMarked file n name files g → AreMarked file n name files h
+pub stays : (file name : List ℕ) (n : ℕ) (files g h : Option FileMap) → Discloses g h IsSame → AreMarked file n name files g → AreMarked file n name files h
 stays file name n files g h same (inl (none, before)) = inl (none, same_twice files g h before same)
 stays file name n files g h same (inr (bytes, sent, few, sets)) = inr (bytes, sent, few, same_after name bytes files g h sets same)
 

@@ -7,3 +7,6 @@ pub mod Patience
 pub mod Marking
 pub mod Tracing
 pub mod Watching
+pub mod BothWays
+pub mod BothFiles
+pub mod Exchanging

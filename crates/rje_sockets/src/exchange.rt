@@ -24,10 +24,10 @@ use rje_station::{Arrival, Line, ReceivingStation, SendingStation, StationFault}
 use rje_stores::Store;
 
 /// After so many quiet hearings in a row a receiving station leaves.
-const MAX_QUIET: u32 = 40;
+pub const MAX_QUIET: u32 = 40;
 
 /// After so many hearings in all it leaves too.
-const MAX_HEARINGS: u32 = 1_000_000_000;
+pub const MAX_HEARINGS: u32 = 1_000_000_000;
 
 /// How a receiving station left a transmission.
 #[derive(Clone, Copy, Debug, PartialEq, Eq)]
@@ -191,7 +191,7 @@ fn hear_out<'a, L: Line, S: Store, W: Watch>(
 }
 
 /// How many quiet hearings in a row there are, with the last one.
-fn quiet_after(quiet: u32, station: &ReceivingStation) -> u32
+pub fn quiet_after(quiet: u32, station: &ReceivingStation) -> u32
     requires few { quiet < MAX_QUIET }
     ensures { result ≡ (if was_quiet station.now.arrival then quiet + 1 else 0) }
 {

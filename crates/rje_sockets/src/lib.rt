@@ -1,6 +1,7 @@
 //! The program's commands over sockets: one transmission over a line, whose jobs are kept as they come and marked as they are counted.
 #![tactic(auto)]
 
+mod both_ways;
 mod broken_off;
 mod exchange;
 mod keeper;
@@ -12,5 +13,5 @@ mod tracer;
 mod watch;
 
 pub use over_sockets::{is_for_sockets, socket_command};
-pub use socket_commands::{receive_over, send_over};
+pub use socket_commands::{exchange_over, receive_over, send_over};
 pub use socket_line::SocketLine;

@@ -1,5 +1,5 @@
 //! One run of the program over sockets, files and two writers.
-use crate::socket_commands::{Ending, loopback, receive, send};
+use crate::socket_commands::{Ending, exchange, loopback, receive, send};
 use rje_commands::{CommandFault, tell, tell_words};
 use rje_stores::Store;
 use rje_words::{Order, SocketOrder, parse};
@@ -11,7 +11,7 @@ use std::time::Clock;
 /// Whether these words, which are those behind the program's name, ask for a command over sockets.
 pub fn is_for_sockets(words: &[&str]) -> bool {
     match words.first() {
-        Some(word) => matches!(*word, "loop" | "send" | "receive"),
+        Some(word) => matches!(*word, "loop" | "send" | "receive" | "exchange"),
         None => false,
     }
 }
@@ -35,6 +35,7 @@ pub fn socket_command<R: Net + Clock, S: Store, O: Write, E: Write>(
         SocketOrder::Loop(order) => loopback(rt, alloc, order, store, out, err),
         SocketOrder::Send(order) => send(rt, alloc, order, store, out, err),
         SocketOrder::Receive(order) => receive(rt, alloc, order, store, out, err),
+        SocketOrder::Exchange(order) => exchange(rt, alloc, order, store, out, err),
     };
     match ended {
         Ok(ending) => Ending::status(ending),

@@ -11,7 +11,7 @@ use Rattle.rje_words.specs.declared.order.Order.{Order}
 use Rattle.rje_words.specs.declared.order.Order.TheVariants.{Files, Sockets}
 use Rattle.rje_words.specs.declared.order.FileOrder.TheVariants.{Cards}
 use Rattle.rje_words.specs.declared.words_fault.WordsFault.{WordsFault}
-use Rattle.rje_words.specs.declared.words_fault.WordsFault.TheVariants.{Refused, TwoDevices, BadName, BadAddress}
+use Rattle.rje_words.specs.declared.words_fault.WordsFault.TheVariants.{Refused, TwoDevices, BadName, BadAddress, NoMeeting}
 use Rattle.rje_words.specs.Asking.{IsFaultOf, IsGivenName, IsOrderOf, IsWordsFault, device_in, is_on}
 use Rattle.rje_words.specs.Canonical.{BadNameTold, CardsAsked, RepeatedRefused, TwoDevicesTold}
 use Rattle.rje_words.specs.CardsWords.{CardsWord, CardsOption, HaveFiles, HaveName, adds_among, append, device_among, file, files_in, has_each_once, is_among, is_same, named, names_in, option, printer, punch, transparent, words_typed}
@@ -295,19 +295,25 @@ module _ (ws : List CardsWord) (deck jobs : Text) (given : Option Text) (have : 
   of_rows : (P : Text → List Row → Type 0) → IsSomeAnd (subcommand_of rje_app words) (λ met. P met.0 met.1) → P (codes "cards") rows
   of_rows P h = subst (λ o. IsSomeAnd o (λ met. P met.0 met.1)) (cards_met (flat_map words_typed ws)) h
 
+  -- these rows have no options for two addresses
+  no_meeting : IsSomeAnd (subcommand_of rje_app words) (λ met. IsFaultOf met.0 met.1 NoMeeting) → ⊥
+  no_meeting h = apart _ _ (of_rows (λ name rs. IsFaultOf name rs NoMeeting) h).0 refl
+
   -- clap refuses nothing of the words, and finds no address
   memory : (fault : WordsFault) → (IsFaultOf (codes "cards") rows TwoDevices → ⊥) → (IsFaultOf (codes "cards") rows BadName → ⊥)
       → IsWordsFault words fault → IsWantOfMemory fault
   memory (Refused error) no_two no_bad h = memory_only error (subst (λ kinds. HasKind kinds error) faultless h)
   memory TwoDevices no_two no_bad h = absurd (no_two (of_rows (λ name rs. IsFaultOf name rs TwoDevices) h.1))
   memory BadName no_two no_bad h = absurd (no_bad (of_rows (λ name rs. IsFaultOf name rs BadName) h.1))
-  memory BadAddress no_two no_bad h = absurd (no_address (codes "cards") rows refl refl (of_rows (λ name rs. IsFaultOf name rs BadAddress) h.1))
+  memory BadAddress no_two no_bad h = absurd (no_address (codes "cards") rows refl refl refl (of_rows (λ name rs. IsFaultOf name rs BadAddress) h.1))
+  memory NoMeeting no_two no_bad h = absurd (no_meeting h.1)
 
   two_or_memory : device_among ws ≡ None → (fault : WordsFault) → IsWordsFault words fault → (fault ≡ TwoDevices) ⊎ IsWantOfMemory fault
   two_or_memory two (Refused error) h = inr (memory_only error (subst (λ kinds. HasKind kinds error) faultless h))
   two_or_memory two TwoDevices h = inl refl
   two_or_memory two BadName h = absurd ((of_rows (λ name rs. IsFaultOf name rs BadName) h.1).1.0 (device_is ∙ two))
-  two_or_memory two BadAddress h = absurd (no_address (codes "cards") rows refl refl (of_rows (λ name rs. IsFaultOf name rs BadAddress) h.1))
+  two_or_memory two BadAddress h = absurd (no_address (codes "cards") rows refl refl refl (of_rows (λ name rs. IsFaultOf name rs BadAddress) h.1))
+  two_or_memory two NoMeeting h = absurd (no_meeting h.1)
 
   bad_or_memory : (device : Device) → device_among ws ≡ Some device → (fault : WordsFault) → IsWordsFault words fault → (fault ≡ BadName) ⊎ IsWantOfMemory fault
   bad_or_memory device one (Refused error) h = inr (memory_only error (subst (λ kinds. HasKind kinds error) faultless h))
@@ -316,7 +322,8 @@ module _ (ws : List CardsWord) (deck jobs : Text) (given : Option Text) (have : 
       none_some : Some device ≡ None → ⊥
       none_some e = cc
   bad_or_memory device one BadName h = inl refl
-  bad_or_memory device one BadAddress h = absurd (no_address (codes "cards") rows refl refl (of_rows (λ name rs. IsFaultOf name rs BadAddress) h.1))
+  bad_or_memory device one BadAddress h = absurd (no_address (codes "cards") rows refl refl refl (of_rows (λ name rs. IsFaultOf name rs BadAddress) h.1))
+  bad_or_memory device one NoMeeting h = absurd (no_meeting h.1)
 
   order_read : (device : Device) (name : Text) (order : Order) → IsOrderOf (codes "cards") rows order → device_among ws ≡ Some device
       → IsGivenName given (Some name) → IsCards deck jobs device name (adds_among ws) order
@@ -331,7 +338,7 @@ module _ (ws : List CardsWord) (deck jobs : Text) (given : Option Text) (have : 
       some_is : {X : Type 0} {a b : X} → Some a ≡ Some b → a ≡ b
       some_is {X} {a} {b} e = cc
   order_read device name (Files _) h is named_is = absurd (apart _ _ h.0 refl)
-  order_read device name (Sockets order) h is named_is = absurd (no_socket (codes "cards") rows order refl refl refl h)
+  order_read device name (Sockets order) h is named_is = absurd (no_socket (codes "cards") rows order refl refl refl refl h)
 
   no_order : (order : Order) → IsOrderOf (codes "cards") rows order → device_among ws ≡ None → ⊥
   no_order (Files (Cards order)) h is = some_none (sym h.1.device ∙ device_is ∙ is)
@@ -339,12 +346,12 @@ module _ (ws : List CardsWord) (deck jobs : Text) (given : Option Text) (have : 
       some_none : {X : Type 0} {a : X} → Some a ≡ None → ⊥
       some_none {X} {a} e = cc
   no_order (Files _) h is = absurd (apart _ _ h.0 refl)
-  no_order (Sockets order) h is = absurd (no_socket (codes "cards") rows order refl refl refl h)
+  no_order (Sockets order) h is = absurd (no_socket (codes "cards") rows order refl refl refl refl h)
 
   no_bad_order : (order : Order) → IsOrderOf (codes "cards") rows order → IsGivenName given None → ⊥
   no_bad_order (Files (Cards order)) h bad = names_apart given order.name (subst (λ o. IsGivenName o (Some order.name)) name_is h.1.name) bad
   no_bad_order (Files _) h bad = absurd (apart _ _ h.0 refl)
-  no_bad_order (Sockets order) h bad = absurd (no_socket (codes "cards") rows order refl refl refl h)
+  no_bad_order (Sockets order) h bad = absurd (no_socket (codes "cards") rows order refl refl refl refl h)
 
 pub cards_asked : CardsAsked
 cards_asked ws deck jobs given device name have has_name once is named_is = record {
@@ -472,6 +479,7 @@ module _ (ws : List CardsWord) (deck jobs : Text) (given : Option Text) (have : 
   told_twice TwoDevices h = absurd (faulty h.0)
   told_twice BadName h = absurd (faulty h.0)
   told_twice BadAddress h = absurd (faulty h.0)
+  told_twice NoMeeting h = absurd (faulty h.0)
 
 pub repeated_refused : RepeatedRefused
 repeated_refused ws deck jobs given have has_name twice = record {

@@ -13,9 +13,9 @@ use Rattle.rje_words.specs.declared.order.Order.{Order}
 use Rattle.rje_words.specs.declared.order.Order.TheVariants.{Files, Sockets}
 use Rattle.rje_words.specs.declared.order.FileOrder.TheVariants.{Blocks, Show, Check, Print, Try}
 use Rattle.rje_words.specs.declared.order.SocketOrder.{SocketOrder}
-use Rattle.rje_words.specs.declared.order.SocketOrder.TheVariants.{Loop, Send, Receive}
+use Rattle.rje_words.specs.declared.order.SocketOrder.TheVariants.{Loop, Send, Receive, Exchange}
 use Rattle.rje_words.specs.declared.words_fault.WordsFault.{WordsFault}
-use Rattle.rje_words.specs.declared.words_fault.WordsFault.TheVariants.{Refused, TwoDevices, BadName, BadAddress}
+use Rattle.rje_words.specs.declared.words_fault.WordsFault.TheVariants.{Refused, TwoDevices, BadName, BadAddress, NoMeeting}
 use Rattle.rje_words.specs.Asking.{AsksFor, IsFaultOf, IsOrderOf, IsWordsFault, word_in}
 use Rattle.rje_words.specs.Canonical.{AskOnlyFor, BlocksAsked, ShowAsked, CheckAsked, PrintAsked, TryAsked}
 use Rattle.rje_words.specs.CommandLine.{rje_app, is_file, names_file}
@@ -49,12 +49,13 @@ pub record AreTaken {V : Type 0} (view : List Row → V) (words : List Text) (na
   pub found : seen view (subcommand_of rje_app words) ≡ Some (name, value)
 
 module _ {V : Type 0} (view : List Row → V) (word : Text) (words : List Text) (name : Text) (value : V) (taken : AreTaken view (word ∷ words) name value) where
-  pub only_memory : (bytes_eq name (codes "cards") ≡ false) → ((rows : List Row) → IsFaultOf name rows BadAddress → ⊥)
+  pub only_memory : (bytes_eq name (codes "cards") ≡ false) → (bytes_eq name (codes "exchange") ≡ false) → ((rows : List Row) → IsFaultOf name rows BadAddress → ⊥)
       → (fault : WordsFault) → IsWordsFault (word ∷ words) fault → IsWantOfMemory fault
-  only_memory two bad (Refused error) h = memory_only error (subst (λ kinds. HasKind kinds error) taken.faultless h)
-  only_memory two bad TwoDevices h = let r = as_seen view _ name value (λ n rows. IsFaultOf n rows TwoDevices) taken.found h.1 in absurd (apart _ _ r.2.0 two)
-  only_memory two bad BadName h = let r = as_seen view _ name value (λ n rows. IsFaultOf n rows BadName) taken.found h.1 in absurd (apart _ _ r.2.0 two)
-  only_memory two bad BadAddress h = let r = as_seen view _ name value (λ n rows. IsFaultOf n rows BadAddress) taken.found h.1 in absurd (bad r.0 r.2)
+  only_memory two place bad (Refused error) h = memory_only error (subst (λ kinds. HasKind kinds error) taken.faultless h)
+  only_memory two place bad TwoDevices h = let r = as_seen view _ name value (λ n rows. IsFaultOf n rows TwoDevices) taken.found h.1 in absurd (apart _ _ r.2.0 two)
+  only_memory two place bad BadName h = let r = as_seen view _ name value (λ n rows. IsFaultOf n rows BadName) taken.found h.1 in absurd (apart _ _ r.2.0 two)
+  only_memory two place bad BadAddress h = let r = as_seen view _ name value (λ n rows. IsFaultOf n rows BadAddress) taken.found h.1 in absurd (bad r.0 r.2)
+  only_memory two place bad NoMeeting h = let r = as_seen view _ name value (λ n rows. IsFaultOf n rows NoMeeting) taken.found h.1 in absurd (apart _ _ r.2.0 place)
 
   pub only_order : (P : Order → Type 0) → ((rows : List Row) → view rows ≡ value → (order : Order) → IsOrderOf name rows order → P order)
       → (order : Order) → AsksFor (word ∷ words) order → P order
@@ -196,66 +197,69 @@ try_taken (c ∷ cs) (d ∷ ds) h k = try_names_taken c d cs ds (not_false (c ==
 -- WHAT THE WORDS ASK FOR
 
 pub no_socket : (name : Text) (rows : List Row) (order : SocketOrder) → bytes_eq name (codes "loop") ≡ false → bytes_eq name (codes "send") ≡ false
-    → bytes_eq name (codes "receive") ≡ false → IsOrderOf name rows (Sockets order) → ⊥
-no_socket name rows (Loop order) loop send receive h = apart _ _ h.0 loop
-no_socket name rows (Send order) loop send receive h = apart _ _ h.0 send
-no_socket name rows (Receive order) loop send receive h = apart _ _ h.0 receive
+    → bytes_eq name (codes "receive") ≡ false → bytes_eq name (codes "exchange") ≡ false → IsOrderOf name rows (Sockets order) → ⊥
+no_socket name rows (Loop order) loop send receive exchange h = apart _ _ h.0 loop
+no_socket name rows (Send order) loop send receive exchange h = apart _ _ h.0 send
+no_socket name rows (Receive order) loop send receive exchange h = apart _ _ h.0 receive
+no_socket name rows (Exchange order) loop send receive exchange h = apart _ _ h.0 exchange
 
 blocks_read : (deck : Text) (rows : List Row) → deck_in rows ≡ deck → (order : Order) → IsOrderOf (codes "blocks") rows order → IsBlocks deck order
 blocks_read deck rows e (Files (Blocks named)) h = h.1 ∙ e
 blocks_read deck rows e (Files _) h = absurd (apart _ _ h.0 refl)
-blocks_read deck rows e (Sockets order) h = absurd (no_socket (codes "blocks") rows order refl refl refl h)
+blocks_read deck rows e (Sockets order) h = absurd (no_socket (codes "blocks") rows order refl refl refl refl h)
 
 show_read : (jobs : Text) (rows : List Row) → jobs_in rows ≡ jobs → (order : Order) → IsOrderOf (codes "show") rows order → IsShow jobs order
 show_read jobs rows e (Files (Show named)) h = h.1 ∙ e
 show_read jobs rows e (Files _) h = absurd (apart _ _ h.0 refl)
-show_read jobs rows e (Sockets order) h = absurd (no_socket (codes "show") rows order refl refl refl h)
+show_read jobs rows e (Sockets order) h = absurd (no_socket (codes "show") rows order refl refl refl refl h)
 
 check_read : (jobs : Text) (rows : List Row) → jobs_in rows ≡ jobs → (order : Order) → IsOrderOf (codes "check") rows order → IsCheck jobs order
 check_read jobs rows e (Files (Check named)) h = h.1 ∙ e
 check_read jobs rows e (Files _) h = absurd (apart _ _ h.0 refl)
-check_read jobs rows e (Sockets order) h = absurd (no_socket (codes "check") rows order refl refl refl h)
+check_read jobs rows e (Sockets order) h = absurd (no_socket (codes "check") rows order refl refl refl refl h)
 
 print_read : (jobs : Text) (rows : List Row) → jobs_in rows ≡ jobs → (order : Order) → IsOrderOf (codes "print") rows order → IsPrint jobs order
 print_read jobs rows e (Files (Print named)) h = h.1 ∙ e
 print_read jobs rows e (Files _) h = absurd (apart _ _ h.0 refl)
-print_read jobs rows e (Sockets order) h = absurd (no_socket (codes "print") rows order refl refl refl h)
+print_read jobs rows e (Sockets order) h = absurd (no_socket (codes "print") rows order refl refl refl refl h)
 
 try_read : (jobs script : Text) (rows : List Row) → files_in rows ≡ record { jobs = jobs; script = script } → (order : Order) → IsOrderOf (codes "try") rows order
     → IsTry jobs script order
 try_read jobs script rows e (Files (Try order)) h = (h.1.jobs ∙ ap (λ f. f.jobs) e, h.1.script ∙ ap (λ f. f.script) e)
 try_read jobs script rows e (Files _) h = absurd (apart _ _ h.0 refl)
-try_read jobs script rows e (Sockets order) h = absurd (no_socket (codes "try") rows order refl refl refl h)
+try_read jobs script rows e (Sockets order) h = absurd (no_socket (codes "try") rows order refl refl refl refl h)
 
-pub no_address : (name : Text) (rows : List Row) → bytes_eq name (codes "send") ≡ false → bytes_eq name (codes "receive") ≡ false → IsFaultOf name rows BadAddress → ⊥
-no_address name rows ne ne' (inl e) = apart _ _ e.0 ne
-no_address name rows ne ne' (inr e) = apart _ _ e.0 ne'
+pub no_address : (name : Text) (rows : List Row) → bytes_eq name (codes "send") ≡ false → bytes_eq name (codes "receive") ≡ false → bytes_eq name (codes "exchange") ≡ false
+    → IsFaultOf name rows BadAddress → ⊥
+no_address name rows send receive exchange (inl e) = apart _ _ e.0 send
+no_address name rows send receive exchange (inr (inl e)) = apart _ _ e.0 receive
+no_address name rows send receive exchange (inr (inr e)) = apart _ _ e.0 exchange
 
 module _ {V : Type 0} (view : List Row → V) (word : Text) (words : List Text) (name : Text) (value : V) (P : Order → Type 0) where
   ask_only : fault_of rje_app (word ∷ words) ≡ [] → seen view (subcommand_of rje_app (word ∷ words)) ≡ Some (name, value)
       → bytes_eq name (codes "cards") ≡ false → bytes_eq name (codes "send") ≡ false → bytes_eq name (codes "receive") ≡ false
-      → ((rows : List Row) → view rows ≡ value → (order : Order) → IsOrderOf name rows order → P order) → AskOnlyFor (word ∷ words) P
-  ask_only none found cards send receive reads = let taken : AreTaken view (word ∷ words) name value = record { faultless = none; found = found } in record {
+      → bytes_eq name (codes "exchange") ≡ false → ((rows : List Row) → view rows ≡ value → (order : Order) → IsOrderOf name rows order → P order) → AskOnlyFor (word ∷ words) P
+  ask_only none found cards send receive exchange reads = let taken : AreTaken view (word ∷ words) name value = record { faultless = none; found = found } in record {
     order = only_order view word words name value taken P reads;
-    fault = only_memory view word words name value taken cards (λ rows. no_address name rows send receive);
+    fault = only_memory view word words name value taken cards exchange (λ rows. no_address name rows send receive exchange);
   }
 
 pub blocks_asked : BlocksAsked
 blocks_asked deck h = ask_only deck_in (codes "blocks") (deck ∷ []) (codes "blocks") deck (IsBlocks deck) (blocks_taken deck h) (blocks_found deck h)
-    refl refl refl (blocks_read deck)
+    refl refl refl refl (blocks_read deck)
 
 pub show_asked : ShowAsked
 show_asked jobs h = ask_only jobs_in (codes "show") (jobs ∷ []) (codes "show") jobs (IsShow jobs) (show_taken jobs h) (show_found jobs h)
-    refl refl refl (show_read jobs)
+    refl refl refl refl (show_read jobs)
 
 pub check_asked : CheckAsked
 check_asked jobs h = ask_only jobs_in (codes "check") (jobs ∷ []) (codes "check") jobs (IsCheck jobs) (check_taken jobs h) (check_found jobs h)
-    refl refl refl (check_read jobs)
+    refl refl refl refl (check_read jobs)
 
 pub print_asked : PrintAsked
 print_asked jobs h = ask_only jobs_in (codes "print") (jobs ∷ []) (codes "print") jobs (IsPrint jobs) (print_taken jobs h) (print_found jobs h)
-    refl refl refl (print_read jobs)
+    refl refl refl refl (print_read jobs)
 
 pub try_asked : TryAsked
 try_asked jobs script h k = ask_only files_in (codes "try") (jobs ∷ script ∷ []) (codes "try") (record { jobs = jobs; script = script }) (IsTry jobs script)
-    (try_taken jobs script h k) (try_found jobs script h k) refl refl refl (try_read jobs script)
+    (try_taken jobs script h k) (try_found jobs script h k) refl refl refl refl (try_read jobs script)

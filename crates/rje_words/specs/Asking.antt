@@ -1,5 +1,5 @@
 -- What words ask for (own profile): clap finds a command's name and its rows, and these are read.
-use Rattle.std.specs.Prelude.{◌≡◌, ◌≢◌, ◌<◌, ◌^◌, ◌⊎◌, ℕ, Bool, false, List, [], ◌∷◌, Option, None, Some, codes, unwrap_or}
+use Rattle.std.specs.Prelude.{◌≡◌, ◌≢◌, ◌<◌, ◌^◌, ◌⊎◌, ℕ, Bool, false, ⊤, List, [], ◌∷◌, Option, None, Some, codes, unwrap_or}
 use Rattle.std.specs.Option.{IsSomeAnd, option_map_or}
 use Rattle.std.specs.Str.{bytes_eq}
 use Rattle.std.specs.Str.Parse.{IsNumeral, digits_value, without_leading_plus}
@@ -7,15 +7,18 @@ use Rattle.clap.specs.Words.{HasKind, Row, Text, fault_of, first_of, one_of, sub
 use Rattle.rje_files.specs.Entry.{IsNameOf, blank_name}
 use Rattle.rje_words.specs.declared.device.Device.{Device}
 use Rattle.rje_words.specs.declared.order.CardsOrder.{CardsOrder}
+use Rattle.rje_words.specs.declared.order.ExchangeOrder.{ExchangeOrder}
 use Rattle.rje_words.specs.declared.order.LoopOrder.{LoopOrder}
+use Rattle.rje_words.specs.declared.order.Meeting.{Meeting}
+use Rattle.rje_words.specs.declared.order.Meeting.TheVariants.{Calls, Listens}
 use Rattle.rje_words.specs.declared.order.Order.{Order}
 use Rattle.rje_words.specs.declared.order.Order.TheVariants.{Files, Sockets}
 use Rattle.rje_words.specs.declared.order.FileOrder.TheVariants.{Blocks, Cards, Show, Check, Print, Try}
-use Rattle.rje_words.specs.declared.order.SocketOrder.TheVariants.{Loop, Send, Receive}
+use Rattle.rje_words.specs.declared.order.SocketOrder.TheVariants.{Loop, Send, Receive, Exchange}
 use Rattle.rje_words.specs.declared.order.PeerOrder.{PeerOrder}
 use Rattle.rje_words.specs.declared.order.TryOrder.{TryOrder}
 use Rattle.rje_words.specs.declared.words_fault.WordsFault.{WordsFault}
-use Rattle.rje_words.specs.declared.words_fault.WordsFault.TheVariants.{Refused, TwoDevices, BadName, BadAddress}
+use Rattle.rje_words.specs.declared.words_fault.WordsFault.TheVariants.{Refused, TwoDevices, BadName, BadAddress, NoMeeting}
 use Rattle.rje_words.specs.Address.{IsAddressOf}
 use Rattle.rje_words.specs.CommandLine.{rje_app}
 use Rattle.rje_words.specs.Device.{chosen}
@@ -76,6 +79,29 @@ pub record IsPeerOrderOf (id : Text) (rows : List Row) (order : PeerOrder) : Typ
   pub timeout : IsTimeoutOf (one_of (codes "timeout") rows) order.timeout
   pub trace : order.trace ≡ is_on (codes "trace") rows
 
+-- the other end is called at the address of the one option, or the call is awaited at that of the other one, by the texts that were
+-- found for them: of which there is just one
+abbrev pub IsMeetingOf : (to listen : Option Text) → Meeting → Type 0
+IsMeetingOf (Some text) None (Calls address) = IsAddressOf text (Some address)
+IsMeetingOf None (Some text) (Listens address) = IsAddressOf text (Some address)
+IsMeetingOf _ _ _ = ⊥
+
+-- there are two texts or none; or the one is no address
+abbrev pub IsMeetingFault : (to listen : Option Text) → WordsFault → Type 0
+IsMeetingFault None None NoMeeting = ⊤
+IsMeetingFault (Some to) (Some listen) NoMeeting = ⊤
+IsMeetingFault (Some text) None BadAddress = IsAddressOf text None
+IsMeetingFault None (Some text) BadAddress = IsAddressOf text None
+IsMeetingFault _ _ _ = ⊥
+
+-- the order has the two job files and the time-out that were found, calls or is called so, and tells each turn where that option was
+pub record IsExchangeOrderOf (rows : List Row) (order : ExchangeOrder) : Type 0 where
+  pub send : order.send.now ≡ word_in (codes "SEND") rows
+  pub received : order.received.now ≡ word_in (codes "RECEIVED") rows
+  pub place : IsMeetingOf (first_of (codes "to") rows) (first_of (codes "listen") rows) order.place
+  pub timeout : IsTimeoutOf (one_of (codes "timeout") rows) order.timeout
+  pub trace : order.trace ≡ is_on (codes "trace") rows
+
 -- the order is that of the command of this name, with the values that were found
 abbrev pub IsOrderOf : Text → List Row → Order → Type 0
 IsOrderOf name rows (Files (Blocks deck)) = (name ≡ codes "blocks") × (deck.now ≡ word_in (codes "DECK") rows)
@@ -87,6 +113,7 @@ IsOrderOf name rows (Files (Try order)) = (name ≡ codes "try") × IsTryOrderOf
 IsOrderOf name rows (Sockets (Loop order)) = (name ≡ codes "loop") × IsLoopOrderOf rows order
 IsOrderOf name rows (Sockets (Send order)) = (name ≡ codes "send") × IsPeerOrderOf (codes "to") rows order
 IsOrderOf name rows (Sockets (Receive order)) = (name ≡ codes "receive") × IsPeerOrderOf (codes "listen") rows order
+IsOrderOf name rows (Sockets (Exchange order)) = (name ≡ codes "exchange") × IsExchangeOrderOf rows order
 
 -- the values that were found for the command of this name are none that can be carried out
 abbrev pub IsFaultOf : Text → List Row → WordsFault → Type 0
@@ -94,7 +121,9 @@ IsFaultOf name rows (Refused error) = ⊥
 IsFaultOf name rows TwoDevices = (name ≡ codes "cards") × IsCardsFaultOf rows TwoDevices
 IsFaultOf name rows BadName = (name ≡ codes "cards") × IsCardsFaultOf rows BadName
 IsFaultOf name rows BadAddress =
-    ((name ≡ codes "send") × IsAddressOf (word_in (codes "to") rows) None) ⊎ ((name ≡ codes "receive") × IsAddressOf (word_in (codes "listen") rows) None)
+    ((name ≡ codes "send") × IsAddressOf (word_in (codes "to") rows) None) ⊎ (((name ≡ codes "receive") × IsAddressOf (word_in (codes "listen") rows) None)
+    ⊎ ((name ≡ codes "exchange") × IsMeetingFault (first_of (codes "to") rows) (first_of (codes "listen") rows) BadAddress))
+IsFaultOf name rows NoMeeting = (name ≡ codes "exchange") × IsMeetingFault (first_of (codes "to") rows) (first_of (codes "listen") rows) NoMeeting
 
 -- the words are taken, and what is found of the command that they name is this
 abbrev pub IsFound : List Text → (Text → List Row → Type 0) → Type 0

@@ -29,6 +29,10 @@ flag_rule id = record (new_rule id) { long = Some id; action = Some SetTrue }
 abbrev pub address_rule : Text → Rule
 address_rule id = record (file_rule id) { long = Some id; value_names = 1 }
 
+-- an option that may be given an address
+abbrev pub meeting_rule : Text → Rule
+meeting_rule id = record (new_rule id) { long = Some id; value_names = 1; action = Some Set }
+
 -- the option for the name of a job
 abbrev pub name_rule : Rule
 name_rule = record (new_rule (codes "name")) { long = Some (codes "name"); value_names = 1; action = Some Set }
@@ -81,12 +85,18 @@ send_app = with_rule (with_rule (with_rule (file_app (codes "send") (codes "JOBS
 abbrev pub receive_app : App
 receive_app = with_rule (with_rule (with_rule (file_app (codes "receive") (codes "JOBS")) (address_rule (codes "listen"))) timeout_rule) trace_rule
 
+-- `exchange SEND RECEIVED --to ADDR`, or with `--listen ADDR`
+abbrev pub exchange_app : App
+exchange_app =
+    with_rule (with_rule (with_rule (with_rule (with_rule (file_app (codes "exchange") (codes "SEND"))
+    (file_rule (codes "RECEIVED"))) (meeting_rule (codes "to"))) (meeting_rule (codes "listen"))) timeout_rule) trace_rule
+
 abbrev pub rje_app : App
 rje_app =
-    with_subcommand (with_subcommand (with_subcommand (with_subcommand (with_subcommand (with_subcommand (with_subcommand (with_subcommand (with_subcommand rje_top
+    with_subcommand (with_subcommand (with_subcommand (with_subcommand (with_subcommand (with_subcommand (with_subcommand (with_subcommand (with_subcommand (with_subcommand rje_top
     cards_app.top) blocks_app.top) (file_app (codes "show") (codes "JOBS")).top)
     (file_app (codes "check") (codes "JOBS")).top) (file_app (codes "print") (codes "JOBS")).top)
-    try_app.top) loop_app.top) send_app.top) receive_app.top
+    try_app.top) loop_app.top) send_app.top) receive_app.top) exchange_app.top
 
 -- a word that names a file: more than nothing, without a hyphen in front
 abbrev pub names_file : Text → Bool
@@ -109,7 +119,7 @@ device_words Device.Transparent = codes "--transparent" ∷ []
 -- the names of the commands
 abbrev pub command_names : List Text
 command_names =
-    codes "cards" ∷ codes "blocks" ∷ codes "show" ∷ codes "check" ∷ codes "print" ∷ codes "try" ∷ codes "loop" ∷ codes "send" ∷ codes "receive" ∷ []
+    codes "cards" ∷ codes "blocks" ∷ codes "show" ∷ codes "check" ∷ codes "print" ∷ codes "try" ∷ codes "loop" ∷ codes "send" ∷ codes "receive" ∷ codes "exchange" ∷ []
 
 -- the text is one of these
 abbrev pub IsOneOf : Text → List Text → Type 0

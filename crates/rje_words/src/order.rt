@@ -38,6 +38,8 @@ pub enum SocketOrder<'a> {
     Send(PeerOrder<'a>),
     /// A transmission from a sender.
     Receive(PeerOrder<'a>),
+    /// A transmission each way over one connection.
+    Exchange(ExchangeOrder<'a>),
 }
 
 /// What `cards` is asked for.
@@ -86,4 +88,28 @@ pub struct PeerOrder<'a> {
     pub timeout: u16,
     /// Whether each turn is told on standard error as it happens.
     pub trace: bool,
+}
+
+/// What `exchange` is asked for.
+#[derive(Clone, Copy, Debug, PartialEq, Eq)]
+pub struct ExchangeOrder<'a> {
+    /// The job file that is sent.
+    pub send: &'a str,
+    /// The job file that is written.
+    pub received: &'a str,
+    /// Whom it calls, or where it is called.
+    pub place: Meeting,
+    /// How long a hearing waits for more bytes, in milliseconds, 1 to 60000.
+    pub timeout: u16,
+    /// Whether each turn is told on standard error as it happens.
+    pub trace: bool,
+}
+
+/// How two stations come to a connection.
+#[derive(Clone, Copy, Debug, PartialEq, Eq)]
+pub enum Meeting {
+    /// This one calls the other at its address.
+    Calls(SocketAddr),
+    /// This one listens at its own.
+    Listens(SocketAddr),
 }

@@ -1,7 +1,7 @@
 //! Orders and faults, by their words.
 use crate::{
-    CardsOrder, Device, FileOrder, LoopOrder, Order, PeerOrder, SocketOrder, TryOrder, WordsFault,
-    parse,
+    CardsOrder, Device, ExchangeOrder, FileOrder, LoopOrder, Meeting, Order, PeerOrder,
+    SocketOrder, TryOrder, WordsFault, parse,
 };
 use clap::error::ErrorKind;
 use std::net::{Ipv4Addr, SocketAddr, SocketAddrV4};
@@ -129,6 +129,73 @@ fn commands_over_sockets(rt: HostRuntime) {
             timeout: 60000,
             trace: false,
         })),
+    );
+}
+
+#[test]
+fn an_exchange_calls_or_is_called(rt: HostRuntime) {
+    assert_order(
+        &rt,
+        &["exchange", "out.rje", "in.rje", "--to", "127.0.0.1:3780"],
+        Order::Sockets(SocketOrder::Exchange(ExchangeOrder {
+            send: "out.rje",
+            received: "in.rje",
+            place: Meeting::Calls(local(3780)),
+            timeout: 3000,
+            trace: false,
+        })),
+    );
+    assert_order(
+        &rt,
+        &[
+            "exchange",
+            "--listen=127.0.0.1:0",
+            "out.rje",
+            "--trace",
+            "--timeout",
+            "250",
+            "in.rje",
+        ],
+        Order::Sockets(SocketOrder::Exchange(ExchangeOrder {
+            send: "out.rje",
+            received: "in.rje",
+            place: Meeting::Listens(local(0)),
+            timeout: 250,
+            trace: true,
+        })),
+    );
+}
+
+#[test]
+fn an_exchange_has_one_address(rt: HostRuntime) {
+    let neither = ["exchange", "out.rje", "in.rje"];
+    assert!(rt;
+        matches!(
+            parse(rt.alloc(), neither.as_slice()),
+            Err(WordsFault::NoMeeting)
+        )
+    );
+    let both = [
+        "exchange",
+        "out.rje",
+        "in.rje",
+        "--to",
+        "127.0.0.1:3780",
+        "--listen",
+        "127.0.0.1:3780",
+    ];
+    assert!(rt;
+        matches!(
+            parse(rt.alloc(), both.as_slice()),
+            Err(WordsFault::NoMeeting)
+        )
+    );
+    assert_bad_address(&rt, &["exchange", "out.rje", "in.rje", "--to", "localhost"]);
+    assert_bad_address(&rt, &["exchange", "out.rje", "in.rje", "--listen", "3780"]);
+    assert_refused(
+        &rt,
+        &["exchange", "out.rje", "--to", "127.0.0.1:3780"],
+        ErrorKind::MissingRequiredArgument,
     );
 }
 

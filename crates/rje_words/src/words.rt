@@ -4,14 +4,17 @@ ghost use Rattle.clap.specs.Words.{first_of, found_of, one_of, rows_of};
 ghost use Rattle.rje_words.specs.CommandLine.{IsOneOf, command_names};
 ghost use Rattle.rje_words.specs.Address.{IsAddressOf};
 ghost use Rattle.rje_words.specs.Asking.{AsksFor, IsWordsFault, IsOrderOf, IsFaultOf, IsCardsOrderOf, IsCardsFaultOf};
-ghost use Rattle.rje_words.specs.Asking.{IsLoopOrderOf, IsPeerOrderOf, IsTimeoutOf, IsGivenName};
+ghost use Rattle.rje_words.specs.Asking.{IsLoopOrderOf, IsPeerOrderOf, IsExchangeOrderOf, IsMeetingOf, IsMeetingFault, IsTimeoutOf, IsGivenName};
 ghost use Rattle.rje_words.specs.Asking.{word_in, is_on};
 
 mod app;
 
 use crate::address::address_of;
 use crate::device::Device;
-use crate::order::{CardsOrder, FileOrder, LoopOrder, Order, PeerOrder, SocketOrder, TryOrder};
+use crate::order::{
+    CardsOrder, ExchangeOrder, FileOrder, LoopOrder, Meeting, Order, PeerOrder, SocketOrder,
+    TryOrder,
+};
 use crate::words_fault::WordsFault;
 use app::program;
 use clap::ArgMatches;
@@ -54,6 +57,7 @@ fn order_of<'a>(command: &str, matches: &ArgMatches<'a>) -> Result<Order<'a>, Wo
         "loop" => Ok(Order::Sockets(SocketOrder::Loop(loop_order(matches)))),
         "send" => Ok(Order::Sockets(SocketOrder::Send(peer_order(matches, "to")?))),
         "receive" => Ok(Order::Sockets(SocketOrder::Receive(peer_order(matches, "listen")?))),
+        "exchange" => Ok(Order::Sockets(SocketOrder::Exchange(exchange_order(matches)?))),
         _ => unreachable!(),
     }
 }
@@ -118,6 +122,51 @@ fn peer_order<'a>(matches: &ArgMatches<'a>, id: &str) -> Result<PeerOrder<'a>, W
         timeout: timeout_of(matches),
         trace: has_trace(matches),
     })
+}
+
+fn exchange_order<'a>(matches: &ArgMatches<'a>) -> Result<ExchangeOrder<'a>, WordsFault>
+    ensures asked { IfOk result (IsExchangeOrderOf (rows_of (found_of matches.now))) }
+    ensures told { IfErr result (IsMeetingFault
+        (first_of (codes "to") (rows_of (found_of matches.now)))
+        (first_of (codes "listen") (rows_of (found_of matches.now)))) }
+{
+    Ok(ExchangeOrder {
+        send: word(matches, "SEND"),
+        received: word(matches, "RECEIVED"),
+        place: meeting_in(matches)?,
+        timeout: timeout_of(matches),
+        trace: has_trace(matches),
+    })
+}
+
+/// How the two ends come to a connection: by one of two options.
+fn meeting_in(matches: &ArgMatches) -> Result<Meeting, WordsFault>
+    ensures asked { IfOk result (IsMeetingOf
+        (first_of (codes "to") (rows_of (found_of matches.now)))
+        (first_of (codes "listen") (rows_of (found_of matches.now)))) }
+    ensures told { IfErr result (IsMeetingFault
+        (first_of (codes "to") (rows_of (found_of matches.now)))
+        (first_of (codes "listen") (rows_of (found_of matches.now)))) }
+{
+    match (value_of(matches, "to"), value_of(matches, "listen")) {
+        (Some(to), None) => match address_of(to) {
+            Some(address) => Ok(Meeting::Calls(address)),
+            None => Err(WordsFault::BadAddress),
+        },
+        (None, Some(listen)) => match address_of(listen) {
+            Some(address) => Ok(Meeting::Listens(address)),
+            None => Err(WordsFault::BadAddress),
+        },
+        _ => Err(WordsFault::NoMeeting),
+    }
+}
+
+/// The value that was found, where one was.
+fn value_of<'a>(matches: &ArgMatches<'a>, id: &str) -> Option<&'a str>
+    ensures { option_map (λ text. text.now) result
+        ≡ first_of id.now (rows_of (found_of matches.now)) }
+{
+    matches.get_str(id)
 }
 
 /// How long a hearing waits, in milliseconds: clap tests the range.

@@ -21,6 +21,9 @@ pub enum WordsFault {
     /// An address that is none.
     #[error("bad address")]
     BadAddress,
+    /// Both of the options for an address, or none of them.
+    #[error("choose --to or --listen")]
+    NoMeeting,
 }
 
 impl From<clap::Error> for WordsFault {

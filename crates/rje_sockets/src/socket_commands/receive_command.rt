@@ -46,7 +46,7 @@ pub fn receive<'a, R: Net + Clock, S: Store, O: Write, E: Write>(
 }
 
 /// A line to whoever connects first, and the peer's address.
-fn accepted<R: Net>(
+pub(super) fn accepted<R: Net>(
     rt: &R,
     address: SocketAddr,
     timeout: u16,
@@ -104,7 +104,7 @@ fn received<'a, L: Line, S: Store, W: Watch, O: Write>(
 }
 
 /// Keeps what is left of the jobs, where none of them was refused by the file before.
-fn keep_rest<'a, S: Store>(
+pub(super) fn keep_rest<'a, S: Store>(
     left: &Result<Left, BrokenOff<'a>>,
     keeper: &mut Keeper<'a>,
     jobs: Vec<Job>,

@@ -113,12 +113,12 @@ fn sent<'a, L: Line, S: Store, O: Write>(
 
 /// A job file as it was read.
 #[derive(Drop)]
-struct JobFile<'a> {
-    name: &'a str,
-    bytes: Vec<u8>,
+pub(super) struct JobFile<'a> {
+    pub(super) name: &'a str,
+    pub(super) bytes: Vec<u8>,
 }
 
-fn job_file<'a, S: Store>(
+pub(super) fn job_file<'a, S: Store>(
     alloc: Global,
     name: &'a str,
     store: &mut S,
@@ -135,13 +135,13 @@ fn job_file<'a, S: Store>(
 
 /// What is left to send of a job file: its jobs that were not sent, and where they are marked.
 #[derive(Drop)]
-struct Unsent {
-    jobs: Jobs,
-    places: Vec<usize>,
+pub(super) struct Unsent {
+    pub(super) jobs: Jobs,
+    pub(super) places: Vec<usize>,
 }
 
 /// What is left to send of a job file, where all of it can be sent.
-fn unsent_of<'a>(alloc: Global, file: &[u8]) -> Result<Unsent, CommandFault<'a>>
+pub(super) fn unsent_of<'a>(alloc: Global, file: &[u8]) -> Result<Unsent, CommandFault<'a>>
     ensures left { IfOk result (λ left. IsLeft file.now left.jobs) }
     ensures marks { IfOk result (λ left. AreMarks file.now left.places.items) }
     ensures fault { IfErr result (λ fault. IsFailing (status_of fault)
@@ -156,7 +156,7 @@ fn unsent_of<'a>(alloc: Global, file: &[u8]) -> Result<Unsent, CommandFault<'a>>
     Ok(Unsent { jobs, places })
 }
 
-fn connected<R: Net>(
+pub(super) fn connected<R: Net>(
     rt: &R,
     address: SocketAddr,
     timeout: u16,

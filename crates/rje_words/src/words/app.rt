@@ -3,7 +3,7 @@ ghost use Rattle.std.specs.Prelude.{◌≡◌, codes, IfOk};
 ghost use Rattle.clap.specs.Words.{App, Rule, with_rule, with_subcommand};
 ghost use Rattle.rje_words.specs.CommandLine.{IsArg, IsApp, file_rule, flag_rule, name_rule, address_rule};
 ghost use Rattle.rje_words.specs.CommandLine.{timeout_rule, trace_rule, file_app, blocks_app, cards_app};
-ghost use Rattle.rje_words.specs.CommandLine.{try_app, loop_app, send_app, receive_app, rje_app};
+ghost use Rattle.rje_words.specs.CommandLine.{meeting_rule, try_app, loop_app, send_app, receive_app, exchange_app, rje_app};
 
 use clap::{Arg, ArgAction, Command, value_parser};
 use std::alloc::{AllocError, Global};
@@ -68,7 +68,8 @@ pub fn program<'a>(alloc: Global) -> Result<Command<'a>, AllocError>
     let top = with_command(top, attempt(alloc)?)?;
     let top = with_command(top, loopback(alloc)?)?;
     let top = with_command(top, send(alloc)?)?;
-    with_command(top, receive(alloc)?)
+    let top = with_command(top, receive(alloc)?)?;
+    with_command(top, exchange(alloc)?)
 }
 
 fn attempt<'a>(alloc: Global) -> Result<Command<'a>, AllocError>
@@ -124,6 +125,40 @@ fn receive<'a>(alloc: Global) -> Result<Command<'a>, AllocError>
         "The job file to write, in place of one that is there",
     )?;
     let listen = address(alloc, "listen", "Where to listen, as 0.0.0.0:3780");
+    let command = with_arg(command, listen)?;
+    let command = with_arg(command, timeout(alloc))?;
+    with_arg(command, trace(alloc))
+}
+
+fn exchange<'a>(alloc: Global) -> Result<Command<'a>, AllocError>
+    ensures { IfOk result (IsApp exchange_app) }
+{
+    let command = Command::new(alloc, "exchange").about(
+        "Send the jobs of a job file and receive those of the other end, over one connection",
+    );
+    let send = file(
+        alloc,
+        "SEND",
+        "A job file; the jobs that are counted are marked in it as sent",
+    );
+    let command = with_arg(command, send)?;
+    let received = file(
+        alloc,
+        "RECEIVED",
+        "The job file to write, in place of one that is there",
+    );
+    let command = with_arg(command, received)?;
+    let to = meeting(
+        alloc,
+        "to",
+        "Call the other end, which listens at 192.0.2.1:3780, say",
+    );
+    let command = with_arg(command, to)?;
+    let listen = meeting(
+        alloc,
+        "listen",
+        "Wait for the other end's call, at 0.0.0.0:3780, say",
+    );
     let command = with_arg(command, listen)?;
     let command = with_arg(command, timeout(alloc))?;
     with_arg(command, trace(alloc))
@@ -201,6 +236,17 @@ fn address<'a>(alloc: Global, id: &'a str, help: &'a str) -> Arg<'a>
     ensures { IsArg (address_rule id.entry.now) result }
 {
     file(alloc, id, help).long(id).value_name("ADDR")
+}
+
+/// An option for an address, which may be left out.
+fn meeting<'a>(alloc: Global, id: &'a str, help: &'a str) -> Arg<'a>
+    ensures { IsArg (meeting_rule id.entry.now) result }
+{
+    Arg::new(alloc, id)
+        .long(id)
+        .value_name("ADDR")
+        .action(ArgAction::Set)
+        .help(help)
 }
 
 fn name<'a>(alloc: Global) -> Arg<'a>

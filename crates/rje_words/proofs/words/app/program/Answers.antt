@@ -1,6 +1,6 @@
 use Rattle.std.proofs.Common.{ap, true, codes, ◌∙◌}
 use Rattle.clap.specs.Simple.{on_top, app_of_fields}
-use Rattle.rje_words.specs.CommandLine.{IsApp, rje_top, blocks_app, cards_app, file_app, try_app, loop_app, send_app, receive_app}
+use Rattle.rje_words.specs.CommandLine.{IsApp, rje_top, blocks_app, cards_app, file_app, try_app, loop_app, send_app, receive_app, exchange_app}
 use Rattle.rje_words.proofs.words.app.program.Goals as goal
 
 pub returns : goal.returns
@@ -18,4 +18,5 @@ returns c =
     let attempt = c.in_ok-top-7.ensures _ try_app print c.in_ok-attempt.ensures in
     let loopback = c.in_ok-top-8.ensures _ loop_app attempt c.in_ok-loopback.ensures in
     let send = c.in_ok-top-9.ensures _ send_app loopback c.in_ok-send.ensures in
-    c.with_command-9.ensures _ receive_app send c.in_ok-receive.ensures
+    let receive = c.in_ok-top-10.ensures _ receive_app send c.in_ok-receive.ensures in
+    c.with_command-10.ensures _ exchange_app receive c.in_ok-exchange.ensures

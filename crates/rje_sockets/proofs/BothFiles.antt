@@ -1,0 +1,368 @@
+-- What is marked in one file and kept in another goes on by each turn.
+use Rattle.std.proofs.Common.{◌≡◌, inl, inr, ℕ, Bool, true, false, List, [], ◌∷◌, take, Option, Some, None, if◌then◌else◌, refl, ap, sym, ◌∙◌, subst}
+use Rattle.std.proofs.lemmas.Slice.Eq.{bytes_eq-Decides}
+use Rattle.std.specs.Prelude.{◌≢◌, bytes_eq}
+use Rattle.bsc_frame.specs.declared.heard.Heard.{Heard}
+use Rattle.bsc_link.specs.declared.rank.Rank.{Rank}
+use Rattle.bsc_link.specs.declared.reply.Reply.{Reply}
+use Rattle.bsc_link.specs.declared.say.Say.{Say}
+use Rattle.bsc_link.specs.declared.sound.Sound.{Sound}
+use Rattle.bsc_link.specs.declared.wish.Wish.{Wish}
+use Rattle.bsc_link.specs.Receiver.{receiver_news}
+use Rattle.rje_jobs.specs.declared.job.Job.{Job}
+use Rattle.rje_station.specs.declared.arrival.Arrival.{Arrival}
+use Rattle.rje_station.specs.declared.line_fault.LineFault.TheVariants.{Closed}
+use Rattle.rje_station.specs.declared.station_fault.StationFault.{StationFault}
+use Rattle.rje_station.specs.declared.station_fault.StationFault.TheVariants as fault
+use Rattle.rje_station.specs.Hearing.{sound_heard}
+use Rattle.rje_station.specs.Receiving.{sound_taken}
+use Rattle.rje_station.specs.Sending.{Sending, after_speaking}
+use Rattle.rje_station.specs.Station.{Contending, after_answer, after_other, after_other_ended, after_other_refusal, after_own_refusal, after_own_reply, after_own_speaking, contender_answered, contender_said, due_at, gives_way, lets_in}
+use Rattle.rje_sockets.specs.declared.broken_off.BrokenOff.{BrokenOff}
+use Rattle.rje_sockets.specs.declared.keeper.Keeper.{Keeper}
+use Rattle.rje_sockets.specs.declared.marker.Marker.{Marker}
+use Rattle.rje_sockets.specs.BothFiles.{BreaksBoth, GoesOnHolding, HoldsBoth, kept_of}
+use Rattle.rje_sockets.specs.BothWays.{FailsInOthers, FailsInOwn, StationTurn, TakesOthers, TakesOwn, Took, after_answering_other, after_own_turn}
+use Rattle.rje_sockets.specs.Ending.{MarksSent}
+use Rattle.rje_sockets.specs.Keeping.{AreKept, GoesOnKeeping, KeepsJobs, kept_after}
+use Rattle.rje_sockets.specs.Marking.{AreMarked, GoesOnMarking, Marks}
+use Rattle.rje_sockets.proofs.BothWays.{others_fail}
+use Rattle.rje_sockets.proofs.Keeping.{Comes, goes_on, heard_comes, nothing}
+use Rattle.rje_sockets.proofs.Marked.{stays, written_over}
+use Rattle.rje_stores.proofs.Changes.{same_itself}
+use Rattle.rje_stores.specs.Store.{FileMap, Discloses, IsSame, Sets}
+
+-- TWO NAMES
+
+-- of two names no third one is both
+not_both : (sent own other : List ℕ) → sent ≢ own → bytes_eq other sent ≡ true → bytes_eq other own ≡ true → ⊥
+not_both sent own other two is is' = two (sym ((bytes_eq-Decides other sent).0 is) ∙ (bytes_eq-Decides other own).0 is')
+
+swapped : (s r : Bool) (b c o : Option (List ℕ)) → (s ≡ true → r ≡ true → ⊥) → (if r then c else (if s then b else o)) ≡ (if s then b else (if r then c else o))
+swapped true true b c o not = absurd (not refl refl)
+swapped true false b c o not = refl
+swapped false true b c o not = refl
+swapped false false b c o not = refl
+
+-- the files with these bytes under a name
+abbrev with_bytes : (own bytes : List ℕ) → FileMap → FileMap
+with_bytes own bytes f = λ other. if bytes_eq other own then Some bytes else f other
+
+-- the files with what others have under a name
+abbrev as_in : (own : List ℕ) → (f n : FileMap) → FileMap
+as_in own f n = λ other. if bytes_eq other own then f other else n other
+
+-- what is marked in the one file is marked also where the other one had been made before
+marked_behind : (file sent own bytes : List ℕ) (n : ℕ) (f m g : FileMap) → sent ≢ own → Sets own bytes m g → AreMarked file n sent (Some f) (Some m) → AreMarked file n sent (Some (with_bytes own bytes f)) (Some g)
+marked_behind file sent own bytes n f m g two sets (inl (none, same)) =
+    inl (none, λ other. sets other ∙ ap (λ (o : Option (List ℕ)). if bytes_eq other own then Some bytes else o) (same other))
+marked_behind file sent own bytes n f m g two sets (inr (b, is, few, had)) =
+    inr (
+      b,
+      is,
+      few,
+      λ other. sets other ∙ ap (λ (o : Option (List ℕ)). if bytes_eq other own then Some bytes else o) (had other)
+          ∙ swapped (bytes_eq other sent) (bytes_eq other own) (Some b) (Some bytes) (f other) (not_both sent own other two),
+    )
+
+same_front : (r : Bool) (b o h : Option (List ℕ)) → h ≡ (if r then b else o) → (if r then o else h) ≡ o
+same_front true b o h e = refl
+same_front false b o h e = e
+
+same_behind : (r : Bool) (b o h : Option (List ℕ)) → h ≡ (if r then b else o) → h ≡ (if r then b else (if r then o else h))
+same_behind true b o h e = e
+same_behind false b o h e = refl
+
+set_front : (s r : Bool) (a b o h : Option (List ℕ)) → (s ≡ true → r ≡ true → ⊥) → h ≡ (if s then a else (if r then b else o)) → (if r then o else h) ≡ (if s then a else o)
+set_front true true a b o h not e = absurd (not refl refl)
+set_front false true a b o h not e = refl
+set_front true false a b o h not e = e
+set_front false false a b o h not e = e
+
+set_behind : (s r : Bool) (a b o h : Option (List ℕ)) → (s ≡ true → r ≡ true → ⊥) → h ≡ (if s then a else (if r then b else o)) → h ≡ (if r then b else (if r then o else h))
+set_behind true true a b o h not e = absurd (not refl refl)
+set_behind false true a b o h not e = e
+set_behind true false a b o h not e = refl
+set_behind false false a b o h not e = refl
+
+-- and then as if it had been made behind the marks
+same_apart : (own bytes : List ℕ) (f h : FileMap) → IsSame (with_bytes own bytes f) h → IsSame f (as_in own f h) × Sets own bytes (as_in own f h) h
+same_apart own bytes f h same = (
+  λ other. same_front (bytes_eq other own) (Some bytes) (f other) (h other) (same other),
+  λ other. same_behind (bytes_eq other own) (Some bytes) (f other) (h other) (same other),
+)
+
+sets_apart : (sent own bytes b : List ℕ) (f h : FileMap) → sent ≢ own → Sets sent b (with_bytes own bytes f) h → Sets sent b f (as_in own f h) × Sets own bytes (as_in own f h) h
+sets_apart sent own bytes b f h two sets = (
+  λ other. set_front (bytes_eq other sent) (bytes_eq other own) (Some b) (Some bytes) (f other) (h other) (not_both sent own other two) (sets other),
+  λ other. set_behind (bytes_eq other sent) (bytes_eq other own) (Some b) (Some bytes) (f other) (h other) (not_both sent own other two) (sets other),
+)
+
+-- what is said of the files before and after a change of the one, and can be said as well where the other one is made behind it
+record IsApart (own : List ℕ) (Q : Option FileMap → Option FileMap → Type 0) : Type 0 where
+  untold : (g : Option FileMap) → Q None g → Q None None
+  told : (f : FileMap) → Q (Some f) None → ⊥
+  apart : (bytes : List ℕ) (f h : FileMap) → Q (Some (with_bytes own bytes f)) (Some h) → Q (Some f) (Some (as_in own f h)) × Sets own bytes (as_in own f h) h
+
+sent_apart : (file sent own : List ℕ) (n : ℕ) → sent ≢ own → IsApart own (λ f g. MarksSent file n sent f g)
+sent_apart file sent own n two = record {
+  untold = λ g (b, is, few, t). (b, is, few, tt);
+  told = λ f (b, is, few, t). t;
+  apart = λ bytes f h (b, is, few, sets). let a = sets_apart sent own bytes b f h two sets in ((b, is, few, a.0), a.1);
+}
+
+marked_apart : (file sent own : List ℕ) (n : ℕ) → sent ≢ own → IsApart own (λ f g. AreMarked file n sent f g)
+marked_apart file sent own n two = record { untold = untold; told = told; apart = apart } where
+  untold : (g : Option FileMap) → AreMarked file n sent None g → AreMarked file n sent None None
+  untold g (inl (none, t)) = inl (none, tt)
+  untold g (inr m) = inr ((sent_apart file sent own n two).untold g m)
+
+  told : (f : FileMap) → AreMarked file n sent (Some f) None → ⊥
+  told f (inl (none, t)) = t
+  told f (inr m) = (sent_apart file sent own n two).told f m
+
+  apart : (bytes : List ℕ) (f h : FileMap) → AreMarked file n sent (Some (with_bytes own bytes f)) (Some h) → AreMarked file n sent (Some f) (Some (as_in own f h)) × Sets own bytes (as_in own f h) h
+  apart bytes f h (inl (none, same)) = let a = same_apart own bytes f h same in (inl (none, a.0), a.1)
+  apart bytes f h (inr m) = let a = (sent_apart file sent own n two).apart bytes f h m in (inr a.0, a.1)
+
+marks_apart : (marker : Marker) (own : List ℕ) (n : ℕ) → marker.name.now ≢ own → IsApart own (λ f g. Marks marker n f g)
+marks_apart marker own n two = let are = marked_apart marker.file.items marker.name.now own marker.marked two in record {
+  untold = λ g m. record { places = m.places; all = m.all; file = are.untold g m.file };
+  told = λ f m. are.told f m.file;
+  apart = λ bytes f h m. let a = are.apart bytes f h m.file in (record { places = m.places; all = m.all; file = a.0 }, a.1);
+}
+
+module _ (old : Marker) (counted : ℕ) (keeper : Keeper) (two : old.name.now ≢ keeper.name.now) (Q : Option FileMap → Option FileMap → Type 0) (can : IsApart keeper.name.now Q) where
+  as_marked : (files made others later : Option FileMap) → Marks old counted files made → AreMarked old.file.items old.marked old.name.now others later → Marks old counted others later
+  as_marked files made others later m file = record { places = m.places; all = m.all; file = file }
+
+  untold_marks : (marked g : Option FileMap) → AreMarked old.file.items old.marked old.name.now None marked → AreMarked old.file.items old.marked old.name.now None g
+  untold_marks marked g (inl (none, t)) = inl (none, tt)
+  untold_marks marked g (inr (b, is, few, t)) = inr (b, is, few, tt)
+
+  -- the one file was changed beside what is kept in the other
+  beside : (kept : List Job) (files marked g h : Option FileMap) → ((files : Option FileMap) → Marks old counted files g → Q files h) → Marks old counted files marked
+      → AreKept kept keeper.long keeper.name.now marked g → (marked' : Option FileMap) × Q files marked' × AreKept kept keeper.long keeper.name.now marked' h
+  beside [] None marked g h on m same = (None, can.untold h (on None (as_marked None marked None g m (untold_marks marked g m.file))), tt)
+  beside (j ∷ js) None marked g h on m (bytes, file, is, few, t) =
+      (None, can.untold h (on None (as_marked None marked None g m (untold_marks marked g m.file))), (bytes, file, is, few, tt))
+  beside kept (Some f) None g h on m k = absurd ((marks_apart old keeper.name.now counted two).told f m)
+  beside [] (Some f) (Some m0) g h on m same =
+      (h, on (Some f) (as_marked (Some f) (Some m0) (Some f) g m (stays old.file.items old.name.now old.marked (Some f) (Some m0) g same m.file)), same_itself h)
+  beside (j ∷ js) (Some f) (Some m0) None h on m (bytes, file, is, few, t) = absurd t
+  beside (j ∷ js) (Some f) (Some m0) (Some g) None on m (bytes, file, is, few, sets) =
+      absurd (can.told (with_bytes keeper.name.now bytes f) (on _ (as_marked (Some f) (Some m0) _ (Some g) m (marked_behind old.file.items old.name.now keeper.name.now bytes old.marked f m0 g two sets m.file))))
+  beside (j ∷ js) (Some f) (Some m0) (Some g) (Some h) on m (bytes, file, is, few, sets) =
+      let a = can.apart bytes f h (on _ (as_marked (Some f) (Some m0) _ (Some g) m (marked_behind old.file.items old.name.now keeper.name.now bytes old.marked f m0 g two sets m.file))) in
+      (Some (as_in keeper.name.now f h), a.0, (bytes, file, is, few, a.1))
+
+  -- so it was beside what a keeper has kept
+  beside_keeper : (jobs : List Job) (files g h : Option FileMap) → ((files : Option FileMap) → Marks old counted files g → Q files h) → HoldsBoth old counted keeper jobs files g
+      → (marked : Option FileMap) × Q files marked × KeepsJobs keeper jobs marked h
+  beside_keeper jobs files g h on (marked, m, k) =
+      let now = beside (take keeper.kept jobs) files marked g h on m k.file in
+      (now.0, now.1, record { few = k.few; all = k.all; cut = k.cut; file = now.2 })
+
+-- A MARKER AND A KEEPER
+
+pub holds_marked : (old new : Marker) (counted more : ℕ) (keeper : Keeper) (jobs : List Job) (files g h : Option FileMap) → old.name.now ≢ keeper.name.now → GoesOnMarking old new counted more g h
+    → HoldsBoth old counted keeper jobs files g → HoldsBoth new more keeper jobs files h
+holds_marked old new counted more keeper jobs files g h two (name, file, on) both =
+    let apart : new.name.now ≢ keeper.name.now = λ is. two (sym (ap (λ (n : _). n.now) name) ∙ is) in
+    beside_keeper old counted keeper two (λ f g. Marks new more f g) (marks_apart new keeper.name.now more apart) jobs files g h on both
+
+-- the whole file is marked
+pub holds_written : (marker : Marker) (counted n : ℕ) (keeper : Keeper) (jobs : List Job) (files g h : Option FileMap) → marker.name.now ≢ keeper.name.now
+    → MarksSent marker.file.items n marker.name.now g h → HoldsBoth marker counted keeper jobs files g
+    → (marked : Option FileMap) × MarksSent marker.file.items n marker.name.now files marked × KeepsJobs keeper jobs marked h
+holds_written marker counted n keeper jobs files g h two sets both =
+    beside_keeper marker counted keeper two (λ f g. MarksSent marker.file.items n marker.name.now f g) (sent_apart marker.file.items marker.name.now keeper.name.now n two)
+    jobs files g h (λ f m. written_over marker.file.items marker.name.now marker.marked n f g h m.file sets) both
+
+-- no turn was taken yet
+pub holds_first : (marker : Marker) (counted : ℕ) (keeper : Keeper) (jobs : List Job) (f : Option FileMap) → GoesOnHolding marker marker counted counted keeper keeper jobs jobs f f
+holds_first marker counted keeper jobs f = record { name = refl; file = refl; own = refl; place = refl; holds = λ two files h. h }
+
+module _ (first old : Marker) (start counted : ℕ) (before keeper : Keeper) (begun jobs : List Job) (f g : Option FileMap) (p : GoesOnHolding first old start counted before keeper begun jobs f g) where
+  -- more is marked
+  pub goes_on_marked : (new : Marker) (more : ℕ) (later : List Job) (h : Option FileMap) → later ≡ jobs → GoesOnMarking old new counted more g h → GoesOnHolding first new start more before keeper begun later f h
+  goes_on_marked new more later h same on = record {
+    name = on.0 ∙ p.name;
+    file = on.1 ∙ p.file;
+    own = p.own;
+    place = p.place;
+    holds = λ two files had.
+        let apart : old.name.now ≢ keeper.name.now = λ is. two (sym (ap (λ (n : _). n.now) p.name) ∙ is ∙ ap (λ (n : _). n.now) p.own) in
+        subst (λ (js : List Job). HoldsBoth new more keeper js files h) (sym same) (holds_marked old new counted more keeper jobs files g h apart on (p.holds two files had));
+  }
+
+  -- more is kept
+  pub goes_on_kept : (after : Keeper) (more : ℕ) (later : List Job) (h : Option FileMap) → more ≡ counted → GoesOnKeeping keeper after jobs later g h → GoesOnHolding first old start more before after begun later f h
+  goes_on_kept after more later h same on = record {
+    name = p.name;
+    file = p.file;
+    own = on.0 ∙ p.own;
+    place = on.1 ∙ p.place;
+    holds = λ two files had.
+        let both = p.holds two files had in
+        subst (λ (n : ℕ). HoldsBoth old n after later files h) (sym same) (both.0, both.1, on.2 both.0 both.2);
+  }
+
+-- WHAT A TURN LEAVES
+
+abbrev spoken_as : Contending → (due said : Say) → Contending
+spoken_as s due said = elim due [ Say.Nothing ↦ s | _ ↦ record s { sender = after_speaking s.sender; contender = contender_said said s.contender } ]
+
+spoke_as : (s : Contending) (due said : Say) → (spoken_as s due said).receiver ≡ s.receiver
+spoke_as s Say.Nothing said = refl
+spoke_as s Say.Bid said = refl
+spoke_as s Say.Block said = refl
+spoke_as s Say.Again said = refl
+spoke_as s Say.Delay said = refl
+spoke_as s Say.Ask said = refl
+spoke_as s Say.End said = refl
+
+abbrev heard_as : Contending → (due said : Say) → Sound → Sending → Contending
+heard_as s due said heard sender = elim due [ Say.Nothing ↦ s | _ ↦ record s { sender = sender; contender = contender_answered said heard s.contender } ]
+
+answered_as : (s : Contending) (due said : Say) (heard : Sound) (sender : Sending) → (heard_as s due said heard sender).receiver ≡ s.receiver
+answered_as s Say.Nothing said heard sender = refl
+answered_as s Say.Bid said heard sender = refl
+answered_as s Say.Block said heard sender = refl
+answered_as s Say.Again said heard sender = refl
+answered_as s Say.Delay said heard sender = refl
+answered_as s Say.Ask said heard sender = refl
+answered_as s Say.End said heard sender = refl
+
+spoke_receiver : (s : Contending) → (after_own_speaking s).receiver ≡ s.receiver
+spoke_receiver s = spoke_as s (due_at s) (due_at s)
+
+answered_receiver : (s : Contending) (heard : Sound) → (after_answer (after_own_speaking s) heard false).receiver ≡ s.receiver
+answered_receiver s heard = answered_as (after_own_speaking s) (due_at (after_own_speaking s)) (due_at (after_own_speaking s)) heard _ ∙ spoke_receiver s
+
+own_receiver : (s : Contending) (said : Say) (heard : Sound) → (after_own_turn s said heard).receiver ≡ s.receiver
+own_receiver s Say.End heard = spoke_receiver s
+own_receiver s Say.Nothing heard = answered_receiver s heard
+own_receiver s Say.Bid heard = answered_receiver s heard
+own_receiver s Say.Block heard = answered_receiver s heard
+own_receiver s Say.Again heard = answered_receiver s heard
+own_receiver s Say.Delay heard = answered_receiver s heard
+own_receiver s Say.Ask heard = answered_receiver s heard
+
+-- its own turn leaves the jobs that came
+pub own_jobs : (s s' : Contending) → ((said : Say) × (heard : Sound) × TakesOwn s s' said heard) → s'.receiver.jobs ≡ s.receiver.jobs
+own_jobs s s' (said, heard, takes) = ap (λ (x : Contending). x.receiver.jobs) takes.state ∙ ap (λ x. x.jobs) (own_receiver s said heard)
+
+refused_receiver : (f : StationFault) (s : Contending) → (after_own_refusal f s).receiver ≡ s.receiver
+refused_receiver fault.Over s = refl
+refused_receiver fault.OutOfMemory s = refl
+refused_receiver (fault.BadJob n) s = refl
+refused_receiver fault.Babble s = refl
+refused_receiver (fault.Line f) s = refl
+
+own_failed : (s s' : Contending) (f : StationFault) → FailsInOwn s s' f → s'.receiver.jobs ≡ s.receiver.jobs
+own_failed s s' f (inl is) = ap (λ (x : Contending). x.receiver.jobs) is ∙ ap (λ x. x.jobs) (refused_receiver f s)
+own_failed s s' f (inr is) = ap (λ (x : Contending). x.receiver.jobs) is ∙ ap (λ x. x.jobs) (refused_receiver f (after_own_speaking s) ∙ spoke_receiver s)
+
+yielded : (r : Rank) (sound : Sound) (s : Sending) → (gives_way r sound s).counted ≡ s.counted
+yielded Rank.Primary sound s = refl
+yielded Rank.Secondary Sound.Enq s = refl
+yielded Rank.Secondary Sound.Ack0 s = refl
+yielded Rank.Secondary Sound.Ack1 s = refl
+yielded Rank.Secondary Sound.Nak s = refl
+yielded Rank.Secondary Sound.Wack s = refl
+yielded Rank.Secondary Sound.Rvi s = refl
+yielded Rank.Secondary Sound.Ttd s = refl
+yielded Rank.Secondary Sound.Abort s = refl
+yielded Rank.Secondary Sound.Eot s = refl
+yielded Rank.Secondary Sound.Block s = refl
+yielded Rank.Secondary Sound.Bad s = refl
+yielded Rank.Secondary Sound.Noise s = refl
+yielded Rank.Secondary Sound.Quiet s = refl
+
+heard_count : (s : Contending) (what : Heard) (refused b : Bool) → lets_in s.contender (sound_heard what) ≡ b → (after_other s what refused Wish.Go).sender.counted ≡ s.sender.counted
+heard_count s what refused true is = rw is (yielded s.contender.rank (sound_heard what) s.sender)
+heard_count s what refused false is = rw is refl
+
+answering_count : (mid : Contending) (over : Bool) → mid.receiver.over ≡ over → (after_answering_other mid).sender.counted ≡ mid.sender.counted
+answering_count mid true is = rw is refl
+answering_count mid false is = rw is refl
+
+-- the other's turn leaves the count
+pub others_count : (s s' : Contending) (arrival : Arrival) (reply : Option Reply) → TakesOthers s s' arrival reply → s'.sender.counted ≡ s.sender.counted
+others_count s s' arrival reply takes =
+    let mid = after_other s takes.what arrival.refused Wish.Go in
+    ap (λ (x : Contending). x.sender.counted) takes.state ∙ answering_count mid mid.receiver.over refl ∙ heard_count s takes.what arrival.refused _ refl
+
+-- what comes of the other's jobs
+comes_in : (s : Contending) (what : Heard) (refused b : Bool) → lets_in s.contender (sound_heard what) ≡ b → Comes s.receiver.jobs (after_other s what refused Wish.Go).receiver.jobs
+comes_in s what refused true is = rw is (heard_comes what (receiver_news s.receiver.core (sound_taken what refused) Wish.Go).accepted s.receiver.jobs)
+comes_in s what refused false is = rw is (nothing s.receiver.jobs)
+
+-- what came was kept
+pub other_kept : (s mid : Contending) (what : Heard) (refused : Bool) (old new : Keeper) (jobs later : List Job) (f g : Option FileMap) → mid ≡ after_other s what refused Wish.Go
+    → jobs ≡ mid.receiver.jobs → later ≡ mid.receiver.jobs → new.name ≡ old.name → new.place ≡ old.place → new.kept ≡ kept_after old.place old.kept jobs
+    → ((files : Option FileMap) → AreKept (take old.kept jobs) old.long old.name.now files f → AreKept (take new.kept jobs) new.long old.name.now files g)
+    → GoesOnKeeping old new s.receiver.jobs later f g
+other_kept s mid what refused old new jobs later f g state is stay name place next kept =
+    let comes : Comes s.receiver.jobs jobs = subst (λ (js : List Job). Comes s.receiver.jobs js) (sym (is ∙ ap (λ (x : Contending). x.receiver.jobs) state)) (comes_in s what refused _ refl) in
+    subst (λ (js : List Job). GoesOnKeeping old new s.receiver.jobs js f g) (is ∙ sym stay) (goes_on old new s.receiver.jobs jobs f g comes name place next kept)
+
+other_refused : (f : StationFault) (s : Contending) → (after_other_refusal f s).receiver.jobs ≡ s.receiver.jobs
+other_refused fault.Over s = refl
+other_refused fault.OutOfMemory s = refl
+other_refused (fault.BadJob n) s = refl
+other_refused fault.Babble s = refl
+other_refused (fault.Line f) s = refl
+
+-- a fault of the line leaves the jobs
+pub refusal_leaves : (f : StationFault) (s s' : Contending) → s' ≡ after_other_refusal f s → s'.receiver.jobs ≡ s.receiver.jobs
+refusal_leaves f s s' is = ap (λ (x : Contending). x.receiver.jobs) is ∙ other_refused f s
+
+answering_jobs : (mid : Contending) (over : Bool) → (if over then after_other_ended mid else after_own_reply mid).receiver.jobs ≡ mid.receiver.jobs
+answering_jobs mid true = ended mid mid.receiver.over refl where
+  ended : (m : Contending) (b : Bool) → m.receiver.over ≡ b → (after_other_ended m).receiver.jobs ≡ m.receiver.jobs
+  ended m true is = rw is refl
+  ended m false is = rw is refl
+answering_jobs mid false = refl
+
+-- the answer leaves them
+pub answer_leaves : (mid s' : Contending) (over : Bool) → s' ≡ (if over then after_other_ended mid else after_own_reply mid) → s'.receiver.jobs ≡ mid.receiver.jobs
+answer_leaves mid s' over is = ap (λ (x : Contending). x.receiver.jobs) is ∙ answering_jobs mid over
+
+-- nor does it change the count
+pub refusal_count : (s s' : Contending) → s' ≡ after_other_refusal (fault.Line Closed) s → s'.sender.counted ≡ s.sender.counted
+refusal_count s s' is = ap (λ (x : Contending). x.sender.counted) is
+
+-- where it is told that the other's transmission ended, count and jobs stay
+pub same_count : (s s' : Contending) (n : ℕ) → s' ≡ after_other_ended s → s.sender.counted ≡ n → s'.sender.counted ≡ n
+same_count s s' n is same = ap (λ (x : Contending). x.sender.counted) is ∙ same
+
+pub ended_jobs : (old new : Keeper) (s s' : Contending) (jobs : List Job) (f g : Option FileMap) → s' ≡ after_other_ended s → GoesOnKeeping old new jobs s.receiver.jobs f g
+    → GoesOnKeeping old new jobs s'.receiver.jobs f g
+ended_jobs old new s s' jobs f g is on = subst (λ (js : List Job). GoesOnKeeping old new jobs js f g) (sym (answer_leaves s s' true is)) on
+
+-- THE BREAK
+
+module _ (s near s' : Contending) (turns : List StationTurn) (took : Took s.contender.rank s turns near) (first old : Marker) (before keeper : Keeper) (f g : Option FileMap)
+    (p : GoesOnHolding first old s.sender.counted near.sender.counted before keeper s.receiver.jobs near.receiver.jobs f g) where
+  pub breaks_own : (fault : StationFault) (new : Marker) (h : Option FileMap) → new ≡ old → h ≡ g → FailsInOwn near s' fault → BreaksBoth s s' first new before keeper f h (BrokenOff.Line fault)
+  breaks_own fault new h unmarked still fails = record {
+    turns = turns;
+    near = near;
+    took = took;
+    fails = inl fails;
+    holds = subst (λ (m : Marker). GoesOnHolding first m s.sender.counted near.sender.counted before keeper s.receiver.jobs s'.receiver.jobs f h) (sym unmarked)
+        (subst (λ (files : Option FileMap). GoesOnHolding first old s.sender.counted near.sender.counted before keeper s.receiver.jobs s'.receiver.jobs f files) (sym still)
+        (subst (λ (js : List Job). GoesOnHolding first old s.sender.counted near.sender.counted before keeper s.receiver.jobs js f g) (sym (own_failed near s' fault fails)) p));
+  }
+
+  pub breaks_others : (broken : BrokenOff) (after : Keeper) (h : Option FileMap) → FailsInOthers near s' broken → GoesOnKeeping keeper after near.receiver.jobs (kept_of near s' broken) g h
+      → BreaksBoth s s' first old before after f h broken
+  breaks_others broken after h fails on = record {
+    turns = turns;
+    near = near;
+    took = took;
+    fails = others_fail near s' broken fails;
+    holds = goes_on_kept first old s.sender.counted near.sender.counted before keeper s.receiver.jobs near.receiver.jobs f g p after near.sender.counted (kept_of near s' broken) h refl on;
+  }

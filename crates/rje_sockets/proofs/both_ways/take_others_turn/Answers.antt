@@ -1,0 +1,46 @@
+use Rattle.std.proofs.Common.{rules, ◌≡◌, ◌∙◌, ap, if◌then◌else◌}
+use Rattle.rje_station.specs.Receiving.{Receiving}
+use Rattle.rje_station.specs.Station.{after_other_ended, after_own_reply}
+use Rattle.rje_sockets.specs.declared.broken_off.BrokenOff.{BrokenOff}
+use Rattle.rje_sockets.specs.BothFiles.{kept_of}
+use Rattle.rje_sockets.specs.Keeping.{GoesOnKeeping}
+use Rattle.rje_sockets.proofs.BothFiles.{answer_leaves, other_kept, refusal_leaves}
+use Rattle.rje_sockets.proofs.BothWays.{fails_as, others_taken}
+use Rattle.rje_sockets.proofs.both_ways.take_others_turn.Goals.{then-is_over, else-is_over+in_ok-reply}
+use Rattle.rje_sockets.proofs.both_ways.take_others_turn.Goals as goal
+
+pub returns-clause-takes : goal.returns-clause-takes
+returns-clause-takes g c is =
+    let heard = c.in-Ok.ensures.heard in
+    let after : c.if-is_over.station ≡ (if c.is_over.result then after_other_ended c.hear_other.new.self else after_own_reply c.hear_other.new.self) =
+    elim c.if-is_over.branch [
+      | then-is_over w ↦ search rules
+      | else-is_over+in_ok-reply w ↦ search rules
+    ] in
+    let taken =
+    others_taken c.args.station.now c.hear_other.new.self c.if-is_over.station heard.what heard.refused c.in-Some.arrival c.in-Ok.reply c.is_over.result c.in-Ok.ensures.live
+    heard.may heard.state heard.reply_is (search rules) (c.is_over.ensures ∙ ap (λ (r : Receiving). r.over) c.receiver-3.ensures) after in
+    (c.in-Some.arrival, c.in-Ok.reply, taken.0, c.receiver_took-2.ensures.saw, taken.1)
+
+pub returns-clause-kept : goal.returns-clause-kept
+returns-clause-kept g c =
+    let heard = c.in-Ok.ensures.heard in
+    let after : c.if-is_over.station ≡ (if c.is_over.result then after_other_ended c.hear_other.new.self else after_own_reply c.hear_other.new.self) =
+    elim c.if-is_over.branch [
+      | then-is_over w ↦ search rules
+      | else-is_over+in_ok-reply w ↦ search rules
+    ] in
+    other_kept c.args.station.now c.hear_other.new.self heard.what heard.refused c.args.keeper.now c.keep.new.self c.jobs.result.now c.if-is_over.station.receiver.jobs
+    (g.S.Store.files c.args.store.now) (g.S.Store.files c.keep.new.store) heard.state (c.jobs.ensures ∙ ap (λ (r : Receiving). r.jobs) c.receiver-2.ensures)
+    (answer_leaves c.hear_other.new.self c.if-is_over.station c.is_over.result after) c.keep.ensures.name c.keep.ensures.place (search rules) (search rules)
+
+pub returns-in_err-reply-clause-broken : goal.returns-in_err-reply-clause-broken
+returns-in_err-reply-clause-broken g c =
+    let heard = c.in-Ok.ensures.heard in
+    let fault = c.in_err-reply.field-0.0 in
+    fails_as c.from_residual.result (BrokenOff.Line fault)
+    (λ broken. GoesOnKeeping c.args.keeper.now c.keep.new.self c.args.station.now.receiver.jobs (kept_of c.args.station.now c.reply.new.self broken)
+    (g.S.Store.files c.args.store.now) (g.S.Store.files c.keep.new.store)) c.from_residual.ensures.1
+    (other_kept c.args.station.now c.hear_other.new.self heard.what heard.refused c.args.keeper.now c.keep.new.self c.jobs.result.now c.reply.new.self.receiver.jobs
+    (g.S.Store.files c.args.store.now) (g.S.Store.files c.keep.new.store) heard.state (c.jobs.ensures ∙ ap (λ (r : Receiving). r.jobs) c.receiver-2.ensures)
+    (refusal_leaves fault c.hear_other.new.self c.reply.new.self c.in_err-reply.ensures.kept) c.keep.ensures.name c.keep.ensures.place (search rules) (search rules))

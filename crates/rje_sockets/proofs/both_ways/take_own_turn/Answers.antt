@@ -1,0 +1,9 @@
+use Rattle.std.proofs.Common.{ap, subst, ◌∙◌}
+use Rattle.rje_station.specs.Sending.{Sending}
+use Rattle.rje_sockets.specs.Marking.{GoesOnMarking}
+use Rattle.rje_sockets.proofs.both_ways.take_own_turn.Goals as goal
+
+pub returns-clause-marked : goal.returns-clause-marked
+returns-clause-marked g c =
+    subst (λ n. GoesOnMarking c.args.marker.now c.mark.new.self c.args.station.now.sender.counted n (g.S.Store.files c.args.store.now) (g.S.Store.files c.mark.new.store))
+    (c.counted.ensures ∙ ap (λ (s : Sending). s.counted) c.sender.ensures) (c.mark.ensures.marked c.args.station.now.sender.counted)

@@ -1,0 +1,130 @@
+-- A station that sends and receives over one line, whatever that does: turn by turn, and how it ends (own profile).
+use Rattle.std.specs.Prelude.{◌≡◌, ◌≢◌, ◌⊎◌, ◌+◌, ℕ, Bool, true, false, List, [], ◌∷◌, length, Option, if◌then◌else◌}
+use Rattle.bsc_frame.specs.declared.heard.Heard.{Heard}
+use Rattle.bsc_link.specs.declared.rank.Rank.{Rank}
+use Rattle.bsc_link.specs.declared.reply.Reply.{Reply}
+use Rattle.bsc_link.specs.declared.say.Say.{Say}
+use Rattle.bsc_link.specs.declared.sound.Sound.{Sound}
+use Rattle.bsc_link.specs.declared.wish.Wish.{Wish}
+use Rattle.rje_station.specs.declared.arrival.Arrival.{Arrival}
+use Rattle.rje_station.specs.Hearing.{sound_heard}
+use Rattle.rje_station.specs.JoinedJobs.{begun_in}
+use Rattle.rje_station.specs.Receiving.{MayRefuse}
+use Rattle.rje_station.specs.Station.{Contending, due_at, is_deaf, is_receiving, after_own_speaking, after_answer, after_other, after_own_reply, after_other_ended, after_own_refusal, after_other_refusal}
+use Rattle.rje_station.specs.declared.line_fault.LineFault.TheVariants.{Closed}
+use Rattle.rje_station.specs.declared.station_fault.StationFault.{StationFault}
+use Rattle.rje_station.specs.declared.station_fault.StationFault.TheVariants as fault
+use Rattle.rje_sockets.specs.declared.broken_off.BrokenOff.{BrokenOff}
+use Rattle.rje_sockets.specs.declared.exchange.Left.{Left}
+use Rattle.rje_sockets.specs.Watching.{SawReceiver, SawSender}
+
+-- after its own turn: after EOT it doesn't listen
+abbrev pub after_own_turn : Contending → Say → Sound → Contending
+after_own_turn s Say.End heard = after_own_speaking s
+after_own_turn s said heard = after_answer (after_own_speaking s) heard false
+
+-- its own turn: it said what was due, and but for EOT it heard something
+pub record TakesOwn (s s' : Contending) (said : Say) (heard : Sound) : Type 0 where
+  pub live : s.failed ≡ false
+  pub due : said ≢ Say.Nothing
+  pub said_is : said ≡ due_at s
+  pub done : said ≡ Say.End → heard ≡ Sound.Quiet
+  pub state : s' ≡ after_own_turn s said heard
+
+-- it replies to what it heard; where that ended the other's transmission, it leaves its receiving side
+abbrev pub after_answering_other : Contending → Contending
+after_answering_other s = if s.receiver.over then after_other_ended s else after_own_reply s
+
+-- the other's turn: it heard something of the other, and replied where a reply was due
+pub record TakesOthers (s s' : Contending) (arrival : Arrival) (reply : Option Reply) : Type 0 where
+  pub live : is_deaf s ≡ false
+  pub what : Heard
+  pub came : arrival.sound ≡ sound_heard what
+  pub may : MayRefuse what (begun_in s.receiver.jobs) arrival.refused
+  pub reply_is : reply ≡ (after_other s what arrival.refused Wish.Go).receiver.due
+  pub state : s' ≡ after_answering_other (after_other s what arrival.refused Wish.Go)
+
+-- a turn: its own, of what it said and heard; or the other's, of what came and what it replied
+pub data StationTurn : Type 0 where
+  Own : Say → Sound → StationTurn
+  Others : Arrival → Option Reply → StationTurn
+
+abbrev pub Takes : Contending → Contending → StationTurn → Type 0
+Takes s s' (Own said heard) = TakesOwn s s' said heard
+Takes s s' (Others arrival reply) = TakesOthers s s' arrival reply
+
+-- whether it has listened since it spoke: a primary needn't
+abbrev pub has_listened : Rank → List StationTurn → Bool
+has_listened Rank.Primary past = true
+has_listened Rank.Secondary [] = false
+has_listened Rank.Secondary (Own said heard ∷ past) = false
+has_listened Rank.Secondary (Others arrival reply ∷ past) = true
+
+-- Who is next: the station speaks where something is due, but that it bids only where it has listened, or where there is nothing to hear any
+-- more; else it listens.
+abbrev pub IsNext : Rank → List StationTurn → Contending → StationTurn → Type 0
+IsNext rank past s (Own said heard) = due_at s ≡ Say.Bid → (has_listened rank past ≡ true) ⊎ (s.receiver.over ≡ true)
+IsNext rank past s (Others arrival reply) = (due_at s ≡ Say.Nothing) ⊎ ((due_at s ≡ Say.Bid) × (has_listened rank past ≡ false))
+
+-- it took these turns, the newest first
+abbrev pub Took : Rank → Contending → List StationTurn → Contending → Type 0
+Took rank s [] s' = s' ≡ s
+Took rank s (t ∷ past) s' = (mid : Contending) × Took rank s past mid × IsNext rank past mid t × Takes mid s' t
+
+-- how many of the last turns were the other's and brought nothing, without a break
+abbrev pub quiet_in_a_row : List StationTurn → ℕ
+quiet_in_a_row [] = 0
+quiet_in_a_row (Own said heard ∷ past) = 0
+quiet_in_a_row (Others arrival reply ∷ past) = elim arrival.sound [ Sound.Quiet ↦ quiet_in_a_row past + 1 | _ ↦ 0 ]
+
+-- both transmissions are over
+pub record AreOver (s : Contending) : Type 0 where
+  pub own : due_at s ≡ Say.Nothing
+  pub others : s.receiver.over ≡ true
+
+-- it waits: nothing is due of its own, and the other has begun nothing that isn't over
+pub record Waits (s : Contending) : Type 0 where
+  pub own : due_at s ≡ Say.Nothing
+  pub others : is_receiving s.contender.place ≡ false
+
+-- what a watch was told of a turn
+abbrev pub Saw : {W : Type 0} → SawSender W → SawReceiver W → W → W → StationTurn → Type 0
+Saw SawSent SawCame w w' (Own said heard) = SawSent w w' said heard
+Saw SawSent SawCame w w' (Others arrival reply) = SawCame w w' arrival reply
+
+-- it took these turns, the newest first, and just those were told
+abbrev pub Watched : {W : Type 0} → SawSender W → SawReceiver W → Rank → Contending → W → Contending → W → List StationTurn → Type 0
+Watched SawSent SawCame rank s w s' w' [] = (s' ≡ s) × (w' ≡ w)
+Watched {W} SawSent SawCame rank s w s' w' (t ∷ past) =
+    (near : Contending) × (mid : W) × Watched SawSent SawCame rank s w near mid past × IsNext rank past near t × Takes near s' t × Saw SawSent SawCame mid w' t
+
+-- it took some turns, until both transmissions were over, or the other hung up for which it waited; or until forty of the other's turns
+-- in a row brought nothing, or so many turns were taken in all
+abbrev pub ExchangesTo : Left → Contending → Contending → Type 0
+ExchangesTo Left.Ended s s' =
+    (turns : List StationTurn) × (near : Contending) × Took s.contender.rank s turns near
+    × ((AreOver near × (s' ≡ near)) ⊎ (Waits near × (s' ≡ after_other_refusal (fault.Line Closed) near)))
+ExchangesTo Left.Abandoned s s' =
+    (turns : List StationTurn) × (near : Contending) × Took s.contender.rank s turns near
+    × (((quiet_in_a_row turns ≡ 40) × (s' ≡ after_other_ended near)) ⊎ ((length turns ≡ 1000000000) × (s' ≡ near)))
+
+-- a fault of the line ended its own turn: as it spoke, or as it listened
+abbrev pub FailsInOwn : Contending → Contending → StationFault → Type 0
+FailsInOwn s s' fault = (s' ≡ after_own_refusal fault s) ⊎ (s' ≡ after_own_refusal fault (after_own_speaking s))
+
+-- the other's turn: as it listened, or as it replied; or a job couldn't be kept, and it left without a reply
+abbrev pub FailsInOthers : Contending → Contending → BrokenOff → Type 0
+FailsInOthers s s' (BrokenOff.Line fault) =
+    (s' ≡ after_other_refusal fault s)
+    ⊎ ((what : Heard) × (refused : Bool) × MayRefuse what (begun_in s.receiver.jobs) refused × (s' ≡ after_other_refusal fault (after_other s what refused Wish.Go)))
+FailsInOthers s s' (BrokenOff.File fault) =
+    (what : Heard) × (refused : Bool) × MayRefuse what (begun_in s.receiver.jobs) refused × (s' ≡ after_other_ended (after_other s what refused Wish.Go))
+
+-- either
+abbrev pub Fails : Contending → Contending → BrokenOff → Type 0
+Fails s s' (BrokenOff.Line fault) = FailsInOwn s s' fault ⊎ FailsInOthers s s' (BrokenOff.Line fault)
+Fails s s' (BrokenOff.File fault) = FailsInOthers s s' (BrokenOff.File fault)
+
+-- it left as it was, after it gave up the other's transmission, or when the other hung up
+abbrev pub LeavesFrom : Contending → Contending → Type 0
+LeavesFrom near s = (s ≡ near) ⊎ ((s ≡ after_other_ended near) ⊎ (s ≡ after_other_refusal (fault.Line Closed) near))

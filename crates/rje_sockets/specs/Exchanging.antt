@@ -1,0 +1,66 @@
+-- One transmission each way over one line: what it makes of the two files, and what is printed of it (own profile).
+use Rattle.std.specs.Prelude.{◌≡◌, ◌≢◌, ◌++◌, ℕ, List, length, Option, Some}
+use Rattle.std.specs.Io.KnownBytes.{Appends}
+use Rattle.bsc_link.specs.declared.outcome.Outcome.{Outcome}
+use Rattle.bsc_link.specs.declared.rank.Rank.{Rank}
+use Rattle.rje_jobs.specs.declared.job.Job.{Job}
+use Rattle.rje_files.specs.declared.entry.Entry.{Entry}
+use Rattle.rje_files.specs.Entry.{jobs_in}
+use Rattle.rje_files.specs.JobFile.{HasEntries}
+use Rattle.rje_files.specs.Unsent.{unsent}
+use Rattle.rje_station.specs.Sending.{outcome_of}
+use Rattle.rje_station.specs.Station.{Contending, first_contending}
+use Rattle.rje_commands.specs.Commands.{OfFile}
+use Rattle.rje_sockets.specs.declared.exchange.Left.{Left}
+use Rattle.rje_sockets.specs.declared.keeper.Keeper.{Keeper}
+use Rattle.rje_sockets.specs.declared.marker.Marker.{Marker}
+use Rattle.rje_sockets.specs.declared.socket_commands.ending.Ending.{Ending}
+use Rattle.rje_sockets.specs.BothFiles.{HoldsBoth}
+use Rattle.rje_sockets.specs.BothWays.{ExchangesTo}
+use Rattle.rje_print.specs.ReportTexts.{counted_line, outcome_line}
+use Rattle.rje_sockets.specs.Ending.{MakesJobFile, MarksSent, ending_status, received_text}
+use Rattle.rje_stores.specs.Store.{FileMap}
+
+-- both directions ended as they should, or one ended otherwise
+abbrev pub ending_of_both : Option Outcome → Left → Ending
+ending_of_both (Some Outcome.Done) Left.Ended = Ending.Done
+ending_of_both _ _ = Ending.Other
+
+-- the lines of both: how many of so many jobs were counted, how that ended, and what came
+abbrev pub exchanged_text : (counted given : ℕ) → Option Outcome → List Job → List ℕ
+exchanged_text counted given outcome jobs = counted_line counted given ++ outcome_line outcome ++ received_text jobs
+
+-- the file of the one name became that of the same entries as this file's, in which just so many of those that were not Sent are Sent, and the
+-- file of the other name became that of these jobs; no other file changed
+abbrev pub MakesBoth : (file : List ℕ) → (counted : ℕ) → List Job → (send received : List ℕ) → (files made : Option FileMap) → Type 0
+MakesBoth file counted jobs send received files made =
+    (marked : Option FileMap) × MarksSent file counted send files marked × MakesJobFile jobs received marked made
+
+-- one transmission was made each way: the station took some turns and left so; what it counted is marked in the one file, what came is kept
+-- in the other, and just the lines of both were printed
+pub record Exchanges (ending : Ending) (s : Contending) (marker : Marker) (keeper : Keeper) (f g : Option FileMap) (before after : Option (List ℕ)) : Type 0 where
+  pub left : Left
+  pub station : Contending
+  pub exchanges : ExchangesTo left s station
+  pub makes : marker.name.now ≢ keeper.name.now → (files : Option FileMap) → HoldsBoth marker s.sender.counted keeper s.receiver.jobs files f
+      → MakesBoth marker.file.items station.sender.counted station.receiver.jobs marker.name.now keeper.name.now files g
+  pub ending_is : ending ≡ ending_of_both (outcome_of station.sender) left
+  pub text_is : Appends before after (exchanged_text station.sender.counted (length s.sender.jobs) (outcome_of station.sender) station.receiver.jobs)
+
+-- what was left of the job file of the one name was exchanged for the jobs of the other station: a new station of this rank took some turns
+-- and left so; the jobs that it counted are Sent in that file now, the file of the other name is that of the jobs that came, no other file
+-- changed, and just the lines of both were printed
+pub record ExchangesLeft (ending : Ending) (rank : Rank) (send received file : List ℕ) (files made : Option FileMap) (before after : Option (List ℕ)) : Type 0 where
+  pub entries : List Entry
+  pub left : Left
+  pub station : Contending
+  pub file_is : HasEntries entries file
+  pub exchanges : ExchangesTo left (first_contending rank (jobs_in (unsent entries))) station
+  pub makes : MakesBoth file station.sender.counted station.receiver.jobs send received files made
+  pub ending_is : ending ≡ ending_of_both (outcome_of station.sender) left
+  pub text_is : Appends before after (exchanged_text station.sender.counted (length (unsent entries)) (outcome_of station.sender) station.receiver.jobs)
+
+-- a command over a line ended with this status, and what was left of the job file of the one name was exchanged so
+abbrev pub EndsExchanging : (status : ℕ) → Rank → (send received : List ℕ) → (files made : Option FileMap) → (before after : Option (List ℕ)) → Type 0
+EndsExchanging status rank send received files made before after =
+    (ending : Ending) × (status ≡ ending_status ending) × OfFile send files (λ file. ExchangesLeft ending rank send received file files made before after)

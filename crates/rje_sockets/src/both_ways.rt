@@ -1,0 +1,179 @@
+//! A station that sends and receives, over one line, until both transmissions are over.
+ghost use Rattle.std.specs.Prelude.{◌≡◌, ◌≢◌, ◌⊎◌, List, [], Option, Some, true, false, IfOk, IfErr, OnErr, OnOk};
+ghost use Rattle.bsc_link.specs.declared.reply.Reply.{Reply as Answer};
+ghost use Rattle.bsc_link.specs.declared.say.Say.{Say as Word};
+ghost use Rattle.bsc_link.specs.declared.say.Say.TheVariants as say;
+ghost use Rattle.bsc_link.specs.declared.sound.Sound.{Sound as Tone};
+ghost use Rattle.rje_station.specs.declared.arrival.Arrival.{Arrival as Coming};
+ghost use Rattle.rje_station.specs.declared.line_fault.LineFault.TheVariants.{Closed};
+ghost use Rattle.rje_station.specs.declared.station_fault.StationFault.TheVariants as fault;
+ghost use Rattle.rje_station.specs.Station.{Contending, due_at, after_other_refusal};
+ghost use Rattle.rje_commands.specs.CommandFault.{IsFailing, of_station, status_of};
+ghost use Rattle.rje_sockets.specs.BothWays.{has_listened, AreOver, ExchangesTo, FailsInOwn, FailsInOthers, LeavesFrom, StationTurn, TakesOwn, TakesOthers, Waits, Watched};
+ghost use Rattle.rje_sockets.specs.BothFiles.{BreaksBoth, GoesOnHolding, kept_of};
+ghost use Rattle.rje_sockets.specs.BrokenOff.{of_broken_off};
+ghost use Rattle.rje_sockets.specs.Keeping.{GoesOnKeeping};
+ghost use Rattle.rje_sockets.specs.Marking.{GoesOnMarking};
+
+use crate::broken_off::BrokenOff;
+use crate::exchange::{Left, MAX_HEARINGS, MAX_QUIET, quiet_after};
+use crate::keeper::Keeper;
+use crate::marker::Marker;
+use crate::watch::Watch;
+use bsc_link::{Rank, Say, Sound, Wish};
+use rje_station::{Line, LineFault, Station, StationFault};
+use rje_stores::Store;
+
+/// Sends what the station has and receives what the other one has, until both transmissions are over, the other has hung up or has been
+/// quiet for long. Each job that it sends is marked as soon as it is counted, and each that comes is kept before its last block is
+/// answered; where it can't be, the station leaves. A primary bids as soon as something is due; a secondary listens first, and after each
+/// bid that isn't granted.
+pub fn exchange_all<'a, 'b, L: Line, S: Store, W: Watch>(
+    station: &mut Station<'a>,
+    line: &mut L,
+    marker: &mut Marker<'b>,
+    keeper: &mut Keeper<'b>,
+    store: &mut S,
+    watch: &mut W,
+) -> Result<Left, BrokenOff<'b>>
+    ensures left { IfOk result (λ left. ExchangesTo left station.old station.new) }
+    ensures status { IfErr result (λ broken. IsFailing (status_of (of_broken_off broken))) }
+    ensures holds { OnOk result (GoesOnHolding marker.old marker.new station.old.sender.counted
+        station.new.sender.counted keeper.old keeper.new station.old.receiver.jobs
+        station.new.receiver.jobs (S.files store.old) (S.files store.new)) }
+    ensures broken { IfErr result (BreaksBoth station.old station.new marker.old marker.new
+        keeper.old keeper.new (S.files store.old) (S.files store.new)) }
+    ensures told { OnOk result ((turns : List StationTurn) × (near : Contending)
+        × Watched W.saw_sender W.saw_receiver station.old.contender.rank station.old watch.old
+        near watch.new turns
+        × LeavesFrom near station.new) }
+{
+    let at_once = may_bid_at_once(station);
+    let mut has_listened = at_once;
+    let mut quiet = 0;
+    for _ in 0..MAX_HEARINGS {
+        if is_over(station) {
+            return Ok(Left::Ended);
+        }
+        if is_own_turn(station, has_listened) {
+            take_own_turn(station, line, marker, store, watch)?;
+            has_listened = at_once;
+            quiet = 0;
+            continue;
+        }
+        if !take_others_turn(station, line, keeper, store, watch)? {
+            return Ok(Left::Ended);
+        }
+        has_listened = true;
+        quiet = quiet_after(quiet, station.receiver());
+        if quiet == MAX_QUIET {
+            station.other_ended();
+            return Ok(Left::Abandoned);
+        }
+    }
+    Ok(Left::Abandoned)
+}
+
+/// Whether a station may bid before it has listened: a primary may.
+fn may_bid_at_once<'a>(station: &Station<'a>) -> bool
+    ensures { result ≡ has_listened station.now.contender.rank [] }
+{
+    station.rank() == Rank::Primary
+}
+
+/// Whether both transmissions are over.
+fn is_over<'a>(station: &Station<'a>) -> bool
+    ensures { result ≡ true → AreOver station.now }
+{
+    station.due() == Say::Nothing && station.receiver().is_over()
+}
+
+/// Whether the station speaks next. One that has to listen before it bids does so as long as there is something to hear.
+fn is_own_turn<'a>(station: &Station<'a>, has_listened: bool) -> bool
+    ensures speaks { result ≡ true → due_at station.now ≢ say.Nothing }
+    ensures bids { result ≡ true → due_at station.now ≡ say.Bid
+        → (has_listened ≡ true) ⊎ (station.now.receiver.over ≡ true) }
+    ensures listens { result ≡ false → (due_at station.now ≡ say.Nothing)
+        ⊎ ((due_at station.now ≡ say.Bid) × (has_listened ≡ false)) }
+{
+    match station.due() {
+        Say::Nothing => false,
+        Say::Bid => has_listened || station.receiver().is_over(),
+        _ => true,
+    }
+}
+
+/// A station's own turn: it says what is due, and but for EOT it listens. Then as many jobs are marked as it has counted.
+fn take_own_turn<'a, 'b, L: Line, S: Store, W: Watch>(
+    station: &mut Station<'a>,
+    line: &mut L,
+    marker: &mut Marker<'b>,
+    store: &mut S,
+    watch: &mut W,
+) -> Result<(), StationFault>
+    requires due { due_at station.old ≢ say.Nothing }
+    ensures takes { OnOk result ((said : Word) × (heard : Tone)
+        × TakesOwn station.old station.new said heard
+        × W.saw_sender watch.old watch.new said heard) }
+    ensures fault { IfErr result (FailsInOwn station.old station.new) }
+    ensures status { IfErr result (λ fault. IsFailing (status_of (of_station fault))) }
+    ensures marked { OnOk result (GoesOnMarking marker.old marker.new station.old.sender.counted
+        station.new.sender.counted (S.files store.old) (S.files store.new)) }
+    ensures unmarked { OnErr result ((marker.new ≡ marker.old) × (store.new ≡ store.old)) }
+{
+    let said = station.speak(line)?;
+    let heard = match said {
+        Say::End => Sound::Quiet,
+        _ => station.hear_answer(line, false)?,
+    };
+    watch.sender_took(said, heard);
+    marker.mark(station.sender().counted(), store);
+    Ok(())
+}
+
+/// The other's turn, and whether there is one: the station listens, keeps the job that has come to its end, and replies where a reply is
+/// due. Where the job can't be kept, it leaves and doesn't reply. There is none where the other hangs up and the station waits for it.
+fn take_others_turn<'a, 'b, L: Line, S: Store, W: Watch>(
+    station: &mut Station<'a>,
+    line: &mut L,
+    keeper: &mut Keeper<'b>,
+    store: &mut S,
+    watch: &mut W,
+) -> Result<bool, BrokenOff<'b>>
+    ensures takes { IfOk result (λ is_turn. is_turn ≡ true → (arrival : Coming)
+        × (reply : Option Answer) × TakesOthers station.old station.new arrival reply
+        × W.saw_receiver watch.old watch.new arrival reply
+        × (station.new.receiver.arrival ≡ Some arrival)) }
+    ensures hung_up { IfOk result (λ is_turn. is_turn ≡ false → Waits station.old
+        × (station.new ≡ after_other_refusal (fault.Line Closed) station.old)
+        × (watch.new ≡ watch.old)) }
+    ensures fault { IfErr result (FailsInOthers station.old station.new) }
+    ensures status { IfErr result (λ broken. IsFailing (status_of (of_broken_off broken))) }
+    ensures kept { OnOk result (GoesOnKeeping keeper.old keeper.new station.old.receiver.jobs
+        station.new.receiver.jobs (S.files store.old) (S.files store.new)) }
+    ensures broken { IfErr result (λ broken. GoesOnKeeping keeper.old keeper.new
+        station.old.receiver.jobs (kept_of station.old station.new broken)
+        (S.files store.old) (S.files store.new)) }
+{
+    let waits = station.due() == Say::Nothing && !station.is_receiving();
+    let reply = match station.hear_other(line, Wish::Go) {
+        Ok(reply) => reply,
+        Err(StationFault::Line(LineFault::Closed)) if waits => return Ok(false),
+        Err(fault) => return Err(BrokenOff::Line(fault)),
+    };
+    let Some(arrival) = station.receiver().arrival() else {
+        unreachable!()
+    };
+    if let Err(fault) = keeper.keep(station.receiver().jobs(), store) {
+        station.other_ended();
+        watch.receiver_took(arrival, None);
+        return Err(BrokenOff::File(fault));
+    }
+    if station.receiver().is_over() {
+        station.other_ended();
+    } else {
+        station.reply(line)?;
+    }
+    watch.receiver_took(arrival, reply);
+    Ok(true)
+}

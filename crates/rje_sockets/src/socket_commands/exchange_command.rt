@@ -1,0 +1,193 @@
+//! `exchange`: one transmission each way over one connection.
+ghost use Rattle.std.specs.Prelude.{◌≡◌, ◌≢◌, ◌⊎◌, List, IfErr, IfOk, OnOk};
+ghost use Rattle.rje_jobs.specs.declared.job.Job.{Job};
+ghost use Rattle.rje_files.specs.Unsent.{IsLeft};
+ghost use Rattle.rje_commands.specs.Commands.{OfFile};
+ghost use Rattle.rje_commands.specs.CommandFault.{IsFailing, status_of};
+ghost use Rattle.rje_sockets.specs.Ending.{IsRefusedFile};
+ghost use Rattle.rje_sockets.specs.Exchanging.{EndsExchanging, Exchanges, ExchangesLeft, ending_of_both};
+ghost use Rattle.rje_sockets.specs.Inside.Sending.{IsSendFault};
+ghost use Rattle.rje_stores.specs.Store.{Discloses, IsSame};
+
+use crate::both_ways::exchange_all;
+use crate::exchange::Left;
+use crate::keeper::Keeper;
+use crate::marker::Marker;
+use crate::socket_commands::Ending;
+use crate::socket_commands::receive_command::{accepted, keep_rest};
+use crate::socket_commands::send_command::{Unsent, connected, job_file, unsent_of};
+use crate::socket_line::SocketLine;
+use crate::tracer::Tracer;
+use crate::watch::{Unwatched, Watch};
+use bsc_link::{Outcome, Rank};
+use rje_commands::{CommandFault, put_lines, tell};
+use rje_print::{counted_text, handed_text, outcome_text};
+use rje_station::{Line, Station};
+use rje_stores::Store;
+use rje_words::{ExchangeOrder, Meeting};
+use std::alloc::Global;
+use std::io::{self, Write};
+use std::net::{Net, SocketAddr};
+use std::time::Clock;
+
+/// Sends the jobs of a job file that were not sent, and receives those of the other end into another one, over one connection. The end
+/// that calls is the primary. Marks those that were counted, and prints how many there are, how it ended, and how many came. Where that is
+/// asked for, who is connected and each turn is told to `err` as it happens.
+pub fn exchange<'a, R: Net + Clock, S: Store, O: Write, E: Write>(
+    rt: &R,
+    alloc: Global,
+    order: ExchangeOrder<'a>,
+    store: &mut S,
+    out: &mut O,
+    err: &mut E,
+) -> Result<Ending, CommandFault<'a>> {
+    let file = job_file(alloc, order.send, store)?;
+    let Unsent { jobs, places } = unsent_of(alloc, file.bytes.as_slice())?;
+    let station = Station::new(alloc, rank_of(order.place), jobs.as_slice())?;
+    let marker = Marker::new(alloc, file.name, file.bytes, places);
+    let keeper = keeper_beside(alloc, order.send, order.received, store)?;
+    let Ok((mut line, peer)) = met(rt, order.place, order.timeout) else {
+        return Err(CommandFault::LineFailed);
+    };
+    let mut tracer = Tracer::new(rt, order.trace, err);
+    tracer.connected(peer);
+    exchange_files(station, marker, keeper, &mut line, store, &mut tracer, out)
+}
+
+/// Exchanges over a line what is left of the job file of one name for the other station's jobs, which go into the file of another name.
+/// Then, also after a fault of the line, marks in the one what was counted, and prints how many of its jobs were counted, how it ended, and
+/// how many jobs came. Each job is in its file before its last block is answered. Answers the exit status, and tells why it isn't 0.
+pub fn exchange_over<L: Line, S: Store, O: Write, E: Write>(
+    alloc: Global,
+    rank: Rank,
+    line: &mut L,
+    send: &str,
+    received: &str,
+    store: &mut S,
+    out: &mut O,
+    err: &mut E,
+) -> u8
+    ensures exchanged { (result ≡ 0) ⊎ (result ≡ 4) → EndsExchanging result rank
+        send.now received.now (S.files store.old) (S.files store.new)
+        (O.contents out.old) (O.contents out.new) }
+    ensures status { (result ≡ 0) ⊎ ((result ≡ 4) ⊎ ((result ≡ 1) ⊎ IsFailing result)) }
+    ensures refused { result ≡ 1 → OfFile send.now (S.files store.old) IsRefusedFile }
+    ensures files_kept { result ≡ 1 → Discloses (S.files store.old) (S.files store.new) IsSame }
+    ensures silent { result ≡ 1 → (line.new ≡ line.old) × (out.new ≡ out.old) }
+{
+    match exchanged(alloc, rank, line, send, received, store, out) {
+        Ok(ending) => ending.status(),
+        Err(fault) => tell(&fault, err),
+    }
+}
+
+fn exchanged<'a, L: Line, S: Store, O: Write>(
+    alloc: Global,
+    rank: Rank,
+    line: &mut L,
+    send: &'a str,
+    received: &'a str,
+    store: &mut S,
+    out: &mut O,
+) -> Result<Ending, CommandFault<'a>>
+    ensures exchanged { IfOk result (λ ending. OfFile send.entry.now (S.files store.old) (λ file.
+        ExchangesLeft ending rank send.entry.now received.entry.now file
+        (S.files store.old) (S.files store.new) (O.contents out.old) (O.contents out.new))) }
+    ensures fault { IfErr result (IsSendFault send.entry.now (S.files store.old)) }
+    ensures files_kept { IfErr result (λ fault. status_of fault ≡ 1
+        → Discloses (S.files store.old) (S.files store.new) IsSame) }
+    ensures silent { IfErr result (λ fault. status_of fault ≡ 1
+        → (line.new ≡ line.old) × (out.new ≡ out.old)) }
+{
+    let file = job_file(alloc, send, store)?;
+    let Unsent { jobs, places } = unsent_of(alloc, file.bytes.as_slice())?;
+    let station = Station::new(alloc, rank, jobs.as_slice())?;
+    let marker = Marker::new(alloc, file.name, file.bytes, places);
+    let keeper = keeper_beside(alloc, send, received, store)?;
+    exchange_files(station, marker, keeper, line, store, &mut Unwatched, out)
+}
+
+/// Keeps jobs in the file of one name, which is not that of the other.
+fn keeper_beside<'a, S: Store>(
+    alloc: Global,
+    other: &str,
+    name: &'a str,
+    store: &mut S,
+) -> Result<Keeper<'a>, CommandFault<'a>>
+    ensures two { OnOk result (other.now ≢ name.entry.now) }
+    ensures name { IfOk result (λ keeper. keeper.name.now ≡ name.entry.now) }
+    ensures none { IfOk result (λ keeper. keeper.kept ≡ 0) }
+    ensures status { IfErr result (λ fault. IsFailing (status_of fault)) }
+    ensures same { Discloses (S.files store.old) (S.files store.new) IsSame }
+{
+    if name == other {
+        return Err(CommandFault::CannotWrite(name));
+    }
+    Keeper::new(alloc, name, store)
+}
+
+/// Exchanges over a line what the station has for what comes. At the end it marks what was counted in the whole file, keeps what is left of
+/// what came, and prints the lines of both.
+fn exchange_files<'a, 'b, L: Line, S: Store, W: Watch, O: Write>(
+    mut station: Station<'b>,
+    mut marker: Marker<'a>,
+    mut keeper: Keeper<'a>,
+    line: &mut L,
+    store: &mut S,
+    watch: &mut W,
+    out: &mut O,
+) -> Result<Ending, CommandFault<'a>>
+    ensures exchanged { IfOk result (λ ending. Exchanges ending station.entry marker.entry
+        keeper.entry (S.files store.old) (S.files store.new)
+        (O.contents out.old) (O.contents out.new)) }
+    ensures status { IfErr result (λ fault. (jobs : List Job)
+        → IsLeft marker.entry.file.items jobs → IsFailing (status_of fault)) }
+{
+    let given = station.sender().jobs().len();
+    let left = exchange_all(&mut station, line, &mut marker, &mut keeper, store, watch);
+    let outcome = station.sender().outcome();
+    let counted = station.sender().counted();
+    let lines = [
+        counted_text(counted, given),
+        outcome_text(outcome),
+        handed_text(station.receiver().jobs()),
+    ];
+    let marked = marker.write(counted, store);
+    let kept = keep_rest(&left, &mut keeper, station.take(), store);
+    let printed = put_lines(&lines, out);
+    let left = left?;
+    marked?;
+    kept?;
+    printed?;
+    Ok(ending_of_both(outcome, left))
+}
+
+/// The end that calls is the primary.
+fn rank_of(place: Meeting) -> Rank {
+    match place {
+        Meeting::Calls(_) => Rank::Primary,
+        Meeting::Listens(_) => Rank::Secondary,
+    }
+}
+
+/// A line to the other end, and its address.
+fn met<R: Net>(
+    rt: &R,
+    place: Meeting,
+    timeout: u16,
+) -> io::Result<(SocketLine<R::Stream>, SocketAddr)> {
+    match place {
+        Meeting::Calls(address) => Ok((connected(rt, address, timeout)?, address)),
+        Meeting::Listens(address) => accepted(rt, address, timeout),
+    }
+}
+
+/// Both directions ended as they should, or one ended otherwise.
+fn ending_of_both(outcome: Option<Outcome>, left: Left) -> Ending
+    ensures { result ≡ ending_of_both outcome left }
+{
+    match (Ending::from(outcome), left) {
+        (Ending::Done, Left::Ended) => Ending::Done,
+        _ => Ending::Other,
+    }
+}

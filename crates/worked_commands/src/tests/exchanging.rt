@@ -1,0 +1,164 @@
+//! What `exchange` sends and receives, and what is in its two files then.
+use super::told_line::ToldLine;
+use arrayvec::ArrayVec;
+use bsc_link::Rank;
+use rje_sockets::exchange_over;
+use rje_stores::{MemoryStore, Store};
+use std::process::Abort;
+use std::test::Fail;
+
+/// What a command writes, in memory of its own.
+type Written = ArrayVec<u8, 4096>;
+
+const ENQ: &[u8] = b"\x32\x32\x2D\xFF";
+
+const ACK0: &[u8] = b"\x32\x32\x10\x70\xFF";
+
+const ACK1: &[u8] = b"\x32\x32\x10\x61\xFF";
+
+const EOT: &[u8] = b"\x32\x32\x37\xFF";
+
+/// The last block of a job of one record, `A` or `B`.
+const A: &[u8] = b"\x32\x32\x02\xC1\x1E\x03\x18\x5D\xFF";
+
+const B: &[u8] = b"\x32\x32\x02\xC2\x1E\x03\xE8\x5D\xFF";
+
+const QUIET: &[u8] = b"";
+
+/// The version 2 file of no jobs.
+const NONE: &[u8] = b"RJ37\x00\x02\x00\x00\x00\x00\x00\x00\x00\x00";
+
+/// The version 2 file of one job in this state (0 waiting, 1 sent, 2 whole), of this one record.
+fn one_job(rt: &impl Abort, state: u8, record: u8) -> Written {
+    let mut file = Written::new();
+    let header = b"RJ37\x00\x02\x00\x00\x00\x00\x00\x00\x00\x01        ";
+    assert!(rt; file.try_extend_from_slice(header).is_ok());
+    assert!(rt; file.try_push(state).is_ok());
+    let rest = b"\x00\x00\x00\x00\x00\x00\x00\x00\x00\x01\x00\x01";
+    assert!(rt; file.try_extend_from_slice(rest).is_ok());
+    assert!(rt; file.try_push(record).is_ok());
+    file
+}
+
+/// These, one after another.
+fn joined(rt: &impl Abort, pieces: &[&[u8]]) -> Written {
+    let mut all = Written::new();
+    for piece in pieces {
+        assert!(rt; all.try_extend_from_slice(piece).is_ok());
+    }
+    all
+}
+
+/// An end of this rank exchanges the job `A` for the job `B` where this comes, and says that.
+fn assert_exchanges(
+    rt: &(impl Abort + AllocGlobal),
+    rank: Rank,
+    coming: &[&[u8]],
+    said: &[&[u8]],
+) -> Result<(), Fail> {
+    let mut store = MemoryStore::new(rt.alloc());
+    store.write("out", one_job(rt, 0, 0xC1).as_slice())?;
+    let mut line = ToldLine::new(coming);
+    let mut out = Written::new();
+    let mut err = Written::new();
+    let ended = exchange_over(
+        rt.alloc(),
+        rank,
+        &mut line,
+        "out",
+        "got",
+        &mut store,
+        &mut out,
+        &mut err,
+    );
+    assert!(rt; ended == 0);
+    let text = b"counted 1 of 1 jobs\noutcome done\nhanded 1 jobs, 1 whole\n";
+    assert!(rt; out.as_slice() == text.as_slice());
+    assert!(rt; err.is_empty());
+    assert!(rt; line.sent.as_slice() == joined(rt, said).as_slice());
+    assert!(rt; store.read(rt.alloc(), "out")?.as_slice() == one_job(rt, 1, 0xC1).as_slice());
+    assert!(rt; store.read(rt.alloc(), "got")?.as_slice() == one_job(rt, 2, 0xC2).as_slice());
+    Ok(())
+}
+
+#[test]
+fn a_primary_bids_at_once_and_receives_behind_its_own_jobs(rt: HostRuntime) -> Result<(), Fail> {
+    assert_exchanges(
+        &rt,
+        Rank::Primary,
+        &[ACK0, ACK1, ENQ, B, EOT],
+        &[ENQ, A, EOT, ACK0, ACK1],
+    )
+}
+
+#[test]
+fn a_secondary_listens_before_each_bid_and_gives_way(rt: HostRuntime) -> Result<(), Fail> {
+    // It hears nothing and bids, and the primary bids at the same time.
+    assert_exchanges(
+        &rt,
+        Rank::Secondary,
+        &[QUIET, ENQ, ENQ, B, EOT, ACK0, ACK1],
+        &[ENQ, ACK0, ACK1, ENQ, A, EOT],
+    )?;
+
+    // Its bid is lost, it listens once more, and bids again.
+    assert_exchanges(
+        &rt,
+        Rank::Secondary,
+        &[QUIET, QUIET, QUIET, ACK0, ACK1, ENQ, B, EOT],
+        &[ENQ, ENQ, A, EOT, ACK0, ACK1],
+    )
+}
+
+#[test]
+fn an_end_with_no_jobs_leaves_after_40_quiet_hearings(rt: HostRuntime) -> Result<(), Fail> {
+    for rank in [Rank::Primary, Rank::Secondary] {
+        let mut store = MemoryStore::new(rt.alloc());
+        store.write("out", NONE)?;
+        let mut line = ToldLine::new(&[]);
+        let mut out = Written::new();
+        let mut err = Written::new();
+        let ended = exchange_over(
+            rt.alloc(),
+            rank,
+            &mut line,
+            "out",
+            "got",
+            &mut store,
+            &mut out,
+            &mut err,
+        );
+        assert!(rt; ended == 4);
+        let text = b"counted 0 of 0 jobs\noutcome done\nhanded 0 jobs, 0 whole\n";
+        assert!(rt; out.as_slice() == text.as_slice());
+        assert!(rt; err.is_empty());
+        assert!(rt; line.sent.is_empty());
+        assert!(rt; store.read(rt.alloc(), "got")?.as_slice() == NONE);
+    }
+    Ok(())
+}
+
+#[test]
+fn one_file_cannot_hold_both_directions(rt: HostRuntime) -> Result<(), Fail> {
+    let mut store = MemoryStore::new(rt.alloc());
+    store.write("out", one_job(&rt, 0, 0xC1).as_slice())?;
+    let mut line = ToldLine::new(&[]);
+    let mut out = Written::new();
+    let mut err = Written::new();
+    let ended = exchange_over(
+        rt.alloc(),
+        Rank::Primary,
+        &mut line,
+        "out",
+        "out",
+        &mut store,
+        &mut out,
+        &mut err,
+    );
+    assert!(rt; ended == 3);
+    assert!(rt; out.is_empty());
+    assert!(rt; err.as_slice() == b"rje: can't write out\n".as_slice());
+    assert!(rt; line.sent.is_empty());
+    assert!(rt; store.read(rt.alloc(), "out")?.as_slice() == one_job(&rt, 0, 0xC1).as_slice());
+    Ok(())
+}
