@@ -267,18 +267,6 @@ fn records_are_counted(rt: HostRuntime) {
 }
 
 #[test]
-fn a_sendable_record_is_taken_where_there_is_room(rt: HostRuntime) {
-    let mut packer = Packer::new(Select::Unset, Mode::Normal);
-    let card = record(&rt, Action::Plain, &CARD);
-    for _ in 0..6 {
-        assert!(rt; packer.push_sendable(&card));
-    }
-    assert!(rt; !packer.push_sendable(&card));
-    assert!(rt; packer.close(false).text.len() == 486);
-    assert!(rt; packer.push_sendable(&card));
-}
-
-#[test]
 fn records_are_a_list(rt: HostRuntime) -> Result<(), Fail> {
     let mut records = Records::new(rt.alloc());
     assert!(rt; records.is_empty());
