@@ -12,7 +12,9 @@ pub use blocks_command::blocks;
 pub use cards_command::cards;
 pub use check_command::check;
 pub use inputs::{read_file, read_job_file};
-pub use output::{extend_file, look_at_file, put, put_lines, set_byte_of_file, write_file};
+pub use output::{
+    extend_file, look_at_file, look_beside, put, put_lines, set_byte_of_file, write_file,
+};
 pub use print_command::print;
 pub use show_command::show;
 pub use try_command::trial;

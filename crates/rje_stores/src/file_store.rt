@@ -6,7 +6,7 @@ mod growing;
 
 use crate::reading::read_all;
 use crate::store::{Place, Store, StoreFault};
-use beside::{replace, resolved, try_beside};
+use beside::{lead_to_one, replace, resolved, try_beside};
 use growing::Growing;
 use std::alloc::Global;
 use std::fs::{self, OpenFile, OpenOptions, Permissions};
@@ -123,6 +123,13 @@ impl<'a, R: Files> Store for FileStore<'a, R> {
 
     fn look(&mut self, name: &str) -> Result<Place, StoreFault> {
         self.place(name).map_err(|error| fault_of(&error))
+    }
+
+    fn is_one_file(&mut self, alloc: Global, one: &str, other: &str) -> Result<bool, StoreFault> {
+        if one == other {
+            return Ok(true);
+        }
+        lead_to_one(self.rt, alloc, one, other).map_err(|error| fault_of(&error))
     }
 
     fn extend(

@@ -1,5 +1,5 @@
 //! Files in memory.
-ghost use Rattle.std.specs.Prelude.{◌≡◌, ◌+◌, ◌≤◌, ◌↔◌, ℕ, List, None, Some, Ok, length, IfOk, OnOk, OnErr, IsErrOf, IsOkUnless};
+ghost use Rattle.std.specs.Prelude.{◌≡◌, ◌≢◌, ◌+◌, ◌≤◌, ◌↔◌, ℕ, List, None, Some, Ok, true, false, length, IfOk, OnOk, OnErr, IsErrOf, IsOkUnless};
 ghost use Rattle.rje_stores.specs.Store.{IsSame, Sets, SetsByte, Extends, IsTooLong, HasFewer};
 ghost use Rattle.rje_stores.specs.MemoryStore.{files_of};
 
@@ -70,6 +70,15 @@ impl Store for MemoryStore {
         ensures same { IsSame (files_of self.old) (files_of self.new) }
     {
         Ok(Place::Growing)
+    }
+
+    fn is_one_file(&mut self, _alloc: Global, one: &str, other: &str) -> Result<bool, StoreFault>
+        ensures same_name { IfOk result (λ is_one. is_one ≡ true ↔ one.now ≡ other.now) }
+        ensures two { IfOk result (λ is_one. is_one ≡ false → one.now ≢ other.now) }
+        ensures never { OnErr result ⊥ }
+        ensures same { IsSame (files_of self.old) (files_of self.new) }
+    {
+        Ok(one == other)
     }
 
     fn extend(

@@ -1,5 +1,5 @@
 //! The files that the program reads and writes by name.
-ghost use Rattle.std.specs.Prelude.{◌≡◌, ℕ, ◌<◌, ◌≤◌, ◌↔◌, ◌++◌, List, Option, length, IfOk, IfSome, IsErrOf, IsOkUnless, OnOk, OnErr};
+ghost use Rattle.std.specs.Prelude.{◌≡◌, ◌≢◌, ℕ, ◌<◌, ◌≤◌, ◌↔◌, ◌++◌, List, Option, length, IfOk, IfSome, IsErrOf, IsOkUnless, OnOk, OnErr, false};
 ghost use Rattle.rje_files.specs.Growth.{grown};
 ghost use Rattle.rje_stores.specs.Store.{FileMap, Discloses, IsSame, Sets, SetsByte, Extends, Has, IsMissing};
 
@@ -56,6 +56,14 @@ pub trait Store {
         ensures same { Discloses (files self.old) (files self.new) IsSame }
     {
         Ok(Place::Growing)
+    }
+
+    /// Whether two names are of one file. A store may fail at any time.
+    fn is_one_file(&mut self, _alloc: Global, one: &str, other: &str) -> Result<bool, StoreFault>
+        ensures two { IfOk result (λ is_one. is_one ≡ false → one.now ≢ other.now) }
+        ensures same { Discloses (files self.old) (files self.new) IsSame }
+    {
+        Ok(one == other)
     }
 
     /// Makes the file of this name begin with one piece, in place of as many bytes, and go on behind its end with another: all of it or

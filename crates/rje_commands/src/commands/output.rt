@@ -1,5 +1,5 @@
 //! What a command gives: to its output, and to a file.
-ghost use Rattle.std.specs.Prelude.{◌≡◌, ◌≤◌, ◌+◌, length, IfOk, IfSome, OnOk, OnErr, IfErr, true};
+ghost use Rattle.std.specs.Prelude.{◌≡◌, ◌≢◌, ◌≤◌, ◌+◌, length, IfOk, IfSome, OnOk, OnErr, IfErr, true};
 ghost use Rattle.std.specs.List.{flat_map};
 ghost use Rattle.rje_commands.specs.NamedFile.{IsWriteFault};
 ghost use Rattle.rje_commands.specs.CommandFault.{is_of_output};
@@ -66,6 +66,24 @@ pub fn look_at_file<'a, S: Store>(name: &'a str, store: &mut S) -> Result<Place,
 {
     match store.look(name) {
         Ok(place) => Ok(place),
+        Err(fault) => Err(not_written(name, fault)),
+    }
+}
+
+/// Looks whether the file of this name can be another one than that of another name.
+pub fn look_beside<'a, S: Store>(
+    alloc: Global,
+    other: &str,
+    name: &'a str,
+    store: &mut S,
+) -> Result<(), CommandFault<'a>>
+    ensures two { OnOk result (other.now ≢ name.entry.now) }
+    ensures fault { IfErr result (IsWriteFault name.entry.now) }
+    ensures same { Discloses (S.files store.old) (S.files store.new) IsSame }
+{
+    match store.is_one_file(alloc, other, name) {
+        Ok(false) => Ok(()),
+        Ok(true) => Err(CommandFault::CannotWrite(name)),
         Err(fault) => Err(not_written(name, fault)),
     }
 }

@@ -34,6 +34,31 @@ fn is_link_to_file<R: Files>(rt: &R, name: &str) -> bool {
     }
 }
 
+/// Whether both names lead to one file that is there.
+pub(super) fn lead_to_one<R: Files>(
+    rt: &R,
+    alloc: Global,
+    one: &str,
+    other: &str,
+) -> io::Result<bool> {
+    let Some(one) = whole_path(rt, alloc, one)? else {
+        return Ok(false);
+    };
+    match whole_path(rt, alloc, other)? {
+        Some(other) => Ok(one.as_str() == other.as_str()),
+        None => Ok(false),
+    }
+}
+
+/// The path of the file that a name leads to, without links and dots, where there is one.
+fn whole_path<R: Files>(rt: &R, alloc: Global, name: &str) -> io::Result<Option<String>> {
+    match rt.canonicalize(alloc, name) {
+        Ok(path) => Ok(Some(path.into_string())),
+        Err(error) if error.kind() == ErrorKind::NotFound => Ok(None),
+        Err(error) => Err(error),
+    }
+}
+
 /// Looks whether a file can be made beside this one, and leaves none.
 pub(super) fn try_beside<R: Files>(rt: &R, alloc: Global, path: &str) -> io::Result<()> {
     let beside = create_beside(rt, alloc, path)?;
