@@ -20,7 +20,7 @@ use crate::socket_line::SocketLine;
 use crate::tracer::Tracer;
 use crate::watch::{Unwatched, Watch};
 use bsc_link::{Outcome, Rank};
-use rje_commands::{CommandFault, put_lines, tell};
+use rje_commands::{CommandFault, look_beside, put_lines, tell};
 use rje_print::{counted_text, handed_text, outcome_text};
 use rje_station::{Line, Station};
 use rje_stores::Store;
@@ -120,9 +120,7 @@ fn keeper_beside<'a, S: Store>(
     ensures status { IfErr result (λ fault. IsFailing (status_of fault)) }
     ensures same { Discloses (S.files store.old) (S.files store.new) IsSame }
 {
-    if name == other {
-        return Err(CommandFault::CannotWrite(name));
-    }
+    look_beside(alloc, other, name, store)?;
     Keeper::new(alloc, name, store)
 }
 

@@ -6,6 +6,7 @@ ghost use Rattle.line_world.specs.AnyLines.{BothToEnd};
 ghost use Rattle.line_world.specs.declared.spoken.Spoken.{Spoken};
 ghost use Rattle.rje_sockets.specs.Ending.{ending_of, loop_text};
 ghost use Rattle.rje_sockets.specs.Watching.{BothWatchedAll};
+ghost use Rattle.rje_stores.specs.Store.{Discloses, IsSame};
 
 use crate::exchange::take_turns;
 use crate::socket_commands::Ending;
@@ -31,7 +32,9 @@ pub fn loopback<'a, R: Net + Clock, S: Store, O: Write, E: Write>(
     store: &mut S,
     out: &mut O,
     err: &mut E,
-) -> Result<Ending, CommandFault<'a>> {
+) -> Result<Ending, CommandFault<'a>>
+    ensures same { Discloses (S.files store.old) (S.files store.new) IsSame }
+{
     let jobs = read_job_file(alloc, order.jobs, store)?;
     let mut sender = SendingStation::new(alloc, jobs.as_slice())?;
     let mut receiver = ReceivingStation::new(alloc)?;

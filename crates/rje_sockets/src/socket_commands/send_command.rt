@@ -42,7 +42,9 @@ pub fn send<'a, R: Net + Clock, S: Store, O: Write, E: Write>(
     store: &mut S,
     out: &mut O,
     err: &mut E,
-) -> Result<Ending, CommandFault<'a>> {
+) -> Result<Ending, CommandFault<'a>>
+    ensures marked { MarksNoMore order.entry.jobs.now (S.files store.old) (S.files store.new) }
+{
     let file = job_file(alloc, order.jobs, store)?;
     let Unsent { jobs, places } = unsent_of(alloc, file.bytes.as_slice())?;
     let mut station = SendingStation::new(alloc, jobs.as_slice())?;
