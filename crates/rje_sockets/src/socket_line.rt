@@ -2,6 +2,7 @@
 ghost use Rattle.std.specs.Prelude.{◌≡◌, ◌+◌, ◌-◌, ◌^◌, ◌≤◌, min, None, ⊤};
 ghost use Rattle.std.specs.Io.{ReadsAtMost};
 
+use bsc_codes::{DLE, STX};
 use rje_station::{Came, Line, LineFault};
 use std::io::{self, ErrorKind, Read, Write};
 use std::net::OpenStream;
@@ -18,6 +19,10 @@ pub struct SocketLine<S> {
     transmissions: u64,
     failures: u64,
     last_fault: Option<LineFault>,
+    // Whether the answer to a text is awaited twice as long.
+    is_patient: bool,
+    // Whether such an answer is awaited now.
+    awaits: bool,
 }
 
 impl<S: OpenStream + Drop> SocketLine<S> {
@@ -33,7 +38,17 @@ impl<S: OpenStream + Drop> SocketLine<S> {
             transmissions: 0,
             failures: 0,
             last_fault: None,
+            is_patient: false,
+            awaits: false,
         })
+    }
+
+    /// The same line, on which the answer to a text is awaited for two hearings. A station answers a text that was spoiled only when its line
+    /// has been quiet for one: an answer to it would come just when a sender that waits no longer speaks again.
+    pub fn patient(self) -> SocketLine<S> {
+        let mut line = self;
+        line.is_patient = true;
+        line
     }
 }
 
@@ -66,6 +81,7 @@ impl<S: Read + Write> Line for SocketLine<S> {
 
     fn transmit(&mut self, bytes: &[u8]) -> Result<(), LineFault> {
         self.transmissions = self.transmissions.saturating_add(1);
+        self.awaits = self.is_patient && holds_text(bytes);
         match self.stream.write_all(bytes) {
             Ok(()) => Ok(()),
             Err(_) => Err(self.failed(LineFault::Failed)),
@@ -73,12 +89,29 @@ impl<S: Read + Write> Line for SocketLine<S> {
     }
 
     fn listen(&mut self, piece: &mut [u8]) -> Result<Came, LineFault> {
-        match read_on(&mut self.stream, piece) {
+        let awaits = self.awaits;
+        self.awaits = false;
+        match read_twice(&mut self.stream, piece, awaits) {
             Ok(0) => Err(self.failed(LineFault::Closed)),
             Ok(count) => Ok(Came::Bytes(count)),
             Err(error) if is_time_out(error.kind()) => Ok(Came::Quiet),
             Err(_) => Err(self.failed(LineFault::Failed)),
         }
+    }
+}
+
+/// Whether a transmission holds a text: whether STX, or DLE and STX, stand behind its two SYN.
+fn holds_text(bytes: &[u8]) -> bool {
+    matches!(bytes, [_, _, STX, ..] | [_, _, DLE, STX, ..])
+}
+
+/// Reads, and once more where the first read waited in vain and that is asked for.
+fn read_twice<S: Read>(stream: &mut S, piece: &mut [u8], twice: bool) -> io::Result<usize>
+    ensures { ReadsAtMost result piece.new }
+{
+    match read_on(stream, piece) {
+        Err(error) if twice && is_time_out(error.kind()) => read_on(stream, piece),
+        answer => answer,
     }
 }
 

@@ -168,15 +168,21 @@ fn rank_of(place: Meeting) -> Rank {
     }
 }
 
-/// A line to the other end, and its address.
+/// A patient line to the other end, and its address.
 fn met<R: Net>(
     rt: &R,
     place: Meeting,
     timeout: u16,
 ) -> io::Result<(SocketLine<R::Stream>, SocketAddr)> {
     match place {
-        Meeting::Calls(address) => Ok((connected(rt, address, timeout)?, address)),
-        Meeting::Listens(address) => accepted(rt, address, timeout),
+        Meeting::Calls(address) => {
+            let line = connected(rt, address, timeout)?;
+            Ok((line.patient(), address))
+        }
+        Meeting::Listens(address) => {
+            let (line, peer) = accepted(rt, address, timeout)?;
+            Ok((line.patient(), peer))
+        }
     }
 }
 
