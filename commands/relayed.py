@@ -166,23 +166,27 @@ class Run:
         for end in ("calls", "called"):
             shutil.copy(f"{first}/{end}.job", f"{self.folder}/{end}.job")
 
-    def start(self, end, *place):
+    def start(self, end, *place, env=None):
         words = [self.program, "exchange", f"{end}.job", f"{end}.got", *place, "--timeout", self.timeout]
-        return subprocess.Popen(words, cwd=self.folder, stdin=subprocess.DEVNULL, stdout=subprocess.PIPE, stderr=subprocess.PIPE, text=True)
+        return subprocess.Popen(words, cwd=self.folder, env=env, stdin=subprocess.DEVNULL, stdout=subprocess.PIPE, stderr=subprocess.PIPE, text=True)
 
-    def called(self):
+    def called(self, env=None):
+        """The end that is called, and the port that it listens at; None where it ends before."""
         for _ in range(20):
             port = free_port()
-            called = self.start("called", "--listen", f"127.0.0.1:{port}")
+            called = self.start("called", "--listen", f"127.0.0.1:{port}", env=env)
             while called.poll() is None:
                 if is_listening(port):
                     return called, port
                 time.sleep(0.005)
-        raise AssertionError("nobody is called: " + called.stderr.read())
+            if called.returncode != 3:
+                break
+        return called, None
 
     def over(self, fate):
         """The statuses of the caller and of the one called, and what is wrong with what they marked, and with what they received."""
         called, port = self.called()
+        assert port, "nobody is called: " + called.stderr.read()
         self.relay = Relay(port, fate)
         calls = self.start("calls", "--to", f"127.0.0.1:{self.relay.port}")
         ends = {}
