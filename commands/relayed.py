@@ -94,6 +94,11 @@ def damaged(message, chance):
     return message[:place] + b"\x00" + message[place + 1 :]
 
 
+def first_text_spoiled(message, number, is_caller):
+    """Of the third message, which is the caller's first text, the first byte of data is another one."""
+    return message[:3] + b"\x00" + message[4:] if number == 3 else message, 0, False
+
+
 def lossy(seed):
     """One message in eight is lost and one in eight damaged, but for EOT and the first four."""
     chance = random.Random(seed)
@@ -160,14 +165,14 @@ def is_listening(port):
 class Run:
     """One exchange in a folder of its own, through a relay."""
 
-    def __init__(self, program, first, timeout):
+    def __init__(self, program, first, timeout, *options):
         self.folder = tempfile.mkdtemp()
-        self.program, self.timeout = program, str(timeout)
+        self.program, self.options, self.told = program, ["--timeout", str(timeout), *options], {}
         for end in ("calls", "called"):
             shutil.copy(f"{first}/{end}.job", f"{self.folder}/{end}.job")
 
     def start(self, end, *place, env=None):
-        words = [self.program, "exchange", f"{end}.job", f"{end}.got", *place, "--timeout", self.timeout]
+        words = [self.program, "exchange", f"{end}.job", f"{end}.got", *place, *self.options]
         return subprocess.Popen(words, cwd=self.folder, env=env, stdin=subprocess.DEVNULL, stdout=subprocess.PIPE, stderr=subprocess.PIPE, text=True)
 
     def called(self, env=None):
@@ -191,7 +196,7 @@ class Run:
         calls = self.start("calls", "--to", f"127.0.0.1:{self.relay.port}")
         ends = {}
         for name, end in (("calls", calls), ("called", called)):
-            text, _ = end.communicate(timeout=120)
+            text, self.told[name] = end.communicate(timeout=120)
             ends[name] = end.returncode, counted_in(text)
         statuses = [status for status, _ in ends.values()]
         marks = [*self.wrong_marks("calls", ends["calls"][1]), *self.wrong_marks("called", ends["called"][1])]
@@ -228,6 +233,16 @@ def main(program, seeds=5):
         shutil.rmtree(run.folder)
         return run.relay.number
 
+    def check_patience():
+        """The answer to a spoiled text is awaited, though it comes only when the other's hearing is over."""
+        run = Run(program, small, 300, "--trace")
+        statuses, told, came = run.over(first_text_spoiled)
+        turns = [line.split(" ", 1)[1] for line in run.told["calls"].splitlines()]
+        checks.append("a spoiled text")
+        if statuses != [0, 0] or told or came or turns[1:4] != ["bid ack0", "block nak", "again ack1"]:
+            faults.append(f"a spoiled text: {statuses}, {told}, {came}, {turns}")
+        shutil.rmtree(run.folder)
+
     with concurrent.futures.ThreadPoolExecutor(8) as pool:
         messages = pool.submit(check, "as it is", small, 1000, as_it_is, True).result()
         waits = [pool.submit(check, "as it is, of all kinds", large, 1000, as_it_is, True)]
@@ -237,6 +252,7 @@ def main(program, seeds=5):
             waits.append(pool.submit(check, f"ended behind byte {count} of the one called", small, 1000, cut_behind(count, False)))
         for which in range(1, messages + 1):
             waits.append(pool.submit(check, f"message {which} held back", small, 300, held_back(which, 0.6), is_late=True))
+        waits += [pool.submit(check_patience) for _ in range(4)]
         for seed in range(seeds):
             waits.append(pool.submit(check, f"losses and damage {seed}", large, 300, lossy(seed)))
         for it in waits:
