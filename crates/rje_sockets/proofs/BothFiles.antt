@@ -29,6 +29,7 @@ use Rattle.rje_sockets.specs.Marking.{AreMarked, GoesOnMarking, Marks}
 use Rattle.rje_sockets.proofs.BothWays.{others_fail}
 use Rattle.rje_sockets.proofs.Keeping.{Comes, goes_on, heard_comes, nothing}
 use Rattle.rje_sockets.proofs.Marked.{stays, written_over}
+use Rattle.rje_sockets.proofs.OwnTurn.{own_speaking, own_turn}
 use Rattle.rje_stores.proofs.Changes.{same_itself}
 use Rattle.rje_stores.specs.Store.{FileMap, Discloses, IsSame, Sets}
 
@@ -210,44 +211,11 @@ module _ (first old : Marker) (start counted : ℕ) (before keeper : Keeper) (be
 
 -- WHAT A TURN LEAVES
 
-abbrev spoken_as : Contending → (due said : Say) → Contending
-spoken_as s due said = elim due [ Say.Nothing ↦ s | _ ↦ record s { sender = after_speaking s.sender; contender = contender_said said s.contender } ]
-
-spoke_as : (s : Contending) (due said : Say) → (spoken_as s due said).receiver ≡ s.receiver
-spoke_as s Say.Nothing said = refl
-spoke_as s Say.Bid said = refl
-spoke_as s Say.Block said = refl
-spoke_as s Say.Again said = refl
-spoke_as s Say.Delay said = refl
-spoke_as s Say.Ask said = refl
-spoke_as s Say.End said = refl
-
-abbrev heard_as : Contending → (due said : Say) → Sound → Sending → Contending
-heard_as s due said heard sender = elim due [ Say.Nothing ↦ s | _ ↦ record s { sender = sender; contender = contender_answered said heard s.contender } ]
-
-answered_as : (s : Contending) (due said : Say) (heard : Sound) (sender : Sending) → (heard_as s due said heard sender).receiver ≡ s.receiver
-answered_as s Say.Nothing said heard sender = refl
-answered_as s Say.Bid said heard sender = refl
-answered_as s Say.Block said heard sender = refl
-answered_as s Say.Again said heard sender = refl
-answered_as s Say.Delay said heard sender = refl
-answered_as s Say.Ask said heard sender = refl
-answered_as s Say.End said heard sender = refl
+own_receiver : (s : Contending) (said : Say) (heard : Sound) → (after_own_turn s said heard).receiver ≡ s.receiver
+own_receiver s said heard = own_turn (λ (x : Contending). x.receiver) (λ s sender contender. refl) s said heard
 
 spoke_receiver : (s : Contending) → (after_own_speaking s).receiver ≡ s.receiver
-spoke_receiver s = spoke_as s (due_at s) (due_at s)
-
-answered_receiver : (s : Contending) (heard : Sound) → (after_answer (after_own_speaking s) heard false).receiver ≡ s.receiver
-answered_receiver s heard = answered_as (after_own_speaking s) (due_at (after_own_speaking s)) (due_at (after_own_speaking s)) heard _ ∙ spoke_receiver s
-
-own_receiver : (s : Contending) (said : Say) (heard : Sound) → (after_own_turn s said heard).receiver ≡ s.receiver
-own_receiver s Say.End heard = spoke_receiver s
-own_receiver s Say.Nothing heard = answered_receiver s heard
-own_receiver s Say.Bid heard = answered_receiver s heard
-own_receiver s Say.Block heard = answered_receiver s heard
-own_receiver s Say.Again heard = answered_receiver s heard
-own_receiver s Say.Delay heard = answered_receiver s heard
-own_receiver s Say.Ask heard = answered_receiver s heard
+spoke_receiver s = own_speaking (λ (x : Contending). x.receiver) (λ s sender contender. refl) s
 
 -- its own turn leaves the jobs that came
 pub own_jobs : (s s' : Contending) → ((said : Say) × (heard : Sound) × TakesOwn s s' said heard) → s'.receiver.jobs ≡ s.receiver.jobs

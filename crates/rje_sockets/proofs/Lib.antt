@@ -1,5 +1,7 @@
+pub mod OwnTurn
 pub mod BothFiles
 pub mod BothWays
+pub mod Live
 pub mod Exchanged
 pub mod Sending
 pub mod Patience

@@ -9,7 +9,7 @@ ghost use Rattle.rje_station.specs.declared.line_fault.LineFault.TheVariants.{Cl
 ghost use Rattle.rje_station.specs.declared.station_fault.StationFault.TheVariants as fault;
 ghost use Rattle.rje_station.specs.Station.{Contending, due_at, after_other_refusal};
 ghost use Rattle.rje_commands.specs.CommandFault.{IsFailing, of_station, status_of};
-ghost use Rattle.rje_sockets.specs.BothWays.{has_listened, AreOver, ExchangesTo, FailsInOwn, FailsInOthers, LeavesFrom, StationTurn, TakesOwn, TakesOthers, Waits, Watched};
+ghost use Rattle.rje_sockets.specs.BothWays.{has_listened, AreOver, ExchangesTo, FailsInOwn, FailsInOthers, LeavesFrom, StationTurn, TakesOwn, TakesOthers, Waits, WasDeaf, HadFailed, Watched};
 ghost use Rattle.rje_sockets.specs.BothFiles.{BreaksBoth, GoesOnHolding, kept_of};
 ghost use Rattle.rje_sockets.specs.BrokenOff.{of_broken_off};
 ghost use Rattle.rje_sockets.specs.Keeping.{GoesOnKeeping};
@@ -38,6 +38,7 @@ pub fn exchange_all<'a, 'b, L: Line, S: Store, W: Watch>(
 ) -> Result<Left, BrokenOff<'b>>
     ensures left { IfOk result (λ left. ExchangesTo left station.old station.new) }
     ensures status { IfErr result (λ broken. IsFailing (status_of (of_broken_off broken))) }
+    ensures live { IfErr result (HadFailed station.old) }
     ensures holds { OnOk result (GoesOnHolding marker.old marker.new station.old.sender.counted
         station.new.sender.counted keeper.old keeper.new station.old.receiver.jobs
         station.new.receiver.jobs (S.files store.old) (S.files store.new)) }
@@ -83,7 +84,9 @@ fn may_bid_at_once<'a>(station: &Station<'a>) -> bool
 
 /// Whether both transmissions are over.
 fn is_over<'a>(station: &Station<'a>) -> bool
-    ensures { result ≡ true → AreOver station.now }
+    ensures over { result ≡ true → AreOver station.now }
+    ensures goes_on { result ≡ false → (due_at station.now ≢ say.Nothing)
+        ⊎ (station.now.receiver.over ≡ false) }
 {
     station.due() == Say::Nothing && station.receiver().is_over()
 }
@@ -95,6 +98,8 @@ fn is_own_turn<'a>(station: &Station<'a>, has_listened: bool) -> bool
         → (has_listened ≡ true) ⊎ (station.now.receiver.over ≡ true) }
     ensures listens { result ≡ false → (due_at station.now ≡ say.Nothing)
         ⊎ ((due_at station.now ≡ say.Bid) × (has_listened ≡ false)) }
+    ensures hears { result ≡ false → due_at station.now ≢ say.Nothing
+        → station.now.receiver.over ≡ false }
 {
     match station.due() {
         Say::Nothing => false,
@@ -116,6 +121,7 @@ fn take_own_turn<'a, 'b, L: Line, S: Store, W: Watch>(
         × TakesOwn station.old station.new said heard
         × W.saw_sender watch.old watch.new said heard) }
     ensures fault { IfErr result (FailsInOwn station.old station.new) }
+    ensures live { IfErr result (λ f. f ≢ fault.Over) }
     ensures status { IfErr result (λ fault. IsFailing (status_of (of_station fault))) }
     ensures marked { OnOk result (GoesOnMarking marker.old marker.new station.old.sender.counted
         station.new.sender.counted (S.files store.old) (S.files store.new)) }
@@ -148,6 +154,7 @@ fn take_others_turn<'a, 'b, L: Line, S: Store, W: Watch>(
         × (station.new ≡ after_other_refusal (fault.Line Closed) station.old)
         × (watch.new ≡ watch.old)) }
     ensures fault { IfErr result (FailsInOthers station.old station.new) }
+    ensures live { IfErr result (WasDeaf station.old) }
     ensures status { IfErr result (λ broken. IsFailing (status_of (of_broken_off broken))) }
     ensures kept { OnOk result (GoesOnKeeping keeper.old keeper.new station.old.receiver.jobs
         station.new.receiver.jobs (S.files store.old) (S.files store.new)) }

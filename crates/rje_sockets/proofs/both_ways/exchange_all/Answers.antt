@@ -1,8 +1,10 @@
 use Rattle.std.proofs.Common.{rules, inl, inr, refl}
 use Rattle.rje_sockets.specs.declared.broken_off.BrokenOff.{BrokenOff}
 use Rattle.rje_sockets.specs.BothFiles.{BreaksBoth}
+use Rattle.rje_sockets.specs.BothWays.{HadFailed}
 use Rattle.rje_sockets.proofs.BothFiles.{breaks_others, breaks_own, ended_jobs, goes_on_kept, goes_on_marked, holds_first, others_count, own_jobs, refusal_count, same_count}
 use Rattle.rje_sockets.proofs.BothWays.{ends_hung_up, ends_long, ends_over, fails_as, forty_quiet, forty_told, so_first, so_others, so_own, took}
+use Rattle.rje_sockets.proofs.Live.{had_failed, own_fault}
 use Rattle.rje_sockets.proofs.both_ways.exchange_all.Goals as goal
 
 pub loop-init : goal.loop-init
@@ -13,7 +15,7 @@ loop-init g c = (
 
 pub returns-then-is_over-clause-left : goal.returns-then-is_over-clause-left
 returns-then-is_over-clause-left g c =
-    ends_over g.W.Watch.saw_sender g.W.Watch.saw_receiver c.args.station.now c.args.watch.now c.loop.station c.loop.station c.loop.watch c.loop.watch c.loop.counter c.loop.quiet c.loop.has_listened c.loop.invariant.0 (c.is_over.ensures c.if-is_over.true)
+    ends_over g.W.Watch.saw_sender g.W.Watch.saw_receiver c.args.station.now c.args.watch.now c.loop.station c.loop.station c.loop.watch c.loop.watch c.loop.counter c.loop.quiet c.loop.has_listened c.loop.invariant.0 (c.is_over.ensures.over c.if-is_over.true)
 
 pub returns-in_err-take_own_turn-clause-broken : goal.returns-in_err-take_own_turn-clause-broken
 returns-in_err-take_own_turn-clause-broken g c =
@@ -24,6 +26,19 @@ returns-in_err-take_own_turn-clause-broken g c =
     (breaks_own c.args.station.now c.loop.station c.take_own_turn.new.station c.loop.invariant.0.turns (took g.W.Watch.saw_sender g.W.Watch.saw_receiver c.args.station.now c.args.watch.now c.loop.station c.loop.station c.loop.watch c.loop.watch c.loop.counter c.loop.quiet c.loop.has_listened c.loop.invariant.0) c.args.marker.now c.loop.marker
     c.args.keeper.now c.loop.keeper (g.S.Store.files c.args.store.now) (g.S.Store.files c.loop.store) c.loop.invariant.1 fault c.take_own_turn.new.marker (g.S.Store.files c.take_own_turn.new.store) (search rules) (search rules)
     c.in_err-take_own_turn.ensures.fault)
+
+pub returns-in_err-take_own_turn-clause-live : goal.returns-in_err-take_own_turn-clause-live
+returns-in_err-take_own_turn-clause-live g c =
+    let fault = c.in_err-take_own_turn.field-0.0 in
+    fails_as c.from_residual.result (BrokenOff.Line fault) (HadFailed c.args.station.now) c.from_residual.ensures.1
+    (own_fault c.args.station.now fault c.in_err-take_own_turn.ensures.live)
+
+pub returns-in_err-take_others_turn-clause-live : goal.returns-in_err-take_others_turn-clause-live
+returns-in_err-take_others_turn-clause-live g c =
+    let broken = c.in_err-take_others_turn.field-0.0 in
+    fails_as c.from_residual-in_err-take_others_turn.result broken (HadFailed c.args.station.now) (search rules)
+    (had_failed c.args.station.now c.loop.station c.loop.invariant.0.turns broken (took g.W.Watch.saw_sender g.W.Watch.saw_receiver c.args.station.now c.args.watch.now c.loop.station c.loop.station c.loop.watch c.loop.watch c.loop.counter c.loop.quiet c.loop.has_listened c.loop.invariant.0)
+    (c.is_over.ensures.goes_on c.if-is_over.false) (c.is_own_turn.ensures.hears c.if-is_own_turn.false) c.in_err-take_others_turn.ensures.live)
 
 pub loop-preserved-then-is_own_turn : goal.loop-preserved-then-is_own_turn
 loop-preserved-then-is_own_turn g c = let takes = c.in_ok-take_own_turn.ensures.takes in (
