@@ -16,8 +16,8 @@ use Rattle.rje_station.specs.declared.station_fault.StationFault.{StationFault}
 use Rattle.rje_station.specs.declared.station_fault.StationFault.TheVariants as fault
 use Rattle.rje_station.specs.Hearing.{sound_heard}
 use Rattle.rje_station.specs.Receiving.{sound_taken}
-use Rattle.rje_station.specs.Sending.{Sending, after_speaking}
-use Rattle.rje_station.specs.Station.{Contending, after_answer, after_other, after_other_ended, after_other_refusal, after_own_refusal, after_own_reply, after_own_speaking, contender_answered, contender_said, due_at, gives_way, lets_in}
+use Rattle.rje_station.specs.Sending.{Sending}
+use Rattle.rje_station.specs.Station.{Contending, after_other, after_other_ended, after_other_refusal, after_own_refusal, after_own_reply, after_own_speaking, gives_way, lets_in}
 use Rattle.rje_sockets.specs.declared.broken_off.BrokenOff.{BrokenOff}
 use Rattle.rje_sockets.specs.declared.keeper.Keeper.{Keeper}
 use Rattle.rje_sockets.specs.declared.marker.Marker.{Marker}
@@ -31,7 +31,7 @@ use Rattle.rje_sockets.proofs.Keeping.{Comes, goes_on, heard_comes, nothing}
 use Rattle.rje_sockets.proofs.Marked.{stays, written_over}
 use Rattle.rje_sockets.proofs.OwnTurn.{own_speaking, own_turn}
 use Rattle.rje_stores.proofs.Changes.{same_itself}
-use Rattle.rje_stores.specs.Store.{FileMap, Discloses, IsSame, Sets}
+use Rattle.rje_stores.specs.Store.{FileMap, IsSame, Sets}
 
 -- TWO NAMES
 

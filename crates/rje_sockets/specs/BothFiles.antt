@@ -1,6 +1,5 @@
 -- What a station that sends and receives has in its two files, whatever ends its transmissions (own profile).
 use Rattle.std.specs.Prelude.{◌≡◌, ◌≢◌, ℕ, List, Option}
-use Rattle.bsc_link.specs.declared.rank.Rank.{Rank}
 use Rattle.rje_jobs.specs.declared.job.Job.{Job}
 use Rattle.rje_station.specs.Station.{Contending}
 use Rattle.rje_sockets.specs.declared.broken_off.BrokenOff.{BrokenOff}

@@ -1,4 +1,3 @@
-use Rattle.std.proofs.Common.{◌⊎◌}
 use Rattle.rje_sockets.specs.BothFiles.{GoesOnHolding}
 use Rattle.rje_sockets.proofs.BothWays.{SoFar}
 use Rattle.rje_sockets.proofs.both_ways.exchange_all.Given as goal
