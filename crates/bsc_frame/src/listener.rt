@@ -5,6 +5,7 @@ ghost use Rattle.bsc_frame.specs.Heard.{IsHeard};
 ghost use Rattle.bsc_frame.specs.Listener.{HasTaken};
 
 mod data;
+mod frame_kind;
 mod stage;
 mod step;
 mod sync;
@@ -89,11 +90,11 @@ impl Listener {
             if kept == 0 {
                 let byte = piece[used];
                 used += 1;
-                if let Some(frame) = step(&mut stage, &mut self.text, &mut check, byte) {
+                if let Some(kind) = step(&mut stage, &mut self.text, &mut check, byte) {
                     self.stage = Stage::Pads;
                     return Fed {
                         used,
-                        frame: Some(frame),
+                        frame: Some(kind.into_frame(&mut self.text)),
                     };
                 }
             }

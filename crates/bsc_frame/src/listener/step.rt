@@ -3,23 +3,23 @@ ghost use Rattle.std.specs.Prelude.{◌≡◌};
 ghost use Rattle.bsc_frame.specs.Inside.Listening.HeardSoFar.{next};
 ghost use Rattle.bsc_frame.specs.Inside.Listening.Stage.{so_far_of, progress_of, CheckRuns};
 
+use super::frame_kind::FrameKind;
 use super::stage::Stage;
 use super::sync::{after_no_sync, after_one_syn, after_pads, at_body, at_dle};
 use super::text::{at_normal, at_second_check, at_text_dle, at_transparent};
-use crate::Frame;
 use arrayvec::ArrayVec;
 use bsc_check::Check;
 use bsc_codes::MAX_TEXT;
 
-/// Takes one byte: the frame that it makes whole, or more has come.
+/// Takes one byte: which frame it makes whole, or more has come.
 pub(crate) fn step(
     stage: &mut Stage,
     text: &mut ArrayVec<u8, MAX_TEXT>,
     check: &mut Check,
     byte: u8,
-) -> Option<Frame>
+) -> Option<FrameKind>
     requires { CheckRuns stage.old text.old.items check.old }
-    ensures next { progress_of result (so_far_of stage.new text.new.items)
+    ensures next { progress_of result stage.new text.new.items
         ≡ next (so_far_of stage.old text.old.items) byte }
     ensures runs { CheckRuns stage.new text.new.items check.new }
 {

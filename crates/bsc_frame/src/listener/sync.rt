@@ -3,8 +3,8 @@ ghost use Rattle.std.specs.Prelude.{◌≡◌, ℕ, List};
 ghost use Rattle.bsc_frame.specs.Inside.Listening.HeardSoFar.{next, Pads, OneSyn, Syns, Dle, On, is_pad as is_pad_of, after_no_sync as no_sync};
 ghost use Rattle.bsc_frame.specs.Inside.Listening.Stage.{so_far_of, progress_of, CheckRuns};
 
+use super::frame_kind::FrameKind;
 use super::stage::Stage;
-use crate::Frame;
 use crate::frame::{ACK0, ACK1, LEADING_PAD, RVI, WACK};
 use arrayvec::ArrayVec;
 use bsc_check::Check;
@@ -60,9 +60,9 @@ pub(crate) fn at_body(
     text: &mut ArrayVec<u8, MAX_TEXT>,
     check: &mut Check,
     byte: u8,
-) -> Option<Frame>
+) -> Option<FrameKind>
     requires { CheckRuns stage.old text.old.items check.old }
-    ensures next { progress_of result (so_far_of stage.new text.new.items) ≡ next Syns byte }
+    ensures next { progress_of result stage.new text.new.items ≡ next Syns byte }
     ensures runs { CheckRuns stage.new text.new.items check.new }
 {
     match byte {
@@ -73,9 +73,9 @@ pub(crate) fn at_body(
             *stage = Stage::Text(false);
         }
         DLE => *stage = Stage::Dle,
-        ENQ => return Some(Frame::Enq),
-        NAK => return Some(Frame::Nak),
-        EOT => return Some(Frame::Eot),
+        ENQ => return Some(FrameKind::Enq),
+        NAK => return Some(FrameKind::Nak),
+        EOT => return Some(FrameKind::Eot),
         _ => *stage = after_no_sync(byte),
     }
     None
@@ -87,9 +87,9 @@ pub(crate) fn at_dle(
     text: &mut ArrayVec<u8, MAX_TEXT>,
     check: &mut Check,
     byte: u8,
-) -> Option<Frame>
+) -> Option<FrameKind>
     requires { CheckRuns stage.old text.old.items check.old }
-    ensures next { progress_of result (so_far_of stage.new text.new.items) ≡ next Dle byte }
+    ensures next { progress_of result stage.new text.new.items ≡ next Dle byte }
     ensures runs { CheckRuns stage.new text.new.items check.new }
 {
     match byte {
@@ -98,11 +98,11 @@ pub(crate) fn at_dle(
             *check = Check::new();
             *stage = Stage::Text(true);
         }
-        ACK0 => return Some(Frame::Ack0),
-        ACK1 => return Some(Frame::Ack1),
-        WACK => return Some(Frame::Wack),
-        RVI => return Some(Frame::Rvi),
-        EOT => return Some(Frame::Eot),
+        ACK0 => return Some(FrameKind::Ack0),
+        ACK1 => return Some(FrameKind::Ack1),
+        WACK => return Some(FrameKind::Wack),
+        RVI => return Some(FrameKind::Rvi),
+        EOT => return Some(FrameKind::Eot),
         _ => *stage = Stage::OnlyNoise,
     }
     None

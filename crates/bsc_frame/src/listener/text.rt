@@ -9,18 +9,19 @@ ghost use Rattle.bsc_frame.specs.Inside.Listening.HeardSoFar.{
   AwaitsSecondCheck,
   On,
   with_byte,
+  block_of,
   closed,
-  frame_of_enq as enq_frame,
+  frame_of_enq,
 };
-ghost use Rattle.bsc_frame.specs.Inside.Listening.Stage.{so_far_of, progress_of, CheckRuns};
+ghost use Rattle.bsc_frame.specs.Inside.Listening.Stage.{so_far_of, frame_of, progress_of, CheckRuns};
 
+use super::frame_kind::FrameKind;
 use super::stage::Stage;
-use crate::Frame;
 use crate::closing::closing_byte;
 use crate::normal_text::is_normal;
 use arrayvec::ArrayVec;
 use bsc_check::Check;
-use bsc_codes::{Block, Closing, DLE, ENQ, ETB, ETX, MAX_TEXT, SYN};
+use bsc_codes::{Closing, DLE, ENQ, ETB, ETX, MAX_TEXT, SYN};
 
 /// Takes a byte in normal text.
 pub(crate) fn at_normal(
@@ -28,9 +29,9 @@ pub(crate) fn at_normal(
     text: &mut ArrayVec<u8, MAX_TEXT>,
     check: &mut Check,
     byte: u8,
-) -> Option<Frame>
+) -> Option<FrameKind>
     requires { IsCheckOf check.old text.old.items }
-    ensures next { progress_of result (so_far_of stage.new text.new.items)
+    ensures next { progress_of result stage.new text.new.items
         ≡ next (Text false text.old.items) byte }
     ensures runs { CheckRuns stage.new text.new.items check.new }
 {
@@ -42,7 +43,7 @@ pub(crate) fn at_normal(
         SYN => *stage = Stage::Text(false),
         ENQ => {
             *stage = Stage::Pads;
-            return Some(frame_of_enq(false, text));
+            return Some(kind_at_enq(false, text));
         }
         ETB => close(stage, text, check, false, Closing::Etb),
         ETX => close(stage, text, check, false, Closing::Etx),
@@ -75,9 +76,9 @@ pub(crate) fn at_text_dle(
     text: &mut ArrayVec<u8, MAX_TEXT>,
     check: &mut Check,
     byte: u8,
-) -> Option<Frame>
+) -> Option<FrameKind>
     requires { IsCheckOf check.old text.old.items }
-    ensures next { progress_of result (so_far_of stage.new text.new.items)
+    ensures next { progress_of result stage.new text.new.items
         ≡ next (TextDle text.old.items) byte }
     ensures runs { CheckRuns stage.new text.new.items check.new }
 {
@@ -86,7 +87,7 @@ pub(crate) fn at_text_dle(
         SYN => *stage = Stage::Text(true),
         ENQ => {
             *stage = Stage::Pads;
-            return Some(frame_of_enq(true, text));
+            return Some(kind_at_enq(true, text));
         }
         ETB => close(stage, text, check, true, Closing::Etb),
         ETX => close(stage, text, check, true, Closing::Etx),
@@ -117,14 +118,14 @@ fn keep(
     }
 }
 
-/// The frame of a text that an ENQ ends.
-fn frame_of_enq(transparent: bool, text: &ArrayVec<u8, MAX_TEXT>) -> Frame
-    ensures { result ≡ enq_frame transparent text.now.items }
+/// Which frame a text is that an ENQ ends.
+fn kind_at_enq(transparent: bool, text: &ArrayVec<u8, MAX_TEXT>) -> FrameKind
+    ensures { frame_of result text.now.items ≡ frame_of_enq transparent text.now.items }
 {
     if transparent || !text.is_empty() {
-        Frame::Abort
+        FrameKind::Abort
     } else {
-        Frame::Ttd
+        FrameKind::Ttd
     }
 }
 
@@ -148,25 +149,21 @@ fn close(
 /// Takes the second byte of a check.
 pub(crate) fn at_second_check(
     stage: &mut Stage,
-    text: &mut ArrayVec<u8, MAX_TEXT>,
+    text: &ArrayVec<u8, MAX_TEXT>,
     check: &Check,
     transparent: bool,
     closing: Closing,
     first: u8,
     byte: u8,
-) -> Option<Frame>
-    requires { IsCheckOf check.now (covered text.old.items closing) }
-    ensures next { progress_of result (so_far_of stage.new text.new.items)
-        ≡ next (AwaitsSecondCheck (record { text = text.old; closing = closing; transparent = transparent }) first) byte }
-    ensures runs { CheckRuns stage.new text.new.items check.now }
+) -> Option<FrameKind>
+    requires { IsCheckOf check.now (covered text.now.items closing) }
+    ensures next { progress_of result stage.new text.now.items
+        ≡ next (AwaitsSecondCheck (block_of transparent text.now.items closing) first) byte }
+    ensures runs { CheckRuns stage.new text.now.items check.now }
 {
     if check.bytes() == [first, byte] {
         *stage = Stage::Pads;
-        Some(Frame::Block(Block {
-            text: text.take(),
-            closing,
-            transparent,
-        }))
+        Some(FrameKind::Block(transparent, closing))
     } else {
         *stage = Stage::BadText;
         None

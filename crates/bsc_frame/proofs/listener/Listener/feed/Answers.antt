@@ -1,5 +1,6 @@
 use Rattle.std.proofs.Common.{◌+◌, get_or, refl, sym, ap, ◌∙◌, arith}
 use Rattle.std.proofs.lemmas.List.{drop_all}
+use Rattle.bsc_frame.specs.Inside.Listening.HeardSoFar.{Got}
 use Rattle.bsc_frame.specs.Inside.Listening.Run.{run}
 use Rattle.bsc_frame.specs.Inside.Listening.Stage.{so_far_of}
 use Rattle.bsc_frame.proofs.Feeding.{feed_found, feed_kept, feed_last, feed_more, feed_on, feed_none}
@@ -12,9 +13,10 @@ returns-in-Some-clause-frame c = λ bytes h.
     let kept = c.keep_data-kept.result in
     let before = so_far_of c.loop-used.stage c.loop-used.self-inside.text.items in
     let so_far = so_far_of c.loop-used.stage c.keep_data-kept.new.text.items in
-    feed_found c.args.self.now c.in-Some.frame bytes piece (used + kept + 1) h
+    feed_found c.args.self.now c.into_frame.result bytes piece (used + kept + 1) h
     (sym c.loop-used.invariant.goes_on ∙ sym (feed_kept before so_far piece used kept c.keep_data-kept.ensures.goes_on)
-    ∙ feed_last so_far c.in-Some.frame piece (used + kept) (get_or piece (used + kept) 0) (omega arith) refl c.in-Some.ensures.next)
+    ∙ feed_last so_far c.into_frame.result piece (used + kept) (get_or piece (used + kept) 0) (omega arith) refl
+    (ap Got c.into_frame.ensures ∙ c.in-Some.ensures.next))
 
 pub loop-used-preserved-in_default : goal.loop-used-preserved-in_default
 loop-used-preserved-in_default c =
