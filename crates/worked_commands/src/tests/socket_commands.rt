@@ -103,6 +103,7 @@ fn each_call_serves_its_own_commands(rt: HostRuntime) -> Result<(), Fail> {
     );
     assert!(rt; ended == 2);
     assert!(rt; out.is_empty());
+    assert!(rt; err.as_slice() == b"rje: no command\n".as_slice());
     Ok(())
 }
 
