@@ -1,5 +1,5 @@
 //! Which jobs can be sent.
-ghost use Rattle.std.specs.Prelude.{◌≡◌, ◌≤◌, ◌↔◌, length, IsTrue, None};
+ghost use Rattle.std.specs.Prelude.{◌≡◌, ◌≤◌, ◌↔◌, true, length, IsTrue, None};
 ghost use Rattle.rje_text.specs.PackFault.{pack_fault};
 ghost use Rattle.rje_jobs.specs.Fitting.{JobFits, AreSent};
 
@@ -10,10 +10,16 @@ use rje_text::{MAX_RECORD, Mode, PackFault, Record, Select};
 pub fn job_fits(job: &Job) -> bool
     ensures fits { IsTrue result ↔ JobFits job.now }
 {
-    if !job.whole || (job.mode == Mode::Transparent && job.select != Select::Punch) {
-        return false;
-    }
-    are_sent(job.records.as_slice(), job.select, job.mode)
+    heading_fits(job.select, job.mode, job.whole)
+        && are_sent(job.records.as_slice(), job.select, job.mode)
+}
+
+/// Whether a job of this selection and mode can be sent if its records can: it is whole, and a transparent job is for the punch.
+pub fn heading_fits(select: Select, mode: Mode, whole: bool) -> bool
+    ensures fits { IsTrue result ↔ ((whole ≡ true)
+        × (mode ≡ Mode.Transparent → select ≡ Select.Punch)) }
+{
+    whole && (mode != Mode::Transparent || select == Select::Punch)
 }
 
 /// Whether each of these records can be sent in a job of this selection and mode.
@@ -21,14 +27,15 @@ fn are_sent(records: &[Record], select: Select, mode: Mode) -> bool
     ensures { IsTrue result ↔ AreSent select mode records.now }
 {
     for item in records {
-        if !is_sent(item, select, mode) {
+        if !record_fits(item, select, mode) {
             return false;
         }
     }
     true
 }
 
-fn is_sent(item: &Record, select: Select, mode: Mode) -> bool
+/// Whether the record can be sent in a job of this selection and mode.
+pub fn record_fits(item: &Record, select: Select, mode: Mode) -> bool
     ensures room { length item.now.bytes.items ≤ 144 }
     ensures sent { IsTrue result ↔ (pack_fault select mode item.now ≡ None) }
 {

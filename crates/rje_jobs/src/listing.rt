@@ -30,8 +30,9 @@ pub fn push_listing(job: &Job, out: &mut Vec<u8>) -> Result<(), FileFault>
     Ok(())
 }
 
-/// Appends the line of a record.
-fn push_line(item: &Record, out: &mut Vec<u8>) -> Result<(), AllocError>
+/// Appends the line of a record: its data in ASCII, and then its carriage control. Where memory runs out, a part of it may stand behind what
+/// was there.
+pub fn push_line(item: &Record, out: &mut Vec<u8>) -> Result<(), AllocError>
     ensures line { OnOk result (out.new.items ≡ out.old.items ++ line item.now) }
     ensures front { StartsWith out.new.items out.old.items }
 {

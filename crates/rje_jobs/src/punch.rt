@@ -41,8 +41,8 @@ pub fn push_cards(job: &Job, form: Form, out: &mut Vec<u8>) -> Result<(), FileFa
     Ok(())
 }
 
-/// Appends the card of a record.
-fn push_card(item: &Record, form: Form, out: &mut Vec<u8>) -> Result<(), AllocError>
+/// Appends the card of a record. Where memory runs out, a part of it may stand behind what was there.
+pub fn push_card(item: &Record, form: Form, out: &mut Vec<u8>) -> Result<(), AllocError>
     ensures card { OnOk result (out.new.items ≡ out.old.items ++ card form item.now) }
     ensures front { StartsWith out.new.items out.old.items }
 {
