@@ -14,7 +14,8 @@ use Rattle.rje_files.specs.declared.job_file.version.FileVersion.TheVariants.{Fi
 use Rattle.rje_files.specs.Entry.{entry_of}
 use Rattle.rje_files.specs.JobFile.{head, version_byte, entry_bytes, file_of, FitsFields}
 use Rattle.rje_files.specs.Inside.Reading.Grammar.{Number, AnyBytes, Records}
-use Rattle.rje_files.specs.Inside.Reading.Collecting.{AnyRest, IsRecordHere}
+use Rattle.rje_files.specs.Inside.Reading.Collecting.{AnyRest}
+use Rattle.rje_files.specs.Inside.Reading.Stored.{IsRecordHere}
 use Rattle.rje_files.proofs.Numbers.{number_back, below_all, none_above, byte_is, next_div}
 
 pub number_read : (xs : List ℕ) → Number 8 0 AnyRest xs → (8 ≤ length xs) × (xs ≡ bytes_high_first 8 (big_from 0 8 xs) ++ drop 8 xs)

@@ -14,3 +14,4 @@ pub mod OneMore
 pub mod Marking
 pub mod GoodEntries
 pub mod Skips
+pub mod Stored

@@ -1,6 +1,6 @@
 //! A job in a job file: with its name, and how far it is.
 ghost use Rattle.std.specs.Prelude.{◌≡◌, if◌then◌else◌, map, IfOk};
-ghost use Rattle.rje_files.specs.Entry.{entry_of};
+ghost use Rattle.rje_files.specs.Entry.{entry_of, whole_of};
 
 use crate::{JobName, NO_NAME};
 use rje_jobs::{Job, Jobs};
@@ -45,6 +45,18 @@ pub(crate) fn received_state(whole: bool) -> State
     ensures { result ≡ (if whole then State.Whole else State.Cut) }
 {
     if whole { State::Whole } else { State::Cut }
+}
+
+/// Whether a job in this state is whole.
+pub(crate) fn whole_in(state: State) -> bool
+    ensures { result ≡ whole_of state }
+{
+    match state {
+        State::Waiting => true,
+        State::Sent => true,
+        State::Whole => true,
+        State::Cut => false,
+    }
 }
 
 /// The entries of jobs that have no names, and no states but Whole or Cut.

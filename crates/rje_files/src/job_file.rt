@@ -26,9 +26,9 @@ mod reader;
 mod version;
 mod writing;
 
-use crate::{Entry, Growth};
+use crate::{Entry, FileEntry, Growth};
 use checking::first_fault;
-use collecting::{collect_entries, collect_jobs};
+use collecting::{collect_entries, collect_file_entries, collect_jobs};
 use name::first_bad;
 use rje_jobs::{FileFault, Job, Jobs};
 use std::alloc::{AllocError, Global};
@@ -102,6 +102,21 @@ pub fn read_entries(alloc: Global, bytes: &[u8]) -> Result<Vec<Entry>, FileFault
     match first_fault(FileVersion::Second, bytes) {
         Some(fault) => Err(fault),
         None => match collect_entries(alloc, bytes) {
+            Ok(entries) => Ok(entries),
+            Err(_) => Err(FileFault::OutOfMemory),
+        },
+    }
+}
+
+/// The entries whose file these bytes are, of either version, with their records left where they stand. All bytes are checked before any
+/// memory is taken.
+pub fn entries_in(alloc: Global, bytes: &[u8]) -> Result<Vec<FileEntry<'_>>, FileFault>
+    ensures file { IfOk result (λ entries. HasEntries entries.items bytes.now) }
+    ensures told { IfErr result (λ fault. IsFileFault IsEntryFile bytes.now fault) }
+{
+    match first_fault(FileVersion::Second, bytes) {
+        Some(fault) => Err(fault),
+        None => match collect_file_entries(alloc, bytes) {
             Ok(entries) => Ok(entries),
             Err(_) => Err(FileFault::OutOfMemory),
         },

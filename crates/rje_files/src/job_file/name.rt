@@ -1,10 +1,11 @@
 //! Which entries have a name, and a state that their job can have.
 ghost use Rattle.std.specs.Prelude.{◌≡◌};
-ghost use Rattle.rje_files.specs.Entry.{is_entry, bad_entry, is_job_name, whole_of};
+ghost use Rattle.rje_files.specs.Entry.{is_entry, bad_entry, is_job_name};
 ghost use Rattle.rje_files.specs.Entry.{may_stand as MayStand};
 
+use crate::Entry;
+use crate::entry::whole_in;
 use crate::name::is_name_byte;
-use crate::{Entry, State};
 
 /// The number of the first that has no name, or a state that its job can't have.
 pub(super) fn first_bad(entries: &[Entry]) -> Option<usize>
@@ -35,18 +36,6 @@ fn has_name(name: &[u8; 8]) -> bool
         ended = *byte == b' ';
     }
     true
-}
-
-/// Whether a job in this state is whole.
-pub(super) fn whole_in(state: State) -> bool
-    ensures { result ≡ whole_of state }
-{
-    match state {
-        State::Waiting => true,
-        State::Sent => true,
-        State::Whole => true,
-        State::Cut => false,
-    }
 }
 
 /// Whether this may stand in a name that has ended or not: a blank anywhere, and a character where it has not ended.

@@ -1,8 +1,8 @@
 //! Job files of version 2, worked out.
 use super::record;
 use crate::{
-    Entry, State, entries_of, first_unsendable, growth_of, jobs_of, mark_sent, name_of,
-    read_entries, read_jobs, sent_file, unsent_jobs, write_entries, write_jobs,
+    Entry, FileEntry, State, entries_in, entries_of, first_unsendable, growth_of, jobs_of,
+    mark_sent, name_of, read_entries, read_jobs, sent_file, unsent_jobs, write_entries, write_jobs,
 };
 use rje_jobs::{FileFault, Job};
 use rje_text::{Action, Mode, Records, Select};
@@ -43,9 +43,24 @@ fn entry(
     })
 }
 
-/// Why these bytes are not read as entries, if they are not.
-fn fault_of(rt: &impl AllocGlobal, bytes: &[u8]) -> Option<FileFault> {
-    read_entries(rt.alloc(), bytes).err()
+/// Why these bytes are not read as entries, if they are not; and the same where their records stay where they stand.
+fn fault_of(rt: &(impl Abort + AllocGlobal), bytes: &[u8]) -> Option<FileFault> {
+    let fault = read_entries(rt.alloc(), bytes).err();
+    assert!(rt; entries_in(rt.alloc(), bytes).err() == fault);
+    fault
+}
+
+/// Whether an entry where it stands has this state and one record, of no action and `A`, in a normal job for the default device.
+fn is_entry_of_a(rt: &impl Abort, entry: &FileEntry, state: State) -> bool {
+    let mut records = entry.records();
+    assert!(rt; records.len() == 1);
+    let Some(item) = records.next() else {
+        return false;
+    };
+    assert!(rt; item.action == Action::Plain);
+    assert!(rt; item.bytes.as_slice() == [0xC1].as_slice());
+    assert!(rt; records.next().is_none());
+    entry.state() == state && entry.select() == Select::Unset && entry.mode() == Mode::Normal
 }
 
 /// The file with this byte in place of its own.
@@ -70,6 +85,39 @@ fn an_entry_has_one_file(rt: HostRuntime) -> Result<(), Fail> {
     assert!(rt; read[0].job.whole);
     let again = write_entries(rt.alloc(), read.as_slice())?;
     assert!(rt; again.as_slice() == FILE.as_slice());
+    Ok(())
+}
+
+#[test]
+fn entries_are_seen_where_they_stand(rt: HostRuntime) -> Result<(), Fail> {
+    let named = entries_in(rt.alloc(), &FILE)?;
+    assert!(rt; named.len() == 1);
+    assert!(rt; is_entry_of_a(&rt, &named[0], State::Waiting));
+    assert!(rt; *named[0].name() == *b"PAY1    ");
+    assert!(rt; named[0].job_fits());
+    let old = entries_in(rt.alloc(), &OLD_FILE)?;
+    assert!(rt; old.len() == 1);
+    assert!(rt; is_entry_of_a(&rt, &old[0], State::Whole));
+    assert!(rt; *old[0].name() == [0x20; 8]);
+    assert!(rt; old[0].job_fits());
+    Ok(())
+}
+
+/// Whether the job of the file with this byte in place of its own can be sent.
+fn fits_with(rt: &(impl Abort + AllocGlobal), place: usize, byte: u8) -> Result<bool, Fail> {
+    let bytes = with_byte(place, byte);
+    let entries = entries_in(rt.alloc(), &bytes)?;
+    assert!(rt; entries.len() == 1);
+    Ok(entries[0].job_fits())
+}
+
+#[test]
+fn a_job_where_it_stands_fits_or_not(rt: HostRuntime) -> Result<(), Fail> {
+    // Cut; transparent, for the default device, and of one byte; a byte that a normal text can't carry, and one that it can.
+    assert!(rt; !fits_with(&rt, 22, 0x03)?);
+    assert!(rt; !fits_with(&rt, 24, 0x01)?);
+    assert!(rt; !fits_with(&rt, 35, 0x3F)?);
+    assert!(rt; fits_with(&rt, 35, 0x40)?);
     Ok(())
 }
 

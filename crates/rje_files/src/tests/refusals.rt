@@ -1,7 +1,7 @@
 //! Calls that take memory, in ample memory and in memory of which a growth is refused: the script refusals/run runs these tests with
 //! each growth refused in turn.
 use super::entries::{FILE, OLD_FILE};
-use crate::{growth_of, read_entries, read_jobs, sent_file, write_entries, write_jobs};
+use crate::{entries_in, growth_of, read_entries, read_jobs, sent_file, write_entries, write_jobs};
 use rje_jobs::FileFault;
 use std::process::Abort;
 
@@ -30,6 +30,16 @@ fn entries_are_read_or_find_no_memory(rt: HostRuntime) {
 
     // A fault of the bytes is told whatever memory there is.
     let told = read_entries(rt.alloc(), &FILE[..35]).err();
+    assert!(rt; told == Some(FileFault::Truncated(35)));
+}
+
+#[test]
+fn entries_are_seen_where_they_stand_or_find_no_memory(rt: HostRuntime) {
+    match entries_in(rt.alloc(), &FILE) {
+        Ok(entries) => assert!(rt; entries.len() == 1),
+        Err(fault) => assert!(rt; fault == FileFault::OutOfMemory),
+    }
+    let told = entries_in(rt.alloc(), &FILE[..35]).err();
     assert!(rt; told == Some(FileFault::Truncated(35)));
 }
 

@@ -1,6 +1,6 @@
 -- Job files from the front, byte by byte: a device of the proofs; no promise rests on this file.
 -- What a part of a job file begins with.
-use Rattle.std.specs.Prelude.{◌≡◌, ℕ, ◌≤◌, ◌∷◌, ◌++◌, true, Some, List, [], length, drop, slice_index}
+use Rattle.std.specs.Prelude.{◌≡◌, ℕ, ◌∷◌, ◌++◌, Some, List, [], length}
 use Rattle.std.specs.List.{flat_map, AllByRecursion}
 use Rattle.byteorder.specs.Endian.{big_bytes}
 use Rattle.rje_text.specs.declared.record.Record.{Record}
@@ -8,18 +8,11 @@ use Rattle.rje_files.specs.declared.entry.Entry.{Entry}
 use Rattle.rje_files.specs.declared.job_file.version.FileVersion.{FileVersion}
 use Rattle.rje_files.specs.declared.job_file.version.FileVersion.TheVariants.{First, Second}
 use Rattle.rje_files.specs.JobFile.{head, version_byte, record_bytes, entry_bytes, HasRoom, FitsFields}
-use Rattle.rje_files.specs.Inside.Reading.Grammar.{is_action_byte, version_read, Fields, Entries}
+use Rattle.rje_files.specs.Inside.Reading.Grammar.{version_read, Fields, Entries}
 
 -- whatever follows
 abbrev pub AnyRest : ℕ → List ℕ → Type 0
 AnyRest n xs = Unit {0}
-
--- a record is at the front
-pub record IsRecordHere (bytes : List ℕ) : Type 0 where
-  pub head : 2 ≤ length bytes
-  pub action : is_action_byte (slice_index bytes 0) ≡ true
-  pub limit : slice_index bytes 1 ≤ 144
-  pub room : slice_index bytes 1 ≤ length (drop 2 bytes)
 
 -- what a file has in front of its entries, and the entries in rest
 pub record IsFront (newest : FileVersion) (bytes : List ℕ) (version : FileVersion) (count : ℕ) (rest : List ℕ) : Type 0 where
