@@ -1,5 +1,5 @@
 -- What holds of the bytes that were read holds of the file, and of the deck, that they are.
-use Rattle.std.proofs.Common.{◌≡◌, ◌≤◌, ℕ, Bool, true, false, List, length, Option, Some, None, Result, Ok, Err, OnOk, IfErr, inl, inr, refl, sym, subst, ◌∙◌}
+use Rattle.std.proofs.Common.{◌≡◌, ◌≤◌, ℕ, Bor, Bool, true, false, List, length, Option, Some, None, Result, Ok, Err, OnOk, IfErr, inl, inr, refl, sym, subst, ◌∙◌}
 use Rattle.std.specs.Prelude.{IfSome}
 use Rattle.std.specs.Option.{IsSomeAnd}
 use Rattle.std.specs.Result.{IsErrAnd}
@@ -23,7 +23,7 @@ use Rattle.rje_commands.specs.declared.command_fault.CommandFault.{CommandFault}
 use Rattle.rje_commands.specs.declared.command_fault.CommandFault.TheVariants as told
 use Rattle.rje_commands.specs.Command.{LeavesAsAsked}
 use Rattle.rje_commands.specs.Commands.{AreEntriesOf, AreInFront, OfFile, OfFiles, OfDeck, IsFault, MakesFile, Leaves}
-use Rattle.rje_commands.specs.Inside.Commands.{IsCardsFault, IsHeld, IsHeldFault, IsMade, IsThere, IsTryFault}
+use Rattle.rje_commands.specs.Inside.Commands.{IsCardsFault, IsHeld, IsHeldFault, IsMade, IsThere, IsTryFault, IsTextFault, IsCheckFault}
 use Rattle.rje_stores.specs.Store.{FileMap, Discloses, IsSame, Sets}
 
 module _ (P : List ℕ → Type 0) (bytes : List ℕ) (holds : P bytes) where
@@ -164,3 +164,21 @@ run_fault file script jobs turns (WorldFault.BadCut attempt turn) has is h = (at
 pub whatever : {T E : Type 0} (result : Result T E) (P : E → Type 0) (Q : Type 0) → Q → IfErr result (λ e. P e → Q)
 whatever (Ok x) P Q q = tt
 whatever (Err e) P Q q = λ _. q
+
+-- why there is no such text is why the command isn't carried out
+module _ (name : Bor (List ℕ)) (files : Option FileMap) (bytes : List ℕ) (is : OfFile name.now files (λ file. bytes ≡ file)) where
+  pub show_fault : (fault : CommandFault) → IsTextFault bytes fault → IsFault (FileOrder.Show name) files None fault
+  show_fault told.OutOfMemory h = tt
+  show_fault (told.File fault) h = of_file (λ file. IsTextFault file (told.File fault)) bytes h name.now files is
+  show_fault _ h = absurd h
+
+  pub print_fault : (fault : CommandFault) → IsTextFault bytes fault → IsFault (FileOrder.Print name) files None fault
+  print_fault told.OutOfMemory h = tt
+  print_fault (told.File fault) h = of_file (λ file. IsTextFault file (told.File fault)) bytes h name.now files is
+  print_fault _ h = absurd h
+
+  pub check_fault : (fault : CommandFault) → IsCheckFault bytes fault → IsFault (FileOrder.Check name) files None fault
+  check_fault told.OutOfMemory h = tt
+  check_fault (told.File fault) h = of_file (λ file. IsCheckFault file (told.File fault)) bytes h name.now files is
+  check_fault (told.BadJob number) h = of_file (λ file. IsCheckFault file (told.BadJob number)) bytes h name.now files is
+  check_fault _ h = absurd h

@@ -1,6 +1,6 @@
 -- A listing of blocks as it grows.
-use Rattle.std.proofs.Common.{◌≡◌, ℕ, ◌+◌, ◌<◌, ◌^◌, List, [], ◌∷◌, ◌++◌, length, Option, Some, None, Result, Ok, Err, IfOk, Vec, Global, true, refl, ap, ap₂, sym, ◌∙◌, subst, arith}
-use Rattle.std.specs.Prelude.{option_to_list, decimal, codes}
+use Rattle.std.proofs.Common.{◌≡◌, ℕ, ◌+◌, ◌<◌, ◌≤◌, ◌^◌, List, [], ◌∷◌, ◌++◌, length, Option, Some, None, Result, Ok, Err, OnOk, true, refl, ap, ap₂, sym, ◌∙◌, subst, arith}
+use Rattle.std.specs.Prelude.{option_to_list}
 use Rattle.std.specs.List.{AllByRecursion, flat_map}
 use Rattle.std.proofs.lemmas.List.{append_assoc, append-nil, length-append}
 use Rattle.std.proofs.lemmas.List.Sums.{sum_by-cons}
@@ -15,8 +15,11 @@ use Rattle.rje_text.specs.Cut.{cut}
 use Rattle.rje_text.specs.PackFault.{pack_fault, RecordsFit}
 use Rattle.rje_text.specs.Packing.{Packing, packed, new_packing, block_in_hand}
 use Rattle.rje_text.specs.Laws.{AreRead, CutReadsBack, PackingIsTheCut}
-use Rattle.rje_print.specs.BlockLines.{block_line, block_lines, back_line, closing_name, hex_or_hyphen}
-use Rattle.rje_print.specs.BlockListing.{record_count, CanAdd, AddsBlock, CountsBlock, ListsBlocks}
+use Rattle.rje_print.specs.BlockLines.{block_line, block_lines, back_line}
+use Rattle.rje_print.specs.BlockListing.{record_count, CanAdd, CountsBlock, ListsBlocks}
+use Rattle.rje_print.specs.Inside.Piece.{PutsOn}
+use Rattle.rje_print.proofs.Printed.{appends_nothing, appends_twice}
+use Rattle.std.specs.Io.KnownBytes.{Appends}
 
 -- what the listing has, and what the blocks that are left will give, is the listing of the records
 pub record IsListed (all : List Record) (left : List Block) (text : List ℕ) (number : ℕ) (so_far : Option Mode) (count : ℕ) : Type 0 where
@@ -68,12 +71,6 @@ begun all p rest text number so_far count reads_back packs fits small p_is rest_
       };
     }
 
--- no block's line is empty
-pub line_some : (number : ℕ) (b : Block) → 0 < length (block_line number b)
-unfolding block_line
-line_some number b =
-    omega (arith, length-append (decimal number ++ codes " " ++ closing_name b.closing ++ codes " " ++ decimal (length b.text.items) ++ codes " " ++ hex_or_hyphen b.text.items) (codes "\n"))
-
 -- what is read of the first block, and of those behind it
 first_read : (so_far : Option Mode) (b : Block) (bs : List Block) (us : List Unpacked) → AreRead so_far (b ∷ bs) us
     → (u : Unpacked) × (rest : List Unpacked) × (us ≡ u ∷ rest) × IsRead b so_far u × AreRead (Some u.mode) bs rest
@@ -93,16 +90,16 @@ module _ (all : List Record) (b : Block) (bs : List Block) (text : List ℕ) (nu
       same : Some u ≡ Some v → u ≡ v
       same q = cc
 
-  pub added : (later : List ℕ) (next : ℕ) (after : Option Mode) (more : ℕ) → AddsBlock b text later number next → CountsBlock b so_far after count more
-      → IsListed all bs later next after more
-  added later next after more adds counts =
+  pub added : (later : List ℕ) (after : Option Mode) (more : ℕ) → later ≡ text ++ block_line number b → CountsBlock b so_far after count more
+      → IsListed all bs later (number + 1) after more
+  added later after more adds counts =
       let (u, rest, us, read, left) = first_read so_far b bs h.us h.read in
       let (v, read_v, after_is, more_is) = counts in
       let same = same_read u v read read_v in
       let mode : after ≡ Some u.mode = after_is ∙ ap (λ (w : Unpacked). Some w.mode) (sym same) in
       let size : length v.records ≡ length u.records = ap (λ (w : Unpacked). length w.records) (sym same) in
       record {
-        lines = ap₂ (λ (xs : List ℕ) (n : ℕ). xs ++ block_lines n bs) adds.0 adds.1 ∙ append_assoc text (block_line number b) (block_lines (number + 1) bs) ∙ h.lines;
+        lines = ap (λ (xs : List ℕ). xs ++ block_lines (number + 1) bs) adds ∙ append_assoc text (block_line number b) (block_lines (number + 1) bs) ∙ h.lines;
         us = rest;
         read = subst (λ o. AreRead o bs rest) (sym mode) left;
         first = h.first;
@@ -130,7 +127,7 @@ last_block all p items b text number so_far count h none block =
     subst (λ bs. IsListed all bs text number so_far count) (ap (packed p) none ∙ ap (λ x. x ∷ []) (sym block)) h.listed
 
 -- the listing of all blocks and its last line
-ended : (all : List Record) (text whole : List ℕ) (number count : ℕ) (so_far : Option Mode) → IsListed all [] text number so_far count
+pub ended : (all : List Record) (text whole : List ℕ) (number count : ℕ) (so_far : Option Mode) → IsListed all [] text number so_far count
     → whole ≡ text ++ back_line count → ListsBlocks all whole
 ended all text whole number count so_far h e =
     let none : h.us ≡ [] = nothing so_far h.us h.read in
@@ -142,7 +139,84 @@ ended all text whole number count so_far h e =
     nothing so_far [] h = refl
     nothing so_far (u ∷ us) h = absurd h
 
-pub ended_well : {E : Type 0} (result : Result (Vec ℕ Global) E) (all : List Record) (text : List ℕ) (number : ℕ) (so_far : Option Mode) (count : ℕ)
-    → IsListed all [] text number so_far count → IfOk result (λ whole. whole.items ≡ text ++ back_line count) → IfOk result (λ whole. ListsBlocks all whole.items)
-ended_well (Ok whole) all text number so_far count h e = ended all text whole.items number count so_far h e
-ended_well (Err x) all text number so_far count h e = tt
+-- WHAT WAS WRITTEN
+
+-- the loop over the records: what was written and what is in hand is the listing so far, and no more lines than records were taken
+pub record IsPrinting (before now : Option (List ℕ)) (all : List Record) (p : Packing) (rest : List Record) (held : List ℕ) (lines : ℕ) (so_far : Option Mode) (count : ℕ) : Type 0 where
+  pub sent : List ℕ
+  pub written : Appends before now sent
+  pub way : IsOnTheWay all p rest (sent ++ held) (lines + 1) so_far count
+  pub few : lines + length rest ≤ length all
+
+-- what is in hand behind what was written, when some of it and of a line was written
+pub put_on : (sent more held left line : List ℕ) → more ++ left ≡ held ++ line → (sent ++ more) ++ left ≡ (sent ++ held) ++ line
+put_on sent more held left line e = append_assoc sent more left ∙ ap (λ (zs : List ℕ). sent ++ zs) e ∙ sym (append_assoc sent held line)
+
+module _ (before now : Option (List ℕ)) (all : List Record) (p : Packing) (items : List Record) (held : List ℕ) (lines : ℕ) (so_far : Option Mode) (count : ℕ)
+    (h : IsPrinting before now all p items held lines so_far count) where
+  -- the next record, whose packing gives this block
+  module _ (q : Packing) (r : Record) (rest : List Record) (b : Block) (items_are : items ≡ r ∷ rest) (blocks : packed p (r ∷ rest) ≡ b ∷ packed q rest) where
+    left : IsListed all (b ∷ packed q rest) (h.sent ++ held) (lines + 1) so_far count
+    left = next_blocks all p q r rest items (Some b) (h.sent ++ held) (lines + 1) so_far count h.way items_are blocks
+
+    pub can_print : CanAdd b so_far count
+    can_print = can_add all b (packed q rest) (h.sent ++ held) (lines + 1) so_far count left
+
+    pub may_count : length all + 1 < 2 ^ 64 → lines + 1 < 2 ^ 64
+    may_count few = omega (arith, h.few, few, ap length items_are)
+
+    pub printed : (now_more : Option (List ℕ)) (held_more : List ℕ) (lines_more : ℕ) (after : Option Mode) (more : ℕ) → q.select ≡ p.select → q.mode ≡ p.mode
+        → PutsOn now now_more held held_more (block_line (lines + 1) b) → lines_more ≡ lines + 1 → CountsBlock b so_far after count more
+        → IsPrinting before now_more all q rest held_more lines_more after more
+    printed now_more held_more lines_more after more select mode puts one_more counts =
+        subst (λ (n : ℕ). IsPrinting before now_more all q rest held_more n after more) (sym one_more) (record {
+          sent = h.sent ++ puts.0;
+          written = appends_twice before now now_more h.sent puts.0 h.written puts.1;
+          way = record {
+            select = select ∙ h.way.select;
+            mode = mode ∙ h.way.mode;
+            sent = (sent_first r rest items items_are h.way.sent).1;
+            listed = added all b (packed q rest) (h.sent ++ held) (lines + 1) so_far count left ((h.sent ++ puts.0) ++ held_more) after more
+                (put_on h.sent puts.0 held held_more (block_line (lines + 1) b) puts.2) counts;
+          };
+          few = omega (arith, h.few, ap length items_are);
+        })
+
+  -- where no record is left, the last block
+  module _ (b : Block) (none : items ≡ []) (block : b ≡ block_in_hand p true) where
+    last : IsListed all (b ∷ []) (h.sent ++ held) (lines + 1) so_far count
+    last = last_block all p items b (h.sent ++ held) (lines + 1) so_far count h.way none block
+
+    pub can_print_last : CanAdd b so_far count
+    can_print_last = can_add all b [] (h.sent ++ held) (lines + 1) so_far count last
+
+    pub may_count_last : length all + 1 < 2 ^ 64 → lines + 1 < 2 ^ 64
+    may_count_last few = omega (arith, h.few, few, ap length none)
+
+    pub printed_all : (now_more now_all : Option (List ℕ)) (held_more : List ℕ) (after : Option Mode) (more : ℕ)
+        → PutsOn now now_more held held_more (block_line (lines + 1) b) → CountsBlock b so_far after count more → Appends now_more now_all (held_more ++ back_line more)
+        → (text : List ℕ) × ListsBlocks all text × Appends before now_all text
+    printed_all now_more now_all held_more after more puts counts end =
+        let listed = added all b [] (h.sent ++ held) (lines + 1) so_far count last ((h.sent ++ puts.0) ++ held_more) after more
+        (put_on h.sent puts.0 held held_more (block_line (lines + 1) b) puts.2) counts in
+        let sent = h.sent ++ puts.0 in (
+          sent ++ (held_more ++ back_line more),
+          ended all (sent ++ held_more) (sent ++ (held_more ++ back_line more)) (lines + 1 + 1) more after listed (sym (append_assoc sent held_more (back_line more))),
+          appends_twice before now_more now_all sent (held_more ++ back_line more) (appends_twice before now now_more h.sent puts.0 h.written puts.1) end,
+        )
+
+-- where all was printed, it was
+pub all_well : {T E : Type 0} (result : Result T E) (P Q : Type 0) → OnOk result P → (P → Q) → OnOk result Q
+all_well (Ok x) P Q done go = go done
+all_well (Err e) P Q done go = tt
+
+pub begun_printing : (a : Option (List ℕ)) (all : List Record) (p : Packing) (rest : List Record) (held : List ℕ) (lines : ℕ) (so_far : Option Mode) (count : ℕ)
+    → CutReadsBack → PackingIsTheCut → RecordsFit Unset Normal all → length all + 1 < 2 ^ 64
+    → p ≡ new_packing Unset Normal → rest ≡ all → held ≡ [] → lines ≡ 0 → so_far ≡ None → count ≡ 0
+    → IsPrinting a a all p rest held lines so_far count
+begun_printing a all p rest held lines so_far count reads_back packs fits small p_is rest_is held_is lines_is so_far_is count_is = record {
+  sent = [];
+  written = appends_nothing a;
+  way = begun all p rest held (lines + 1) so_far count reads_back packs fits (omega (arith, small)) p_is rest_is held_is (omega (arith, lines_is)) so_far_is count_is;
+  few = omega (arith, lines_is, ap length rest_is);
+}

@@ -1,4 +1,5 @@
 pub mod Names
+pub mod Printed
 pub mod BlockListings
 pub mod Fates
 pub mod Scripts

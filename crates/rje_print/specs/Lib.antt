@@ -4,3 +4,4 @@ pub mod JobTexts
 pub mod ReportTexts
 pub mod Script
 pub mod TurnTexts
+pub mod Inside

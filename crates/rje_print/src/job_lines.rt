@@ -4,26 +4,26 @@ ghost use Rattle.rje_print.specs.JobTexts.{select_name, mode_name, state_name};
 ghost use Rattle.rje_print.specs.JobTexts.{name_letters, name_text, entry_line, cards_line, good_line};
 
 use crate::printed_line::{MAX_LINE, PrintedLine, push, push_number};
-use rje_files::{Entry, JobName, State};
+use rje_files::{FileEntry, JobName, State};
 use rje_text::{Mode, Select};
 
 /// Puts the line of an entry into an empty line.
 #[tactic(auto, unfolding(crate::specs::JobTexts::entry_line))]
-pub(crate) fn push_entry(line: &mut PrintedLine, number: usize, entry: &Entry)
+pub(crate) fn push_entry(line: &mut PrintedLine, number: usize, entry: &FileEntry)
     requires { line.old.items ≡ [] }
     ensures { line.new.items ≡ entry_line number entry.now }
 {
     push_number(line, number);
     push(line, b" ");
-    push(line, select_text(entry.job.select));
+    push(line, select_text(entry.select()));
     push(line, b" ");
-    push(line, mode_text(entry.job.mode));
+    push(line, mode_text(entry.mode()));
     push(line, b" ");
-    push(line, state_text(entry.state));
+    push(line, state_text(entry.state()));
     push(line, b" ");
-    push_number(line, entry.job.records.len());
+    push_number(line, entry.records().len());
     push(line, b" records");
-    push_name(line, &entry.name);
+    push_name(line, entry.name());
     push(line, b"\n");
 }
 

@@ -5,6 +5,8 @@ mod block_lines;
 mod job_lines;
 mod job_texts;
 mod listing;
+mod listing_fault;
+mod piece;
 mod printed_line;
 mod report_lines;
 mod report_text;
@@ -14,7 +16,8 @@ mod turn_lines;
 
 pub use job_lines::{cards_text, good_text};
 pub use job_texts::{entries_text, papers_text};
-pub use listing::block_listing;
+pub use listing::print_blocks;
+pub use listing_fault::ListingFault;
 pub use printed_line::{MAX_LINE, PrintedLine};
 pub use report_lines::{counted_text, handed_text, outcome_text};
 pub use report_text::run_text;

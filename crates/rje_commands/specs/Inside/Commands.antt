@@ -5,12 +5,14 @@ use Rattle.rje_jobs.specs.Deck.{IsDeckFault}
 use Rattle.rje_files.specs.FileFault.{IsFileFault}
 use Rattle.rje_files.specs.declared.entry.Entry.{Entry}
 use Rattle.rje_files.specs.declared.job_file.version.FileVersion.TheVariants.{Second}
-use Rattle.rje_files.specs.JobFile.{IsEntryFile, IsEntryFileOf}
+use Rattle.rje_files.specs.JobFile.{HasEntries, HasJobs, IsEntryFile, IsEntryFileOf}
+use Rattle.rje_jobs.specs.declared.job.Job.{Job}
 use Rattle.line_world.specs.declared.world_fault.WorldFault.TheVariants as world
+use Rattle.rje_print.specs.JobTexts.{IsShown}
 use Rattle.rje_print.specs.Script.{IsFirstBadLine}
 use Rattle.rje_commands.specs.declared.command_fault.CommandFault.{CommandFault}
 use Rattle.rje_words.specs.declared.order.CardsOrder.{CardsOrder}
-use Rattle.rje_commands.specs.Commands.{AreEntriesOf, IsFaultOfRun, deck_entry}
+use Rattle.rje_commands.specs.Commands.{AreEntriesOf, HasBadJob, IsFaultOfRun, deck_entry}
 use Rattle.rje_commands.specs.NamedFile.{IsReadFault}
 use Rattle.rje_stores.specs.Store.{FileMap}
 
@@ -47,3 +49,22 @@ IsTryFault file script (CommandFault.BadJob number) = IsFaultOfRun (world.BadJob
 IsTryFault file script (CommandFault.NotDamage turn) = (attempt : ℕ) × IsFaultOfRun (world.NotDamage attempt turn) file script
 IsTryFault file script (CommandFault.BadCut turn) = (attempt : ℕ) × IsFaultOfRun (world.BadCut attempt turn) file script
 IsTryFault file script _ = ⊥
+
+-- the bytes are the file of some entries, of either version, and this is the text of their lines
+abbrev pub IsEntriesText : (file text : List ℕ) → Type 0
+IsEntriesText file text = (entries : List Entry) × HasEntries entries file × IsShown entries text
+
+-- the bytes are the file of some jobs, of either version, and this is a text that is one of these jobs
+abbrev pub IsJobsText : (List Job → List ℕ → Type 0) → (file text : List ℕ) → Type 0
+IsJobsText IsText file text = (jobs : List Job) × HasJobs jobs file × IsText jobs text
+
+-- there is no memory for the text of these bytes, or they are no job file
+abbrev pub IsTextFault : (file : List ℕ) → CommandFault → Type 0
+IsTextFault file CommandFault.OutOfMemory = ⊤
+IsTextFault file (CommandFault.File fault) = IsFileFault IsEntryFile file fault
+IsTextFault file _ = ⊥
+
+-- so it is, or the job of this number is the first that can't be sent
+abbrev pub IsCheckFault : (file : List ℕ) → CommandFault → Type 0
+IsCheckFault file (CommandFault.BadJob number) = HasBadJob number file
+IsCheckFault file fault = IsTextFault file fault

@@ -7,8 +7,7 @@ ghost use Rattle.rje_stores.specs.Store.{Discloses, IsSame};
 
 use crate::command_fault::CommandFault;
 use crate::commands::inputs::read_deck;
-use crate::commands::output::put;
-use rje_print::block_listing;
+use rje_print::{ListingFault, print_blocks};
 use rje_stores::Store;
 use std::alloc::Global;
 use std::io::{Read, Write};
@@ -30,6 +29,9 @@ pub fn blocks<'a, S: Store, I: Read, O: Write>(
     ensures silent { IfErr result (λ fault. is_of_output fault ≡ false → out.new ≡ out.old) }
 {
     let deck = read_deck(alloc, name, store, input)?;
-    let listing = block_listing(alloc, deck.as_slice())?;
-    put(listing.as_slice(), out)
+    match print_blocks(deck.as_slice(), out) {
+        Ok(()) => Ok(()),
+        Err(ListingFault::Deck(fault)) => Err(CommandFault::Deck(fault)),
+        Err(ListingFault::Output(error)) => Err(CommandFault::of_output(&error)),
+    }
 }

@@ -1,16 +1,19 @@
 //! `print`: the listings and the punched cards of a job file.
-ghost use Rattle.std.specs.Prelude.{◌≡◌, IfErr, OnOk, None, false};
+ghost use Rattle.std.specs.Prelude.{◌≡◌, IfErr, IfOk, OnOk, None, false};
 ghost use Rattle.rje_words.specs.declared.order.FileOrder.{FileOrder};
 ghost use Rattle.rje_commands.specs.Commands.{Does, IsFault};
 ghost use Rattle.rje_commands.specs.CommandFault.{is_of_output};
+ghost use Rattle.rje_commands.specs.Inside.Commands.{IsJobsText, IsTextFault};
+ghost use Rattle.rje_print.specs.JobTexts.{IsPaper};
 ghost use Rattle.rje_stores.specs.Store.{Discloses, IsSame};
 
 use crate::command_fault::CommandFault;
-use crate::commands::inputs::read_job_file;
+use crate::commands::inputs::read_file;
 use crate::commands::output::put;
+use rje_files::entries_in;
 use rje_print::papers_text;
 use rje_stores::Store;
-use std::alloc::Global;
+use std::alloc::{AllocError, Global};
 use std::io::Write;
 
 /// Prints each job of a job file: its cards in ASCII where it is for the punch, and else its listing.
@@ -27,10 +30,19 @@ pub fn print<'a, S: Store, O: Write>(
     ensures same { Discloses (S.files store.old) (S.files store.new) IsSame }
     ensures silent { IfErr result (λ fault. is_of_output fault ≡ false → out.new ≡ out.old) }
 {
-    let jobs = read_job_file(alloc, name, store)?;
-    // Only memory can be missing for the paper of jobs.
-    match papers_text(alloc, jobs.as_slice()) {
-        Ok(text) => put(text.as_slice(), out),
-        Err(_) => Err(CommandFault::OutOfMemory),
+    let file = read_file(alloc, name, store)?;
+    let text = text_of_file(alloc, file.as_slice())?;
+    put(text.as_slice(), out)
+}
+
+/// What is printed of a job file.
+fn text_of_file<'a>(alloc: Global, file: &[u8]) -> Result<Vec<u8>, CommandFault<'a>>
+    ensures text { IfOk result (λ text. IsJobsText IsPaper file.now text.items) }
+    ensures fault { IfErr result (IsTextFault file.now) }
+{
+    let entries = entries_in(alloc, file)?;
+    match papers_text(alloc, entries.as_slice()) {
+        Ok(text) => Ok(text),
+        Err(AllocError) => Err(CommandFault::OutOfMemory),
     }
 }

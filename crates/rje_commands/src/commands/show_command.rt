@@ -1,13 +1,15 @@
 //! `show`: a line for each job of a job file.
-ghost use Rattle.std.specs.Prelude.{◌≡◌, IfErr, OnOk, None, false};
+ghost use Rattle.std.specs.Prelude.{◌≡◌, IfErr, IfOk, OnOk, None, false};
 ghost use Rattle.rje_words.specs.declared.order.FileOrder.{FileOrder};
 ghost use Rattle.rje_commands.specs.Commands.{Does, IsFault};
 ghost use Rattle.rje_commands.specs.CommandFault.{is_of_output};
+ghost use Rattle.rje_commands.specs.Inside.Commands.{IsEntriesText, IsTextFault};
 ghost use Rattle.rje_stores.specs.Store.{Discloses, IsSame};
 
 use crate::command_fault::CommandFault;
-use crate::commands::inputs::read_entry_file;
+use crate::commands::inputs::read_file;
 use crate::commands::output::put;
+use rje_files::entries_in;
 use rje_print::entries_text;
 use rje_stores::Store;
 use std::alloc::{AllocError, Global};
@@ -27,9 +29,19 @@ pub fn show<'a, S: Store, O: Write>(
     ensures same { Discloses (S.files store.old) (S.files store.new) IsSame }
     ensures silent { IfErr result (λ fault. is_of_output fault ≡ false → out.new ≡ out.old) }
 {
-    let entries = read_entry_file(alloc, name, store)?;
+    let file = read_file(alloc, name, store)?;
+    let text = text_of_file(alloc, file.as_slice())?;
+    put(text.as_slice(), out)
+}
+
+/// What is printed of a job file.
+fn text_of_file<'a>(alloc: Global, file: &[u8]) -> Result<Vec<u8>, CommandFault<'a>>
+    ensures text { IfOk result (λ text. IsEntriesText file.now text.items) }
+    ensures fault { IfErr result (IsTextFault file.now) }
+{
+    let entries = entries_in(alloc, file)?;
     match entries_text(alloc, entries.as_slice()) {
-        Ok(text) => put(text.as_slice(), out),
+        Ok(text) => Ok(text),
         Err(AllocError) => Err(CommandFault::OutOfMemory),
     }
 }
