@@ -14,7 +14,7 @@ mod joined_jobs;
 use crate::hear_fault::HearFault;
 use crate::hearing::hear;
 use crate::sound_heard::sound_of;
-use crate::writing::transmission_of;
+use crate::writing::{Transmission, write};
 use crate::{Arrival, Event, Line, StationFault, Trace};
 use bsc_frame::{Frame, Heard};
 use bsc_link::{Receiver, Reply, Sound, Wish};
@@ -203,7 +203,8 @@ impl ReceivingStation {
         let Some(reply) = self.due else {
             return Ok(None);
         };
-        let out = transmission_of(&frame_of(reply));
+        let mut out = Transmission::new();
+        write(&frame_of(reply), &mut out);
         if let Err(fault) = line.transmit(out.as_slice()) {
             self.fail();
             return Err(StationFault::Line(fault));

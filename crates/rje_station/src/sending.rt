@@ -17,7 +17,7 @@ mod uncounted;
 use crate::hear_fault::HearFault;
 use crate::hearing::hear;
 use crate::sound_heard::sound_of;
-use crate::writing::{Transmission, transmission_of};
+use crate::writing::{Transmission, write};
 use crate::{Event, Line, StationFault, Trace};
 use bsc_frame::Frame;
 use bsc_link::{Next, Outcome, Say, Sender, Sound};
@@ -144,7 +144,8 @@ impl<'a> SendingStation<'a> {
             return Err(StationFault::Over);
         }
         let say = self.core.say();
-        let out = self.transmission(say);
+        let mut out = Transmission::new();
+        self.write_due(say, &mut out);
         if let Err(fault) = line.transmit(out.as_slice()) {
             self.fail();
             return Err(StationFault::Line(fault));
@@ -190,17 +191,17 @@ impl<'a> SendingStation<'a> {
         }
     }
 
-    /// The transmission of what is due.
-    fn transmission(&self, say: Say) -> Transmission
+    /// Writes the transmission of what is due.
+    fn write_due(&self, say: Say, out: &mut Transmission)
         requires live { self.now.over ≡ false }
         requires due { say ≡ say_in self.now.core.place }
-        ensures { IsWrittenOf say self.now.rest result.items }
+        ensures { IsWrittenOf say self.now.rest out.new.items }
     {
         match say {
-            Say::Bid | Say::Ask => transmission_of(&Frame::Enq),
-            Say::Delay => transmission_of(&Frame::Ttd),
-            Say::End => transmission_of(&Frame::Eot),
-            Say::Block | Say::Again => self.blocks.transmission(),
+            Say::Bid | Say::Ask => write(&Frame::Enq, out),
+            Say::Delay => write(&Frame::Ttd, out),
+            Say::End => write(&Frame::Eot, out),
+            Say::Block | Say::Again => self.blocks.write(out),
             Say::Nothing => unreachable!(),
         }
     }

@@ -8,14 +8,12 @@ use bsc_frame::{Frame, MAX_TRANSMISSION, write_frame};
 /// Room for the longest transmission that is written.
 pub(crate) type Transmission = ArrayVec<u8, MAX_TRANSMISSION>;
 
-/// The transmission of a frame that can be written.
-pub(crate) fn transmission_of(frame: &Frame) -> Transmission
+/// Writes the transmission of a frame that can be written, in place of what was there.
+pub(crate) fn write(frame: &Frame, out: &mut Transmission)
     requires { CanBeWritten frame.now }
-    ensures { Written frame.now result.items }
+    ensures { Written frame.now out.new.items }
 {
-    let mut out = Transmission::new();
-    if write_frame(frame, &mut out).is_err() {
+    if write_frame(frame, out).is_err() {
         unreachable!();
     }
-    out
 }

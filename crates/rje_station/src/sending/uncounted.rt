@@ -6,7 +6,7 @@ ghost use Rattle.rje_jobs.specs.Fitting.{JobFits};
 ghost use Rattle.rje_station.specs.Sending.{next_in, counted_by, IsFirstWritten};
 ghost use Rattle.rje_station.specs.Inside.Uncounted.{rest_in, more_in, StandsAt, IsPlace, all_uncounted, after_count};
 
-use crate::writing::{Transmission, transmission_of};
+use crate::writing::{Transmission, write};
 use bsc_codes::Closing;
 use bsc_frame::Frame;
 use bsc_link::Next;
@@ -81,12 +81,12 @@ impl<'a> Uncounted<'a> {
         next_of(self.jobs, self.counted, &self.outstanding, self.place)
     }
 
-    /// The transmission of the outstanding block.
-    pub(crate) fn transmission(&self) -> Transmission
+    /// Writes the transmission of the outstanding block.
+    pub(crate) fn write(&self, out: &mut Transmission)
         requires { self.now.rest ≢ [] }
-        ensures { IsFirstWritten self.now.rest result.items }
+        ensures { IsFirstWritten self.now.rest out.new.items }
     {
-        transmission_of(&self.outstanding)
+        write(&self.outstanding, out);
     }
 
     /// Goes on to the next block, where the outstanding one was counted.
