@@ -1,5 +1,5 @@
 -- A listing of blocks as it grows.
-use Rattle.std.proofs.Common.{◌≡◌, ℕ, ◌+◌, ◌<◌, ◌≤◌, ◌^◌, List, [], ◌∷◌, ◌++◌, length, Option, Some, None, Result, Ok, Err, OnOk, true, refl, ap, ap₂, sym, ◌∙◌, subst, arith}
+use Rattle.std.proofs.Common.{◌≡◌, ℕ, ◌+◌, ◌<◌, ◌≤◌, ◌^◌, ◌⊎◌, inl, inr, List, [], ◌∷◌, ◌++◌, length, Option, Some, None, Result, Ok, Err, OnOk, true, refl, ap, ap₂, sym, ◌∙◌, subst, arith}
 use Rattle.std.specs.Prelude.{option_to_list}
 use Rattle.std.specs.List.{AllByRecursion, flat_map}
 use Rattle.std.proofs.lemmas.List.{append_assoc, append-nil, length-append}
@@ -141,12 +141,16 @@ ended all text whole number count so_far h e =
 
 -- WHAT WAS WRITTEN
 
--- the loop over the records: what was written and what is in hand is the listing so far, and no more lines than records were taken
+-- there are fewer lines than records that were taken, as the first record fills no block
+abbrev pub AreFewer : (all rest : List Record) (p : Packing) (lines : ℕ) → Type 0
+AreFewer all rest p lines = (lines + length rest + 1 ≤ length all) ⊎ ((lines ≡ 0) × (length p.text ≤ 363) × (length rest ≡ length all))
+
+-- the loop over the records: what was written and what is in hand is the listing so far
 pub record IsPrinting (before now : Option (List ℕ)) (all : List Record) (p : Packing) (rest : List Record) (held : List ℕ) (lines : ℕ) (so_far : Option Mode) (count : ℕ) : Type 0 where
   pub sent : List ℕ
   pub written : Appends before now sent
   pub way : IsOnTheWay all p rest (sent ++ held) (lines + 1) so_far count
-  pub few : lines + length rest ≤ length all
+  pub few : AreFewer all rest p lines
 
 -- what is in hand behind what was written, when some of it and of a line was written
 pub put_on : (sent more held left line : List ℕ) → more ++ left ≡ held ++ line → (sent ++ more) ++ left ≡ (sent ++ held) ++ line
@@ -162,13 +166,20 @@ module _ (before now : Option (List ℕ)) (all : List Record) (p : Packing) (ite
     pub can_print : CanAdd b so_far count
     can_print = can_add all b (packed q rest) (h.sent ++ held) (lines + 1) so_far count left
 
-    pub may_count : length all + 1 < 2 ^ 64 → lines + 1 < 2 ^ 64
-    may_count few = omega (arith, h.few, few, ap length items_are)
+    fewer : (length p.text ≤ 363 → ⊥) → lines + length rest + 2 ≤ length all
+    fewer full = go h.few
+      where
+        go : AreFewer all items p lines → lines + length rest + 2 ≤ length all
+        go (inl less) = omega (arith, less, ap length items_are)
+        go (inr first) = absurd (full first.1)
 
-    pub printed : (now_more : Option (List ℕ)) (held_more : List ℕ) (lines_more : ℕ) (after : Option Mode) (more : ℕ) → q.select ≡ p.select → q.mode ≡ p.mode
+    pub may_count : (length p.text ≤ 363 → ⊥) → length all < 2 ^ 64 → lines + 1 < 2 ^ 64
+    may_count full few = omega (arith, fewer full, few)
+
+    pub printed : (now_more : Option (List ℕ)) (held_more : List ℕ) (lines_more : ℕ) (after : Option Mode) (more : ℕ) → q.select ≡ p.select → q.mode ≡ p.mode → (length p.text ≤ 363 → ⊥)
         → PutsOn now now_more held held_more (block_line (lines + 1) b) → lines_more ≡ lines + 1 → CountsBlock b so_far after count more
         → IsPrinting before now_more all q rest held_more lines_more after more
-    printed now_more held_more lines_more after more select mode puts one_more counts =
+    printed now_more held_more lines_more after more select mode full puts one_more counts =
         subst (λ (n : ℕ). IsPrinting before now_more all q rest held_more n after more) (sym one_more) (record {
           sent = h.sent ++ puts.0;
           written = appends_twice before now now_more h.sent puts.0 h.written puts.1;
@@ -179,7 +190,7 @@ module _ (before now : Option (List ℕ)) (all : List Record) (p : Packing) (ite
             listed = added all b (packed q rest) (h.sent ++ held) (lines + 1) so_far count left ((h.sent ++ puts.0) ++ held_more) after more
                 (put_on h.sent puts.0 held held_more (block_line (lines + 1) b) puts.2) counts;
           };
-          few = omega (arith, h.few, ap length items_are);
+          few = inl (omega (arith, fewer full));
         })
 
   -- where no record is left, the last block
@@ -190,8 +201,12 @@ module _ (before now : Option (List ℕ)) (all : List Record) (p : Packing) (ite
     pub can_print_last : CanAdd b so_far count
     can_print_last = can_add all b [] (h.sent ++ held) (lines + 1) so_far count last
 
-    pub may_count_last : length all + 1 < 2 ^ 64 → lines + 1 < 2 ^ 64
-    may_count_last few = omega (arith, h.few, few, ap length none)
+    pub may_count_last : length all < 2 ^ 64 → lines + 1 < 2 ^ 64
+    may_count_last few = go h.few
+      where
+        go : AreFewer all items p lines → lines + 1 < 2 ^ 64
+        go (inl less) = omega (arith, less, few)
+        go (inr first) = omega (arith, first.0)
 
     pub printed_all : (now_more now_all : Option (List ℕ)) (held_more : List ℕ) (after : Option Mode) (more : ℕ)
         → PutsOn now now_more held held_more (block_line (lines + 1) b) → CountsBlock b so_far after count more → Appends now_more now_all (held_more ++ back_line more)
@@ -211,12 +226,12 @@ all_well (Ok x) P Q done go = go done
 all_well (Err e) P Q done go = tt
 
 pub begun_printing : (a : Option (List ℕ)) (all : List Record) (p : Packing) (rest : List Record) (held : List ℕ) (lines : ℕ) (so_far : Option Mode) (count : ℕ)
-    → CutReadsBack → PackingIsTheCut → RecordsFit Unset Normal all → length all + 1 < 2 ^ 64
+    → CutReadsBack → PackingIsTheCut → RecordsFit Unset Normal all → length all < 2 ^ 64
     → p ≡ new_packing Unset Normal → rest ≡ all → held ≡ [] → lines ≡ 0 → so_far ≡ None → count ≡ 0
     → IsPrinting a a all p rest held lines so_far count
 begun_printing a all p rest held lines so_far count reads_back packs fits small p_is rest_is held_is lines_is so_far_is count_is = record {
   sent = [];
   written = appends_nothing a;
-  way = begun all p rest held (lines + 1) so_far count reads_back packs fits (omega (arith, small)) p_is rest_is held_is (omega (arith, lines_is)) so_far_is count_is;
-  few = omega (arith, lines_is, ap length rest_is);
+  way = begun all p rest held (lines + 1) so_far count reads_back packs fits small p_is rest_is held_is (omega (arith, lines_is)) so_far_is count_is;
+  few = inr (lines_is, omega (arith, ap (λ (v : Packing). length v.text) p_is), ap length rest_is);
 }

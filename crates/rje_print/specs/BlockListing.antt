@@ -9,7 +9,7 @@ use Rattle.rje_text.specs.declared.unpacked.Unpacked.{Unpacked}
 use Rattle.rje_text.specs.Reading.{IsRead}
 use Rattle.rje_text.specs.Cut.{cut}
 use Rattle.rje_text.specs.Laws.{AreRead}
-use Rattle.rje_jobs.specs.Deck.{deck_fault, job_of, IsDeckFault}
+use Rattle.rje_jobs.specs.Deck.{deck_fault, job_of}
 use Rattle.rje_print.specs.declared.listing_fault.ListingFault.{ListingFault}
 use Rattle.rje_print.specs.declared.listing_fault.ListingFault.TheVariants.{Deck, Output}
 use Rattle.rje_print.specs.BlockLines.{block_lines, back_line}
@@ -29,9 +29,9 @@ pub record IsBlockListing (deck text : List ℕ) : Type 0 where
   pub good : deck_fault deck ≡ None
   pub lists : ListsBlocks (job_of Unset Normal deck).records text
 
--- why a deck's listing isn't printed: the deck makes no job, or the output fails
+-- why a deck's listing isn't printed: the deck has a fault, or the output fails
 abbrev pub IsListingFault : List ℕ → ListingFault → Type 0
-IsListingFault deck (Deck fault) = IsDeckFault deck fault
+IsListingFault deck (Deck fault) = deck_fault deck ≡ Some fault
 IsListingFault deck (Output error) = ⊤
 
 -- the fault is the deck's

@@ -13,7 +13,7 @@ use crate::block_lines::{push_back, push_block};
 use crate::piece::Piece;
 use crate::printed_line::PrintedLine;
 use bsc_codes::Block;
-use rje_jobs::{Cards, DeckFault, cards_of_deck, deck_jobs_fit};
+use rje_jobs::{Cards, cards_of_deck, deck_jobs_fit};
 use rje_text::{
     Mode, Packer, Record, Select, count_records, cut_reads_back, one_fault, packing_is_the_cut,
 };
@@ -28,10 +28,6 @@ pub fn print_blocks<O: Write>(deck: &[u8], out: &mut O) -> Result<(), ListingFau
     ensures silent { IfErr result (λ fault. IsOfDeck fault → out.new ≡ out.old) }
 {
     let cards = cards_of_deck(deck, Mode::Normal)?;
-    if cards.len() == usize::MAX {
-        // No memory holds so many, so that each block has a number.
-        return Err(DeckFault::OutOfMemory.into());
-    }
     deck_jobs_fit();
     list_blocks(cards, out)?;
     Ok(())
@@ -40,7 +36,7 @@ pub fn print_blocks<O: Write>(deck: &[u8], out: &mut O) -> Result<(), ListingFau
 /// The lines of the blocks of a normal job for the default device.
 fn list_blocks<O: Write>(cards: Cards, out: &mut O) -> IoResult<()>
     requires fits { RecordsFit Select.Unset Mode.Normal cards }
-    requires few { length cards + 1 < 2 ^ 64 }
+    requires few { length cards < 2 ^ 64 }
     ensures { OnOk result ((text : List ℕ) × ListsBlocks cards.entry text
         × Appends (O.contents out.old) (O.contents out.new) text) }
 {
@@ -64,6 +60,7 @@ fn pack(packer: &mut Packer, item: &Record) -> Option<Block>
         ≡ option_to_list result ++ packed packer.new rest }
     ensures select { packer.new.select ≡ packer.old.select }
     ensures mode { packer.new.mode ≡ packer.old.mode }
+    ensures short { length packer.old.text ≤ 363 → result ≡ None }
 {
     if packer.push_sendable(item) {
         return None;

@@ -8,7 +8,7 @@ use std::io;
 /// Why a listing isn't printed.
 #[derive(Drop)]
 pub enum ListingFault {
-    /// The deck makes no job, and nothing was printed.
+    /// The deck has a fault, and nothing was printed.
     Deck(DeckFault),
     /// The output failed. Some of the listing may have been printed.
     Output(io::Error),

@@ -17,14 +17,14 @@ add-requires-clause-can g c =
 pub add-requires-clause-few : goal.add-requires-clause-few
 add-requires-clause-few g c =
     may_count _ _ c.args.cards c.loop-item.packer _ _ c.loop-item.listing.lines _ _ c.loop-item.invariant
-    c.pack.new.packer c.in-Some.item c.next.new.self c.in-Some-pack.block c.in-Some.ensures.steps (c.in-Some-pack.ensures.blocks c.next.new.self) c.requires.few
+    c.pack.new.packer c.in-Some.item c.next.new.self c.in-Some-pack.block c.in-Some.ensures.steps (c.in-Some-pack.ensures.blocks c.next.new.self) (λ short. let e = c.in-Some-pack.ensures.short short in cc) c.requires.few
 
 pub loop-item-preserved-in-Continue-1 : goal.loop-item-preserved-in-Continue-1
 loop-item-preserved-in-Continue-1 g c =
     printed _ _ c.args.cards c.loop-item.packer _ _ c.loop-item.listing.lines _ _ c.loop-item.invariant
     c.pack.new.packer c.in-Some.item c.next.new.self c.in-Some-pack.block c.in-Some.ensures.steps (c.in-Some-pack.ensures.blocks c.next.new.self)
     (g.O.Write.contents c.add.new.out) c.add.new.self.piece.bytes.items c.add.new.self.lines c.add.new.self.so_far c.add.new.self.count
-    c.in-Some-pack.ensures.select c.in-Some-pack.ensures.mode c.in_ok-add.ensures.puts c.in_ok-add.ensures.lines c.in_ok-add.ensures.reads
+    c.in-Some-pack.ensures.select c.in-Some-pack.ensures.mode (λ short. let e = c.in-Some-pack.ensures.short short in cc) c.in_ok-add.ensures.puts c.in_ok-add.ensures.lines c.in_ok-add.ensures.reads
 
 pub add-requires-2-clause-can : goal.add-requires-2-clause-can
 add-requires-2-clause-can g c =
