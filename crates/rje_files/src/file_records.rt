@@ -40,6 +40,7 @@ impl<'a> FileRecords<'a> {
     }
 
     /// How many records are left.
+    #[tactic(auto, using(crate::proofs::Stored::records_many))]
     pub fn len(&self) -> usize
         ensures { result ≡ length self.now }
     {
