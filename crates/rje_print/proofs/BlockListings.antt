@@ -1,5 +1,5 @@
 -- A listing of blocks as it grows.
-use Rattle.std.proofs.Common.{◌≡◌, ℕ, ◌+◌, ◌<◌, ◌≤◌, ◌^◌, ◌⊎◌, inl, inr, List, [], ◌∷◌, ◌++◌, length, Option, Some, None, Result, Ok, Err, OnOk, true, refl, ap, ap₂, sym, ◌∙◌, subst, arith}
+use Rattle.std.proofs.Common.{◌≡◌, ℕ, ◌+◌, ◌<◌, ◌≤◌, ◌^◌, ◌⊎◌, inl, inr, List, [], ◌∷◌, ◌++◌, length, Option, Some, None, Result, Ok, Err, OnOk, true, false, refl, ap, ap₂, sym, ◌∙◌, subst, arith}
 use Rattle.std.specs.Prelude.{option_to_list}
 use Rattle.std.specs.List.{AllByRecursion, flat_map}
 use Rattle.std.proofs.lemmas.List.{append_assoc, append-nil, length-append}
@@ -13,7 +13,7 @@ use Rattle.rje_text.specs.declared.unpacked.Unpacked.{Unpacked}
 use Rattle.rje_text.specs.Reading.{IsRead}
 use Rattle.rje_text.specs.Cut.{cut}
 use Rattle.rje_text.specs.PackFault.{pack_fault, RecordsFit}
-use Rattle.rje_text.specs.Packing.{Packing, packed, new_packing, block_in_hand}
+use Rattle.rje_text.specs.Packing.{Packing, after_close, block_in_hand, has_room, new_packing, packed, with_record}
 use Rattle.rje_text.specs.Laws.{AreRead, CutReadsBack, PackingIsTheCut}
 use Rattle.rje_print.specs.BlockLines.{block_line, block_lines, back_line}
 use Rattle.rje_print.specs.BlockListing.{record_count, CanAdd, CountsBlock, ListsBlocks}
@@ -115,6 +115,14 @@ pub next_blocks : (all : List Record) (p q : Packing) (r : Record) (rest items :
     → IsListed all (option_to_list o ++ packed q rest) text number so_far count
 next_blocks all p q r rest items o text number so_far count h items_are blocks =
     subst (λ bs. IsListed all bs text number so_far count) (ap (packed p) items_are ∙ blocks) h.listed
+
+-- a record that finds the block in hand full goes into the next
+pub full_next : (p tried closed : Packing) (r : Record) (rest : List Record) (b : Block) → has_room p r ≡ false → tried ≡ p → b ≡ block_in_hand tried false → closed ≡ after_close tried false
+    → packed p (r ∷ rest) ≡ b ∷ packed (with_record closed r) rest
+full_next p tried closed r rest b room same block after =
+    let block_is : b ≡ block_in_hand p false = block ∙ ap (λ (x : Packing). block_in_hand x false) same in
+    let closed_is : closed ≡ after_close p false = after ∙ ap (λ (x : Packing). after_close x false) same in
+    rw room (ap₂ (λ (x : Block) (y : Packing). x ∷ packed (with_record y r) rest) (sym block_is) (sym closed_is))
 
 pub sent_first : (r : Record) (rest items : List Record) → items ≡ r ∷ rest → AllByRecursion (λ x. pack_fault Unset Normal x ≡ None) items
     → (pack_fault Unset Normal r ≡ None) × AllByRecursion (λ x. pack_fault Unset Normal x ≡ None) rest

@@ -1,9 +1,7 @@
 //! The blocks of a deck's job, and how many records come back.
-ghost use Rattle.std.specs.Prelude.{◌≡◌, ◌+◌, ◌<◌, ◌≤◌, ◌^◌, ◌++◌, ◌∷◌, [], ℕ, length, List, None, IfErr, OnOk, option_to_list};
+ghost use Rattle.std.specs.Prelude.{◌≡◌, ◌+◌, ◌<◌, ◌≤◌, ◌^◌, ◌++◌, ◌∷◌, [], ℕ, length, List, None, IfErr, OnOk};
 ghost use Rattle.std.specs.Io.KnownBytes.{Appends};
-ghost use Rattle.rje_text.specs.PackFault.{RecordsFit, pack_fault};
-ghost use Rattle.rje_text.specs.Packing.{packed};
-ghost use Rattle.rje_text.specs.declared.record.Record.{Record as Item};
+ghost use Rattle.rje_text.specs.PackFault.{RecordsFit};
 ghost use Rattle.rje_print.specs.BlockListing.{IsBlockListing, IsListingFault, IsOfDeck, ListsBlocks, CanAdd, CountsBlock};
 ghost use Rattle.rje_print.specs.BlockLines.{back_line, block_line};
 ghost use Rattle.rje_print.specs.Inside.Piece.{PutsOn};
@@ -15,7 +13,7 @@ use crate::printed_line::PrintedLine;
 use bsc_codes::Block;
 use rje_jobs::{Cards, cards_of_deck, deck_jobs_fit};
 use rje_text::{
-    Mode, Packer, Record, Select, count_records, cut_reads_back, one_fault, packing_is_the_cut,
+    Mode, Packer, Select, count_records, cut_reads_back, one_fault, packing_is_the_cut,
 };
 use std::io::{Result as IoResult, Write};
 
@@ -45,29 +43,13 @@ fn list_blocks<O: Write>(cards: Cards, out: &mut O) -> IoResult<()>
     let mut listing = Listing::new();
     let mut packer = Packer::new(Select::Unset, Mode::Normal);
     for item in cards {
-        if let Some(block) = pack(&mut packer, &item) {
-            listing.add(&block, out)?;
+        if !packer.push_sendable(&item) {
+            listing.add(&packer.close(false), out)?;
+            let _ = packer.push_sendable(&item);
         }
     }
     listing.add(&packer.close(true), out)?;
     listing.end(out)
-}
-
-/// Packs a record, and gives the block that was full before it.
-fn pack(packer: &mut Packer, item: &Record) -> Option<Block>
-    requires { pack_fault packer.old.select packer.old.mode item.now ≡ None }
-    ensures blocks { (rest : List Item) → packed packer.old (item.now ∷ rest)
-        ≡ option_to_list result ++ packed packer.new rest }
-    ensures select { packer.new.select ≡ packer.old.select }
-    ensures mode { packer.new.mode ≡ packer.old.mode }
-    ensures short { length packer.old.text ≤ 363 → result ≡ None }
-{
-    if packer.push_sendable(item) {
-        return None;
-    }
-    let block = packer.close(false);
-    let _ = packer.push_sendable(item);
-    Some(block)
 }
 
 /// The listing of a job's blocks, as it grows.
