@@ -1,12 +1,12 @@
 -- What a transmission each way made of its two files, from what was read before it.
-use Rattle.std.proofs.Common.{◌≡◌, inl, ℕ, List, [], ◌++◌, ap₂, Option, Result, Ok, Err, IfOk, OnOk, length, refl, ap, sym, ◌∙◌, subst}
+use Rattle.std.proofs.Common.{◌≡◌, ℕ, List, [], ◌++◌, ap₂, Option, Result, Ok, Err, IfOk, length, ap, sym, ◌∙◌, subst}
 use Rattle.std.specs.Prelude.{◌≢◌}
 use Rattle.std.specs.Io.KnownBytes.{Appends}
 use Rattle.std.proofs.lemmas.List.{append-nil, append_assoc, length-map}
 use Rattle.bsc_link.specs.declared.rank.Rank.{Rank}
 use Rattle.rje_jobs.specs.declared.job.Job.{Job}
 use Rattle.rje_files.specs.Marks.{AreMarks}
-use Rattle.rje_files.specs.Unsent.{IsLeft, unsent}
+use Rattle.rje_files.specs.Unsent.{unsent}
 use Rattle.rje_station.specs.Sending.{outcome_of}
 use Rattle.rje_station.specs.Station.{Contending, first_contending}
 use Rattle.rje_commands.specs.declared.command_fault.CommandFault.{CommandFault}
@@ -19,12 +19,12 @@ use Rattle.rje_sockets.specs.BothFiles.{GoesOnHolding, HoldsBoth}
 use Rattle.rje_sockets.specs.BothWays.{ExchangesTo}
 use Rattle.rje_sockets.specs.Ending.{MakesJobFile, MarksSent}
 use Rattle.rje_sockets.specs.Exchanging.{Exchanges, ExchangesLeft, MakesBoth, exchanged_text}
+use Rattle.rje_sockets.specs.Inside.Sending.{IsOutgoing}
 use Rattle.rje_sockets.specs.Keeping.{KeepsJobs}
-use Rattle.rje_sockets.specs.Marking.{Marks}
 use Rattle.rje_sockets.proofs.BothFiles.{holds_written}
 use Rattle.rje_sockets.proofs.Growing.{none_kept}
+use Rattle.rje_sockets.proofs.Marked.{nothing_marked}
 use Rattle.rje_sockets.proofs.Sending.{marked_after}
-use Rattle.rje_stores.proofs.Changes.{same_itself}
 use Rattle.rje_stores.specs.Store.{FileMap, Discloses, IsSame}
 
 -- what is marked at the end, and what is kept then
@@ -44,34 +44,31 @@ pub three_lines : (a b c one two three : List ℕ) → a ≡ one → b ≡ two �
 three_lines a b c one two three is also last = ap₂ ◌++◌ is (ap₂ ◌++◌ also (append-nil c ∙ last)) ∙ sym (append_assoc one two three)
 
 -- a marker and a keeper that have done nothing yet
-holds_nothing : (marker : Marker) (file places : List ℕ) (counted : ℕ) (keeper : Keeper) (jobs : List Job) (f g : Option FileMap) → marker.file.items ≡ file → marker.places.items ≡ places
-    → marker.marked ≡ 0 → counted ≡ 0 → AreMarks file places → keeper.kept ≡ 0 → jobs ≡ [] → Discloses f g IsSame → HoldsBoth marker counted keeper jobs f g
-holds_nothing marker file places counted keeper jobs f g same at none zero are kept empty same_files = (
+holds_nothing : (marker : Marker) (counted : ℕ) (keeper : Keeper) (jobs : List Job) (f g : Option FileMap) → marker.marked ≡ 0 → counted ≡ 0 → AreMarks marker.file.items marker.places.items
+    → keeper.kept ≡ 0 → jobs ≡ [] → Discloses f g IsSame → HoldsBoth marker counted keeper jobs f g
+holds_nothing marker counted keeper jobs f g none zero are kept empty same_files = (
   f,
-  record {
-    places = subst (λ (bytes : List ℕ). AreMarks bytes marker.places.items) (sym same) (subst (AreMarks file) (sym at) are);
-    all = λ goes_on. none ∙ sym zero;
-    file = inl (none, same_itself f);
-  },
+  nothing_marked marker counted f none zero are,
   subst (λ (js : List Job). KeepsJobs keeper js f g) (sym empty) (none_kept keeper f g kept same_files),
 )
 
 made_before : (file : List ℕ) (n : ℕ) (jobs : List Job) (send received : List ℕ) (f g h : Option FileMap) → Discloses f g IsSame → MakesBoth file n jobs send received g h → MakesBoth file n jobs send received f h
 made_before file n jobs send received f g h same (marked, sent, kept) = (marked, marked_after file send n f g marked same sent, kept)
 
-pub exchanges_left : (r : Result Ending CommandFault) (rank : Rank) (send received file places : List ℕ) (jobs : List Job) (s : Contending) (marker : Marker) (keeper : Keeper)
+pub exchanges_left : (r : Result Ending CommandFault) (rank : Rank) (send received : List ℕ) (jobs : List Job) (s : Contending) (marker : Marker) (keeper : Keeper)
     (f read looked h : Option FileMap) (before after : Option (List ℕ))
-    → OfFile send f (λ bytes. file ≡ bytes) → Discloses f read IsSame → IsLeft file jobs → AreMarks file places → s ≡ first_contending rank jobs
-    → marker.file.items ≡ file → marker.places.items ≡ places → marker.name.now ≡ send → marker.marked ≡ 0
+    → IsOutgoing send f jobs marker → Discloses f read IsSame → s ≡ first_contending rank jobs
     → keeper.name.now ≡ received → keeper.kept ≡ 0 → send ≢ received → Discloses read looked IsSame
     → IfOk r (λ ending. Exchanges ending s marker keeper looked h before after)
     → IfOk r (λ ending. OfFile send f (λ bytes. ExchangesLeft ending rank send received bytes f h before after))
-exchanges_left (Err fault) rank send received file places jobs s marker keeper f read looked h before after is same left are first bytes at named none called kept two same' done = tt
-exchanges_left (Ok ending) rank send received file places jobs s marker keeper f read looked h before after is same left are first bytes at named none called kept two same' done =
+exchanges_left (Err fault) rank send received jobs s marker keeper f read looked h before after out same first called kept two same' done = tt
+exchanges_left (Ok ending) rank send received jobs s marker keeper f read looked h before after out same first called kept two same' done =
+    let file = marker.file.items in
+    let left = out.left in
     let given : length jobs ≡ length (unsent left.0) = ap length left.3 ∙ length-map (unsent left.0) (λ e. e.job) in
     let all : length s.sender.jobs ≡ length (unsent left.0) = ap (λ (x : Contending). length x.sender.jobs) first ∙ given in
-    let apart : marker.name.now ≢ keeper.name.now = λ e. two (sym named ∙ e ∙ called) in
-    let had = holds_nothing marker file places s.sender.counted keeper s.receiver.jobs read looked bytes at none (ap (λ (x : Contending). x.sender.counted) first) are kept
+    let apart : marker.name.now ≢ keeper.name.now = λ e. two (sym out.named ∙ e ∙ called) in
+    let had = holds_nothing marker s.sender.counted keeper s.receiver.jobs read looked out.none (ap (λ (x : Contending). x.sender.counted) first) out.marks kept
     (ap (λ (x : Contending). x.receiver.jobs) first) same' in
     let makes = done.makes apart read had in
     of_file (λ bytes. ExchangesLeft ending rank send received bytes f h before after) file (record {
@@ -81,9 +78,8 @@ exchanges_left (Ok ending) rank send received file places jobs s marker keeper f
       file_is = left.1;
       exchanges = subst (λ (x : Contending). ExchangesTo done.left x done.station) (first ∙ ap (first_contending rank) left.3) done.exchanges;
       makes = made_before file done.station.sender.counted done.station.receiver.jobs send received f read h same
-          (subst (λ (b : List ℕ). MakesBoth b done.station.sender.counted done.station.receiver.jobs send received read h) bytes
-          (subst (λ (n : List ℕ). MakesBoth marker.file.items done.station.sender.counted done.station.receiver.jobs n received read h) named
-          (subst (λ (n : List ℕ). MakesBoth marker.file.items done.station.sender.counted done.station.receiver.jobs marker.name.now n read h) called makes)));
+          (subst (λ (n : List ℕ). MakesBoth file done.station.sender.counted done.station.receiver.jobs n received read h) out.named
+          (subst (λ (n : List ℕ). MakesBoth file done.station.sender.counted done.station.receiver.jobs marker.name.now n read h) called makes));
       ending_is = done.ending_is;
       text_is = subst (λ (n : ℕ). Appends before after (exchanged_text done.station.sender.counted n (outcome_of done.station.sender) done.station.receiver.jobs)) all done.text_is;
-    }) send f is
+    }) send f out.read

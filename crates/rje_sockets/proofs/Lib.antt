@@ -2,13 +2,16 @@ pub mod OwnTurn
 pub mod BothFiles
 pub mod BothWays
 pub mod Live
+pub mod LineBreak
 pub mod Exchanged
 pub mod Sending
+pub mod Outgoing
 pub mod Patience
 pub mod Keeping
 pub mod Growing
 pub mod Answering
 pub mod Received
+pub mod ReceivedAfter
 pub mod Failing
 pub mod Marked
 pub mod Watched

@@ -5,12 +5,9 @@ use Rattle.bsc_frame.specs.declared.heard.Heard.{Heard}
 use Rattle.bsc_link.specs.declared.rank.Rank.{Rank}
 use Rattle.bsc_link.specs.declared.say.Say.{Say}
 use Rattle.bsc_link.specs.declared.wish.Wish.{Wish}
-use Rattle.rje_station.specs.declared.station_fault.StationFault.{StationFault}
-use Rattle.rje_station.specs.declared.station_fault.StationFault.TheVariants as fault
 use Rattle.rje_station.specs.Hearing.{sound_heard}
-use Rattle.rje_station.specs.Station.{Contending, after_other, due_at, lets_in}
-use Rattle.rje_sockets.specs.declared.broken_off.BrokenOff.{BrokenOff}
-use Rattle.rje_sockets.specs.BothWays.{HadFailed, Others, Own, StationTurn, Takes, Took, WasDeaf, after_answering_other}
+use Rattle.rje_station.specs.Station.{Contending, after_other, due_at, is_deaf, lets_in}
+use Rattle.rje_sockets.specs.BothWays.{Others, Own, StationTurn, Takes, Took, after_answering_other}
 use Rattle.rje_sockets.proofs.OwnTurn.{own_turn}
 
 -- THE OTHER'S TURN
@@ -44,11 +41,7 @@ goes_on s (inl due) on = on due
 goes_on s (inr is) on = is
 
 -- a station that goes on and whose turn it isn't hears the other, unless a line had failed it before its turns
-pub had_failed : (s near : Contending) (turns : List StationTurn) (broken : BrokenOff) → Took s.contender.rank s turns near
-    → (due_at near ≢ Say.Nothing) ⊎ (near.receiver.over ≡ false) → (due_at near ≢ Say.Nothing → near.receiver.over ≡ false) → WasDeaf near broken → HadFailed s broken
-had_failed s near turns broken took on hears deaf same =
-    sym (took_live s.contender.rank s turns near took) ∙ was_failed near.failed near.receiver.over (goes_on near on hears) (deaf same)
-
--- a fault of its own turn is another one
-pub own_fault : (s : Contending) (f : StationFault) → f ≢ fault.Over → HadFailed s (BrokenOff.Line f)
-own_fault s f not same = let same' : f ≡ fault.Over = cc in absurd (not same')
+pub had_failed : (s near : Contending) (turns : List StationTurn) → Took s.contender.rank s turns near
+    → (due_at near ≢ Say.Nothing) ⊎ (near.receiver.over ≡ false) → (due_at near ≢ Say.Nothing → near.receiver.over ≡ false) → is_deaf near ≡ true → s.failed ≡ true
+had_failed s near turns took on hears deaf =
+    sym (took_live s.contender.rank s turns near took) ∙ was_failed near.failed near.receiver.over (goes_on near on hears) deaf

@@ -15,6 +15,7 @@ use Rattle.rje_sockets.specs.declared.marker.Marker.{Marker}
 use Rattle.rje_commands.specs.declared.command_fault.CommandFault.{CommandFault}
 use Rattle.rje_commands.specs.Commands.{OfFile}
 use Rattle.rje_sockets.specs.Ending.{MarksSent}
+use Rattle.rje_sockets.specs.Inside.Sending.{IsOutgoing}
 use Rattle.rje_sockets.specs.Marking.{AreMarked, GoesOnMarking, Marks, MarksCounted, MarksNoMore, WereCounted}
 use Rattle.rje_stores.specs.Store.{FileMap, Discloses, IsSame, SetsByte}
 use Rattle.rje_commands.proofs.Inputs.{of_file}
@@ -84,18 +85,22 @@ all_marked old new start counted f g h (name, file, on) sets files m =
     (subst (λ (n : _). MarksSent new.file.items counted n.now files h) name
     (written_over new.file.items new.name.now new.marked counted files g h (on files m).file sets))
 
--- a transmission that a marker begins that has marked nothing
-pub begun : {X E : Type 0} (r : Result X E) (marker : Marker) (file places name : List ℕ) (start counted : ℕ) (f h : Option FileMap) → marker.file.items ≡ file
-    → marker.places.items ≡ places → marker.name.now ≡ name → marker.marked ≡ 0 → start ≡ 0 → AreMarks file places
+-- a marker that has marked nothing yet
+pub nothing_marked : (marker : Marker) (counted : ℕ) (f : Option FileMap) → marker.marked ≡ 0 → counted ≡ 0 → AreMarks marker.file.items marker.places.items → Marks marker counted f f
+nothing_marked marker counted f none zero are = record {
+  places = are;
+  all = λ goes_on. none ∙ sym zero;
+  file = inl (none, same_itself f);
+}
+
+-- a transmission that it begins
+pub begun : {X E : Type 0} (r : Result X E) (marker : Marker) (name : List ℕ) (start counted : ℕ) (f h : Option FileMap) → marker.name.now ≡ name → marker.marked ≡ 0 → start ≡ 0
+    → AreMarks marker.file.items marker.places.items
     → OnOk r ((files : Option FileMap) → Marks marker start files f → MarksSent marker.file.items counted marker.name.now files h)
-    → OnOk r (MarksSent file counted name f h)
-begun (Err e) marker file places name start counted f h same at of none zero are on = tt
-begun (Ok x) marker file places name start counted f h same at of none zero are on =
-    subst (λ (bytes : List ℕ). MarksSent bytes counted name f h) same (subst (λ (n : List ℕ). MarksSent marker.file.items counted n f h) of (on f (record {
-      places = subst (λ (bytes : List ℕ). AreMarks bytes marker.places.items) (sym same) (subst (AreMarks file) (sym at) are);
-      all = λ goes_on. none ∙ sym zero;
-      file = inl (none, same_itself f);
-    })))
+    → OnOk r (MarksSent marker.file.items counted name f h)
+begun (Err e) marker name start counted f h of none zero are on = tt
+begun (Ok x) marker name start counted f h of none zero are on =
+    subst (λ (n : List ℕ). MarksSent marker.file.items counted n f h) of (on f (nothing_marked marker start f none zero are))
 
 -- WHAT IS MARKED WAS COUNTED, whatever ends the transmission
 
@@ -169,18 +174,12 @@ counts_of name file jobs f g h read same left (inr (n, (history, near, took, is)
   marks = marked_after file name near.counted f g h same (subst (λ (k : ℕ). MarksSent file k name g h) (sym is) marks);
 }) name f read)
 
-pub begun_counts : (marker : Marker) (s : Sending) (name file places : List ℕ) (jobs : List Job) (f g h : Option FileMap) → OfFile name f (λ read. file ≡ read) → Discloses f g IsSame
-    → IsLeft file jobs → s ≡ first_sending jobs → marker.file.items ≡ file → marker.places.items ≡ places → marker.name.now ≡ name → marker.marked ≡ 0 → AreMarks file places
+pub begun_counts : (name : List ℕ) (jobs : List Job) (marker : Marker) (s : Sending) (f g h : Option FileMap) → IsOutgoing name f jobs marker → Discloses f g IsSame → s ≡ first_sending jobs
     → ((files : Option FileMap) → marker.marked ≡ s.counted → Marks marker s.counted files g → MarksCounted s marker.file.items marker.name.now files h)
     → MarksNoMore name f h
-begun_counts marker s name file places jobs f g h read same left first bytes at of none are on =
+begun_counts name jobs marker s f g h out same first on =
     let zero : s.counted ≡ 0 = ap (λ x. x.counted) first in
-    let counts : MarksCounted s marker.file.items marker.name.now g h = on g (none ∙ sym zero) (record {
-      places = subst (λ (b : List ℕ). AreMarks b marker.places.items) (sym bytes) (subst (AreMarks file) (sym at) are);
-      all = λ goes_on. none ∙ sym zero;
-      file = inl (none, same_itself g);
-    }) in
-    counts_of name file jobs f g h read same left
-    (subst (λ (x : Sending). MarksCounted x file name g h) first
-    (subst (λ (b : List ℕ). MarksCounted s b name g h) bytes
-    (subst (λ (n : List ℕ). MarksCounted s marker.file.items n g h) of counts)))
+    let counts : MarksCounted s marker.file.items marker.name.now g h = on g (out.none ∙ sym zero) (nothing_marked marker s.counted g out.none zero out.marks) in
+    counts_of name marker.file.items jobs f g h out.read same out.left
+    (subst (λ (x : Sending). MarksCounted x marker.file.items name g h) first
+    (subst (λ (n : List ℕ). MarksCounted s marker.file.items n g h) out.named counts))

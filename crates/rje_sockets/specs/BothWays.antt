@@ -125,14 +125,6 @@ abbrev pub Fails : Contending → Contending → BrokenOff → Type 0
 Fails s s' (BrokenOff.Line fault) = FailsInOwn s s' fault ⊎ FailsInOthers s s' (BrokenOff.Line fault)
 Fails s s' (BrokenOff.File fault) = FailsInOthers s s' (BrokenOff.File fault)
 
--- a station is told to be over only where it heard the other no more
-abbrev pub WasDeaf : Contending → BrokenOff → Type 0
-WasDeaf s broken = broken ≡ BrokenOff.Line fault.Over → is_deaf s ≡ true
-
--- a station that is let go on is told to be over only where a line had failed it before
-abbrev pub HadFailed : Contending → BrokenOff → Type 0
-HadFailed s broken = broken ≡ BrokenOff.Line fault.Over → s.failed ≡ true
-
 -- it left as it was, after it gave up the other's transmission, or when the other hung up
 abbrev pub LeavesFrom : Contending → Contending → Type 0
 LeavesFrom near s = (s ≡ near) ⊎ ((s ≡ after_other_ended near) ⊎ (s ≡ after_other_refusal (fault.Line Closed) near))

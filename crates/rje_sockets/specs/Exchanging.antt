@@ -10,6 +10,8 @@ use Rattle.rje_files.specs.JobFile.{HasEntries}
 use Rattle.rje_files.specs.Unsent.{unsent}
 use Rattle.rje_station.specs.Sending.{outcome_of}
 use Rattle.rje_station.specs.Station.{Contending, first_contending}
+use Rattle.rje_words.specs.declared.order.Meeting.{Meeting}
+use Rattle.rje_words.specs.declared.order.Meeting.TheVariants.{Calls, Listens}
 use Rattle.rje_commands.specs.Commands.{OfFile}
 use Rattle.rje_sockets.specs.declared.exchange.Left.{Left}
 use Rattle.rje_sockets.specs.declared.keeper.Keeper.{Keeper}
@@ -20,6 +22,11 @@ use Rattle.rje_sockets.specs.BothWays.{ExchangesTo}
 use Rattle.rje_print.specs.ReportTexts.{counted_line, outcome_line}
 use Rattle.rje_sockets.specs.Ending.{MakesJobFile, MarksSent, ending_status, received_text}
 use Rattle.rje_stores.specs.Store.{FileMap}
+
+-- the end that calls is the primary
+abbrev pub rank_at : Meeting → Rank
+rank_at (Calls address) = Rank.Primary
+rank_at (Listens address) = Rank.Secondary
 
 -- both directions ended as they should, or one ended otherwise
 abbrev pub ending_of_both : Option Outcome → Left → Ending

@@ -1,6 +1,7 @@
 pub mod Keeping
 pub mod Answering
 pub mod BrokenOff
+pub mod LineBreak
 pub mod Inside
 pub mod Ending
 pub mod Patience
@@ -10,3 +11,5 @@ pub mod Watching
 pub mod BothWays
 pub mod BothFiles
 pub mod Exchanging
+pub mod Looping
+pub mod SocketCommand

@@ -7,12 +7,13 @@ ghost use Rattle.bsc_link.specs.declared.sound.Sound.{Sound as Tone};
 ghost use Rattle.rje_station.specs.declared.arrival.Arrival.{Arrival as Coming};
 ghost use Rattle.rje_station.specs.declared.line_fault.LineFault.TheVariants.{Closed};
 ghost use Rattle.rje_station.specs.declared.station_fault.StationFault.TheVariants as fault;
-ghost use Rattle.rje_station.specs.Station.{Contending, due_at, after_other_refusal};
+ghost use Rattle.rje_station.specs.Station.{Contending, due_at, is_deaf, after_other_refusal};
 ghost use Rattle.rje_commands.specs.CommandFault.{IsFailing, of_station, status_of};
-ghost use Rattle.rje_sockets.specs.BothWays.{has_listened, AreOver, ExchangesTo, FailsInOwn, FailsInOthers, LeavesFrom, StationTurn, TakesOwn, TakesOthers, Waits, WasDeaf, HadFailed, Watched};
+ghost use Rattle.rje_sockets.specs.BothWays.{has_listened, AreOver, ExchangesTo, FailsInOwn, FailsInOthers, LeavesFrom, StationTurn, TakesOwn, TakesOthers, Waits, Watched};
 ghost use Rattle.rje_sockets.specs.BothFiles.{BreaksBoth, GoesOnHolding, kept_of};
 ghost use Rattle.rje_sockets.specs.BrokenOff.{of_broken_off};
 ghost use Rattle.rje_sockets.specs.Keeping.{GoesOnKeeping};
+ghost use Rattle.rje_sockets.specs.LineBreak.{IsBreak, IsLineBreak};
 ghost use Rattle.rje_sockets.specs.Marking.{GoesOnMarking};
 
 use crate::broken_off::BrokenOff;
@@ -38,7 +39,8 @@ pub fn exchange_all<'a, 'b, L: Line, S: Store, W: Watch>(
 ) -> Result<Left, BrokenOff<'b>>
     ensures left { IfOk result (λ left. ExchangesTo left station.old station.new) }
     ensures status { IfErr result (λ broken. IsFailing (status_of (of_broken_off broken))) }
-    ensures live { IfErr result (HadFailed station.old) }
+    ensures cause { IfErr result (IsBreak (λ f. L.last_fault line.new ≡ Some f)
+        (station.old.failed ≡ true)) }
     ensures holds { OnOk result (GoesOnHolding marker.old marker.new station.old.sender.counted
         station.new.sender.counted keeper.old keeper.new station.old.receiver.jobs
         station.new.receiver.jobs (S.files store.old) (S.files store.new)) }
@@ -121,7 +123,7 @@ fn take_own_turn<'a, 'b, L: Line, S: Store, W: Watch>(
         × TakesOwn station.old station.new said heard
         × W.saw_sender watch.old watch.new said heard) }
     ensures fault { IfErr result (FailsInOwn station.old station.new) }
-    ensures live { IfErr result (λ f. f ≢ fault.Over) }
+    ensures cause { IfErr result (IsLineBreak (λ f. L.last_fault line.new ≡ Some f) ⊥) }
     ensures status { IfErr result (λ fault. IsFailing (status_of (of_station fault))) }
     ensures marked { OnOk result (GoesOnMarking marker.old marker.new station.old.sender.counted
         station.new.sender.counted (S.files store.old) (S.files store.new)) }
@@ -154,7 +156,8 @@ fn take_others_turn<'a, 'b, L: Line, S: Store, W: Watch>(
         × (station.new ≡ after_other_refusal (fault.Line Closed) station.old)
         × (watch.new ≡ watch.old)) }
     ensures fault { IfErr result (FailsInOthers station.old station.new) }
-    ensures live { IfErr result (WasDeaf station.old) }
+    ensures cause { IfErr result (IsBreak (λ f. L.last_fault line.new ≡ Some f)
+        (is_deaf station.old ≡ true)) }
     ensures status { IfErr result (λ broken. IsFailing (status_of (of_broken_off broken))) }
     ensures kept { OnOk result (GoesOnKeeping keeper.old keeper.new station.old.receiver.jobs
         station.new.receiver.jobs (S.files store.old) (S.files store.new)) }

@@ -1,5 +1,5 @@
 //! Stations that take turns over a line, until the transmission ends.
-ghost use Rattle.std.specs.Prelude.{◌≡◌, ◌⊎◌, ◌<◌, ◌+◌, ℕ, List, true, false, if◌then◌else◌, IfOk, OnOk, IfErr, OnErr};
+ghost use Rattle.std.specs.Prelude.{◌≡◌, ◌⊎◌, ◌<◌, ◌+◌, ℕ, List, Some, true, false, if◌then◌else◌, IfOk, OnOk, IfErr, OnErr};
 ghost use Rattle.bsc_history.specs.History.{History};
 ghost use Rattle.bsc_history.specs.declared.spoken_turn.SpokenTurn.{SpokenTurn};
 ghost use Rattle.line_world.specs.declared.spoken.Spoken.{Spoken as Turn};
@@ -8,6 +8,7 @@ ghost use Rattle.rje_sockets.specs.Answering.{BreaksKeeping, KeepsToBreak, Keeps
 ghost use Rattle.rje_commands.specs.CommandFault.{IsFailing, of_station, status_of};
 ghost use Rattle.rje_sockets.specs.BrokenOff.{of_broken_off};
 ghost use Rattle.rje_sockets.specs.Keeping.{BreaksOff, BreaksOffNow, GoesOnKeeping, IsOfFile};
+ghost use Rattle.rje_sockets.specs.LineBreak.{IsBreak, IsLineBreak};
 ghost use Rattle.rje_sockets.specs.Marking.{GoesOnMarking, WereCounted};
 ghost use Rattle.rje_sockets.specs.Patience.{LeavesSo, HearsOut, was_quiet};
 ghost use Rattle.rje_stores.specs.Store.{Discloses, IsSame};
@@ -50,6 +51,7 @@ pub fn send_all<'a, L: Line, S: Store, W: Watch>(
     ensures took { OnOk result (SendsToEnd station.old station.new) }
     ensures fault { IfErr result (SendsToFault station.old station.new) }
     ensures status { IfErr result (λ fault. IsFailing (status_of (of_station fault))) }
+    ensures cause { IfErr result (IsLineBreak (λ f. L.last_fault line.new ≡ Some f) ⊥) }
     ensures marked { OnOk result (GoesOnMarking marker.old marker.new station.old.counted
         station.new.counted (S.files store.old) (S.files store.new)) }
     ensures broken { OnErr result ((n : ℕ) × GoesOnMarking marker.old marker.new
@@ -81,6 +83,7 @@ fn speak_hear_and_mark<'a, L: Line, S: Store, W: Watch>(
         × (station.new ≡ station.old)) }
     ensures fault { IfErr result (SenderFails station.old station.new) }
     ensures status { IfErr result (λ fault. IsFailing (status_of (of_station fault))) }
+    ensures cause { IfErr result (IsLineBreak (λ f. L.last_fault line.new ≡ Some f) ⊥) }
     ensures marked { OnOk result (GoesOnMarking marker.old marker.new station.old.counted
         station.new.counted (S.files store.old) (S.files store.new)) }
     ensures count { (marker.new.marked ≡ marker.old.marked)
@@ -109,6 +112,7 @@ fn speak_and_hear<L: Line, W: Watch>(
         × (station.new ≡ station.old)) }
     ensures fault { IfErr result (SenderFails station.old station.new) }
     ensures status { IfErr result (λ fault. IsFailing (status_of (of_station fault))) }
+    ensures cause { IfErr result (IsLineBreak (λ f. L.last_fault line.new ≡ Some f) ⊥) }
     ensures told { IfOk result (λ is_turn. is_turn ≡ true → (t : SpokenTurn)
         × SenderWatched W.saw_sender station.old watch.old station.new watch.new t) }
     ensures untold { IfOk result (λ is_turn. is_turn ≡ false → watch.new ≡ watch.old) }
@@ -139,6 +143,8 @@ pub fn receive_all<'a, L: Line, S: Store, W: Watch>(
 ) -> Result<Left, BrokenOff<'a>>
     ensures left { IfOk result (λ left. LeavesSo left station.old station.new) }
     ensures fault { IfErr result (BreaksOff station.old station.new) }
+    ensures cause { IfErr result (IsBreak (λ f. L.last_fault line.new ≡ Some f)
+        (station.old.over ≡ true)) }
     ensures status { IfErr result (λ broken. IsFailing (status_of (of_broken_off broken))) }
     ensures kept { OnOk result (KeepsToEnd keeper.old keeper.new station.old station.new
         (L.transmissions line.old) (L.transmissions line.new)
@@ -167,6 +173,8 @@ fn hear_out<'a, L: Line, S: Store, W: Watch>(
 ) -> Result<Left, BrokenOff<'a>>
     ensures heard { IfOk result (λ left. HearsOut left station.old station.new) }
     ensures fault { IfErr result (BreaksOff station.old station.new) }
+    ensures cause { IfErr result (IsBreak (λ f. L.last_fault line.new ≡ Some f)
+        (station.old.over ≡ true)) }
     ensures status { IfErr result (λ broken. IsFailing (status_of (of_broken_off broken))) }
     ensures kept { OnOk result (KeepsToEnd keeper.old keeper.new station.old station.new
         (L.transmissions line.old) (L.transmissions line.new)
@@ -219,6 +227,9 @@ fn hear_keep_and_speak<'a, L: Line, S: Store, W: Watch>(
         × (L.transmissions line.new ≡ with_answer t (L.transmissions line.old))) }
     ensures over { IfOk result (λ goes_on. goes_on ≡ false → station.new.over ≡ true) }
     ensures fault { IfErr result (BreaksOffNow station.old station.new) }
+    ensures cause { IfErr result (IsBreak (λ f. L.last_fault line.new ≡ Some f)
+        (station.old.over ≡ true)) }
+    ensures goes_on { IfOk result (λ goes_on. goes_on ≡ true → station.new.over ≡ false) }
     ensures kept { OnOk result (GoesOnKeeping keeper.old keeper.new station.old.jobs
         station.new.jobs (S.files store.old) (S.files store.new)) }
     ensures status { IfErr result (λ broken. IsFailing (status_of (of_broken_off broken))) }
@@ -262,6 +273,8 @@ pub fn take_turns<N: Line, F: Line, W: Watch>(
 ) -> Result<(), StationFault>
     ensures took { OnOk result (BothToEnd sender.old sender.new receiver.old receiver.new) }
     ensures fault { IfErr result (BothToFault sender.old sender.new receiver.old receiver.new) }
+    ensures cause { IfErr result (IsLineBreak (λ f. (N.last_fault near.new ≡ Some f)
+        ⊎ (F.last_fault far.new ≡ Some f)) (receiver.new.over ≡ true)) }
     ensures told { OnOk result ((turns : List Turn) × BothWatchedAll W.saw_both
         sender.old receiver.old watch.old sender.new receiver.new watch.new turns) }
 {
@@ -284,6 +297,8 @@ fn take_turn<N: Line, F: Line>(
     ensures takes { IfOk result (λ spoken.
         BothTake spoken sender.old sender.new receiver.old receiver.new) }
     ensures fault { IfErr result (BothFail sender.old sender.new receiver.old receiver.new) }
+    ensures cause { IfErr result (IsLineBreak (λ f. (N.last_fault near.new ≡ Some f)
+        ⊎ (F.last_fault far.new ≡ Some f)) (receiver.new.over ≡ true)) }
 {
     let said = match sender.speak(near) {
         Ok(said) => said,

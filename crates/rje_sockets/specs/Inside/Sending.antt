@@ -1,10 +1,22 @@
--- Why `send` doesn't send; no promise rests on it.
+-- What is sent of a job file, and why it isn't; no promise rests on it.
 use Rattle.std.specs.Prelude.{◌≡◌, ◌⊎◌, ℕ, List, Option}
+use Rattle.rje_jobs.specs.declared.job.Job.{Job}
+use Rattle.rje_files.specs.Marks.{AreMarks}
+use Rattle.rje_files.specs.Unsent.{IsLeft}
 use Rattle.rje_commands.specs.declared.command_fault.CommandFault.{CommandFault}
 use Rattle.rje_commands.specs.CommandFault.{IsFailing, status_of}
 use Rattle.rje_commands.specs.Commands.{OfFile}
+use Rattle.rje_sockets.specs.declared.marker.Marker.{Marker}
 use Rattle.rje_sockets.specs.Ending.{IsUnsentFault}
 use Rattle.rje_stores.specs.Store.{FileMap}
+
+-- these jobs are left to send of the file of this name, and the marker marks them in it; none is marked yet
+pub record IsOutgoing (name : List ℕ) (files : Option FileMap) (jobs : List Job) (marker : Marker) : Type 0 where
+  pub read : OfFile name files (λ file. marker.file.items ≡ file)
+  pub left : IsLeft marker.file.items jobs
+  pub marks : AreMarks marker.file.items marker.places.items
+  pub named : marker.name.now ≡ name
+  pub none : marker.marked ≡ 0
 
 -- this is the fault of a file, a line or an output, or of memory; or it is why what is left of the file of this name isn't sent
 abbrev pub IsSendFault : List ℕ → Option FileMap → CommandFault → Type 0

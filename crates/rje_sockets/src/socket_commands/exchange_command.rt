@@ -5,7 +5,7 @@ ghost use Rattle.rje_files.specs.Unsent.{IsLeft};
 ghost use Rattle.rje_commands.specs.Commands.{OfFile};
 ghost use Rattle.rje_commands.specs.CommandFault.{IsFailing, status_of};
 ghost use Rattle.rje_sockets.specs.Ending.{IsRefusedFile};
-ghost use Rattle.rje_sockets.specs.Exchanging.{EndsExchanging, Exchanges, ExchangesLeft, ending_of_both};
+ghost use Rattle.rje_sockets.specs.Exchanging.{EndsExchanging, Exchanges, ExchangesLeft, ending_of_both, rank_at};
 ghost use Rattle.rje_sockets.specs.Inside.Sending.{IsSendFault};
 ghost use Rattle.rje_stores.specs.Store.{Discloses, IsSame};
 
@@ -15,7 +15,7 @@ use crate::keeper::Keeper;
 use crate::marker::Marker;
 use crate::socket_commands::Ending;
 use crate::socket_commands::receive_command::{accepted, keep_rest};
-use crate::socket_commands::send_command::{Unsent, connected, job_file, unsent_of};
+use crate::socket_commands::send_command::{Outgoing, connected, read_outgoing};
 use crate::socket_line::SocketLine;
 use crate::tracer::Tracer;
 use crate::watch::{Unwatched, Watch};
@@ -40,11 +40,18 @@ pub fn exchange<'a, R: Net + Clock, S: Store, O: Write, E: Write>(
     store: &mut S,
     out: &mut O,
     err: &mut E,
-) -> Result<Ending, CommandFault<'a>> {
-    let file = job_file(alloc, order.send, store)?;
-    let Unsent { jobs, places } = unsent_of(alloc, file.bytes.as_slice())?;
+) -> Result<Ending, CommandFault<'a>>
+    ensures exchanged { IfOk result (λ ending. OfFile order.entry.send.now (S.files store.old)
+        (λ file. ExchangesLeft ending (rank_at order.entry.place) order.entry.send.now
+        order.entry.received.now file (S.files store.old) (S.files store.new)
+        (O.contents out.old) (O.contents out.new))) }
+    ensures fault { IfErr result (IsSendFault order.entry.send.now (S.files store.old)) }
+    ensures files_kept { IfErr result (λ fault. status_of fault ≡ 1
+        → Discloses (S.files store.old) (S.files store.new) IsSame) }
+    ensures silent { IfErr result (λ fault. status_of fault ≡ 1 → out.new ≡ out.old) }
+{
+    let Outgoing { jobs, marker } = read_outgoing(alloc, order.send, store)?;
     let station = Station::new(alloc, rank_of(order.place), jobs.as_slice())?;
-    let marker = Marker::new(alloc, file.name, file.bytes, places);
     let keeper = keeper_beside(alloc, order.send, order.received, store)?;
     let Ok((mut line, peer)) = met(rt, order.place, order.timeout) else {
         return Err(CommandFault::LineFailed);
@@ -99,10 +106,8 @@ fn exchanged<'a, L: Line, S: Store, O: Write>(
     ensures silent { IfErr result (λ fault. status_of fault ≡ 1
         → (line.new ≡ line.old) × (out.new ≡ out.old)) }
 {
-    let file = job_file(alloc, send, store)?;
-    let Unsent { jobs, places } = unsent_of(alloc, file.bytes.as_slice())?;
+    let Outgoing { jobs, marker } = read_outgoing(alloc, send, store)?;
     let station = Station::new(alloc, rank, jobs.as_slice())?;
-    let marker = Marker::new(alloc, file.name, file.bytes, places);
     let keeper = keeper_beside(alloc, send, received, store)?;
     exchange_files(station, marker, keeper, line, store, &mut Unwatched, out)
 }
@@ -161,7 +166,9 @@ fn exchange_files<'a, 'b, L: Line, S: Store, W: Watch, O: Write>(
 }
 
 /// The end that calls is the primary.
-fn rank_of(place: Meeting) -> Rank {
+fn rank_of(place: Meeting) -> Rank
+    ensures { result ≡ rank_at place }
+{
     match place {
         Meeting::Calls(_) => Rank::Primary,
         Meeting::Listens(_) => Rank::Secondary,

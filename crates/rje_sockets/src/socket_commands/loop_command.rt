@@ -1,10 +1,13 @@
 //! `loop`: both ends in one process, over a connection on this machine.
-ghost use Rattle.std.specs.Prelude.{◌≡◌, List, IfOk, OnOk};
+ghost use Rattle.std.specs.Prelude.{◌≡◌, ◌⊎◌, List, IfErr, IfOk, OnOk};
 ghost use Rattle.std.specs.Io.KnownBytes.{Appends};
 ghost use Rattle.rje_station.specs.Sending.{outcome_of};
 ghost use Rattle.line_world.specs.AnyLines.{BothToEnd};
 ghost use Rattle.line_world.specs.declared.spoken.Spoken.{Spoken};
+ghost use Rattle.rje_commands.specs.CommandFault.{IsFailing, status_of};
+ghost use Rattle.rje_commands.specs.Commands.{OfFile};
 ghost use Rattle.rje_sockets.specs.Ending.{ending_of, loop_text};
+ghost use Rattle.rje_sockets.specs.Looping.{IsUnloopedFault, Loops};
 ghost use Rattle.rje_sockets.specs.Watching.{BothWatchedAll};
 ghost use Rattle.rje_stores.specs.Store.{Discloses, IsSame};
 
@@ -33,7 +36,13 @@ pub fn loopback<'a, R: Net + Clock, S: Store, O: Write, E: Write>(
     out: &mut O,
     err: &mut E,
 ) -> Result<Ending, CommandFault<'a>>
+    ensures looped { IfOk result (λ ending. OfFile order.entry.jobs.now (S.files store.old)
+        (λ file. Loops ending file (O.contents out.old) (O.contents out.new))) }
+    ensures fault { IfErr result (λ fault. IsFailing (status_of fault)
+        ⊎ ((status_of fault ≡ 1) × OfFile order.entry.jobs.now (S.files store.old)
+        (λ file. IsUnloopedFault file fault))) }
     ensures same { Discloses (S.files store.old) (S.files store.new) IsSame }
+    ensures silent { IfErr result (λ fault. status_of fault ≡ 1 → out.new ≡ out.old) }
 {
     let jobs = read_job_file(alloc, order.jobs, store)?;
     let mut sender = SendingStation::new(alloc, jobs.as_slice())?;
@@ -63,6 +72,7 @@ fn loop_over<'a, N: Line, F: Line, W: Watch, O: Write>(
     watch: &mut W,
     out: &mut O,
 ) -> Result<Ending, CommandFault<'a>>
+    ensures status { IfErr result (λ fault. IsFailing (status_of fault)) }
     ensures took { OnOk result (BothToEnd sender.old sender.new receiver.old receiver.new) }
     ensures ended { IfOk result (λ ending. ending ≡ ending_of (outcome_of sender.new)) }
     ensures printed { OnOk result (Appends (O.contents out.old) (O.contents out.new)

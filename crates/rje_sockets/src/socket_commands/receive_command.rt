@@ -1,5 +1,5 @@
 //! `receive`: one transmission from whoever connects, into a job file.
-ghost use Rattle.std.specs.Prelude.{◌≡◌, ◌⊎◌, Option, IfErr, IfOk, IfSome, IsErrOf, IsOk, OnErr, OnOk};
+ghost use Rattle.std.specs.Prelude.{◌≡◌, ◌⊎◌, ℕ, Option, IfErr, IfOk, IfSome, IsErrOf, IsOk, OnErr, OnOk};
 ghost use Rattle.std.specs.Result.{IsOkAnd};
 ghost use Rattle.rje_sockets.specs.Answering.{KeepsAnswered};
 ghost use Rattle.rje_commands.specs.CommandFault.{IsFailing, status_of};
@@ -35,7 +35,14 @@ pub fn receive<'a, R: Net + Clock, S: Store, O: Write, E: Write>(
     store: &mut S,
     out: &mut O,
     err: &mut E,
-) -> Result<Ending, CommandFault<'a>> {
+) -> Result<Ending, CommandFault<'a>>
+    ensures received { IfOk result (λ ending. Receives ending order.entry.jobs.now
+        (S.files store.old) (S.files store.new) (O.contents out.old) (O.contents out.new)) }
+    ensures status { IfErr result (λ fault. IsFailing (status_of fault)) }
+    ensures kept { IfSome (S.files store.old) (λ _. (before : ℕ) × (after : ℕ)
+        × KeepsAnswered order.entry.jobs.now (S.files store.old) (S.files store.new)
+        before after) }
+{
     look_at_file(order.jobs, store)?;
     let Ok((mut line, peer)) = accepted(rt, order.address, order.timeout) else {
         return Err(CommandFault::LineFailed);

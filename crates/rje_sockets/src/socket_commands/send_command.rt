@@ -10,7 +10,7 @@ ghost use Rattle.line_world.specs.AnyLines.{SendsToEnd};
 ghost use Rattle.rje_commands.specs.Commands.{OfFile};
 ghost use Rattle.rje_commands.specs.CommandFault.{IsFailing, status_of};
 ghost use Rattle.rje_sockets.specs.Ending.{ending_of, sent_text, IsRefusedFile, IsUnsentFault, MarksSent, SendsLeft, EndsSending};
-ghost use Rattle.rje_sockets.specs.Inside.Sending.{IsSendFault};
+ghost use Rattle.rje_sockets.specs.Inside.Sending.{IsOutgoing, IsSendFault};
 ghost use Rattle.rje_sockets.specs.Marking.{Marks, MarksCounted, MarksNoMore};
 ghost use Rattle.rje_stores.specs.Store.{FileMap, Discloses, IsSame};
 ghost use Rattle.rje_sockets.specs.Watching.{SenderWatchedAll};
@@ -43,12 +43,17 @@ pub fn send<'a, R: Net + Clock, S: Store, O: Write, E: Write>(
     out: &mut O,
     err: &mut E,
 ) -> Result<Ending, CommandFault<'a>>
+    ensures sent { IfOk result (λ ending. OfFile order.entry.jobs.now (S.files store.old) (λ file.
+        SendsLeft ending order.entry.jobs.now file (S.files store.old) (S.files store.new)
+        (O.contents out.old) (O.contents out.new))) }
+    ensures fault { IfErr result (IsSendFault order.entry.jobs.now (S.files store.old)) }
     ensures marked { MarksNoMore order.entry.jobs.now (S.files store.old) (S.files store.new) }
+    ensures files_kept { IfErr result (λ fault. status_of fault ≡ 1
+        → Discloses (S.files store.old) (S.files store.new) IsSame) }
+    ensures silent { IfErr result (λ fault. status_of fault ≡ 1 → out.new ≡ out.old) }
 {
-    let file = job_file(alloc, order.jobs, store)?;
-    let Unsent { jobs, places } = unsent_of(alloc, file.bytes.as_slice())?;
+    let Outgoing { jobs, mut marker } = read_outgoing(alloc, order.jobs, store)?;
     let mut station = SendingStation::new(alloc, jobs.as_slice())?;
-    let mut marker = Marker::new(alloc, file.name, file.bytes, places);
     let Ok(mut line) = connected(rt, order.address, order.timeout) else {
         return Err(CommandFault::LineFailed);
     };
@@ -106,44 +111,44 @@ fn sent<'a, L: Line, S: Store, O: Write>(
     ensures silent { IfErr result (λ fault. status_of fault ≡ 1
         → (line.new ≡ line.old) × (out.new ≡ out.old)) }
 {
-    let file = job_file(alloc, name, store)?;
-    let Unsent { jobs, places } = unsent_of(alloc, file.bytes.as_slice())?;
+    let Outgoing { jobs, mut marker } = read_outgoing(alloc, name, store)?;
     let mut station = SendingStation::new(alloc, jobs.as_slice())?;
-    let mut marker = Marker::new(alloc, file.name, file.bytes, places);
     transmit(&mut station, &mut marker, line, store, &mut Unwatched, out)
 }
 
-/// A job file as it was read.
+/// What is left to send of a job file, and what marks it there.
 #[derive(Drop)]
-pub(super) struct JobFile<'a> {
-    pub(super) name: &'a str,
-    pub(super) bytes: Vec<u8>,
+pub(super) struct Outgoing<'a> {
+    pub(super) jobs: Jobs,
+    pub(super) marker: Marker<'a>,
 }
 
-pub(super) fn job_file<'a, S: Store>(
+/// What is left to send of the job file of this name, where all of it can be sent. Nothing is marked yet.
+pub(super) fn read_outgoing<'a, S: Store>(
     alloc: Global,
     name: &'a str,
     store: &mut S,
-) -> Result<JobFile<'a>, CommandFault<'a>>
-    ensures name { IfOk result (λ file. file.name.now ≡ name.entry.now) }
-    ensures bytes { IfOk result (λ file. OfFile name.entry.now (S.files store.old)
-        (λ read. file.bytes.items ≡ read)) }
-    ensures status { IfErr result (λ fault. IsFailing (status_of fault)) }
+) -> Result<Outgoing<'a>, CommandFault<'a>>
+    ensures outgoing { IfOk result (λ left.
+        IsOutgoing name.entry.now (S.files store.old) left.jobs left.marker) }
+    ensures fault { IfErr result (IsSendFault name.entry.now (S.files store.old)) }
     ensures same { Discloses (S.files store.old) (S.files store.new) IsSame }
 {
-    let bytes = read_file(alloc, name, store)?;
-    Ok(JobFile { name, bytes })
+    let file = read_file(alloc, name, store)?;
+    let Unsent { jobs, places } = unsent_of(alloc, file.as_slice())?;
+    let marker = Marker::new(alloc, name, file, places);
+    Ok(Outgoing { jobs, marker })
 }
 
 /// What is left to send of a job file: its jobs that were not sent, and where they are marked.
 #[derive(Drop)]
-pub(super) struct Unsent {
-    pub(super) jobs: Jobs,
-    pub(super) places: Vec<usize>,
+struct Unsent {
+    jobs: Jobs,
+    places: Vec<usize>,
 }
 
 /// What is left to send of a job file, where all of it can be sent.
-pub(super) fn unsent_of<'a>(alloc: Global, file: &[u8]) -> Result<Unsent, CommandFault<'a>>
+fn unsent_of<'a>(alloc: Global, file: &[u8]) -> Result<Unsent, CommandFault<'a>>
     ensures left { IfOk result (λ left. IsLeft file.now left.jobs) }
     ensures marks { IfOk result (λ left. AreMarks file.now left.places.items) }
     ensures fault { IfErr result (λ fault. IsFailing (status_of fault)

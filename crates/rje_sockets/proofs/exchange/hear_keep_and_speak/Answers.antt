@@ -5,6 +5,7 @@ use Rattle.rje_station.specs.Line.{one_more}
 use Rattle.rje_station.specs.Receiving.{Receiving}
 use Rattle.rje_sockets.proofs.Failing.{line_fails}
 use Rattle.rje_sockets.proofs.Keeping.{turn_kept}
+use Rattle.rje_sockets.proofs.LineBreak.{breaks}
 use Rattle.rje_sockets.proofs.Watched.{last_watched, reply_watched}
 use Rattle.rje_sockets.proofs.exchange.hear_keep_and_speak.Goals as goal
 
@@ -58,6 +59,8 @@ returns-in-Err-speak g c =
       takes = tt;
       over = tt;
       fault = search rules;
+      cause = breaks fault _ _ _ _ _ _ _ _ c.in-Err-speak.ensures.cause (λ g same. same) (λ over. search rules);
+      goes_on = tt;
       kept = tt;
       status = line_fails fault _ _ _ c.in-Err-speak.ensures.cause;
       silent = λ never. absurd never;

@@ -16,6 +16,7 @@ returns-in_ok-heard-in-Ok g c = record {
   over = λ is. absurd cc;
   fault = tt;
   status = tt;
+  cause = tt;
   told = λ is. turn_watched g.W.Watch.saw_sender c.args.station.now c.speak.new.self c.hear.new.self c.args.watch.now c.sender_took-in-Ok.new.self c.in-Ok.said c.in_ok-heard-in-Ok.heard
       (search rules) (search rules) (search rules) (search rules) (search rules) c.sender_took-in-Ok.ensures.saw;
   untold = λ is. absurd cc;

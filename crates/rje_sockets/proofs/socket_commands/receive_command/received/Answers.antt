@@ -29,7 +29,7 @@ returns-clause-received g c =
     (g.S.Store.files c.receive_all-left.new.store) made (g.L.Line.transmissions c.args.line.now) (g.L.Line.transmissions c.receive_all-left.new.line) left
     c.in_ok-keeper.ensures.name c.in_ok-keeper.ensures.none c.in_ok-keeper.ensures.same
     (subst (λ (s : Receiving). OnOk left (KeepsToEnd c.in_ok-keeper.keeper c.receive_all-left.new.keeper s station (g.L.Line.transmissions c.args.line.now)
-    (g.L.Line.transmissions c.receive_all-left.new.line) (g.S.Store.files c.new-2.new.store) (g.S.Store.files c.receive_all-left.new.store))) start c.receive_all-left.ensures.kept) (search rules))
+    (g.L.Line.transmissions c.receive_all-left.new.line) (g.S.Store.files c.new-2.new.store) (g.S.Store.files c.receive_all-left.new.store))) start c.receive_all-left.ensures.kept) (rw c.take.ensures at c.keep_rest-written.ensures.file))
     (search rules)
 
 pub returns-clause-kept : goal.returns-clause-kept
@@ -46,4 +46,4 @@ returns-clause-kept g c =
     (subst (λ (s : Receiving). OnOk left (KeepsToEnd c.in_ok-keeper.keeper c.receive_all-left.new.keeper s station (g.L.Line.transmissions c.args.line.now)
     (g.L.Line.transmissions c.receive_all-left.new.line) (g.S.Store.files c.new-2.new.store) (g.S.Store.files c.receive_all-left.new.store))) start c.receive_all-left.ensures.kept)
     (subst (λ (s : Receiving). IfErr left (KeepsToBreak c.in_ok-keeper.keeper c.receive_all-left.new.keeper s station (g.L.Line.transmissions c.args.line.now)
-    (g.L.Line.transmissions c.receive_all-left.new.line) (g.S.Store.files c.new-2.new.store) (g.S.Store.files c.receive_all-left.new.store))) start c.receive_all-left.ensures.broken) (search rules) (search rules) (search rules)
+    (g.L.Line.transmissions c.receive_all-left.new.line) (g.S.Store.files c.new-2.new.store) (g.S.Store.files c.receive_all-left.new.store))) start c.receive_all-left.ensures.broken) (rw c.take.ensures at c.keep_rest-written.ensures.file) (search rules) (search rules)

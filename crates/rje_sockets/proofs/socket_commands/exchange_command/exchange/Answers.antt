@@ -1,0 +1,34 @@
+use Rattle.std.proofs.Common.{rules, inl, Err, ◌≡◌}
+use Rattle.rje_station.specs.Station.{first_contending}
+use Rattle.rje_station.specs.StationFault.{IsNewCause}
+use Rattle.rje_commands.specs.CommandFault.{of_station}
+use Rattle.rje_sockets.specs.Exchanging.{rank_at}
+use Rattle.rje_sockets.proofs.Exchanged.{exchanges_left}
+use Rattle.rje_sockets.proofs.Failing.{left_fails, not_refused, send_fails, station_fails}
+use Rattle.rje_sockets.proofs.socket_commands.exchange_command.exchange.Goals as goal
+
+pub returns : goal.returns
+returns g c =
+    let f = g.S.Store.files c.args.store.now in
+    let out = c.in_ok-jobs.ensures.outgoing in
+    let jobs = c.in_ok-jobs.field-0.jobs in
+    let marker = c.in_ok-jobs.field-0.marker in
+    let first : c.in_ok-station.station ≡ first_contending (rank_at c.args.order.place) jobs = rw (c.rank_of.ensures, c.as_slice.ensures.slice) at c.in_ok-station.ensures.ready in
+    let fails = left_fails c.exchange_files.result marker.file.items jobs out.left c.exchange_files.ensures.status in
+    record {
+      exchanged = exchanges_left c.exchange_files.result (rank_at c.args.order.place) c.args.order.send.now c.args.order.received.now jobs c.in_ok-station.station marker
+          c.in_ok-keeper.keeper f (g.S.Store.files c.read_outgoing.new.store) (g.S.Store.files c.keeper_beside.new.store) (g.S.Store.files c.exchange_files.new.store)
+          (g.O.Write.contents c.args.out.now) (g.O.Write.contents c.exchange_files.new.out) out c.read_outgoing.ensures.same first
+          c.in_ok-keeper.ensures.name c.in_ok-keeper.ensures.none c.in_ok-keeper.ensures.two c.in_ok-keeper.ensures.same c.exchange_files.ensures.exchanged;
+      fault = send_fails c.exchange_files.result c.args.order.send.now f fails;
+      files_kept = not_refused c.exchange_files.result _ fails;
+      silent = not_refused c.exchange_files.result _ fails;
+    }
+
+pub returns-in_err-station-clause-fault : goal.returns-in_err-station-clause-fault
+returns-in_err-station-clause-fault g c =
+    let jobs = c.in_ok-jobs.field-0.jobs in
+    let fault = c.in_err-station.field-0.0 in
+    let cause : IsNewCause jobs fault = rw c.as_slice.ensures.slice at c.in_err-station.ensures.refused in
+    let is : c.from_residual-in_err-station.result ≡ Err (of_station fault) = search rules in
+    rw is (inl (station_fails c.in_ok-jobs.field-0.marker.file.items jobs fault c.in_ok-jobs.ensures.outgoing.left cause))

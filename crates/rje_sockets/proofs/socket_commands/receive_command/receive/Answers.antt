@@ -1,0 +1,20 @@
+use Rattle.std.proofs.Common.{rules}
+use Rattle.rje_sockets.proofs.ReceivedAfter.{keeps_after, keeps_nothing, receives_after}
+use Rattle.rje_sockets.proofs.socket_commands.receive_command.receive.Goals as goal
+
+pub returns-clause-received : goal.returns-clause-received
+returns-clause-received g c =
+    receives_after c.received.result c.args.order.jobs.now (g.S.Store.files c.args.store.now) (g.S.Store.files c.look_at_file.new.store) (g.S.Store.files c.received.new.store)
+    (g.O.Write.contents c.args.out.now) (g.O.Write.contents c.received.new.out) (search rules) c.received.ensures.received
+
+pub returns-clause-kept : goal.returns-clause-kept
+returns-clause-kept g c =
+    keeps_after c.args.order.jobs.now (g.S.Store.files c.args.store.now) (g.S.Store.files c.look_at_file.new.store) (g.S.Store.files c.received.new.store) _ _ (search rules) c.received.ensures.kept
+
+pub returns-in_err-look_at_file-clause-kept : goal.returns-in_err-look_at_file-clause-kept
+returns-in_err-look_at_file-clause-kept g c =
+    keeps_nothing c.args.order.jobs.now (g.S.Store.files c.args.store.now) (g.S.Store.files c.look_at_file.new.store) (search rules)
+
+pub returns-in_default-clause-kept : goal.returns-in_default-clause-kept
+returns-in_default-clause-kept g c =
+    keeps_nothing c.args.order.jobs.now (g.S.Store.files c.args.store.now) (g.S.Store.files c.look_at_file.new.store) (search rules)
