@@ -1,10 +1,13 @@
 -- What a transmission each way made of its two files, from what was read before it.
-use Rattle.std.proofs.Common.{◌≡◌, ℕ, List, [], ◌++◌, ap₂, Option, Result, Ok, Err, IfOk, length, ap, sym, ◌∙◌, subst}
-use Rattle.std.specs.Prelude.{◌≢◌}
+use Rattle.std.proofs.Common.{◌≡◌, ℕ, List, [], ◌++◌, ap₂, Option, Some, None, Result, Ok, Err, IfOk, length, ap, sym, ◌∙◌, subst, inl, inr}
+use Rattle.std.specs.Prelude.{◌≢◌, IfSome}
 use Rattle.std.specs.Io.KnownBytes.{Appends}
 use Rattle.std.proofs.lemmas.List.{append-nil, append_assoc, length-map}
 use Rattle.bsc_link.specs.declared.rank.Rank.{Rank}
 use Rattle.rje_jobs.specs.declared.job.Job.{Job}
+use Rattle.rje_files.specs.declared.entry.Entry.{Entry}
+use Rattle.rje_files.specs.Entry.{jobs_in}
+use Rattle.rje_files.specs.JobFile.{HasEntries}
 use Rattle.rje_files.specs.Marks.{AreMarks}
 use Rattle.rje_files.specs.Unsent.{unsent}
 use Rattle.rje_station.specs.Sending.{outcome_of}
@@ -21,10 +24,13 @@ use Rattle.rje_sockets.specs.Ending.{MakesJobFile, MarksSent}
 use Rattle.rje_sockets.specs.Exchanging.{Exchanges, ExchangesLeft, MakesBoth, exchanged_text}
 use Rattle.rje_sockets.specs.Inside.Sending.{IsOutgoing}
 use Rattle.rje_sockets.specs.Keeping.{KeepsJobs}
+use Rattle.rje_sockets.specs.LeavingBoth.{LeavesBoth, LeavesExchange, MarksAlone}
 use Rattle.rje_sockets.proofs.BothFiles.{holds_written}
 use Rattle.rje_sockets.proofs.Growing.{none_kept}
 use Rattle.rje_sockets.proofs.Marked.{nothing_marked}
 use Rattle.rje_sockets.proofs.Sending.{marked_after}
+use Rattle.rje_stores.proofs.Changes.{same_twice}
+use Rattle.rje_stores.specs.declared.store.Place.TheVariants.{Growing}
 use Rattle.rje_stores.specs.Store.{FileMap, Discloses, IsSame}
 
 -- what is marked at the end, and what is kept then
@@ -83,3 +89,47 @@ exchanges_left (Ok ending) rank send received jobs s marker keeper f read looked
       ending_is = done.ending_is;
       text_is = subst (λ (n : ℕ). Appends before after (exchanged_text done.station.sender.counted n (outcome_of done.station.sender) done.station.receiver.jobs)) all done.text_is;
     }) send f out.read
+
+-- WHATEVER ENDS IT
+
+-- a look that left the files as they were
+alone_before : (s : Contending) (file name : List ℕ) (f g h : Option FileMap) → Discloses f g IsSame → MarksAlone s file name g h → MarksAlone s file name f h
+alone_before s file name f g h same (inl stay) = inl (same_twice f g h same stay)
+alone_before s file name f g h same (inr (last, came, sets)) = inr (last, came, marked_after file name last.sender.counted f g h same sets)
+
+both_before : (s : Contending) (file send received : List ℕ) (f g h : Option FileMap) → Discloses f g IsSame → LeavesBoth s file send received g h → LeavesBoth s file send received f h
+both_before s file send received f g h same left =
+    record { marked = left.marked; marks = alone_before s file send f g left.marked same left.marks; last = left.last; came = left.came; kept = left.kept }
+
+pub leaves_same : (rank : Rank) (send received : List ℕ) (f h : Option FileMap) → Discloses f h IsSame → IfSome f (λ _. LeavesExchange rank send received f h)
+leaves_same rank send received None h same = tt
+leaves_same rank send received (Some f) h same = inl same
+
+known_before : (P : Type 0) (f g : Option FileMap) → Discloses f g IsSame → IfSome g (λ _. P) → IfSome f (λ _. P)
+known_before P None g same known = tt
+known_before P (Some f) None same known = absurd same
+known_before P (Some f) (Some g) same known = known
+
+so_known : (P Q : Type 0) (f : Option FileMap) → (P → Q) → IfSome f (λ _. P) → IfSome f (λ _. Q)
+so_known P Q None then known = tt
+so_known P Q (Some f) then known = then known
+
+pub leaves_so : (rank : Rank) (send received : List ℕ) (jobs : List Job) (s : Contending) (marker : Marker) (keeper : Keeper) (f read looked h : Option FileMap)
+    → IsOutgoing send f jobs marker → Discloses f read IsSame → s ≡ first_contending rank jobs
+    → keeper.name.now ≡ received → keeper.kept ≡ 0 → IfSome read (λ _. keeper.place ≡ Growing) → send ≢ received → Discloses read looked IsSame
+    → (marker.marked ≡ s.sender.counted → keeper.place ≡ Growing → marker.name.now ≢ keeper.name.now → (files : Option FileMap)
+    → HoldsBoth marker s.sender.counted keeper s.receiver.jobs files looked → LeavesBoth s marker.file.items marker.name.now keeper.name.now files h)
+    → IfSome f (λ _. LeavesExchange rank send received f h)
+leaves_so rank send received jobs s marker keeper f read looked h out same first called kept grows two same' leaves =
+    let left = out.left in
+    let zero : s.sender.counted ≡ 0 = ap (λ (x : Contending). x.sender.counted) first in
+    let apart : marker.name.now ≢ keeper.name.now = λ e. two (sym out.named ∙ e ∙ called) in
+    let had = holds_nothing marker s.sender.counted keeper s.receiver.jobs read looked out.none zero out.marks kept (ap (λ (x : Contending). x.receiver.jobs) first) same' in
+    so_known (keeper.place ≡ Growing) (LeavesExchange rank send received f h) f (λ (growing : keeper.place ≡ Growing).
+    let both = both_before s marker.file.items marker.name.now keeper.name.now f read h same (leaves (out.none ∙ sym zero) growing apart read had) in
+    inr (of_file (λ file. (entries : List Entry) × HasEntries entries file × LeavesBoth (first_contending rank (jobs_in (unsent entries))) file send received f h) marker.file.items (
+      left.0,
+      left.1,
+      subst (λ (x : Contending). LeavesBoth x marker.file.items send received f h) (first ∙ ap (first_contending rank) left.3)
+          (subst (λ (n : List ℕ). LeavesBoth s marker.file.items n received f h) out.named (subst (λ (n : List ℕ). LeavesBoth s marker.file.items marker.name.now n f h) called both)),
+    ) send f out.read)) (known_before (keeper.place ≡ Growing) f read same grows)

@@ -1,5 +1,6 @@
 pub mod OwnTurn
 pub mod BothFiles
+pub mod LeavingBoth
 pub mod BothWays
 pub mod Live
 pub mod LineBreak

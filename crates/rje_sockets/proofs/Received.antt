@@ -52,7 +52,7 @@ of_kept : (kept : List Job) (long : ℕ) (name : List ℕ) (files made : Option 
 of_kept [] long name files made same = inr (refl, same)
 of_kept (j ∷ js) long name files made (bytes, file, l, few, sets) = inl (bytes, file, omega (arith, l, few), sets)
 
-has_kept : (keeper : Keeper) (jobs : List Job) (files made : Option FileMap) → keeper.place ≡ Growing → KeepsJobs keeper jobs files made → HasWhole jobs keeper.name.now files made
+pub has_kept : (keeper : Keeper) (jobs : List Job) (files made : Option FileMap) → keeper.place ≡ Growing → KeepsJobs keeper jobs files made → HasWhole jobs keeper.name.now files made
 has_kept keeper jobs files made grows k = (
   take keeper.kept jobs,
   [],
@@ -64,7 +64,7 @@ has_kept keeper jobs files made grows k = (
 has_all : (jobs : List Job) (name : List ℕ) (files made : Option FileMap) → MakesJobFile jobs name files made → HasWhole jobs name files made
 has_all jobs name files made makes = (jobs, drop (whole_in_front jobs) jobs, sym (take-append-drop (whole_in_front jobs) jobs), inl makes)
 
-still_keeps : (keeper : Keeper) (jobs : List Job) (files f g : Option FileMap) → KeepsJobs keeper jobs files f → Discloses f g IsSame → KeepsJobs keeper jobs files g
+pub still_keeps : (keeper : Keeper) (jobs : List Job) (files f g : Option FileMap) → KeepsJobs keeper jobs files f → Discloses f g IsSame → KeepsJobs keeper jobs files g
 still_keeps keeper jobs files f g k still = record {
   few = k.few;
   all = k.all;
@@ -73,7 +73,7 @@ still_keeps keeper jobs files f g k still = record {
 }
 
 -- the rest is kept, or nothing changes
-has_rest : (written : Result (Unit {0}) CommandFault) (keeper : Keeper) (jobs : List Job) (files kept made : Option FileMap) → keeper.place ≡ Growing → KeepsJobs keeper jobs files kept
+pub has_rest : (written : Result (Unit {0}) CommandFault) (keeper : Keeper) (jobs : List Job) (files kept made : Option FileMap) → keeper.place ≡ Growing → KeepsJobs keeper jobs files kept
     → OnOk written (KeepsJobs keeper jobs files kept → MakesJobFile jobs keeper.name.now files made) → OnErr written (Discloses kept made IsSame) → HasWhole jobs keeper.name.now files made
 has_rest (Ok x) keeper jobs files kept made grows k makes same = has_all jobs keeper.name.now files made (makes k)
 has_rest (Err e) keeper jobs files kept made grows k makes same = has_kept keeper jobs files made grows (still_keeps keeper jobs files kept made k same)

@@ -10,6 +10,7 @@ pub mod Tracing
 pub mod Watching
 pub mod BothWays
 pub mod BothFiles
+pub mod LeavingBoth
 pub mod Exchanging
 pub mod Looping
 pub mod SocketCommand

@@ -1,5 +1,5 @@
 -- What one run of the program over sockets does, by the words that it was given (own profile).
-use Rattle.std.specs.Prelude.{◌≡◌, ◌⊎◌, ℕ, List, [], ◌∷◌, Option, IfSome, codes, ⊤}
+use Rattle.std.specs.Prelude.{◌≡◌, ◌⊎◌, ℕ, List, [], ◌∷◌, Option, IfSome, codes}
 use Rattle.rje_words.specs.declared.order.FileOrder.{FileOrder}
 use Rattle.rje_words.specs.declared.order.Order.TheVariants.{Files, Sockets}
 use Rattle.rje_words.specs.declared.order.SocketOrder.{SocketOrder}
@@ -13,6 +13,7 @@ use Rattle.rje_sockets.specs.declared.socket_commands.ending.Ending.{Ending}
 use Rattle.rje_sockets.specs.Answering.{KeepsAnswered}
 use Rattle.rje_sockets.specs.Ending.{IsUnsentFault, Receives, SendsLeft, ending_status}
 use Rattle.rje_sockets.specs.Exchanging.{ExchangesLeft, rank_at}
+use Rattle.rje_sockets.specs.LeavingBoth.{LeavesExchange}
 use Rattle.rje_sockets.specs.Looping.{IsUnloopedFault, Loops}
 use Rattle.rje_sockets.specs.Marking.{MarksNoMore}
 use Rattle.rje_stores.specs.Store.{FileMap, Discloses, IsSame}
@@ -34,12 +35,14 @@ Transmits (SocketOrder.Receive order) ending files made before after = Receives 
 Transmits (SocketOrder.Exchange order) ending files made before after =
     OfFile order.send.now files (λ file. ExchangesLeft ending (rank_at order.place) order.send.now order.received.now file files made before after)
 
--- Whatever ends it: `loop` changes no file, `send` marks just what was counted, and in its file `receive` has what had come whole.
+-- Whatever ends it: `loop` changes no file, `send` marks just what was counted, in its file `receive` has what had come whole, and `exchange`
+-- does both.
 abbrev pub LeavesFiles : SocketOrder → (files made : Option FileMap) → Type 0
 LeavesFiles (SocketOrder.Loop order) files made = Discloses files made IsSame
 LeavesFiles (SocketOrder.Send order) files made = MarksNoMore order.jobs.now files made
 LeavesFiles (SocketOrder.Receive order) files made = IfSome files (λ _. (before : ℕ) × (after : ℕ) × KeepsAnswered order.jobs.now files made before after)
-LeavesFiles (SocketOrder.Exchange order) files made = ⊤
+LeavesFiles (SocketOrder.Exchange order) files made =
+    IfSome files (λ _. LeavesExchange (rank_at order.place) order.send.now order.received.now files made)
 
 -- WHY IT ISN'T CARRIED OUT
 

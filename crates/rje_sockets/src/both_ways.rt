@@ -13,6 +13,7 @@ ghost use Rattle.rje_sockets.specs.BothWays.{has_listened, AreOver, ExchangesTo,
 ghost use Rattle.rje_sockets.specs.BothFiles.{BreaksBoth, GoesOnHolding, kept_of};
 ghost use Rattle.rje_sockets.specs.BrokenOff.{of_broken_off};
 ghost use Rattle.rje_sockets.specs.Keeping.{GoesOnKeeping};
+ghost use Rattle.rje_sockets.specs.LeavingBoth.{HasCounted};
 ghost use Rattle.rje_sockets.specs.LineBreak.{IsBreak, IsLineBreak};
 ghost use Rattle.rje_sockets.specs.Marking.{GoesOnMarking};
 
@@ -46,6 +47,8 @@ pub fn exchange_all<'a, 'b, L: Line, S: Store, W: Watch>(
         station.new.receiver.jobs (S.files store.old) (S.files store.new)) }
     ensures broken { IfErr result (BreaksBoth station.old station.new marker.old marker.new
         keeper.old keeper.new (S.files store.old) (S.files store.new)) }
+    ensures count { (marker.new.marked ≡ marker.old.marked)
+        ⊎ HasCounted station.old marker.new.marked }
     ensures told { OnOk result ((turns : List StationTurn) × (near : Contending)
         × Watched W.saw_sender W.saw_receiver station.old.contender.rank station.old watch.old
         near watch.new turns
@@ -127,6 +130,8 @@ fn take_own_turn<'a, 'b, L: Line, S: Store, W: Watch>(
     ensures status { IfErr result (λ fault. IsFailing (status_of (of_station fault))) }
     ensures marked { OnOk result (GoesOnMarking marker.old marker.new station.old.sender.counted
         station.new.sender.counted (S.files store.old) (S.files store.new)) }
+    ensures count { (marker.new.marked ≡ marker.old.marked)
+        ⊎ (marker.new.marked ≡ station.new.sender.counted) }
     ensures unmarked { OnErr result ((marker.new ≡ marker.old) × (store.new ≡ store.old)) }
 {
     let said = station.speak(line)?;

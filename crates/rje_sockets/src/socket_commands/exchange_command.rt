@@ -1,13 +1,16 @@
 //! `exchange`: one transmission each way over one connection.
-ghost use Rattle.std.specs.Prelude.{◌≡◌, ◌≢◌, ◌⊎◌, List, IfErr, IfOk, OnOk};
+ghost use Rattle.std.specs.Prelude.{◌≡◌, ◌≢◌, ◌⊎◌, List, Option, IfErr, IfOk, IfSome, OnOk};
 ghost use Rattle.rje_jobs.specs.declared.job.Job.{Job};
 ghost use Rattle.rje_files.specs.Unsent.{IsLeft};
 ghost use Rattle.rje_commands.specs.Commands.{OfFile};
 ghost use Rattle.rje_commands.specs.CommandFault.{IsFailing, status_of};
+ghost use Rattle.rje_sockets.specs.BothFiles.{HoldsBoth};
 ghost use Rattle.rje_sockets.specs.Ending.{IsRefusedFile};
 ghost use Rattle.rje_sockets.specs.Exchanging.{EndsExchanging, Exchanges, ExchangesLeft, ending_of_both, rank_at};
 ghost use Rattle.rje_sockets.specs.Inside.Sending.{IsSendFault};
-ghost use Rattle.rje_stores.specs.Store.{Discloses, IsSame};
+ghost use Rattle.rje_sockets.specs.LeavingBoth.{LeavesBoth, LeavesExchange};
+ghost use Rattle.rje_stores.specs.Store.{FileMap, Discloses, IsSame};
+ghost use Rattle.rje_stores.specs.declared.store.Place.TheVariants.{Growing};
 
 use crate::both_ways::exchange_all;
 use crate::exchange::Left;
@@ -46,6 +49,8 @@ pub fn exchange<'a, R: Net + Clock, S: Store, O: Write, E: Write>(
         order.entry.received.now file (S.files store.old) (S.files store.new)
         (O.contents out.old) (O.contents out.new))) }
     ensures fault { IfErr result (IsSendFault order.entry.send.now (S.files store.old)) }
+    ensures files { IfSome (S.files store.old) (λ _. LeavesExchange (rank_at order.entry.place)
+        order.entry.send.now order.entry.received.now (S.files store.old) (S.files store.new)) }
     ensures files_kept { IfErr result (λ fault. status_of fault ≡ 1
         → Discloses (S.files store.old) (S.files store.new) IsSame) }
     ensures silent { IfErr result (λ fault. status_of fault ≡ 1 → out.new ≡ out.old) }
@@ -79,6 +84,8 @@ pub fn exchange_over<L: Line, S: Store, O: Write, E: Write>(
         (O.contents out.old) (O.contents out.new) }
     ensures status { (result ≡ 0) ⊎ ((result ≡ 4) ⊎ ((result ≡ 1) ⊎ IsFailing result)) }
     ensures refused { result ≡ 1 → OfFile send.now (S.files store.old) IsRefusedFile }
+    ensures files { IfSome (S.files store.old) (λ _. LeavesExchange rank send.now received.now
+        (S.files store.old) (S.files store.new)) }
     ensures files_kept { result ≡ 1 → Discloses (S.files store.old) (S.files store.new) IsSame }
     ensures silent { result ≡ 1 → (line.new ≡ line.old) × (out.new ≡ out.old) }
 {
@@ -101,6 +108,8 @@ fn exchanged<'a, L: Line, S: Store, O: Write>(
         ExchangesLeft ending rank send.entry.now received.entry.now file
         (S.files store.old) (S.files store.new) (O.contents out.old) (O.contents out.new))) }
     ensures fault { IfErr result (IsSendFault send.entry.now (S.files store.old)) }
+    ensures files { IfSome (S.files store.old) (λ _. LeavesExchange rank send.entry.now
+        received.entry.now (S.files store.old) (S.files store.new)) }
     ensures files_kept { IfErr result (λ fault. status_of fault ≡ 1
         → Discloses (S.files store.old) (S.files store.new) IsSame) }
     ensures silent { IfErr result (λ fault. status_of fault ≡ 1
@@ -122,6 +131,8 @@ fn keeper_beside<'a, S: Store>(
     ensures two { OnOk result (other.now ≢ name.entry.now) }
     ensures name { IfOk result (λ keeper. keeper.name.now ≡ name.entry.now) }
     ensures none { IfOk result (λ keeper. keeper.kept ≡ 0) }
+    ensures grows { IfSome (S.files store.old) (λ _. IfOk result (λ keeper.
+        keeper.place ≡ Growing)) }
     ensures status { IfErr result (λ fault. IsFailing (status_of fault)) }
     ensures same { Discloses (S.files store.old) (S.files store.new) IsSame }
 {
@@ -145,6 +156,12 @@ fn exchange_files<'a, 'b, L: Line, S: Store, W: Watch, O: Write>(
         (O.contents out.old) (O.contents out.new)) }
     ensures status { IfErr result (λ fault. (jobs : List Job)
         → IsLeft marker.entry.file.items jobs → IsFailing (status_of fault)) }
+    ensures files { marker.entry.marked ≡ station.entry.sender.counted
+        → keeper.entry.place ≡ Growing → marker.entry.name.now ≢ keeper.entry.name.now
+        → (files : Option FileMap) → HoldsBoth marker.entry station.entry.sender.counted
+        keeper.entry station.entry.receiver.jobs files (S.files store.old)
+        → LeavesBoth station.entry marker.entry.file.items marker.entry.name.now
+        keeper.entry.name.now files (S.files store.new) }
 {
     let given = station.sender().jobs().len();
     let left = exchange_all(&mut station, line, &mut marker, &mut keeper, store, watch);

@@ -1,10 +1,11 @@
-use Rattle.std.proofs.Common.{rules, ◌≡◌, true, Some, inl, inr}
+use Rattle.std.proofs.Common.{rules, ◌≡◌, true, Some, inl, inr, refl}
 use Rattle.rje_station.specs.declared.line_fault.LineFault.{LineFault}
 use Rattle.rje_sockets.specs.declared.broken_off.BrokenOff.{BrokenOff}
 use Rattle.rje_sockets.specs.BothFiles.{BreaksBoth}
 use Rattle.rje_sockets.specs.LineBreak.{IsBreak}
 use Rattle.rje_sockets.proofs.BothFiles.{breaks_others, breaks_own, ended_jobs, goes_on_kept, goes_on_marked, holds_first, others_count, own_jobs, refusal_count, same_count}
 use Rattle.rje_sockets.proofs.BothWays.{ends_hung_up, ends_long, ends_over, fails_as, forty_quiet, forty_told, so_first, so_others, so_own, took}
+use Rattle.rje_sockets.proofs.LeavingBoth.{came_near, counted_on}
 use Rattle.rje_sockets.proofs.LineBreak.{breaks_on, own_break}
 use Rattle.rje_sockets.proofs.Live.{had_failed}
 use Rattle.rje_sockets.proofs.both_ways.exchange_all.Goals as goal
@@ -13,6 +14,7 @@ pub loop-init : goal.loop-init
 loop-init g c = (
   so_first g.W.Watch.saw_sender g.W.Watch.saw_receiver c.args.station.now c.args.watch.now _ c.may_bid_at_once-at_once.ensures,
   holds_first c.args.marker.now c.args.station.now.sender.counted c.args.keeper.now c.args.station.now.receiver.jobs (g.S.Store.files c.args.store.now),
+  inl refl,
 )
 
 pub returns-then-is_over-clause-left : goal.returns-then-is_over-clause-left
@@ -50,6 +52,10 @@ loop-preserved-then-is_own_turn g c = let takes = c.in_ok-take_own_turn.ensures.
   so_own g.W.Watch.saw_sender g.W.Watch.saw_receiver c.args.station.now c.args.watch.now c.loop.station c.take_own_turn.new.station c.loop.watch c.take_own_turn.new.watch c.loop.counter c.loop.quiet c.loop.has_listened c.loop.invariant.0 _ c.may_bid_at_once-at_once.ensures (c.is_own_turn.ensures.bids c.if-is_own_turn.true) takes,
   goes_on_marked c.args.marker.now c.loop.marker c.args.station.now.sender.counted c.loop.station.sender.counted c.args.keeper.now c.loop.keeper c.args.station.now.receiver.jobs c.loop.station.receiver.jobs (g.S.Store.files c.args.store.now) (g.S.Store.files c.loop.store) c.loop.invariant.1 c.take_own_turn.new.marker c.take_own_turn.new.station.sender.counted c.take_own_turn.new.station.receiver.jobs (g.S.Store.files c.take_own_turn.new.store)
       (own_jobs c.loop.station c.take_own_turn.new.station (takes.0, takes.1, takes.2)) c.in_ok-take_own_turn.ensures.marked,
+  counted_on c.args.station.now c.take_own_turn.new.station c.args.marker.now.marked c.loop.marker.marked c.take_own_turn.new.marker.marked
+      (came_near c.args.station.now c.take_own_turn.new.station _ (took g.W.Watch.saw_sender g.W.Watch.saw_receiver c.args.station.now c.args.watch.now c.take_own_turn.new.station c.take_own_turn.new.station c.take_own_turn.new.watch c.take_own_turn.new.watch _ _ _
+      (so_own g.W.Watch.saw_sender g.W.Watch.saw_receiver c.args.station.now c.args.watch.now c.loop.station c.take_own_turn.new.station c.loop.watch c.take_own_turn.new.watch c.loop.counter c.loop.quiet c.loop.has_listened c.loop.invariant.0 _ c.may_bid_at_once-at_once.ensures (c.is_own_turn.ensures.bids c.if-is_own_turn.true) takes)))
+      c.loop.invariant.2 c.in_ok-take_own_turn.ensures.count,
 )
 
 pub returns-in_err-take_others_turn-clause-broken : goal.returns-in_err-take_others_turn-clause-broken
@@ -101,8 +107,14 @@ loop-preserved g c =
       so_others g.W.Watch.saw_sender g.W.Watch.saw_receiver c.args.station.now c.args.watch.now c.loop.station c.take_others_turn.new.station c.loop.watch c.take_others_turn.new.watch c.loop.counter c.loop.quiet c.loop.has_listened c.loop.invariant.0 c.quiet_after-quiet.result (c.is_own_turn.ensures.listens c.if-is_own_turn.false) takes (search rules) (search rules),
       goes_on_kept c.args.marker.now c.loop.marker c.args.station.now.sender.counted c.loop.station.sender.counted c.args.keeper.now c.loop.keeper c.args.station.now.receiver.jobs c.loop.station.receiver.jobs (g.S.Store.files c.args.store.now) (g.S.Store.files c.loop.store) c.loop.invariant.1 c.take_others_turn.new.keeper c.take_others_turn.new.station.sender.counted c.take_others_turn.new.station.receiver.jobs (g.S.Store.files c.take_others_turn.new.store)
           (others_count c.loop.station c.take_others_turn.new.station takes.0 takes.1 takes.2) c.in_ok-take_others_turn.ensures.kept,
+      c.loop.invariant.2,
     )
 
 pub returns-clause-left : goal.returns-clause-left
 returns-clause-left g c =
     ends_long g.W.Watch.saw_sender g.W.Watch.saw_receiver c.args.station.now c.args.watch.now c.loop.station c.loop.station c.loop.watch c.loop.watch c.loop.counter c.loop.quiet c.loop.has_listened c.loop.invariant.0 (search rules)
+
+pub returns-in_err-take_own_turn-clause-count : goal.returns-in_err-take_own_turn-clause-count
+returns-in_err-take_own_turn-clause-count g c =
+    let kept = c.in_err-take_own_turn.ensures.unmarked in
+    rw kept.0 c.loop.invariant.2

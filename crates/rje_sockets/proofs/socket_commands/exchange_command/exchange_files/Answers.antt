@@ -7,6 +7,7 @@ use Rattle.rje_sockets.specs.BothFiles.{GoesOnHolding}
 use Rattle.rje_sockets.specs.Ending.{MakesJobFile, MarksSent, received_text}
 use Rattle.rje_sockets.specs.Keeping.{IsOfFile, KeepsJobs}
 use Rattle.rje_sockets.proofs.Exchanged.{makes_both, three_lines}
+use Rattle.rje_sockets.proofs.LeavingBoth.{leaves_both}
 use Rattle.rje_sockets.proofs.socket_commands.exchange_command.exchange_files.Goals as goal
 
 pub returns-in_err-marked-clause-status : goal.returns-in_err-marked-clause-status
@@ -47,3 +48,38 @@ returns-clause-exchanged g c =
       text_is = subst (λ text. Appends (g.O.Write.contents c.args.out.now) (g.O.Write.contents c.put_lines-printed.new.out) text)
           (three_lines c.counted_text.result.items c.outcome_text.result.items c.handed_text.result.items _ _ _ counted ended came) c.in_ok-printed.ensures.text;
     }
+
+pub returns-clause-files : goal.returns-clause-files
+returns-clause-files g c =
+    leaves_both c.exchange_all-left.result c.write-marked.result c.keep_rest-kept.result c.args.station c.exchange_all-left.new.station c.args.marker c.exchange_all-left.new.marker c.args.keeper c.exchange_all-left.new.keeper
+    (g.S.Store.files c.args.store.now) (g.S.Store.files c.exchange_all-left.new.store) (g.S.Store.files c.write-marked.new.store) (g.S.Store.files c.keep_rest-kept.new.store)
+    c.exchange_all-left.ensures.left c.exchange_all-left.ensures.holds c.exchange_all-left.ensures.broken c.exchange_all-left.ensures.count (rw (c.counted-counted.ensures ∙ ap (λ (s : Sending). s.counted) c.sender-3.ensures) at c.write-marked.ensures.marked) c.write-marked.ensures.same
+    (rw c.take.ensures at c.keep_rest-kept.ensures.file) c.keep_rest-kept.ensures.refused c.keep_rest-kept.ensures.same
+
+pub returns-in_err-left-clause-files : goal.returns-in_err-left-clause-files
+returns-in_err-left-clause-files g c =
+    leaves_both c.exchange_all-left.result c.write-marked.result c.keep_rest-kept.result c.args.station c.exchange_all-left.new.station c.args.marker c.exchange_all-left.new.marker c.args.keeper c.exchange_all-left.new.keeper
+    (g.S.Store.files c.args.store.now) (g.S.Store.files c.exchange_all-left.new.store) (g.S.Store.files c.write-marked.new.store) (g.S.Store.files c.keep_rest-kept.new.store)
+    c.exchange_all-left.ensures.left c.exchange_all-left.ensures.holds c.exchange_all-left.ensures.broken c.exchange_all-left.ensures.count (rw (c.counted-counted.ensures ∙ ap (λ (s : Sending). s.counted) c.sender-3.ensures) at c.write-marked.ensures.marked) c.write-marked.ensures.same
+    (rw c.take.ensures at c.keep_rest-kept.ensures.file) c.keep_rest-kept.ensures.refused c.keep_rest-kept.ensures.same
+
+pub returns-in_err-marked-clause-files : goal.returns-in_err-marked-clause-files
+returns-in_err-marked-clause-files g c =
+    leaves_both c.exchange_all-left.result c.write-marked.result c.keep_rest-kept.result c.args.station c.exchange_all-left.new.station c.args.marker c.exchange_all-left.new.marker c.args.keeper c.exchange_all-left.new.keeper
+    (g.S.Store.files c.args.store.now) (g.S.Store.files c.exchange_all-left.new.store) (g.S.Store.files c.write-marked.new.store) (g.S.Store.files c.keep_rest-kept.new.store)
+    c.exchange_all-left.ensures.left c.exchange_all-left.ensures.holds c.exchange_all-left.ensures.broken c.exchange_all-left.ensures.count (rw (c.counted-counted.ensures ∙ ap (λ (s : Sending). s.counted) c.sender-3.ensures) at c.write-marked.ensures.marked) c.write-marked.ensures.same
+    (rw c.take.ensures at c.keep_rest-kept.ensures.file) c.keep_rest-kept.ensures.refused c.keep_rest-kept.ensures.same
+
+pub returns-in_err-kept-clause-files : goal.returns-in_err-kept-clause-files
+returns-in_err-kept-clause-files g c =
+    leaves_both c.exchange_all-left.result c.write-marked.result c.keep_rest-kept.result c.args.station c.exchange_all-left.new.station c.args.marker c.exchange_all-left.new.marker c.args.keeper c.exchange_all-left.new.keeper
+    (g.S.Store.files c.args.store.now) (g.S.Store.files c.exchange_all-left.new.store) (g.S.Store.files c.write-marked.new.store) (g.S.Store.files c.keep_rest-kept.new.store)
+    c.exchange_all-left.ensures.left c.exchange_all-left.ensures.holds c.exchange_all-left.ensures.broken c.exchange_all-left.ensures.count (rw (c.counted-counted.ensures ∙ ap (λ (s : Sending). s.counted) c.sender-3.ensures) at c.write-marked.ensures.marked) c.write-marked.ensures.same
+    (rw c.take.ensures at c.keep_rest-kept.ensures.file) c.keep_rest-kept.ensures.refused c.keep_rest-kept.ensures.same
+
+pub returns-in_err-printed-clause-files : goal.returns-in_err-printed-clause-files
+returns-in_err-printed-clause-files g c =
+    leaves_both c.exchange_all-left.result c.write-marked.result c.keep_rest-kept.result c.args.station c.exchange_all-left.new.station c.args.marker c.exchange_all-left.new.marker c.args.keeper c.exchange_all-left.new.keeper
+    (g.S.Store.files c.args.store.now) (g.S.Store.files c.exchange_all-left.new.store) (g.S.Store.files c.write-marked.new.store) (g.S.Store.files c.keep_rest-kept.new.store)
+    c.exchange_all-left.ensures.left c.exchange_all-left.ensures.holds c.exchange_all-left.ensures.broken c.exchange_all-left.ensures.count (rw (c.counted-counted.ensures ∙ ap (λ (s : Sending). s.counted) c.sender-3.ensures) at c.write-marked.ensures.marked) c.write-marked.ensures.same
+    (rw c.take.ensures at c.keep_rest-kept.ensures.file) c.keep_rest-kept.ensures.refused c.keep_rest-kept.ensures.same

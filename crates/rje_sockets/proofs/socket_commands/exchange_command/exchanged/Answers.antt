@@ -2,7 +2,7 @@ use Rattle.std.proofs.Common.{rules, inl, Err, ◌≡◌}
 use Rattle.rje_station.specs.Station.{first_contending}
 use Rattle.rje_station.specs.StationFault.{IsNewCause}
 use Rattle.rje_commands.specs.CommandFault.{of_station}
-use Rattle.rje_sockets.proofs.Exchanged.{exchanges_left}
+use Rattle.rje_sockets.proofs.Exchanged.{exchanges_left, leaves_so}
 use Rattle.rje_sockets.proofs.Failing.{left_fails, not_refused, send_fails, station_fails}
 use Rattle.rje_sockets.proofs.socket_commands.exchange_command.exchanged.Goals as goal
 
@@ -20,6 +20,9 @@ returns g c =
           (g.O.Write.contents c.args.out.now) (g.O.Write.contents c.exchange_files.new.out) out c.read_outgoing.ensures.same first
           c.in_ok-keeper.ensures.name c.in_ok-keeper.ensures.none c.in_ok-keeper.ensures.two c.in_ok-keeper.ensures.same c.exchange_files.ensures.exchanged;
       fault = send_fails c.exchange_files.result c.args.send.now f fails;
+      files = leaves_so c.args.rank c.args.send.now c.args.received.now jobs c.in_ok-station.station marker c.in_ok-keeper.keeper f (g.S.Store.files c.read_outgoing.new.store)
+          (g.S.Store.files c.keeper_beside.new.store) (g.S.Store.files c.exchange_files.new.store) out c.read_outgoing.ensures.same first
+          c.in_ok-keeper.ensures.name c.in_ok-keeper.ensures.none c.in_ok-keeper.ensures.grows c.in_ok-keeper.ensures.two c.in_ok-keeper.ensures.same c.exchange_files.ensures.files;
       files_kept = not_refused c.exchange_files.result _ fails;
       silent = not_refused c.exchange_files.result _ fails;
     }

@@ -1,0 +1,135 @@
+-- What a station that sends and receives leaves in its two files, from what it held of them when its turns ended.
+use Rattle.std.proofs.Common.{◌≡◌, ◌⊎◌, inl, inr, ℕ, List, [], Option, Result, Ok, Err, IfErr, IfOk, OnErr, OnOk, refl, ap, sym, ◌∙◌, subst}
+use Rattle.std.specs.Prelude.{◌≢◌}
+use Rattle.rje_jobs.specs.declared.job.Job.{Job}
+use Rattle.rje_station.specs.Station.{Contending}
+use Rattle.rje_commands.specs.declared.command_fault.CommandFault.{CommandFault}
+use Rattle.rje_commands.proofs.Inputs.{done_as}
+use Rattle.rje_sockets.specs.declared.broken_off.BrokenOff.{BrokenOff}
+use Rattle.rje_sockets.specs.declared.exchange.Left.{Left}
+use Rattle.rje_sockets.specs.declared.keeper.Keeper.{Keeper}
+use Rattle.rje_sockets.specs.declared.marker.Marker.{Marker}
+use Rattle.rje_stores.specs.declared.store.Place.TheVariants.{Growing}
+use Rattle.rje_sockets.specs.Answering.{HasWhole}
+use Rattle.rje_sockets.specs.BothFiles.{BreaksBoth, GoesOnHolding, HoldsBoth}
+use Rattle.rje_sockets.specs.BothWays.{ExchangesTo, StationTurn, Took}
+use Rattle.rje_sockets.specs.Ending.{MakesJobFile, MarksSent}
+use Rattle.rje_sockets.specs.Keeping.{IsOfFile, KeepsJobs}
+use Rattle.rje_sockets.specs.LeavingBoth.{CameTo, HasCounted, LeavesBoth, MarksAlone}
+use Rattle.rje_sockets.specs.Marking.{AreMarked}
+use Rattle.rje_sockets.proofs.BothFiles.{holds_written}
+use Rattle.rje_sockets.proofs.Received.{has_kept, has_rest, still_keeps}
+use Rattle.rje_stores.specs.Store.{FileMap, Discloses, IsSame}
+
+-- WHILE IT TAKES ITS TURNS
+
+pub came_near : (s near : Contending) (turns : List StationTurn) → Took s.contender.rank s turns near → CameTo s near
+came_near s near turns took = (turns, near, took, inl (inl refl))
+
+-- more is marked, or as much as before
+pub counted_on : (s near : Contending) (start had has : ℕ) → CameTo s near → (had ≡ start) ⊎ HasCounted s had → (has ≡ had) ⊎ (has ≡ near.sender.counted) → (has ≡ start) ⊎ HasCounted s has
+counted_on s near start had has came before (inl same) = subst (λ (n : ℕ). (n ≡ start) ⊎ HasCounted s n) (sym same) before
+counted_on s near start had has came before (inr new) = inr (near, came, sym new)
+
+-- WHEN THEY ENDED
+
+came_left : (s s' : Contending) (left : Left) → ExchangesTo left s s' → CameTo s s'
+came_left s s' Left.Ended (turns, near, took, inl (over, same)) = (turns, near, took, inl (inl same))
+came_left s s' Left.Ended (turns, near, took, inr (waits, closed)) = (turns, near, took, inl (inr (inr closed)))
+came_left s s' Left.Abandoned (turns, near, took, inl (quiet, ended)) = (turns, near, took, inl (inr (inl ended)))
+came_left s s' Left.Abandoned (turns, near, took, inr (long, same)) = (turns, near, took, inl (inl same))
+
+-- what was held then: of the jobs of the station where it stands, or, where the last one couldn't be kept, of those that it had before
+record Held (left : Result Left BrokenOff) (s s' : Contending) (old new : Marker) (before after : Keeper) (f g : Option FileMap) : Type 0 where
+  pub counted : ℕ
+  pub last : Contending
+  pub came : CameTo s last
+  pub ended : CameTo s s'
+  pub same : IfErr left (λ broken. IsOfFile broken → ⊥) → last ≡ s'
+  pub holds : GoesOnHolding old new s.sender.counted counted before after s.receiver.jobs last.receiver.jobs f g
+
+held : (left : Result Left BrokenOff) (s s' : Contending) (old new : Marker) (before after : Keeper) (f g : Option FileMap) → IfOk left (λ l. ExchangesTo l s s')
+    → OnOk left (GoesOnHolding old new s.sender.counted s'.sender.counted before after s.receiver.jobs s'.receiver.jobs f g) → IfErr left (BreaksBoth s s' old new before after f g)
+    → Held left s s' old new before after f g
+held (Ok l) s s' old new before after f g exchanges holds breaks =
+    record { counted = s'.sender.counted; last = s'; came = came_left s s' l exchanges; ended = came_left s s' l exchanges; same = λ well. refl; holds = holds }
+held (Err (BrokenOff.Line fault)) s s' old new before after f g exchanges holds b = record {
+  counted = b.near.sender.counted;
+  last = s';
+  came = (b.turns, b.near, b.took, inr (BrokenOff.Line fault, b.fails));
+  ended = (b.turns, b.near, b.took, inr (BrokenOff.Line fault, b.fails));
+  same = λ well. refl;
+  holds = b.holds;
+}
+held (Err (BrokenOff.File fault)) s s' old new before after f g exchanges holds b = record {
+  counted = b.near.sender.counted;
+  last = b.near;
+  came = came_near s b.near b.turns b.took;
+  ended = (b.turns, b.near, b.took, inr (BrokenOff.File fault, b.fails));
+  same = λ never. absurd (never tt);
+  holds = b.holds;
+}
+
+-- THE WHOLE FILE OF WHAT IS SENT
+
+module _ (s s' : Contending) (old new : Marker) (count : (new.marked ≡ old.marked) ⊎ HasCounted s new.marked) (start : old.marked ≡ s.sender.counted) where
+  alone : (files marked : Option FileMap) → AreMarked new.file.items new.marked new.name.now files marked → MarksAlone s new.file.items new.name.now files marked
+  alone files marked (inl (none, stay)) = inl stay
+  alone files marked (inr sets) = by count where
+    at : (last : Contending) → CameTo s last → last.sender.counted ≡ new.marked → MarksAlone s new.file.items new.name.now files marked
+    at last came is = inr (last, came, subst (λ (n : ℕ). MarksSent new.file.items n new.name.now files marked) (sym is) sets)
+
+    by : (new.marked ≡ old.marked) ⊎ HasCounted s new.marked → MarksAlone s new.file.items new.name.now files marked
+    by (inl still) = at s (came_near s s [] refl) (sym (still ∙ start))
+    by (inr (last, came, is)) = at last came is
+
+  -- it is written, or what was marked in between stays
+  marked_then : {X : Type 0} (written : Result X CommandFault) (n : ℕ) (keeper : Keeper) (jobs : List Job) (files g h : Option FileMap) → new.name.now ≢ keeper.name.now → CameTo s s'
+      → OnOk written (MarksSent new.file.items s'.sender.counted new.name.now g h) → OnErr written (Discloses g h IsSame) → HoldsBoth new n keeper jobs files g
+      → (marked : Option FileMap) × MarksAlone s new.file.items new.name.now files marked × KeepsJobs keeper jobs marked h
+  marked_then (Ok x) n keeper jobs files g h apart came sets still both =
+      let w = holds_written new n s'.sender.counted keeper jobs files g h apart sets both in
+      (w.0, inr (s', came, w.1), w.2)
+  marked_then (Err e) n keeper jobs files g h apart came sets still (marked, marks, keeps) = (marked, alone files marked marks.file, still_keeps keeper jobs marked g h keeps still)
+
+-- WHAT IS LEFT OF WHAT CAME
+
+module _ (kept : Result (Unit {0}) CommandFault) (keeper : Keeper) (last s' : Contending) (marked g made : Option FileMap) (grows : keeper.place ≡ Growing)
+    (k : KeepsJobs keeper last.receiver.jobs marked g) (still : OnErr kept (Discloses g made IsSame)) where
+  rest_kept : (Well : Type 0) → Well → last ≡ s'
+      → OnOk kept ((files : Option FileMap) → Well → KeepsJobs keeper s'.receiver.jobs files g → MakesJobFile s'.receiver.jobs keeper.name.now files made)
+      → HasWhole last.receiver.jobs keeper.name.now marked made
+  rest_kept Well well same makes =
+      has_rest kept keeper last.receiver.jobs marked g made grows k
+      (done_as kept _ (KeepsJobs keeper last.receiver.jobs marked g → MakesJobFile last.receiver.jobs keeper.name.now marked made) makes
+      (λ m. subst (λ (x : Contending). KeepsJobs keeper x.receiver.jobs marked g → MakesJobFile x.receiver.jobs keeper.name.now marked made) (sym same) (m marked well))) still
+
+  kept_then : (left : Result Left BrokenOff) → (IfErr left (λ broken. IsOfFile broken → ⊥) → last ≡ s')
+      → OnOk kept ((files : Option FileMap) → IfErr left (λ broken. IsOfFile broken → ⊥) → KeepsJobs keeper s'.receiver.jobs files g → MakesJobFile s'.receiver.jobs keeper.name.now files made)
+      → IfErr left (λ broken. IsOfFile broken → Discloses g made IsSame) → HasWhole last.receiver.jobs keeper.name.now marked made
+  kept_then (Ok l) same makes refused = rest_kept _ tt (same tt) makes
+  kept_then (Err (BrokenOff.Line e)) same makes refused = rest_kept _ (λ never. never) (same (λ never. never)) makes
+  kept_then (Err (BrokenOff.File e)) same makes refused = has_kept keeper last.receiver.jobs marked made grows (still_keeps keeper last.receiver.jobs marked g made k (refused tt))
+
+-- both
+pub leaves_both : {X : Type 0} (left : Result Left BrokenOff) (written : Result X CommandFault) (kept : Result (Unit {0}) CommandFault) (s s' : Contending) (old new : Marker) (before after : Keeper)
+    (f g h made : Option FileMap) → IfOk left (λ l. ExchangesTo l s s')
+    → OnOk left (GoesOnHolding old new s.sender.counted s'.sender.counted before after s.receiver.jobs s'.receiver.jobs f g) → IfErr left (BreaksBoth s s' old new before after f g)
+    → (new.marked ≡ old.marked) ⊎ HasCounted s new.marked
+    → OnOk written (MarksSent new.file.items s'.sender.counted new.name.now g h) → OnErr written (Discloses g h IsSame)
+    → OnOk kept ((files : Option FileMap) → IfErr left (λ broken. IsOfFile broken → ⊥) → KeepsJobs after s'.receiver.jobs files h → MakesJobFile s'.receiver.jobs after.name.now files made)
+    → IfErr left (λ broken. IsOfFile broken → Discloses h made IsSame) → OnErr kept (Discloses h made IsSame)
+    → old.marked ≡ s.sender.counted → before.place ≡ Growing → old.name.now ≢ before.name.now
+    → (files : Option FileMap) → HoldsBoth old s.sender.counted before s.receiver.jobs files f → LeavesBoth s old.file.items old.name.now before.name.now files made
+leaves_both left written kept s s' old new before after f g h made exchanges holding breaks count sets stays makes refused still start grows two files had =
+    let on = held left s s' old new before after f g exchanges holding breaks in
+    let apart : new.name.now ≢ after.name.now = λ is. two (sym (ap (λ (x : _). x.now) on.holds.name) ∙ is ∙ ap (λ (x : _). x.now) on.holds.own) in
+    let m = marked_then s s' old new count start written on.counted after on.last.receiver.jobs files g h apart on.ended sets stays (on.holds.holds two files had) in
+    record {
+      marked = m.0;
+      marks = subst (λ (bytes : _). MarksAlone s bytes.items old.name.now files m.0) on.holds.file (subst (λ (name : _). MarksAlone s new.file.items name.now files m.0) on.holds.name m.1);
+      last = on.last;
+      came = on.came;
+      kept = subst (λ (name : _). HasWhole on.last.receiver.jobs name.now m.0 made) on.holds.own
+          (kept_then kept after on.last s' m.0 h made (on.holds.place ∙ grows) m.2 still left on.same makes refused);
+    }
