@@ -1,6 +1,7 @@
 -- What a transmission each way made of its two files, from what was read before it.
-use Rattle.std.proofs.Common.{◌≡◌, ℕ, List, [], ◌++◌, ap₂, Option, Some, None, Result, Ok, Err, IfOk, length, ap, sym, ◌∙◌, subst, inl, inr}
+use Rattle.std.proofs.Common.{◌≡◌, ℕ, List, [], ◌++◌, ap₂, Option, Some, None, Result, Ok, Err, IfErr, IfOk, OnOk, length, refl, ap, sym, ◌∙◌, subst, inl, inr}
 use Rattle.std.specs.Prelude.{◌≢◌, IfSome}
+use Rattle.std.specs.Result.{IsOkAnd, MatchResult, is_ok, result_and}
 use Rattle.std.specs.Io.KnownBytes.{Appends}
 use Rattle.std.proofs.lemmas.List.{append-nil, append_assoc, length-map}
 use Rattle.bsc_link.specs.declared.rank.Rank.{Rank}
@@ -9,21 +10,25 @@ use Rattle.rje_files.specs.declared.entry.Entry.{Entry}
 use Rattle.rje_files.specs.Entry.{jobs_in}
 use Rattle.rje_files.specs.JobFile.{HasEntries}
 use Rattle.rje_files.specs.Marks.{AreMarks}
-use Rattle.rje_files.specs.Unsent.{unsent}
+use Rattle.rje_files.specs.Unsent.{IsLeft, unsent}
 use Rattle.rje_station.specs.Sending.{outcome_of}
 use Rattle.rje_station.specs.Station.{Contending, first_contending}
 use Rattle.rje_commands.specs.declared.command_fault.CommandFault.{CommandFault}
+use Rattle.rje_commands.specs.CommandFault.{IsFailing, status_of}
 use Rattle.rje_commands.specs.Commands.{OfFile}
 use Rattle.rje_commands.proofs.Inputs.{of_file}
+use Rattle.rje_sockets.specs.declared.broken_off.BrokenOff.{BrokenOff}
+use Rattle.rje_sockets.specs.declared.exchange.Left.{Left}
 use Rattle.rje_sockets.specs.declared.keeper.Keeper.{Keeper}
 use Rattle.rje_sockets.specs.declared.marker.Marker.{Marker}
 use Rattle.rje_sockets.specs.declared.socket_commands.ending.Ending.{Ending}
 use Rattle.rje_sockets.specs.BothFiles.{GoesOnHolding, HoldsBoth}
 use Rattle.rje_sockets.specs.BothWays.{ExchangesTo}
+use Rattle.rje_sockets.specs.BrokenOff.{of_broken_off}
 use Rattle.rje_sockets.specs.Ending.{MakesJobFile, MarksSent}
-use Rattle.rje_sockets.specs.Exchanging.{Exchanges, ExchangesLeft, MakesBoth, exchanged_text}
+use Rattle.rje_sockets.specs.Exchanging.{Exchanges, ExchangesLeft, MakesBoth, ending_of_both, exchanged_text}
 use Rattle.rje_sockets.specs.Inside.Sending.{IsOutgoing}
-use Rattle.rje_sockets.specs.Keeping.{KeepsJobs}
+use Rattle.rje_sockets.specs.Keeping.{IsOfFile, KeepsJobs}
 use Rattle.rje_sockets.specs.LeavingBoth.{LeavesBoth, LeavesExchange, MarksAlone}
 use Rattle.rje_sockets.proofs.BothFiles.{holds_written}
 use Rattle.rje_sockets.proofs.Growing.{none_kept}
@@ -44,6 +49,45 @@ makes_both old new counted n before after jobs later f mid g h on sets makes two
       subst (λ (bytes : _). MarksSent bytes.items n old.name.now files written.0) on.file (subst (λ (name : _). MarksSent new.file.items n name.now files written.0) on.name written.1),
       subst (λ (name : _). MakesJobFile later name.now written.0 h) on.own (makes written.0 written.2),
     )
+
+-- a transmission each way that nothing ended but itself
+pub all_exchanged : (left : Result Left BrokenOff) (marked kept printed : Result (Unit {0}) CommandFault) (s station : Contending) (old new : Marker) (before after : Keeper) (f mid g h : Option FileMap)
+    (had has : Option (List ℕ)) (text : List ℕ) → IfOk left (λ l. ExchangesTo l s station)
+    → OnOk left (GoesOnHolding old new s.sender.counted station.sender.counted before after s.receiver.jobs station.receiver.jobs f mid)
+    → OnOk marked (MarksSent new.file.items station.sender.counted new.name.now mid g)
+    → OnOk kept ((files : Option FileMap) → IfErr left (λ broken. IsOfFile broken → ⊥) → KeepsJobs after station.receiver.jobs files g → MakesJobFile station.receiver.jobs after.name.now files h)
+    → OnOk printed (Appends had has text) → text ≡ exchanged_text station.sender.counted (length s.sender.jobs) (outcome_of station.sender) station.receiver.jobs
+    → IfOk left (λ l. OnOk (result_and marked kept) (OnOk printed (Exchanges (ending_of_both (outcome_of station.sender) l) s old before f h had has)))
+all_exchanged (Err b) marked kept printed s station old new before after f mid g h had has text exchanges holds sets keeps prints is = tt
+all_exchanged (Ok l) (Err e) kept printed s station old new before after f mid g h had has text exchanges holds sets keeps prints is = tt
+all_exchanged (Ok l) (Ok m) (Err e) printed s station old new before after f mid g h had has text exchanges holds sets keeps prints is = tt
+all_exchanged (Ok l) (Ok m) (Ok k) (Err e) s station old new before after f mid g h had has text exchanges holds sets keeps prints is = tt
+all_exchanged (Ok l) (Ok m) (Ok k) (Ok p) s station old new before after f mid g h had has text exchanges holds sets keeps prints is = record {
+  left = l;
+  station = station;
+  exchanges = exchanges;
+  makes = makes_both old new s.sender.counted station.sender.counted before after s.receiver.jobs station.receiver.jobs f mid g h holds sets (λ files. keeps files tt);
+  ending_is = refl;
+  text_is = subst (Appends had has) is prints;
+}
+
+-- and one that something ended: it is a line, a file or an output that failed, or memory
+pub exchange_fails : (r : Result Ending CommandFault) (so : Result Left CommandFault) (left : Result Left BrokenOff) (marked kept printed : Result (Unit {0}) CommandFault) (ending_by : Left → Ending) (old new : Marker)
+    → new.file ≡ old.file
+    → (IfErr left (λ broken. IsFailing (status_of (of_broken_off broken))) → IfErr (result_and marked kept) (λ fault. IsFailing (status_of fault)) → IfErr printed (λ fault. IsFailing (status_of fault))
+    → IfErr so (λ fault. IsFailing (status_of fault)))
+    → MatchResult so (λ l. IsOkAnd r (λ ending. ending ≡ ending_by l)) (λ e. r ≡ Err e) → is_ok r ≡ is_ok so
+    → IfErr left (λ broken. IsFailing (status_of (of_broken_off broken))) → IfErr marked (λ fault. (jobs : List Job) → IsLeft new.file.items jobs → IsFailing (status_of fault))
+    → IfErr kept (λ fault. IsFailing (status_of fault)) → IfErr printed (λ fault. IsFailing (status_of fault))
+    → IfErr r (λ fault. (jobs : List Job) → IsLeft old.file.items jobs → IsFailing (status_of fault))
+exchange_fails (Ok ending) so left marked kept printed ending_by old new file fails told same breaks unmarked lost unprinted = tt
+exchange_fails (Err e) (Ok l) left marked kept printed ending_by old new file fails told same breaks unmarked lost unprinted = absurd told
+exchange_fails (Err e) (Err x) left marked kept printed ending_by old new file fails told same breaks unmarked lost unprinted = λ jobs is_left.
+    subst (λ (r : Result Ending CommandFault). IfErr r (λ fault. IsFailing (status_of fault))) (sym told) (fails breaks (either marked kept jobs is_left unmarked lost) unprinted) where
+      either : (marked kept : Result (Unit {0}) CommandFault) (jobs : List Job) → IsLeft old.file.items jobs → IfErr marked (λ fault. (jobs : List Job) → IsLeft new.file.items jobs → IsFailing (status_of fault))
+          → IfErr kept (λ fault. IsFailing (status_of fault)) → IfErr (result_and marked kept) (λ fault. IsFailing (status_of fault))
+      either (Ok m) kept jobs is_left unmarked lost = lost
+      either (Err m) kept jobs is_left unmarked lost = unmarked jobs (subst (λ (bytes : _). IsLeft bytes.items jobs) (sym file) is_left)
 
 -- three lines, one after another
 pub three_lines : (a b c one two three : List ℕ) → a ≡ one → b ≡ two → c ≡ three → a ++ (b ++ (c ++ [])) ≡ one ++ two ++ three

@@ -70,7 +70,18 @@ held (Err (BrokenOff.File fault)) s s' old new before after f g exchanges holds 
   holds = b.holds;
 }
 
+-- the file that was read stays the same
+pub file_stays : (left : Result Left BrokenOff) (s s' : Contending) (old new : Marker) (before after : Keeper) (f g : Option FileMap) → IfOk left (λ l. ExchangesTo l s s')
+    → OnOk left (GoesOnHolding old new s.sender.counted s'.sender.counted before after s.receiver.jobs s'.receiver.jobs f g) → IfErr left (BreaksBoth s s' old new before after f g)
+    → new.file ≡ old.file
+file_stays left s s' old new before after f g exchanges holds breaks = (held left s s' old new before after f g exchanges holds breaks).holds.file
+
 -- THE WHOLE FILE OF WHAT IS SENT
+
+-- as many are marked as were counted
+pub marks_as_many : {X : Type 0} (written : Result X CommandFault) (file : List ℕ) (n counted : ℕ) (name : List ℕ) (f g : Option FileMap) → OnOk written (MarksSent file n name f g) → n ≡ counted
+    → OnOk written (MarksSent file counted name f g)
+marks_as_many written file n counted name f g sets is = subst (λ (n : ℕ). OnOk written (MarksSent file n name f g)) is sets
 
 module _ (s s' : Contending) (old new : Marker) (count : (new.marked ≡ old.marked) ⊎ HasCounted s new.marked) (start : old.marked ≡ s.sender.counted) where
   alone : (files marked : Option FileMap) → AreMarked new.file.items new.marked new.name.now files marked → MarksAlone s new.file.items new.name.now files marked

@@ -2,7 +2,7 @@
 use Rattle.std.proofs.Common.{◌≡◌, ◌⊎◌, inl, inr, true≢false, ℕ, List, [], ◌∷◌, take, drop, Option, Some, None, Result, Ok, Err, IfErr, IfOk, OnErr, OnOk, refl, ap, sym, ◌∙◌, subst, arith}
 use Rattle.std.proofs.lemmas.List.{append-nil, take-append-drop}
 use Rattle.std.specs.Prelude.{IfSome, IsOk}
-use Rattle.std.specs.Result.{IsOkAnd}
+use Rattle.std.specs.Result.{IsOkAnd, MatchResult, is_ok}
 use Rattle.std.specs.Io.KnownBytes.{Appends}
 use Rattle.rje_jobs.specs.declared.job.Job.{Job}
 use Rattle.rje_station.specs.Receiving.{Receiving, first_receiving}
@@ -23,17 +23,24 @@ use Rattle.rje_sockets.proofs.Growing.{kept_still, none_kept}
 
 -- WHERE ALL IS WELL
 
-pub receives : (r : Result Ending CommandFault) (left : Result Left BrokenOff) (written printed : Result (Unit {0}) CommandFault) (name : List ℕ) (files made : Option FileMap)
-    (before after : Option (List ℕ)) (station : Receiving)
-    → IfOk r (λ ending. IsOkAnd left (λ l. ending ≡ ending_of_left l) × IsOk written × IsOk printed) → IfOk left (λ l. LeavesSo l first_receiving station)
-    → IfOk left (λ l. OnOk written (MakesJobFile station.jobs name files made)) → OnOk printed (Appends before after (received_text station.jobs))
-    → IfOk r (λ ending. Receives ending name files made before after)
-receives (Err e) left written printed name files made before after station well leaves makes text = tt
-receives (Ok ending) (Err b) written printed name files made before after station well leaves makes text = absurd well.0
-receives (Ok ending) (Ok l) (Err e) printed name files made before after station well leaves makes text = absurd (true≢false (sym well.1))
-receives (Ok ending) (Ok l) (Ok w) (Err e) name files made before after station well leaves makes text = absurd (true≢false (sym well.2))
-receives (Ok ending) (Ok l) (Ok w) (Ok p) name files made before after station well leaves makes text =
-    record { left = l; station = station; leaves = leaves; ending_is = well.0; writes = (makes, text) }
+-- an ending is told only where nothing failed
+pub ends_well : (r : Result Ending CommandFault) (so : Result Left CommandFault) (left : Result Left BrokenOff) (written printed : Result (Unit {0}) CommandFault) (ending_by : Left → Ending) (P : Ending → Type 0)
+    → IfOk so (λ l. IsOkAnd left (λ was. was ≡ l) × IsOk written × IsOk printed) → MatchResult so (λ l. IsOkAnd r (λ ending. ending ≡ ending_by l)) (λ e. r ≡ Err e) → is_ok r ≡ is_ok so
+    → IfOk left (λ l. OnOk written (OnOk printed (P (ending_by l)))) → IfOk r P
+ends_well (Err e) so left written printed ending_by P well told same holds = tt
+ends_well (Ok ending) (Err e) left written printed ending_by P well told same holds = absurd (true≢false same)
+ends_well (Ok ending) (Ok l) (Err b) written printed ending_by P well told same holds = absurd well.0
+ends_well (Ok ending) (Ok l) (Ok was) (Err e) printed ending_by P well told same holds = absurd (true≢false (sym well.1))
+ends_well (Ok ending) (Ok l) (Ok was) (Ok w) (Err e) ending_by P well told same holds = absurd (true≢false (sym well.2))
+ends_well (Ok ending) (Ok l) (Ok was) (Ok w) (Ok p) ending_by P well told same holds = subst P (ap ending_by well.0 ∙ sym told) holds
+
+pub receives : (left : Result Left BrokenOff) (written printed : Result (Unit {0}) CommandFault) (name : List ℕ) (files made : Option FileMap) (before after : Option (List ℕ)) (station : Receiving)
+    → IfOk left (λ l. LeavesSo l first_receiving station) → IfOk left (λ l. OnOk written (MakesJobFile station.jobs name files made)) → OnOk printed (Appends before after (received_text station.jobs))
+    → IfOk left (λ l. OnOk written (OnOk printed (Receives (ending_of_left l) name files made before after)))
+receives (Err b) written printed name files made before after station leaves makes text = tt
+receives (Ok l) (Err e) printed name files made before after station leaves makes text = tt
+receives (Ok l) (Ok w) (Err e) name files made before after station leaves makes text = tt
+receives (Ok l) (Ok w) (Ok p) name files made before after station leaves makes text = record { left = l; station = station; leaves = leaves; ending_is = refl; writes = (makes, text) }
 
 -- where it came to an end, the file is that of its jobs
 pub made_at_end : (written : Result (Unit {0}) CommandFault) (first last : Keeper) (station : Receiving) (name : List ℕ) (f looked kept made : Option FileMap) (before after : ℕ) (left : Result Left BrokenOff)

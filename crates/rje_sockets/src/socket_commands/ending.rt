@@ -1,7 +1,8 @@
 //! How a command over a line ends.
 ghost use Rattle.std.specs.Prelude.{◌≡◌};
-ghost use Rattle.rje_sockets.specs.Ending.{ending_of, ending_status};
+ghost use Rattle.rje_sockets.specs.Ending.{ending_of, ending_of_left, ending_status};
 
+use crate::exchange::Left;
 use bsc_link::Outcome;
 
 /// How a transmission ended that no fault ended.
@@ -32,6 +33,17 @@ impl From<Option<Outcome>> for Ending {
         match outcome {
             Some(Outcome::Done) => Ending::Done,
             _ => Ending::Other,
+        }
+    }
+}
+
+impl From<Left> for Ending {
+    ghost from_gives = { λ left ending. ending ≡ ending_of_left left };
+
+    fn from(left: Left) -> Ending {
+        match left {
+            Left::Ended => Ending::Done,
+            Left::Abandoned => Ending::Other,
         }
     }
 }

@@ -17,7 +17,7 @@ use crate::exchange::Left;
 use crate::keeper::Keeper;
 use crate::marker::Marker;
 use crate::socket_commands::Ending;
-use crate::socket_commands::receive_command::{accepted, keep_rest};
+use crate::socket_commands::receive_command::{accepted, keep_rest, left_after};
 use crate::socket_commands::send_command::{Outgoing, connected, read_outgoing};
 use crate::socket_line::SocketLine;
 use crate::tracer::Tracer;
@@ -175,11 +175,7 @@ fn exchange_files<'a, 'b, L: Line, S: Store, W: Watch, O: Write>(
     let marked = marker.write(counted, store);
     let kept = keep_rest(&left, &mut keeper, station.take(), store);
     let printed = put_lines(&lines, out);
-    let left = left?;
-    marked?;
-    kept?;
-    printed?;
-    Ok(ending_of_both(outcome, left))
+    left_after(left, marked.and(kept), printed).map(|left| ending_of_both(outcome, left))
 }
 
 /// The end that calls is the primary.

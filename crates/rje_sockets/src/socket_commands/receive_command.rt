@@ -4,7 +4,7 @@ ghost use Rattle.std.specs.Result.{IsOkAnd};
 ghost use Rattle.rje_sockets.specs.Answering.{KeepsAnswered};
 ghost use Rattle.rje_commands.specs.CommandFault.{IsFailing, status_of};
 ghost use Rattle.rje_sockets.specs.BrokenOff.{of_broken_off};
-ghost use Rattle.rje_sockets.specs.Ending.{ending_of_left, MakesJobFile, Receives, EndsReceiving};
+ghost use Rattle.rje_sockets.specs.Ending.{MakesJobFile, Receives, EndsReceiving};
 ghost use Rattle.rje_sockets.specs.Keeping.{IsOfFile, KeepsJobs};
 ghost use Rattle.rje_stores.specs.Store.{FileMap, Discloses, IsSame};
 
@@ -107,7 +107,7 @@ fn received<'a, L: Line, S: Store, W: Watch, O: Write>(
     let handed = handed_text(station.jobs());
     let written = keep_rest(&left, &mut keeper, station.take(), store);
     let printed = put(handed.as_slice(), out);
-    ending_after(left, written, printed)
+    left_after(left, written, printed).map(Ending::from)
 }
 
 /// Keeps what is left of the jobs, where none of them was refused by the file before.
@@ -133,14 +133,13 @@ pub(super) fn keep_rest<'a, S: Store>(
     written
 }
 
-/// How the transmission ends, where nothing failed of it, of its file and of its line on the output; else the first of their faults.
-fn ending_after<'a>(
+/// How the transmission was left, where nothing failed of it, of its files and of its lines on the output; else the first of their faults.
+pub(super) fn left_after<'a>(
     left: Result<Left, BrokenOff<'a>>,
     written: Result<(), CommandFault<'a>>,
     printed: Result<(), CommandFault<'a>>,
-) -> Result<Ending, CommandFault<'a>>
-    ensures ending { IfOk result (λ ending.
-        IsOkAnd left.entry (λ left. ending ≡ ending_of_left left)
+) -> Result<Left, CommandFault<'a>>
+    ensures left { IfOk result (λ so. IsOkAnd left.entry (λ left. left ≡ so)
         × IsOk written.entry × IsOk printed.entry) }
     ensures first { IfErr left.entry (λ broken. IsErrOf result (of_broken_off broken)) }
     ensures second { IsOk left.entry → IfErr written.entry (λ fault. IsErrOf result fault) }
@@ -155,8 +154,5 @@ fn ending_after<'a>(
     let left = left?;
     written?;
     printed?;
-    match left {
-        Left::Ended => Ok(Ending::Done),
-        Left::Abandoned => Ok(Ending::Other),
-    }
+    Ok(left)
 }

@@ -2,7 +2,8 @@ use Rattle.std.proofs.Common.{rules, OnOk, IfErr, refl, subst}
 use Rattle.rje_station.specs.Receiving.{Receiving}
 use Rattle.rje_stores.proofs.Changes.{same_itself}
 use Rattle.rje_sockets.specs.Answering.{KeepsToBreak, KeepsToEnd}
-use Rattle.rje_sockets.proofs.Received.{made_at_end, nothing_kept, received_kept, receives}
+use Rattle.rje_sockets.specs.Ending.{Receives, ending_of_left}
+use Rattle.rje_sockets.proofs.Received.{ends_well, made_at_end, nothing_kept, received_kept, receives}
 use Rattle.rje_sockets.proofs.socket_commands.receive_command.received.Goals as goal
 
 pub returns-in_err-station-clause-kept : goal.returns-in_err-station-clause-kept
@@ -23,14 +24,15 @@ returns-clause-received g c =
     let files = g.S.Store.files c.args.store.now in
     let made = g.S.Store.files c.keep_rest-written.new.store in
     let start = c.in_ok-station.ensures.ready in
-    receives c.ending_after.result left written c.put-printed.result c.args.name.now files made
-    (g.O.Write.contents c.args.out.now) (g.O.Write.contents c.put-printed.new.out) station c.ending_after.ensures.ending (search rules)
+    ends_well c.map.result c.left_after.result left written c.put-printed.result ending_of_left (λ ending. Receives ending c.args.name.now files made (g.O.Write.contents c.args.out.now)
+    (g.O.Write.contents c.put-printed.new.out)) c.left_after.ensures.left c.map.ensures.cases c.map.ensures.variant
+    (receives left written c.put-printed.result c.args.name.now files made (g.O.Write.contents c.args.out.now) (g.O.Write.contents c.put-printed.new.out) station (search rules)
     (made_at_end written c.in_ok-keeper.keeper c.receive_all-left.new.keeper station c.args.name.now files (g.S.Store.files c.new-2.new.store)
     (g.S.Store.files c.receive_all-left.new.store) made (g.L.Line.transmissions c.args.line.now) (g.L.Line.transmissions c.receive_all-left.new.line) left
     c.in_ok-keeper.ensures.name c.in_ok-keeper.ensures.none c.in_ok-keeper.ensures.same
     (subst (λ (s : Receiving). OnOk left (KeepsToEnd c.in_ok-keeper.keeper c.receive_all-left.new.keeper s station (g.L.Line.transmissions c.args.line.now)
     (g.L.Line.transmissions c.receive_all-left.new.line) (g.S.Store.files c.new-2.new.store) (g.S.Store.files c.receive_all-left.new.store))) start c.receive_all-left.ensures.kept) (rw c.take.ensures at c.keep_rest-written.ensures.file))
-    (search rules)
+    (search rules))
 
 pub returns-clause-kept : goal.returns-clause-kept
 returns-clause-kept g c =
