@@ -1,4 +1,5 @@
 //! What `exchange` sends and receives, and what is in its two files then.
+use super::sending::line_of;
 use super::told_line::ToldLine;
 use arrayvec::ArrayVec;
 use bsc_link::Rank;
@@ -78,6 +79,39 @@ fn assert_exchanges(
     assert!(rt; line.sent.as_slice() == joined(rt, said).as_slice());
     assert!(rt; store.read(rt.alloc(), "out")?.as_slice() == one_job(rt, 1, 0xC1).as_slice());
     assert!(rt; store.read(rt.alloc(), "got")?.as_slice() == one_job(rt, 2, 0xC2).as_slice());
+    Ok(())
+}
+
+/// A primary exchanges the job `A` over a line on which this comes and this call fails (0: none). It ends with status 3, and writes these
+/// texts; the job is in this state then.
+fn assert_breaks_off(
+    rt: &(impl Abort + AllocGlobal),
+    coming: &[&[u8]],
+    call: u64,
+    state: u8,
+    text: &[u8],
+    told: &[u8],
+) -> Result<(), Fail> {
+    let mut store = MemoryStore::new(rt.alloc());
+    store.write("out", one_job(rt, 0, 0xC1).as_slice())?;
+    let mut line = line_of(rt.alloc(), coming)?;
+    line.fail_at(call);
+    let mut out = Written::new();
+    let mut err = Written::new();
+    let ended = exchange_over(
+        rt.alloc(),
+        Rank::Primary,
+        &mut line,
+        "out",
+        "got",
+        &mut store,
+        &mut out,
+        &mut err,
+    );
+    assert!(rt; ended == 3);
+    assert!(rt; out.as_slice() == text);
+    assert!(rt; err.as_slice() == told);
+    assert!(rt; store.read(rt.alloc(), "out")?.as_slice() == one_job(rt, state, 0xC1).as_slice());
     Ok(())
 }
 
@@ -161,4 +195,24 @@ fn one_file_cannot_hold_both_directions(rt: HostRuntime) -> Result<(), Fail> {
     assert!(rt; line.sent.is_empty());
     assert!(rt; store.read(rt.alloc(), "out")?.as_slice() == one_job(&rt, 0, 0xC1).as_slice());
     Ok(())
+}
+
+#[test]
+fn the_fault_of_an_exchange_is_told_behind_its_lines(rt: HostRuntime) -> Result<(), Fail> {
+    let uncounted = b"counted 0 of 1 jobs\noutcome open\nhanded 0 jobs, 0 whole\n";
+    let counted = b"counted 1 of 1 jobs\noutcome done\nhanded 0 jobs, 0 whole\n";
+    let failed = b"rje: line failed\n";
+
+    // In its own turns it speaks by calls 1, 3 and 5 and hears by 2 and 4; by 6 it hears the other, and by 7 it answers.
+    for call in 1..=4 {
+        assert_breaks_off(&rt, &[ACK0, ACK1, ENQ], call, 0, uncounted, failed)?;
+    }
+    for call in 5..=7 {
+        assert_breaks_off(&rt, &[ACK0, ACK1, ENQ], call, 1, counted, failed)?;
+    }
+
+    let noise = [0x00; 8193];
+    let babble = b"rje: babble\n";
+    assert_breaks_off(&rt, &[ACK0, &noise], 0, 0, uncounted, babble)?;
+    assert_breaks_off(&rt, &[ACK0, ACK1, &noise], 0, 1, counted, babble)
 }

@@ -36,7 +36,7 @@ fn three_jobs(rt: &impl Abort, states: [u8; 3]) -> Written {
 }
 
 /// A line in memory on which these come, one in each hearing.
-fn line_of(alloc: Global, pieces: &[&[u8]]) -> Result<MemoryLine, Fail> {
+pub(super) fn line_of(alloc: Global, pieces: &[&[u8]]) -> Result<MemoryLine, Fail> {
     let mut put = Vec::new(alloc);
     for piece in pieces {
         put.push(Vec::from_slice(alloc, piece)?)?;
