@@ -1,5 +1,5 @@
 //! What `exchange` sends and receives, and what is in its two files then.
-use super::sending::line_of;
+use super::sending::{ReadOnly, line_of};
 use super::told_line::ToldLine;
 use arrayvec::ArrayVec;
 use bsc_link::Rank;
@@ -215,4 +215,28 @@ fn the_fault_of_an_exchange_is_told_behind_its_lines(rt: HostRuntime) -> Result<
     let babble = b"rje: babble\n";
     assert_breaks_off(&rt, &[ACK0, &noise], 0, 0, uncounted, babble)?;
     assert_breaks_off(&rt, &[ACK0, ACK1, &noise], 0, 1, counted, babble)
+}
+
+#[test]
+fn of_two_files_that_cannot_be_written_the_sent_one_is_told(rt: HostRuntime) {
+    let mut store = ReadOnly {
+        file: one_job(&rt, 0, 0xC1),
+    };
+    let mut line = ToldLine::new(&[ACK0, ACK1]);
+    let mut out = Written::new();
+    let mut err = Written::new();
+    let ended = exchange_over(
+        rt.alloc(),
+        Rank::Primary,
+        &mut line,
+        "out",
+        "got",
+        &mut store,
+        &mut out,
+        &mut err,
+    );
+    assert!(rt; ended == 3);
+    let text = b"counted 1 of 1 jobs\noutcome done\nhanded 0 jobs, 0 whole\n";
+    assert!(rt; out.as_slice() == text.as_slice());
+    assert!(rt; err.as_slice() == b"rje: can't write out\n".as_slice());
 }

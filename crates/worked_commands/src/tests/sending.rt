@@ -159,10 +159,10 @@ fn an_older_file_is_written_back_as_version_2(rt: HostRuntime) -> Result<(), Fai
     assert_file(&rt, &mut store, sent)
 }
 
-/// One file, which can't be written.
+/// One file under any name, which can't be written.
 #[derive(Drop)]
-struct ReadOnly {
-    file: Written,
+pub(super) struct ReadOnly {
+    pub(super) file: Written,
 }
 
 impl Store for ReadOnly {
