@@ -9,5 +9,5 @@ pub use Rattle.line_world.proofs.Planned.{begins, next_is_planned}
 pub use Rattle.line_world.proofs.ReceivingTurns.{accepted_is, no_eot, refused_block, taken_eot, taken_is}
 pub use Rattle.line_world.proofs.RunLoop.{drop_one, plan_some, some_jobs}
 pub use Rattle.line_world.proofs.RunTurns.{turn_of}
-pub use Rattle.line_world.proofs.SendingTurns.{cases_end, core_turn, done_is, turn_ends, turn_hears, unsent}
+pub use Rattle.line_world.proofs.SendingTurns.{cases_end, core_turn, done_is, turn_ends, turn_hears}
 pub use Rattle.line_world.proofs.Telling.{get_append, get_seam, take_one}

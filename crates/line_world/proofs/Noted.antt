@@ -20,7 +20,8 @@ use Rattle.bsc_history.specs.Known.{is_counting}
 use Rattle.bsc_history.specs.Got.{brings_block}
 use Rattle.line_world.specs.Traces.{answer_events, sender_events, replied_events, heard_events}
 use Rattle.line_world.specs.Turns.{after_turn}
-use Rattle.line_world.proofs.SendingTurns.{unsent, turn_ends, turn_hears, cases_end}
+use Rattle.line_world.proofs.SendingTurns.{turn_ends, turn_hears, cases_end}
+use Rattle.rje_station.proofs.Due.{unsent}
 
 -- ---- The sender.
 

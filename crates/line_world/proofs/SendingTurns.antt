@@ -4,8 +4,7 @@ use Rattle.std.proofs.lemmas.Bool.{cases_Bool}
 use Rattle.bsc_codes.specs.declared.block.Block.{Block}
 use Rattle.bsc_link.specs.declared.say.Say.{Say}
 use Rattle.bsc_link.specs.declared.sound.Sound.{Sound}
-use Rattle.bsc_link.specs.declared.sender_place.SenderPlace.{SenderPlace}
-use Rattle.bsc_link.specs.Sender.{SenderState, say_in, sender_hears, sender_sent_end, place_after_end_sent, counts_block, line_for}
+use Rattle.bsc_link.specs.Sender.{SenderState, say_in, sender_hears, sender_sent_end, counts_block, line_for}
 use Rattle.rje_jobs.specs.declared.job.Job.{Job}
 use Rattle.rje_jobs.specs.Blocks.{blocks}
 use Rattle.rje_station.specs.Laws.{HasCounted, CountsBlocks}
@@ -19,18 +18,7 @@ use Rattle.line_world.specs.Plan.{plan_of}
 use Rattle.line_world.specs.Turns.{StandsSending, SendingTurns, after_turn}
 use Rattle.bsc_history.proofs.ForRuns.{saying-speaks, sender_core_says, sender_core_counts}
 use Rattle.line_world.proofs.Planned.{next_is_planned, begins}
-
-place_kept : (p : SenderPlace) → say_in p ≢ Say.End → place_after_end_sent p ≡ p
-place_kept SenderPlace.Bid n = refl
-place_kept SenderPlace.Block n = refl
-place_kept SenderPlace.Again n = refl
-place_kept SenderPlace.Ask n = refl
-place_kept SenderPlace.Delay n = refl
-place_kept (SenderPlace.End o) n = absurd (n refl)
-place_kept (SenderPlace.Over o) n = refl
-
-pub unsent : (s : SenderState) → say_in s.place ≢ Say.End → sender_sent_end s ≡ s
-unsent s n = ap (λ p. record s { place = p }) (place_kept s.place n)
+use Rattle.rje_station.proofs.Due.{unsent}
 
 pub core_turn : (plan : Plan) (n : ℕ) (s : SenderState) (rest : List Block) (said : Say) (heard : Sound) (pause : Bool) → said ≢ Say.End → next_in rest ≡ what_follows plan (n + 1)
     → sender_hears s heard (next_for said rest) pause ≡ hears_after plan n s said heard pause

@@ -26,7 +26,7 @@ use Rattle.bsc_history.specs.Pair.{as_counted}
 use Rattle.pair_world.specs.Inside.PairDriving.{SpeaksInVain, HearsNothing, after_end_of}
 use Rattle.pair_world.proofs.Alone.{Laws, Listens, quiet_place, own_more, end_more, end_jobs}
 use Rattle.bsc_history.proofs.ForRuns.{same-sound, vain-follows}
-use Rattle.pair_world.proofs.PairCarried.{spoken_of_due, answered_of_due, due_kept}
+use Rattle.rje_station.proofs.Due.{spoken_of_due, answered_of_due, due_kept}
 
 hears_more : (say : Say) (pause : Bool) (s s' : Contending) (heard : Sound) → say ≢ Say.End → HearsNothing say pause s s' heard → (s' ≡ after_answer s heard pause) × AreHeardAs [] heard
 hears_more Say.End pause s s' heard n h = absurd (n refl)

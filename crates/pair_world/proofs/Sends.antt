@@ -17,7 +17,8 @@ use Rattle.bsc_history.specs.Cores.{hears_after}
 use Rattle.line_world.specs.Plan.{plan_of}
 use Rattle.line_world.specs.Turns.{after_turn}
 use Rattle.bsc_history.proofs.ForRuns.{quiet-after_end, Matches, sender-step, counts-step}
-use Rattle.line_world.proofs.ForPairs.{next_is_planned, begins, unsent, core_turn, done_is, turn_ends, turn_hears, cases_end}
+use Rattle.rje_station.proofs.Due.{unsent}
+use Rattle.line_world.proofs.ForPairs.{next_is_planned, begins, core_turn, done_is, turn_ends, turn_hears, cases_end}
 
 -- b: it gave up before its last turn; m, n: the tries and the holds that count
 pub record SendsBy (jobs : List Job) (h : History) (b : Bool) (m n : ℕ) (s : Sending) : Type 0 where

@@ -7,3 +7,4 @@ pub mod LastEvents
 pub mod Counting
 pub mod Ages
 pub mod Said
+pub mod Due

@@ -1,7 +1,7 @@
 use Rattle.std.proofs.Common.{Some}
 use Rattle.line_world.specs.MemoryLine.{talk_of}
 use Rattle.line_world.proofs.ForPairs.{stays_calm}
-use Rattle.pair_world.proofs.PairCarried.{answer_heard}
+use Rattle.rje_station.proofs.Due.{answer_heard}
 use Rattle.pair_world.proofs.unfailing.hear_back.Goals as goal
 
 pub returns-clause-heard : goal.returns-clause-heard
