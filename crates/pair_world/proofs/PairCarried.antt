@@ -3,22 +3,19 @@ use Rattle.std.proofs.Common.{◌≡◌, ◌≢◌, inl, inr, ℕ, Bool, false, 
 use Rattle.std.specs.List.{flat_map}
 use Rattle.std.proofs.lemmas.Bool.{true≢false, cases_Bool}
 use Rattle.bsc_frame.specs.declared.heard.Heard.{Heard}
-use Rattle.bsc_link.specs.declared.contender_place.ContenderPlace.{ContenderPlace}
 use Rattle.bsc_link.specs.declared.reply.Reply.{Reply}
 use Rattle.bsc_link.specs.declared.say.Say.{Say}
 use Rattle.bsc_link.specs.declared.sound.Sound.{Sound}
 use Rattle.bsc_link.specs.declared.wish.Wish.{Wish}
-use Rattle.bsc_link.specs.declared.rank.Rank.{Rank}
-use Rattle.bsc_link.specs.Contender.{ContenderState, after_bid}
-use Rattle.bsc_link.specs.Sender.{say_in, sender_sent_end}
+use Rattle.bsc_link.specs.Contender.{ContenderState}
 use Rattle.rje_jobs.specs.declared.job.Job.{Job}
 use Rattle.rje_station.specs.declared.arrival.Arrival.{Arrival}
 use Rattle.rje_station.specs.Hearing.{Hearing, HearsSound, sound_heard}
 use Rattle.rje_station.specs.JoinedJobs.{begun_in}
-use Rattle.rje_station.specs.Line.{Talk, Passes}
+use Rattle.rje_station.specs.Line.{Passes}
 use Rattle.rje_station.specs.Receiving.{MayRefuse}
-use Rattle.rje_station.specs.Sending.{IsWrittenOf, after_speaking, after_hearing, is_end}
-use Rattle.rje_station.specs.Station.{Contending, due_at, is_receiving, after_own_speaking, after_answer, HeardOther, HeardAnswer, after_other, lets_in, contender_said, contender_answered}
+use Rattle.rje_station.specs.Sending.{IsWrittenOf}
+use Rattle.rje_station.specs.Station.{Contending, due_at, after_answer, HeardOther, after_other, lets_in}
 use Rattle.line_world.specs.declared.turn.Turn.{Turn}
 use Rattle.line_world.specs.declared.turn_fault.TurnFault.{TurnFault}
 use Rattle.line_world.specs.declared.turn_fault.TurnFault.TheVariants as Fault

@@ -76,12 +76,17 @@ answered_arrival : (mid : Contending) (over : Bool) → over ≡ mid.receiver.ov
 answered_arrival mid true is = rw (sym is) refl
 answered_arrival mid false is = refl
 
+pub others_arrived : (s mid : Contending) (what : Heard) (refused : Bool) (arrival : Arrival) → MayRefuse what (begun_in s.receiver.jobs) refused → mid ≡ after_other s what refused Wish.Go
+    → Some arrival ≡ mid.receiver.arrival → arrival ≡ arrival_of what refused
+others_arrived s mid what refused arrival may is came =
+    let known : Some arrival ≡ Some (arrival_of what refused) = came ∙ ap (λ (x : Contending). x.receiver.arrival) is ∙ other_arrival s what refused _ refl may in
+    cc
+
 pub others_taken : (s mid s' : Contending) (what : Heard) (refused : Bool) (arrival : Arrival) (reply : Option Reply) (over : Bool) → is_deaf s ≡ false
     → MayRefuse what (begun_in s.receiver.jobs) refused → mid ≡ after_other s what refused Wish.Go → reply ≡ mid.receiver.due → Some arrival ≡ mid.receiver.arrival
     → over ≡ mid.receiver.over → s' ≡ (if over then after_other_ended mid else after_own_reply mid) → TakesOthers s s' arrival reply × (s'.receiver.arrival ≡ Some arrival)
 others_taken s mid s' what refused arrival reply over live may is due came ends answers =
-    let known : Some arrival ≡ Some (arrival_of what refused) = came ∙ ap (λ (x : Contending). x.receiver.arrival) is ∙ other_arrival s what refused _ refl may in
-    let same : arrival ≡ arrival_of what refused = cc in (
+    let same = others_arrived s mid what refused arrival may is came in (
       record {
         live = live;
         what = what;

@@ -10,6 +10,7 @@ ghost use Rattle.rje_station.specs.declared.station_fault.StationFault.TheVarian
 ghost use Rattle.rje_station.specs.Station.{Contending, due_at, is_deaf, after_other_refusal};
 ghost use Rattle.rje_commands.specs.CommandFault.{IsFailing, of_station, status_of};
 ghost use Rattle.rje_sockets.specs.BothWays.{has_listened, AreOver, ExchangesTo, FailsInOwn, FailsInOthers, LeavesFrom, StationTurn, TakesOwn, TakesOthers, Waits, Watched};
+ghost use Rattle.rje_sockets.specs.Babble.{BabblesInOthers, BabblesInOwn, Brought, ExchangesToBabble, GaveBack};
 ghost use Rattle.rje_sockets.specs.BothFiles.{BreaksBoth, GoesOnHolding, kept_of};
 ghost use Rattle.rje_sockets.specs.BrokenOff.{of_broken_off};
 ghost use Rattle.rje_sockets.specs.Keeping.{GoesOnKeeping};
@@ -41,6 +42,7 @@ pub fn exchange_all<'a, 'b, L: Line, S: Store, W: Watch>(
     ensures left { IfOk result (λ left. ExchangesTo left station.old station.new) }
     ensures status { IfErr result (λ broken. IsFailing (status_of (of_broken_off broken))) }
     ensures cause { IfErr result (IsBreak (λ f. L.last_fault line.new ≡ Some f)
+        (ExchangesToBabble station.old (L.talk line.old) station.new (L.talk line.new))
         (station.old.failed ≡ true)) }
     ensures holds { OnOk result (GoesOnHolding marker.old marker.new station.old.sender.counted
         station.new.sender.counted keeper.old keeper.new station.old.receiver.jobs
@@ -126,7 +128,11 @@ fn take_own_turn<'a, 'b, L: Line, S: Store, W: Watch>(
         × TakesOwn station.old station.new said heard
         × W.saw_sender watch.old watch.new said heard) }
     ensures fault { IfErr result (FailsInOwn station.old station.new) }
-    ensures cause { IfErr result (IsLineBreak (λ f. L.last_fault line.new ≡ Some f) ⊥) }
+    ensures cause { IfErr result (IsLineBreak (λ f. L.last_fault line.new ≡ Some f)
+        (BabblesInOwn station.old (L.talk line.old) station.new (L.talk line.new)) ⊥) }
+    ensures gave { OnOk result ((said : Word) × (heard : Tone)
+        × TakesOwn station.old station.new said heard
+        × GaveBack (L.talk line.old) (L.talk line.new) said heard) }
     ensures status { IfErr result (λ fault. IsFailing (status_of (of_station fault))) }
     ensures marked { OnOk result (GoesOnMarking marker.old marker.new station.old.sender.counted
         station.new.sender.counted (S.files store.old) (S.files store.new)) }
@@ -162,7 +168,12 @@ fn take_others_turn<'a, 'b, L: Line, S: Store, W: Watch>(
         × (watch.new ≡ watch.old)) }
     ensures fault { IfErr result (FailsInOthers station.old station.new) }
     ensures cause { IfErr result (IsBreak (λ f. L.last_fault line.new ≡ Some f)
+        (BabblesInOthers station.old (L.talk line.old) station.new (L.talk line.new))
         (is_deaf station.old ≡ true)) }
+    ensures gave { IfOk result (λ is_turn. is_turn ≡ true → (arrival : Coming)
+        × (reply : Option Answer) × TakesOthers station.old station.new arrival reply
+        × Brought (L.talk line.old) (L.talk line.new) arrival reply
+        × (station.new.receiver.arrival ≡ Some arrival)) }
     ensures status { IfErr result (λ broken. IsFailing (status_of (of_broken_off broken))) }
     ensures kept { OnOk result (GoesOnKeeping keeper.old keeper.new station.old.receiver.jobs
         station.new.receiver.jobs (S.files store.old) (S.files store.new)) }

@@ -1,11 +1,12 @@
 //! Stations that take turns over a line, until the transmission ends.
-ghost use Rattle.std.specs.Prelude.{◌≡◌, ◌⊎◌, ◌<◌, ◌+◌, ℕ, List, Some, true, false, if◌then◌else◌, IfOk, OnOk, IfErr, OnErr};
+ghost use Rattle.std.specs.Prelude.{◌≡◌, ◌⊎◌, ◌<◌, ◌+◌, ℕ, List, Some, true, false, if◌then◌else◌, IfOk, OnOk, IfErr, OnErr, IfSome};
 ghost use Rattle.bsc_history.specs.History.{History};
 ghost use Rattle.bsc_history.specs.declared.spoken_turn.SpokenTurn.{SpokenTurn};
 ghost use Rattle.line_world.specs.declared.spoken.Spoken.{Spoken as Turn};
 ghost use Rattle.rje_station.specs.Receiving.{Receiving, after_abandon};
 ghost use Rattle.rje_sockets.specs.Answering.{BreaksKeeping, KeepsToBreak, KeepsToEnd, with_answer};
 ghost use Rattle.rje_commands.specs.CommandFault.{IsFailing, of_station, status_of};
+ghost use Rattle.rje_sockets.specs.Babble.{BabblesToReceiver, BabblesToSender, BothToBabble, Brought, GaveBack, GaveBoth, ReceivesToBabble, SendsToBabble};
 ghost use Rattle.rje_sockets.specs.BrokenOff.{of_broken_off};
 ghost use Rattle.rje_sockets.specs.Keeping.{BreaksOff, BreaksOffNow, GoesOnKeeping, IsOfFile};
 ghost use Rattle.rje_sockets.specs.LineBreak.{IsBreak, IsLineBreak};
@@ -51,7 +52,8 @@ pub fn send_all<'a, L: Line, S: Store, W: Watch>(
     ensures took { OnOk result (SendsToEnd station.old station.new) }
     ensures fault { IfErr result (SendsToFault station.old station.new) }
     ensures status { IfErr result (λ fault. IsFailing (status_of (of_station fault))) }
-    ensures cause { IfErr result (IsLineBreak (λ f. L.last_fault line.new ≡ Some f) ⊥) }
+    ensures cause { IfErr result (IsLineBreak (λ f. L.last_fault line.new ≡ Some f)
+        (SendsToBabble station.old (L.talk line.old) station.new (L.talk line.new)) ⊥) }
     ensures marked { OnOk result (GoesOnMarking marker.old marker.new station.old.counted
         station.new.counted (S.files store.old) (S.files store.new)) }
     ensures broken { OnErr result ((n : ℕ) × GoesOnMarking marker.old marker.new
@@ -83,7 +85,10 @@ fn speak_hear_and_mark<'a, L: Line, S: Store, W: Watch>(
         × (station.new ≡ station.old)) }
     ensures fault { IfErr result (SenderFails station.old station.new) }
     ensures status { IfErr result (λ fault. IsFailing (status_of (of_station fault))) }
-    ensures cause { IfErr result (IsLineBreak (λ f. L.last_fault line.new ≡ Some f) ⊥) }
+    ensures cause { IfErr result (IsLineBreak (λ f. L.last_fault line.new ≡ Some f)
+        (BabblesToSender station.old (L.talk line.old) station.new (L.talk line.new)) ⊥) }
+    ensures gave { IfOk result (λ is_turn. is_turn ≡ true → (t : SpokenTurn) × SenderWatched
+        GaveBack station.old (L.talk line.old) station.new (L.talk line.new) t) }
     ensures marked { OnOk result (GoesOnMarking marker.old marker.new station.old.counted
         station.new.counted (S.files store.old) (S.files store.new)) }
     ensures count { (marker.new.marked ≡ marker.old.marked)
@@ -112,7 +117,10 @@ fn speak_and_hear<L: Line, W: Watch>(
         × (station.new ≡ station.old)) }
     ensures fault { IfErr result (SenderFails station.old station.new) }
     ensures status { IfErr result (λ fault. IsFailing (status_of (of_station fault))) }
-    ensures cause { IfErr result (IsLineBreak (λ f. L.last_fault line.new ≡ Some f) ⊥) }
+    ensures cause { IfErr result (IsLineBreak (λ f. L.last_fault line.new ≡ Some f)
+        (BabblesToSender station.old (L.talk line.old) station.new (L.talk line.new)) ⊥) }
+    ensures gave { IfOk result (λ is_turn. is_turn ≡ true → (t : SpokenTurn) × SenderWatched
+        GaveBack station.old (L.talk line.old) station.new (L.talk line.new) t) }
     ensures told { IfOk result (λ is_turn. is_turn ≡ true → (t : SpokenTurn)
         × SenderWatched W.saw_sender station.old watch.old station.new watch.new t) }
     ensures untold { IfOk result (λ is_turn. is_turn ≡ false → watch.new ≡ watch.old) }
@@ -144,6 +152,7 @@ pub fn receive_all<'a, L: Line, S: Store, W: Watch>(
     ensures left { IfOk result (λ left. LeavesSo left station.old station.new) }
     ensures fault { IfErr result (BreaksOff station.old station.new) }
     ensures cause { IfErr result (IsBreak (λ f. L.last_fault line.new ≡ Some f)
+        (ReceivesToBabble station.old (L.talk line.old) station.new (L.talk line.new))
         (station.old.over ≡ true)) }
     ensures status { IfErr result (λ broken. IsFailing (status_of (of_broken_off broken))) }
     ensures kept { OnOk result (KeepsToEnd keeper.old keeper.new station.old station.new
@@ -174,6 +183,7 @@ fn hear_out<'a, L: Line, S: Store, W: Watch>(
     ensures heard { IfOk result (λ left. HearsOut left station.old station.new) }
     ensures fault { IfErr result (BreaksOff station.old station.new) }
     ensures cause { IfErr result (IsBreak (λ f. L.last_fault line.new ≡ Some f)
+        (ReceivesToBabble station.old (L.talk line.old) station.new (L.talk line.new))
         (station.old.over ≡ true)) }
     ensures status { IfErr result (λ broken. IsFailing (status_of (of_broken_off broken))) }
     ensures kept { OnOk result (KeepsToEnd keeper.old keeper.new station.old station.new
@@ -228,7 +238,10 @@ fn hear_keep_and_speak<'a, L: Line, S: Store, W: Watch>(
     ensures over { IfOk result (λ goes_on. goes_on ≡ false → station.new.over ≡ true) }
     ensures fault { IfErr result (BreaksOffNow station.old station.new) }
     ensures cause { IfErr result (IsBreak (λ f. L.last_fault line.new ≡ Some f)
+        (BabblesToReceiver station.old (L.talk line.old) station.new (L.talk line.new))
         (station.old.over ≡ true)) }
+    ensures gave { OnOk result ((t : SpokenTurn) × ReceiverWatched
+        Brought station.old (L.talk line.old) station.new (L.talk line.new) t) }
     ensures goes_on { IfOk result (λ goes_on. goes_on ≡ true → station.new.over ≡ false) }
     ensures kept { OnOk result (GoesOnKeeping keeper.old keeper.new station.old.jobs
         station.new.jobs (S.files store.old) (S.files store.new)) }
@@ -274,7 +287,9 @@ pub fn take_turns<N: Line, F: Line, W: Watch>(
     ensures took { OnOk result (BothToEnd sender.old sender.new receiver.old receiver.new) }
     ensures fault { IfErr result (BothToFault sender.old sender.new receiver.old receiver.new) }
     ensures cause { IfErr result (IsLineBreak (λ f. (N.last_fault near.new ≡ Some f)
-        ⊎ (F.last_fault far.new ≡ Some f)) (receiver.new.over ≡ true)) }
+        ⊎ (F.last_fault far.new ≡ Some f)) (BothToBabble sender.old receiver.old
+        (N.talk near.old) (F.talk far.old) sender.new receiver.new
+        (N.talk near.new) (F.talk far.new)) (receiver.new.over ≡ true)) }
     ensures told { OnOk result ((turns : List Turn) × BothWatchedAll W.saw_both
         sender.old receiver.old watch.old sender.new receiver.new watch.new turns) }
 {
@@ -298,7 +313,12 @@ fn take_turn<N: Line, F: Line>(
         BothTake spoken sender.old sender.new receiver.old receiver.new) }
     ensures fault { IfErr result (BothFail sender.old sender.new receiver.old receiver.new) }
     ensures cause { IfErr result (IsLineBreak (λ f. (N.last_fault near.new ≡ Some f)
-        ⊎ (F.last_fault far.new ≡ Some f)) (receiver.new.over ≡ true)) }
+        ⊎ (F.last_fault far.new ≡ Some f))
+        (BabblesToSender sender.old (N.talk near.old) sender.new (N.talk near.new)
+        ⊎ BabblesToReceiver receiver.old (F.talk far.old) receiver.new (F.talk far.new))
+        (receiver.new.over ≡ true)) }
+    ensures gave { IfOk result (λ spoken. IfSome spoken (GaveBoth
+        (N.talk near.old, F.talk far.old) (N.talk near.new, F.talk far.new))) }
 {
     let said = match sender.speak(near) {
         Ok(said) => said,

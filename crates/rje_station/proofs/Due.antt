@@ -75,7 +75,7 @@ answered_of_due s Say.Delay heard pause e n = rw (e, after_answer) (ap (λ x. re
 answered_of_due s Say.Ask heard pause e n = rw (e, after_answer) (ap (λ x. record s { sender = after_hearing s.sender heard pause; contender = contender_answered x heard s.contender }) e)
 answered_of_due s Say.End heard pause e n = rw (e, after_answer) (ap (λ x. record s { sender = after_hearing s.sender heard pause; contender = contender_answered x heard s.contender }) e)
 
-not_end : (say : Say) → say ≢ Say.End → is_end say ≡ false
+pub not_end : (say : Say) → say ≢ Say.End → is_end say ≡ false
 not_end Say.End n = absurd (n refl)
 not_end _ n = refl
 

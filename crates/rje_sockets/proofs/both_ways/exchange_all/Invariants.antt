@@ -1,4 +1,5 @@
 use Rattle.std.specs.Prelude.{◌≡◌, ◌⊎◌}
+use Rattle.rje_sockets.specs.Babble.{Brought, GaveBack}
 use Rattle.rje_sockets.specs.BothFiles.{GoesOnHolding}
 use Rattle.rje_sockets.specs.LeavingBoth.{HasCounted}
 use Rattle.rje_sockets.proofs.BothWays.{SoFar}
@@ -10,3 +11,4 @@ invariant-loop g l =
     × GoesOnHolding l.initial.marker l.marker l.initial.station.sender.counted l.station.sender.counted l.initial.keeper l.keeper l.initial.station.receiver.jobs l.station.receiver.jobs
     (g.S.Store.files l.initial.store) (g.S.Store.files l.store)
     × ((l.marker.marked ≡ l.initial.marker.marked) ⊎ HasCounted l.initial.station l.marker.marked)
+    × SoFar GaveBack Brought l.initial.station (g.L.Line.talk l.initial.line) l.counter l.quiet l.has_listened l.station (g.L.Line.talk l.line)

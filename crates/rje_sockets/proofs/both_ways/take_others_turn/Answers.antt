@@ -1,11 +1,14 @@
-use Rattle.std.proofs.Common.{rules, ◌≡◌, ◌∙◌, ap, if◌then◌else◌}
+use Rattle.std.proofs.Common.{rules, ◌≡◌, ◌∙◌, ap, refl, if◌then◌else◌}
+use Rattle.rje_station.specs.declared.arrival.Arrival.{Arrival}
 use Rattle.rje_station.specs.Receiving.{Receiving}
 use Rattle.rje_station.specs.Station.{after_other_ended, after_own_reply}
 use Rattle.rje_sockets.specs.declared.broken_off.BrokenOff.{BrokenOff}
 use Rattle.rje_sockets.specs.BothFiles.{kept_of}
 use Rattle.rje_sockets.specs.Keeping.{GoesOnKeeping}
 use Rattle.rje_sockets.proofs.BothFiles.{answer_leaves, other_kept, refusal_leaves}
-use Rattle.rje_sockets.proofs.BothWays.{fails_as, others_taken}
+use Rattle.rje_sockets.specs.Babble.{ComesAsBefore}
+use Rattle.rje_sockets.proofs.Babble.{brought, comes_replied, comes_same}
+use Rattle.rje_sockets.proofs.BothWays.{fails_as, others_arrived, others_taken}
 use Rattle.rje_sockets.proofs.both_ways.take_others_turn.Goals.{then-is_over, else-is_over+in_ok-reply}
 use Rattle.rje_sockets.proofs.both_ways.take_others_turn.Goals as goal
 
@@ -44,3 +47,27 @@ returns-in_err-reply-clause-broken g c =
     (other_kept c.args.station.now c.hear_other.new.self heard.what heard.refused c.args.keeper.now c.keep.new.self c.jobs.result.now c.reply.new.self.receiver.jobs
     (g.S.Store.files c.args.store.now) (g.S.Store.files c.keep.new.store) heard.state (c.jobs.ensures ∙ ap (λ (r : Receiving). r.jobs) c.receiver-2.ensures)
     (refusal_leaves fault c.hear_other.new.self c.reply.new.self c.in_err-reply.ensures.kept) c.keep.ensures.name c.keep.ensures.place (search rules) (search rules))
+
+pub returns-clause-gave : goal.returns-clause-gave
+returns-clause-gave g c is =
+    let heard = c.in-Ok.ensures.heard in
+    let after : c.if-is_over.station ≡ (if c.is_over.result then after_other_ended c.hear_other.new.self else after_own_reply c.hear_other.new.self) =
+    elim c.if-is_over.branch [
+      | then-is_over w ↦ search rules
+      | else-is_over+in_ok-reply w ↦ search rules
+    ] in
+    let comes : ComesAsBefore (g.L.Line.talk c.hear_other.new.line) (g.L.Line.talk c.if-is_over.line) =
+    elim c.if-is_over.branch [
+      | then-is_over w ↦ rw w.line-is (comes_same _ _ refl)
+      | else-is_over+in_ok-reply w ↦ rw w.line-is (comes_replied _ _ _ w.in_ok-reply.ensures.sent)
+    ] in
+    let taken =
+    others_taken c.args.station.now c.hear_other.new.self c.if-is_over.station heard.what heard.refused c.in-Some.arrival c.in-Ok.reply c.is_over.result c.in-Ok.ensures.live
+    heard.may heard.state heard.reply_is (search rules) (c.is_over.ensures ∙ ap (λ (r : Receiving). r.over) c.receiver-3.ensures) after in
+    let sound = ap (λ (a : Arrival). a.sound) (others_arrived c.args.station.now c.hear_other.new.self heard.what heard.refused c.in-Some.arrival heard.may heard.state (search rules)) in (
+      c.in-Some.arrival,
+      c.in-Ok.reply,
+      taken.0,
+      brought heard.what heard.refused c.in-Some.arrival c.in-Ok.reply _ (g.L.Line.talk c.hear_other.new.line) _ sound heard.told comes,
+      taken.1,
+    )

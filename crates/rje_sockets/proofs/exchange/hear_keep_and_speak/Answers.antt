@@ -3,6 +3,8 @@ use Rattle.rje_sockets.proofs.Answering.{replied_turn, last_turn, line_failed, n
 use Rattle.rje_station.specs.declared.station_fault.StationFault.{StationFault}
 use Rattle.rje_station.specs.Line.{one_more}
 use Rattle.rje_station.specs.Receiving.{Receiving}
+use Rattle.rje_sockets.specs.Babble.{Brought}
+use Rattle.rje_sockets.proofs.Babble.{brought, comes_replied, comes_same}
 use Rattle.rje_sockets.proofs.Failing.{line_fails}
 use Rattle.rje_sockets.proofs.Keeping.{turn_kept}
 use Rattle.rje_sockets.proofs.LineBreak.{breaks}
@@ -45,6 +47,20 @@ returns-in-Err-Over-clause-told g c =
     last_watched g.W.Watch.saw_receiver c.args.station.now c.hear.new.self c.speak.new.self c.args.watch.now c.receiver_took-in-Err-Over.new.self heard.what heard.refused c.in-Some.arrival c.in_ok-reply.reply
     heard.may heard.state (search rules) (search rules) heard.reply_is c.receiver_took-in-Err-Over.ensures.saw
 
+pub returns-in-Ok-clause-gave : goal.returns-in-Ok-clause-gave
+returns-in-Ok-clause-gave g c =
+    let heard = c.in_ok-reply.ensures.heard in
+    reply_watched Brought c.args.station.now c.hear.new.self c.speak.new.self (g.L.Line.talk c.args.line.now) (g.L.Line.talk c.speak.new.line) heard.what heard.refused c.in-Some.arrival c.in_ok-reply.reply
+    heard.may heard.state c.in-Ok.ensures.state (search rules) heard.reply_is
+    (brought heard.what heard.refused c.in-Some.arrival c.in_ok-reply.reply _ (g.L.Line.talk c.hear.new.line) _ (search rules) heard.told (comes_replied _ _ _ c.in-Ok.ensures.sent))
+
+pub returns-in-Err-Over-clause-gave : goal.returns-in-Err-Over-clause-gave
+returns-in-Err-Over-clause-gave g c =
+    let heard = c.in_ok-reply.ensures.heard in
+    last_watched Brought c.args.station.now c.hear.new.self c.speak.new.self (g.L.Line.talk c.args.line.now) (g.L.Line.talk c.speak.new.line) heard.what heard.refused c.in-Some.arrival c.in_ok-reply.reply
+    heard.may heard.state (search rules) (search rules) heard.reply_is
+    (brought heard.what heard.refused c.in-Some.arrival c.in_ok-reply.reply _ (g.L.Line.talk c.hear.new.line) _ (search rules) heard.told (comes_same _ _ (search rules)))
+
 pub returns-in-Err-clause-broken : goal.returns-in-Err-clause-broken
 returns-in-Err-clause-broken g c =
     not_kept c.args.keeper.now c.keep.new.self c.args.station.now c.abandon.new.self (g.L.Line.transmissions c.args.line.now) (g.L.Line.transmissions c.hear.new.line)
@@ -59,7 +75,8 @@ returns-in-Err-speak g c =
       takes = tt;
       over = tt;
       fault = search rules;
-      cause = breaks fault _ _ _ _ _ _ _ _ c.in-Err-speak.ensures.cause (λ g same. same) (λ over. search rules);
+      cause = breaks fault _ _ _ _ _ _ _ _ _ c.in-Err-speak.ensures.cause (λ g same. same) (λ is never. absurd never) (λ over. search rules);
+      gave = tt;
       goes_on = tt;
       kept = tt;
       status = line_fails fault _ _ _ c.in-Err-speak.ensures.cause;

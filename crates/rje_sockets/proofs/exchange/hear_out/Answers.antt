@@ -12,6 +12,7 @@ loop-init g c = (
   goes_nowhere c.args.keeper.now c.args.station.now.jobs (g.S.Store.files c.args.store.now),
   ([], (refl, refl)),
   λ over. over,
+  ([], (refl, refl)),
 )
 
 pub returns-in_err-hear_keep_and_speak-clause-fault : goal.returns-in_err-hear_keep_and_speak-clause-fault
@@ -29,7 +30,9 @@ returns-in_err-hear_keep_and_speak-clause-broken g c =
 pub returns-in_err-hear_keep_and_speak-clause-cause : goal.returns-in_err-hear_keep_and_speak-clause-cause
 returns-in_err-hear_keep_and_speak-clause-cause g c =
     let told : c.from_residual.result ≡ Err c.in_err-hear_keep_and_speak.field-0.0 = search rules in
-    rw told (breaks_on c.in_err-hear_keep_and_speak.field-0.0 _ _ (c.args.station.now.over ≡ true) c.loop.invariant.4 c.in_err-hear_keep_and_speak.ensures.cause)
+    let past = c.loop.invariant.5 in
+    rw told (breaks_on c.in_err-hear_keep_and_speak.field-0.0 _ _ _ _ (c.args.station.now.over ≡ true) (λ babbles. (past.0, c.loop.station, g.L.Line.talk c.loop.line, past.1, babbles)) c.loop.invariant.4
+    c.in_err-hear_keep_and_speak.ensures.cause)
 
 pub returns-then-not-branch-clause-heard : goal.returns-then-not-branch-clause-heard
 returns-then-not-branch-clause-heard g c =
@@ -78,6 +81,10 @@ loop-preserved g c = (
     (c.loop.station, c.loop.watch, c.loop.invariant.3.1, c.in_ok-hear_keep_and_speak.ensures.told.1),
   ),
   λ over. let on = c.in_ok-hear_keep_and_speak.ensures.goes_on (search rules) in absurd cc,
+  (
+    c.in_ok-hear_keep_and_speak.ensures.gave.0 ∷ c.loop.invariant.5.0,
+    (c.loop.station, g.L.Line.talk c.loop.line, c.loop.invariant.5.1, c.in_ok-hear_keep_and_speak.ensures.gave.1),
+  ),
 )
 
 pub returns-clause-heard : goal.returns-clause-heard

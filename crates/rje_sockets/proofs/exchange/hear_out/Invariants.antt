@@ -1,6 +1,7 @@
 use Rattle.std.specs.Prelude.{◌≡◌, true}
 use Rattle.bsc_history.specs.History.{History}
 use Rattle.rje_sockets.specs.Answering.{Answered}
+use Rattle.rje_sockets.specs.Babble.{Brought}
 use Rattle.rje_sockets.specs.Keeping.{GoesOnKeeping}
 use Rattle.rje_sockets.specs.Watching.{ReceiverWatchedAll}
 use Rattle.rje_sockets.proofs.Patience.{HearsSoFar}
@@ -13,3 +14,4 @@ invariant-loop g l =
     × GoesOnKeeping l.initial.keeper l.keeper l.initial.station.jobs l.station.jobs (g.S.Store.files l.initial.store) (g.S.Store.files l.store)
     × ((h : History) × ReceiverWatchedAll g.W.Watch.saw_receiver l.initial.station l.initial.watch l.station l.watch h)
     × (l.station.over ≡ true → l.initial.station.over ≡ true)
+    × ((h : History) × ReceiverWatchedAll Brought l.initial.station (g.L.Line.talk l.initial.line) l.station (g.L.Line.talk l.line) h)

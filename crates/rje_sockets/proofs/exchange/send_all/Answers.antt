@@ -1,5 +1,6 @@
 use Rattle.std.proofs.Common.{rules, ◌≡◌, refl, sym, subst, inl, Err, [], ◌∷◌}
 use Rattle.line_world.proofs.TurnsOverLines.{SendsSoFar, sends_on, sends_over, sends_long, sends_fault}
+use Rattle.rje_sockets.proofs.LineBreak.{line_breaks_on}
 use Rattle.rje_sockets.proofs.Marked.{counts_on, marks_nothing, marks_on}
 use Rattle.rje_sockets.proofs.exchange.send_all.Goals as goal
 
@@ -9,12 +10,20 @@ loop-init g c = record {
   marked = marks_nothing c.args.marker.now c.args.station.now.counted (g.S.Store.files c.args.store.now);
   count = inl refl;
   told = ([], (refl, refl));
+  gave = ([], (refl, refl));
 }
 
 pub returns-in_err-speak_hear_and_mark-clause-fault : goal.returns-in_err-speak_hear_and_mark-clause-fault
 returns-in_err-speak_hear_and_mark-clause-fault g c =
     let told : c.from_residual.result ≡ Err c.in_err-speak_hear_and_mark.field-0.0 = search rules in
     rw told (sends_fault c.args.station.now c.loop.station c.speak_hear_and_mark.new.station c.loop.counter _ c.loop.invariant.turns c.in_err-speak_hear_and_mark.ensures.fault)
+
+pub returns-in_err-speak_hear_and_mark-clause-cause : goal.returns-in_err-speak_hear_and_mark-clause-cause
+returns-in_err-speak_hear_and_mark-clause-cause g c =
+    let told : c.from_residual.result ≡ Err c.in_err-speak_hear_and_mark.field-0.0 = search rules in
+    let past = c.loop.invariant.gave in
+    rw told (line_breaks_on c.in_err-speak_hear_and_mark.field-0.0 _ _ _ _ _ (λ babbles. (past.0, c.loop.station, g.L.Line.talk c.loop.line, past.1, babbles)) (λ never. never)
+    c.in_err-speak_hear_and_mark.ensures.cause)
 
 pub returns-in_err-speak_hear_and_mark-clause-broken : goal.returns-in_err-speak_hear_and_mark-clause-broken
 returns-in_err-speak_hear_and_mark-clause-broken g c =
@@ -61,6 +70,10 @@ loop-preserved g c = record {
       let past = c.loop.invariant.told in
       let turn = c.in_ok-speak_hear_and_mark.ensures.told (search rules) in
       (turn.0 ∷ past.0, (c.loop.station, c.loop.watch, past.1, turn.1));
+  gave =
+      let past = c.loop.invariant.gave in
+      let turn = c.in_ok-speak_hear_and_mark.ensures.gave (search rules) in
+      (turn.0 ∷ past.0, (c.loop.station, g.L.Line.talk c.loop.line, past.1, turn.1));
 }
 
 pub returns-clause-took : goal.returns-clause-took
