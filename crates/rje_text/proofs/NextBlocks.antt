@@ -22,8 +22,7 @@ use Rattle.rje_text.specs.Action.{code_of}
 use Rattle.rje_text.specs.PackFault.{pack_fault}
 use Rattle.rje_text.specs.Spelling.{spelling, compressed, action_escape}
 use Rattle.rje_text.specs.Cut.{block, is_transparent, cut_behind, cut}
-use Rattle.rje_text.specs.Packing.{Packing, has_room, with_record, block_in_hand}
-use Rattle.rje_text.specs.NextBlock.{front_at, packing_at, cut_from, blocks_after, IsNextBlock, IsSendable, AreBlocksBefore, AreBlocksTo}
+use Rattle.rje_text.specs.NextBlock.{front_at, cut_from, blocks_after, IsNextBlock, IsSendable, AreBlocksBefore, AreBlocksTo}
 use Rattle.rje_text.proofs.ReadBack.{IsQuiet, AreQuiet, compressed_quiet, data_of}
 
 -- ---- Every byte of a spelling in a normal text may stand there.
@@ -100,17 +99,19 @@ front_short select Transparent zero = omega arith
 
 -- ---- The loop.
 
+-- a text with room for the spelling of a record in it, or none
+abbrev room_for : Mode → List ℕ → Record → Bool
+room_for mode text r = leb (length (text ++ spelling mode r)) 510
+
 -- the records from the first to this place are in hand, and no block was closed
-pub record PackedSo (select : Select) (mode : Mode) (p : Packing) (records : List Record) (from place : ℕ) : Type 0 where
-  pub selects : p.select ≡ select
-  pub has_mode : p.mode ≡ mode
+pub record PackedSo (select : Select) (mode : Mode) (text : List ℕ) (records : List Record) (from place : ℕ) : Type 0 where
   pub sent : AllByRecursion (λ r. pack_fault select mode r ≡ None) (drop place records)
   pub ahead : from ≤ place
   pub within : place ≤ length records
-  pub begun : (p.text ≡ front_at select mode from) ⊎ (from < place)
-  pub so : cut_behind mode p.text (drop place records) ≡ cut_from select mode records from
-  pub stands : CanStand mode p.text
-  pub room : length p.text ≤ 510
+  pub begun : (text ≡ front_at select mode from) ⊎ (from < place)
+  pub so : cut_behind mode text (drop place records) ≡ cut_from select mode records from
+  pub stands : CanStand mode text
+  pub room : length text ≤ 510
 
 -- a record is there to begin with, or there is none at all
 abbrev pub Begins : ℕ → ℕ → Type 0
@@ -121,12 +122,10 @@ drop_sent select mode zero rs a = a
 drop_sent select mode (suc n) [] a = tt
 drop_sent select mode (suc n) (r ∷ rs) a = drop_sent select mode n rs a.1
 
-pub packed_none : (select : Select) (mode : Mode) (p : Packing) (records : List Record) (from : ℕ) → AllByRecursion (λ r. pack_fault select mode r ≡ None) records → Begins from (length records)
-    → p ≡ packing_at select mode from → PackedSo select mode p records from from
-packed_none select mode p records from sent h e =
+pub packed_none : (select : Select) (mode : Mode) (text : List ℕ) (records : List Record) (from : ℕ) → AllByRecursion (λ r. pack_fault select mode r ≡ None) records → Begins from (length records)
+    → text ≡ front_at select mode from → PackedSo select mode text records from from
+packed_none select mode text records from sent h e =
     rw e (record {
-      selects = refl;
-      has_mode = refl;
       sent = drop_sent select mode from records sent;
       ahead = omega arith;
       within = ⊎_elim (λ (l : from < length records). omega arith) (λ (l : (from ≡ 0) × (length records ≡ 0)). omega (arith, l.0)) h;
@@ -136,14 +135,11 @@ packed_none select mode p records from sent h e =
       room = omega (arith, front_short select mode from);
     })
 
-taken_cut : (mode : Mode) (text : List ℕ) (r : Record) (rs : List Record) → leb (length (text ++ spelling mode r)) 510 ≡ true → cut_behind mode text (r ∷ rs) ≡ cut_behind mode (text ++ spelling mode r) rs
+taken_cut : (mode : Mode) (text : List ℕ) (r : Record) (rs : List Record) → room_for mode text r ≡ true → cut_behind mode text (r ∷ rs) ≡ cut_behind mode (text ++ spelling mode r) rs
 taken_cut mode text r rs h = rw h refl
 
-full_cut : (mode : Mode) (text : List ℕ) (r : Record) (rs : List Record) → leb (length (text ++ spelling mode r)) 510 ≡ false → cut_behind mode text (r ∷ rs) ≡ block mode Etb text ∷ cut_behind mode (spelling mode r) rs
+full_cut : (mode : Mode) (text : List ℕ) (r : Record) (rs : List Record) → room_for mode text r ≡ false → cut_behind mode text (r ∷ rs) ≡ block mode Etb text ∷ cut_behind mode (spelling mode r) rs
 full_cut mode text r rs h = rw h refl
-
-room_in : (mode : Mode) (p : Packing) (r : Record) (b : Bool) → p.mode ≡ mode → has_room p r ≡ b → leb (length (p.text ++ spelling mode r)) 510 ≡ b
-room_in mode p r b m h = ap (λ k. leb (length (p.text ++ spelling k r)) 510) (sym m) ∙ h
 
 fits : (n : ℕ) → leb n 510 ≡ true → n ≤ 510
 fits n h = grind (arith, nat_tests)
@@ -158,67 +154,58 @@ is_true n h = grind (arith, nat_tests)
 here_on : (records : List Record) (place : ℕ) (r : Record) → place < length records → r ≡ get_or records place r → drop place records ≡ r ∷ drop (place + 1) records
 here_on records place r l e = drop_more records place r l ∙ ap (λ x. x ∷ drop (place + 1) records) (sym e)
 
-pub packed_on : (select : Select) (mode : Mode) (p q : Packing) (records : List Record) (from place : ℕ) (r : Record) → PackedSo select mode p records from place → place < length records → r ≡ get_or records place r
-    → has_room p r ≡ true → q ≡ with_record p r → PackedSo select mode q records from (place + 1)
-packed_on select mode p q records from place r s l e h w =
+pub packed_on : (select : Select) (mode : Mode) (text : List ℕ) (records : List Record) (from place : ℕ) (r : Record) → PackedSo select mode text records from place → place < length records → r ≡ get_or records place r
+    → room_for mode text r ≡ true → PackedSo select mode (text ++ spelling mode r) records from (place + 1)
+packed_on select mode text records from place r s l e t =
     let cut = here_on records place r l e in
     let sent = subst (λ rs. AllByRecursion (λ x. pack_fault select mode x ≡ None) rs) cut s.sent in
-    let t = room_in mode p r true s.has_mode h in
-    let text : with_record p r ≡ record { select = select; mode = mode; text = p.text ++ spelling mode r } = rw (s.has_mode, s.selects) refl in
-    rw (w, text) (record {
-      selects = refl;
-      has_mode = refl;
+    record {
       sent = sent.1;
       ahead = omega (arith, s.ahead);
       within = omega arith;
       begun = inr (omega (arith, s.ahead));
-      so = sym (ap (cut_behind mode p.text) cut ∙ taken_cut mode p.text r (drop (place + 1) records) t) ∙ s.so;
-      stands = spelling_stands select mode r p.text sent.0 s.stands;
-      room = fits (length (p.text ++ spelling mode r)) t;
-    })
+      so = sym (ap (cut_behind mode text) cut ∙ taken_cut mode text r (drop (place + 1) records) t) ∙ s.so;
+      stands = spelling_stands select mode r text sent.0 s.stands;
+      room = fits (length (text ++ spelling mode r)) t;
+    }
 
-pub packed_full : (select : Select) (mode : Mode) (p : Packing) (records : List Record) (from place : ℕ) (r : Record) → PackedSo select mode p records from place → place < length records → r ≡ get_or records place r
-    → has_room p r ≡ false → length (spelling p.mode r) ≤ 147 → IsNextBlock select mode records from (block_in_hand p false) place
-packed_full select mode p records from place r s l e h brief =
+pub packed_full : (select : Select) (mode : Mode) (text : List ℕ) (records : List Record) (from place : ℕ) (r : Record) → PackedSo select mode text records from place → place < length records → r ≡ get_or records place r
+    → room_for mode text r ≡ false → length (spelling mode r) ≤ 147 → IsNextBlock select mode records from (block mode Etb text) place
+packed_full select mode text records from place r s l e t short =
     let cut = here_on records place r l e in
-    let t = room_in mode p r false s.has_mode h in
-    let short : length (spelling mode r) ≤ 147 = subst (λ m. length (spelling m r) ≤ 147) s.has_mode brief in
-    let big = over (length (p.text ++ spelling mode r)) t in
-    let etb : block_in_hand p false ≡ block mode Etb p.text = ap (λ m. block m Etb p.text) s.has_mode in
+    let big = over (length (text ++ spelling mode r)) t in
     let moved : from < place = ⊎_elim
-    (λ (n : p.text ≡ front_at select mode from). absurd (omega (arith, big, short, length-append p.text (spelling mode r), ap length n, front_short select mode from)))
+    (λ (n : text ≡ front_at select mode from). absurd (omega (arith, big, short, length-append text (spelling mode r), ap length n, front_short select mode from)))
     (λ (m : from < place). m) s.begun in
     let later : front_at select mode place ≡ [] = front_later select mode place (omega (arith, moved)) in
     let alone : cut_behind mode [] (r ∷ drop (place + 1) records) ≡ cut_behind mode (spelling mode r) (drop (place + 1) records) = taken_cut mode [] r (drop (place + 1) records) (is_true (length (spelling mode r)) (omega (arith, short))) in
     let next : cut_from select mode records place ≡ cut_behind mode (spelling mode r) (drop (place + 1) records) = ap (λ f. cut_behind mode f (drop place records)) later ∙ ap (cut_behind mode []) cut ∙ alone in
-    rw etb (record {
-      first = sym s.so ∙ ap (cut_behind mode p.text) cut ∙ full_cut mode p.text r (drop (place + 1) records) t ∙ ap (λ bs. block mode Etb p.text ∷ bs) (sym next);
+    record {
+      first = sym s.so ∙ ap (cut_behind mode text) cut ∙ full_cut mode text r (drop (place + 1) records) t ∙ ap (λ bs. block mode Etb text ∷ bs) (sym next);
       end = l;
       forward = inl moved;
-    })
+    }
   where
     front_later : (select : Select) (mode : Mode) (n : ℕ) → 0 < n → front_at select mode n ≡ []
     front_later select mode zero h = absurd (omega (arith, h))
     front_later select mode (suc n) h = refl
 
-pub packed_all : (select : Select) (mode : Mode) (p : Packing) (records : List Record) (from place : ℕ) → PackedSo select mode p records from place → length records ≤ place
-    → Begins from (length records) → IsNextBlock select mode records from (block_in_hand p true) place
-packed_all select mode p records from place s l h =
+pub packed_all : (select : Select) (mode : Mode) (text : List ℕ) (records : List Record) (from place : ℕ) → PackedSo select mode text records from place → length records ≤ place
+    → Begins from (length records) → IsNextBlock select mode records from (block mode Etx text) place
+packed_all select mode text records from place s l h =
     let none : drop place records ≡ [] = empty (drop place records) (omega (arith, length-drop place records, s.within)) in
-    let etx : block_in_hand p true ≡ block mode Etx p.text = ap (λ m. block m Etx p.text) s.has_mode in
-    rw etx (record {
-      first = sym s.so ∙ ap (cut_behind mode p.text) none;
+    record {
+      first = sym s.so ∙ ap (cut_behind mode text) none;
       end = omega (arith, s.within);
       forward = ⊎_elim (λ (m : from < length records). inl (omega arith)) (λ (m : (from ≡ 0) × (length records ≡ 0)). inr m.1) h;
-    })
+    }
   where
     empty : (rs : List Record) → length rs ≡ 0 → rs ≡ []
     empty [] e = refl
     empty (r ∷ rs) e = absurd (omega (arith, e))
 
-pub packed_sends : (select : Select) (mode : Mode) (p : Packing) (records : List Record) (from place : ℕ) (last : Bool) → PackedSo select mode p records from place → IsSendable (block_in_hand p last)
-packed_sends select mode p records from place true s = rw s.has_mode (record { normal = s.stands; room = s.room })
-packed_sends select mode p records from place false s = rw s.has_mode (record { normal = s.stands; room = s.room })
+pub packed_sends : (select : Select) (mode : Mode) (text : List ℕ) (records : List Record) (from place : ℕ) (closing : Closing) → PackedSo select mode text records from place → IsSendable (block mode closing text)
+packed_sends select mode text records from place closing s = record { normal = s.stands; room = s.room }
 
 -- ---- The block that begins where whole blocks end is the cut's next one.
 

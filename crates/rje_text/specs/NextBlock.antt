@@ -10,17 +10,12 @@ use Rattle.rje_text.specs.declared.mode.Mode.{Mode}
 use Rattle.rje_text.specs.declared.select.Select.{Select}
 use Rattle.rje_text.specs.declared.record.Record.{Record}
 use Rattle.rje_text.specs.Spelling.{selection}
-use Rattle.rje_text.specs.Packing.{Packing}
 use Rattle.rje_text.specs.Cut.{cut_behind, cut}
 
 -- what stands in front of the text that begins at a record: the job's first has the selection
 abbrev pub front_at : Select → Mode → ℕ → List ℕ
 front_at select mode zero = selection select mode
 front_at select mode (suc from) = []
-
--- a packer that has taken nothing of the block that begins at a record
-abbrev pub packing_at : Select → Mode → ℕ → Packing
-packing_at select mode from = record { select = select; mode = mode; text = front_at select mode from }
 
 -- the blocks of the records from a place on, where a block begins; from 0 on they are the cut
 abbrev pub cut_from : Select → Mode → List Record → ℕ → List Block

@@ -2,9 +2,12 @@
 ghost use Rattle.std.specs.Prelude.{◌≡◌, ◌⊎◌, ◌<◌, length, None};
 ghost use Rattle.std.specs.List.{AllByRecursion};
 ghost use Rattle.rje_text.specs.PackFault.{pack_fault};
-ghost use Rattle.rje_text.specs.NextBlock.{packing_at, IsNextBlock, IsSendable};
+ghost use Rattle.rje_text.specs.NextBlock.{IsNextBlock, IsSendable};
 
-use crate::{Mode, Packer, Record, Select};
+use crate::packer::{closing_of, is_transparent, select_device, take};
+use crate::spelling::append;
+use crate::{Mode, Record, Select};
+use arrayvec::ArrayVec;
 use bsc_codes::Block;
 
 /// The block of the canonical cut that begins at a record, and the place after its last record. The records before that place are whole
@@ -17,24 +20,20 @@ pub fn next_block(records: &[Record], from: usize, select: Select, mode: Mode) -
     // A frame of the block can be written.
     ensures sendable { IsSendable result.0 }
 {
-    let mut packer = packer_at(from, select, mode);
+    let mut in_hand = ArrayVec::new();
+    if from == 0 {
+        select_device(select, mode, &mut in_hand);
+    }
     let mut place = from;
-    while place < records.len() {
-        if !packer.take(&records[place]) {
-            return (packer.close(false), place);
-        }
+    while place < records.len() && take(&mut in_hand, mode, &records[place]) {
         place += 1;
     }
-    (packer.close(true), place)
-}
-
-/// A packer for the block that begins at a record.
-fn packer_at(from: usize, select: Select, mode: Mode) -> Packer
-    ensures { result ≡ packing_at select mode from }
-{
-    if from == 0 {
-        Packer::new(select, mode)
-    } else {
-        Packer::later(select, mode)
-    }
+    let mut text = ArrayVec::new();
+    append(&mut text, in_hand.as_slice());
+    let block = Block {
+        text,
+        closing: closing_of(place == records.len()),
+        transparent: is_transparent(mode),
+    };
+    (block, place)
 }

@@ -1,5 +1,5 @@
 //! Records into blocks.
-ghost use Rattle.std.specs.Prelude.{◌≡◌, ◌≤◌, [], length, true, false, None, IfOk, if◌then◌else◌};
+ghost use Rattle.std.specs.Prelude.{◌≡◌, ◌≤◌, ◌++◌, [], length, nat_le, true, false, None, IfOk, if◌then◌else◌};
 
 use crate::spelling::{TextInHand, append, spell};
 use crate::{Mode, PackFault, Pushed, Record, Select};
@@ -43,17 +43,6 @@ impl Packer {
         Packer { select, mode, text }
     }
 
-    /// A packer in the middle of a job, with no text in hand.
-    pub(crate) fn later(select: Select, mode: Mode) -> Self
-        ensures { result ≡ after_close (new_packing select mode) false }
-    {
-        Packer {
-            select,
-            mode,
-            text: ArrayVec::new(),
-        }
-    }
-
     /// Puts a record into the block in hand, if it can be sent and there is room for it. A record that can't be sent is dropped,
     /// and the packer stays as it was.
     pub fn push(&mut self, item: Record) -> Result<Pushed, PackFault>
@@ -84,19 +73,12 @@ impl Packer {
         self.take(item)
     }
 
-    /// Puts a record into the block in hand, if there is room for it.
-    pub(crate) fn take(&mut self, item: &Record) -> bool
+    fn take(&mut self, item: &Record) -> bool
         ensures room { result ≡ has_room self.old item.now }
         ensures taken { self.new ≡ (if result then with_record self.old item.now else self.old) }
         ensures short { length (spelling self.old.mode item.now) ≤ 147 }
     {
-        let before = self.text.len();
-        spell(item, self.mode, &mut self.text);
-        if MAX_TEXT_SENT < self.text.len() {
-            self.text.truncate(before);
-            return false;
-        }
-        true
+        take(&mut self.text, self.mode, item)
     }
 
     /// The block of what was taken since the last one: a job's last block, or one that more blocks follow. After a last block the
@@ -113,17 +95,35 @@ impl Packer {
         }
         Block {
             text,
-            closing: if last { Closing::Etx } else { Closing::Etb },
+            closing: closing_of(last),
             transparent: is_transparent(self.mode),
         }
     }
 }
 
-ghost use Rattle.rje_text.specs.Spelling.{selection};
+ghost use Rattle.bsc_codes.specs.declared.block.Closing.TheVariants.{Etb, Etx};
+ghost use Rattle.rje_text.specs.Spelling.{selection, spelling};
 ghost use Rattle.rje_text.specs.Cut.{is_transparent as transparent};
 
+/// Puts behind a text how a record stands in it, if there is room for it; else the text stays as it was.
+pub(crate) fn take(text: &mut TextInHand, mode: Mode, item: &Record) -> bool
+    requires { length text.old.items ≤ 510 }
+    ensures room { result ≡ nat_le (length (text.old.items ++ spelling mode item.now)) 510 }
+    ensures taken { text.new.items ≡ (if result then text.old.items ++ spelling mode item.now
+        else text.old.items) }
+    ensures short { length (spelling mode item.now) ≤ 147 }
+{
+    let before = text.len();
+    spell(item, mode, text);
+    if MAX_TEXT_SENT < text.len() {
+        text.truncate(before);
+        return false;
+    }
+    true
+}
+
 /// Puts into an empty text what stands in front of a job's first one: the byte that selects the device.
-fn select_device(select: Select, mode: Mode, text: &mut TextInHand)
+pub(crate) fn select_device(select: Select, mode: Mode, text: &mut TextInHand)
     requires { text.old.items ≡ [] }
     ensures text { text.new.items ≡ selection select mode }
     ensures short { length text.new.items ≤ 1 }
@@ -135,7 +135,14 @@ fn select_device(select: Select, mode: Mode, text: &mut TextInHand)
     }
 }
 
-fn is_transparent(mode: Mode) -> bool
+/// ETX ends a job's last block, and ETB each other.
+pub(crate) fn closing_of(last: bool) -> Closing
+    ensures { result ≡ (if last then Etx else Etb) }
+{
+    if last { Closing::Etx } else { Closing::Etb }
+}
+
+pub(crate) fn is_transparent(mode: Mode) -> bool
     ensures { result ≡ transparent mode }
 {
     match mode {
