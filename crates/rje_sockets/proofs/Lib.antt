@@ -15,5 +15,6 @@ pub mod Answering
 pub mod Received
 pub mod ReceivedAfter
 pub mod Failing
+pub mod Looped
 pub mod Marked
 pub mod Watched
