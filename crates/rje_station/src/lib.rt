@@ -3,9 +3,9 @@
 
 mod arrival;
 mod came;
+mod ear;
 mod event;
 mod hear_fault;
-mod hearing;
 mod laws;
 mod line;
 mod line_fault;
@@ -19,8 +19,8 @@ mod writing;
 
 pub use arrival::Arrival;
 pub use came::Came;
+pub use ear::MAX_HEARD;
 pub use event::Event;
-pub use hearing::MAX_HEARD;
 pub use laws::{blocks_are_joined, counted_blocks_end_counted_jobs, trace_goes_on};
 pub use line::Line;
 pub use line_fault::LineFault;

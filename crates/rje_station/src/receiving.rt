@@ -11,8 +11,8 @@ ghost use Rattle.rje_station.specs.declared.event.Event.TheVariants as event;
 
 mod joined_jobs;
 
+use crate::ear::Ear;
 use crate::hear_fault::HearFault;
-use crate::hearing::hear;
 use crate::sound_heard::sound_of;
 use crate::writing::{Transmission, write};
 use crate::{Arrival, Event, Line, StationFault, Trace};
@@ -29,6 +29,7 @@ use std::marker::Model;
 pub struct ReceivingStation {
     jobs: JoinedJobs,
     core: Receiver,
+    ear: Ear,
     due: Option<Reply>,
     over: bool,
     arrival: Option<Arrival>,
@@ -53,6 +54,7 @@ impl ReceivingStation {
         Ok(ReceivingStation {
             jobs: JoinedJobs::new(alloc),
             core: Receiver::new(),
+            ear: Ear::new(),
             due: None,
             over: false,
             arrival: None,
@@ -74,6 +76,7 @@ impl ReceivingStation {
         let ReceivingStation {
             jobs,
             core: _,
+            ear: _,
             due: _,
             over: _,
             arrival: _,
@@ -152,7 +155,7 @@ impl ReceivingStation {
         if self.over {
             return Err(StationFault::Over);
         }
-        match hear(line) {
+        match self.ear.hear(line) {
             Ok(heard) => Ok(heard),
             Err(HearFault::Lost(fault)) => {
                 self.fail();

@@ -14,8 +14,8 @@ ghost use Rattle.rje_station.specs.declared.event.Event.TheVariants as event;
 pub(crate) mod first_unfit;
 mod uncounted;
 
+use crate::ear::Ear;
 use crate::hear_fault::HearFault;
-use crate::hearing::hear;
 use crate::sound_heard::sound_of;
 use crate::writing::{Transmission, write};
 use crate::{Event, Line, StationFault, Trace};
@@ -32,6 +32,7 @@ use uncounted::Uncounted;
 pub struct SendingStation<'a> {
     blocks: Uncounted<'a>,
     core: Sender,
+    ear: Ear,
     over: bool,
     trace: Trace,
 }
@@ -64,6 +65,7 @@ impl<'a> SendingStation<'a> {
         Ok(SendingStation {
             blocks: Uncounted::new(jobs),
             core: Sender::new(),
+            ear: Ear::new(),
             over: jobs.is_empty(),
             trace,
         })
@@ -174,7 +176,7 @@ impl<'a> SendingStation<'a> {
         if self.over {
             return Err(StationFault::Over);
         }
-        match hear(line) {
+        match self.ear.hear(line) {
             Ok(heard) => {
                 let sound = sound_of(&heard);
                 self.step(sound, pause);

@@ -2,14 +2,14 @@
 use Rattle.std.proofs.Common.{◌≡◌, ◌≤◌}
 use Rattle.rje_station.specs.Line.{Passes, Ages}
 use Rattle.rje_station.proofs.Hearings.{FedSo}
-use Rattle.rje_station.proofs.hearing.hear.Given as goal
+use Rattle.rje_station.proofs.ear.Ear.hear.Given as goal
 
-abbrev pub invariant-loop-listener : goal.invariant-loop-listener
-invariant-loop-listener g l =
+abbrev pub invariant-loop-self : goal.invariant-loop-self
+invariant-loop-self g l =
     (g.L.Line.failures l.fn.line ≤ g.L.Line.failures l.line)
-    × Passes (g.L.Line.talk l.fn.line) (g.L.Line.talk l.line) (λ t u. FedSo l.listener l.room t u)
+    × Passes (g.L.Line.talk l.fn.line) (g.L.Line.talk l.line) (λ t u. FedSo l.self.listener l.room t u)
     × (g.L.Line.transmissions l.line ≡ g.L.Line.transmissions l.fn.line)
     × Ages (g.L.Line.may_fail l.fn.line) (g.L.Line.may_fail l.line)
 
-abbrev pub decreases-loop-listener : goal.decreases-loop-listener
-decreases-loop-listener g l = l.room
+abbrev pub decreases-loop-self : goal.decreases-loop-self
+decreases-loop-self g l = l.room
