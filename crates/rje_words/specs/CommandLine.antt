@@ -59,11 +59,16 @@ file_app name id = with_rule (new_app name) (file_rule id)
 abbrev pub blocks_app : App
 blocks_app = file_app (codes "blocks") (codes "DECK")
 
+-- the options that choose a job's device
+abbrev pub with_device_rules : App → App
+with_device_rules app =
+    with_rule (with_rule (with_rule app (flag_rule (codes "printer"))) (flag_rule (codes "punch"))) (flag_rule (codes "transparent"))
+
 -- `cards DECK JOBS`, with the options for the device and the job's name, and the one to add the job to those of the file
 abbrev pub cards_app : App
 cards_app =
-    with_rule (with_rule (with_rule (with_rule (with_rule (with_rule (file_app (codes "cards") (codes "DECK"))
-    (file_rule (codes "JOBS"))) (flag_rule (codes "printer"))) (flag_rule (codes "punch"))) (flag_rule (codes "transparent"))) name_rule) (flag_rule (codes "append"))
+    with_rule (with_rule (with_device_rules (with_rule (file_app (codes "cards") (codes "DECK")) (file_rule (codes "JOBS"))))
+    name_rule) (flag_rule (codes "append"))
 
 -- the program: its words hold no name of the program, a command is required, and it has a version
 abbrev pub rje_top : App
@@ -91,12 +96,24 @@ exchange_app =
     with_rule (with_rule (with_rule (with_rule (with_rule (file_app (codes "exchange") (codes "SEND"))
     (file_rule (codes "RECEIVED"))) (meeting_rule (codes "to"))) (meeting_rule (codes "listen"))) timeout_rule) trace_rule
 
+-- the commands over decks
+abbrev pub with_deck_apps : App → App
+with_deck_apps app = with_subcommand (with_subcommand app cards_app.top) blocks_app.top
+
+-- the commands over job files alone
+abbrev pub with_file_apps : App → App
+with_file_apps app =
+    with_subcommand (with_subcommand (with_subcommand (with_subcommand app (file_app (codes "show") (codes "JOBS")).top)
+    (file_app (codes "check") (codes "JOBS")).top) (file_app (codes "print") (codes "JOBS")).top) try_app.top
+
+-- the commands over connections
+abbrev pub with_line_apps : App → App
+with_line_apps app =
+    with_subcommand (with_subcommand (with_subcommand (with_subcommand app loop_app.top) send_app.top) receive_app.top) exchange_app.top
+
+-- the program with all its commands
 abbrev pub rje_app : App
-rje_app =
-    with_subcommand (with_subcommand (with_subcommand (with_subcommand (with_subcommand (with_subcommand (with_subcommand (with_subcommand (with_subcommand (with_subcommand rje_top
-    cards_app.top) blocks_app.top) (file_app (codes "show") (codes "JOBS")).top)
-    (file_app (codes "check") (codes "JOBS")).top) (file_app (codes "print") (codes "JOBS")).top)
-    try_app.top) loop_app.top) send_app.top) receive_app.top) exchange_app.top
+rje_app = with_line_apps (with_file_apps (with_deck_apps rje_top))
 
 -- a word that names a file: more than nothing, without a hyphen in front
 abbrev pub names_file : Text → Bool

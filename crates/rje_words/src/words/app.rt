@@ -4,6 +4,7 @@ ghost use Rattle.clap.specs.Words.{App, Rule, with_rule, with_subcommand};
 ghost use Rattle.rje_words.specs.CommandLine.{IsArg, IsApp, file_rule, flag_rule, name_rule, address_rule};
 ghost use Rattle.rje_words.specs.CommandLine.{timeout_rule, trace_rule, file_app, blocks_app, cards_app};
 ghost use Rattle.rje_words.specs.CommandLine.{meeting_rule, try_app, loop_app, send_app, receive_app, exchange_app, rje_app};
+ghost use Rattle.rje_words.specs.CommandLine.{with_device_rules, with_deck_apps, with_file_apps, with_line_apps};
 
 use clap::{Arg, ArgAction, Command, value_parser};
 use std::alloc::{AllocError, Global};
@@ -42,34 +43,50 @@ pub fn program<'a>(alloc: Global) -> Result<Command<'a>, AllocError>
         .no_binary_name(true)
         .subcommand_required(true)
         .bin_name("rje")?;
-    let top = with_command(top, cards(alloc)?)?;
-    let top = with_command(top, blocks(alloc)?)?;
-    let show = of_jobs(
-        alloc,
-        "show",
-        "Print a line for each job of a job file",
-        JOBS_HELP,
-    )?;
-    let top = with_command(top, show)?;
-    let check = of_jobs(
-        alloc,
-        "check",
-        "Tell whether the jobs of a job file can be sent",
-        JOBS_HELP,
-    )?;
-    let top = with_command(top, check)?;
-    let print = of_jobs(
-        alloc,
-        "print",
-        "Print the listings and punched cards of a job file",
-        JOBS_HELP,
-    )?;
-    let top = with_command(top, print)?;
-    let top = with_command(top, attempt(alloc)?)?;
-    let top = with_command(top, loopback(alloc)?)?;
-    let top = with_command(top, send(alloc)?)?;
-    let top = with_command(top, receive(alloc)?)?;
-    with_command(top, exchange(alloc)?)
+    let top = with_deck_commands(alloc, top)?;
+    let top = with_file_commands(alloc, top)?;
+    with_line_commands(alloc, top)
+}
+
+fn with_deck_commands<'a>(alloc: Global, top: Command<'a>) -> Result<Command<'a>, AllocError>
+    ensures { (app : App) → IsApp app top.entry → IfOk result (IsApp (with_deck_apps app)) }
+{
+    let top = with_command(top, cards(alloc))?;
+    with_command(top, blocks(alloc))
+}
+
+fn with_file_commands<'a>(alloc: Global, top: Command<'a>) -> Result<Command<'a>, AllocError>
+    ensures { (app : App) → IsApp app top.entry → IfOk result (IsApp (with_file_apps app)) }
+{
+    let show = "Print a line for each job of a job file";
+    let top = with_jobs(alloc, top, "show", show)?;
+    let check = "Tell whether the jobs of a job file can be sent";
+    let top = with_jobs(alloc, top, "check", check)?;
+    let print = "Print the listings and punched cards of a job file";
+    let top = with_jobs(alloc, top, "print", print)?;
+    with_command(top, attempt(alloc))
+}
+
+/// The command line with one command more: this one, which reads a job file.
+fn with_jobs<'a>(
+    alloc: Global,
+    top: Command<'a>,
+    name: &'a str,
+    about: &'a str,
+) -> Result<Command<'a>, AllocError>
+    ensures { (app : App) → IsApp app top.entry
+        → IfOk result (IsApp (with_subcommand app (file_app name.entry.now (codes "JOBS")).top)) }
+{
+    with_command(top, of_jobs(alloc, name, about, JOBS_HELP))
+}
+
+fn with_line_commands<'a>(alloc: Global, top: Command<'a>) -> Result<Command<'a>, AllocError>
+    ensures { (app : App) → IsApp app top.entry → IfOk result (IsApp (with_line_apps app)) }
+{
+    let top = with_command(top, loopback(alloc))?;
+    let top = with_command(top, send(alloc))?;
+    let top = with_command(top, receive(alloc))?;
+    with_command(top, exchange(alloc))
 }
 
 fn attempt<'a>(alloc: Global) -> Result<Command<'a>, AllocError>
@@ -176,12 +193,22 @@ fn cards<'a>(alloc: Global) -> Result<Command<'a>, AllocError>
 {
     let command = Command::new(alloc, "cards").about("Make a job file of a deck");
     let command = with_arg(command, file(alloc, "DECK", DECK_HELP))?;
-    let jobs = file(
+    let jobs = "The job file to write, in place of one that is there";
+    let command = with_arg(command, file(alloc, "JOBS", jobs))?;
+    let command = with_devices(alloc, command)?;
+    let command = with_arg(command, name(alloc))?;
+    let append = flag(
         alloc,
-        "JOBS",
-        "The job file to write, in place of one that is there",
+        "append",
+        "Keep the jobs that JOBS holds, where there is such a file, and add the job behind them",
     );
-    let command = with_arg(command, jobs)?;
+    with_arg(command, append)
+}
+
+/// The command with the options that choose a job's device.
+fn with_devices<'a>(alloc: Global, command: Command<'a>) -> Result<Command<'a>, AllocError>
+    ensures { (app : App) → IsApp app command.entry → IfOk result (IsApp (with_device_rules app)) }
+{
     let printer = flag(alloc, "printer", "The job is for the printer");
     let command = with_arg(command, printer)?;
     let punch = flag(alloc, "punch", "The job is for the punch");
@@ -191,14 +218,7 @@ fn cards<'a>(alloc: Global) -> Result<Command<'a>, AllocError>
         "transparent",
         "The job is for the punch, its cards filled to 80 bytes and sent as they are",
     );
-    let command = with_arg(command, transparent)?;
-    let command = with_arg(command, name(alloc))?;
-    let append = flag(
-        alloc,
-        "append",
-        "Keep the jobs that JOBS holds, where there is such a file, and add the job behind them",
-    );
-    with_arg(command, append)
+    with_arg(command, transparent)
 }
 
 /// A command over a job file, of which this help tells what becomes of it.
@@ -288,9 +308,12 @@ fn with_arg<'a>(command: Command<'a>, arg: Arg<'a>) -> Result<Command<'a>, Alloc
     command.arg(arg)
 }
 
-fn with_command<'a>(top: Command<'a>, command: Command<'a>) -> Result<Command<'a>, AllocError>
-    ensures { (app under : App) → IsApp app top.entry → IsApp under command.entry
+fn with_command<'a>(
+    top: Command<'a>,
+    command: Result<Command<'a>, AllocError>,
+) -> Result<Command<'a>, AllocError>
+    ensures { (app under : App) → IsApp app top.entry → IfOk command.entry (IsApp under)
         → IfOk result (IsApp (with_subcommand app under.top)) }
 {
-    top.subcommand(command)
+    top.subcommand(command?)
 }

@@ -9,9 +9,7 @@ returns c =
     let named : IsApp (new_app (codes "cards")) c.about-command.result =
     (ap app_of_fields c.about-command.ensures ∙ c.new.ensures.app, ap (λ f. f.has_globals) c.about-command.ensures ∙ c.new.ensures.local) in
     let deck = c.in_ok-command.ensures (new_app (codes "cards")) (file_rule (codes "DECK")) named c.file.ensures in
-    let jobs = c.in_ok-command-2.ensures _ (file_rule (codes "JOBS")) deck c.file-jobs.ensures in
-    let printer = c.in_ok-command-3.ensures _ (flag_rule (codes "printer")) jobs c.flag-printer.ensures in
-    let punch = c.in_ok-command-4.ensures _ (flag_rule (codes "punch")) printer c.flag-punch.ensures in
-    let transparent = c.in_ok-command-5.ensures _ (flag_rule (codes "transparent")) punch c.flag-transparent.ensures in
-    let named_job = c.in_ok-command-6.ensures _ name_rule transparent c.name.ensures in
-    c.with_arg-7.ensures _ (flag_rule (codes "append")) named_job c.flag-append.ensures
+    let jobs = c.in_ok-command-2.ensures _ (file_rule (codes "JOBS")) deck c.file-2.ensures in
+    let devices = c.in_ok-command-3.ensures _ jobs in
+    let named_job = c.in_ok-command-4.ensures _ name_rule devices c.name.ensures in
+    c.with_arg-4.ensures _ (flag_rule (codes "append")) named_job c.flag-append.ensures
