@@ -117,35 +117,29 @@ fn contender_at(rank: Rank, state: State) -> Contender {
     contender
 }
 
-/// The contender stands there. The note of a bid is seen by whether it takes an ENQ: there, and once the other station's transmission ended.
-fn assert_state(rt: &impl Abort, contender: Contender, state: State, line: Line) {
+/// Whether the contender stands there. The note of a bid is seen by whether it takes an ENQ: there, and once the other station's transmission ended.
+fn is_at(contender: Contender, state: State) -> bool {
     let State(_, place, primary_takes, secondary_takes) = state;
-    assert_eq!(rt; contender.place(), place, "place at {line:?}");
-    let mut later = contender;
     let takes = match contender.rank() {
         Rank::Primary => primary_takes,
         Rank::Secondary => secondary_takes,
     };
-    assert_eq!(rt; later.hear_enq(), takes, "a later ENQ at {line:?}");
-    if place == ContenderPlace::Receiving {
-        later = contender;
-        later.other_end();
-        assert_eq!(rt; later.place(), ContenderPlace::Free, "the end at {line:?}");
-        assert!(rt; later.hear_enq(), "an ENQ after the end at {line:?}");
-    }
+    let mut now = contender;
+    let mut later = contender;
+    later.other_end();
+    contender.place() == place
+        && now.hear_enq() == takes
+        && (place != ContenderPlace::Receiving
+            || (later.place() == ContenderPlace::Free && later.hear_enq()))
 }
 
 fn assert_line(rt: &impl Abort, line: Line, rank: Rank) {
     let Line(_, state, step, follows, answer) = line;
     let mut contender = contender_at(rank, state);
-    assert_state(rt, contender, state, line);
-    assert_eq!(rt;
-        make_call(&mut contender, step),
-        answer,
-        "answer at {line:?}"
-    );
-    assert_eq!(rt; contender.rank(), rank, "rank at {line:?}");
-    assert_state(rt, contender, follows, line);
+    assert!(rt; is_at(contender, state), "state before {line:?}");
+    let answered = (make_call(&mut contender, step), contender.rank());
+    assert_eq!(rt; answered, (answer, rank), "answer and rank at {line:?}");
+    assert!(rt; is_at(contender, follows), "state after {line:?}");
     assert_eq!(rt; contender, contender_at(rank, follows), "state at {line:?}");
 }
 
@@ -218,15 +212,19 @@ fn assert_gives_up_at(rt: &impl Abort, bid: Sender, sound: Sound, times: usize) 
     let mut sender = bid;
     for time in 1..times {
         sender.hear(sound, Next::NewJob, false);
-        assert_eq!(rt; sender.say(), Say::Bid, "after {time} times {sound:?}");
+        let waits = (Say::Bid, None);
+        assert_eq!(rt;
+            (sender.say(), sender.outcome()),
+            waits,
+            "{time} times {sound:?}"
+        );
     }
-    assert_eq!(rt; sender.outcome(), None, "before the last {sound:?}");
     sender.hear(sound, Next::NewJob, false);
-    assert_eq!(rt; sender.say(), Say::End, "after the last {sound:?}");
+    let gave_up = (Say::End, Some(Outcome::GaveUp));
     assert_eq!(rt;
-        sender.outcome(),
-        Some(Outcome::GaveUp),
-        "after the last {sound:?}"
+        (sender.say(), sender.outcome()),
+        gave_up,
+        "the last {sound:?}"
     );
 }
 

@@ -1,7 +1,7 @@
 //! The link cores: short histories, and each line of both tables.
 ghost use Rattle.std.specs.Prelude.{◌≤◌};
 
-use crate::{Next, Outcome, Receiver, Reply, Say, Sender, Sound, Wish};
+use crate::{Next, Outcome, Receiver, ReceiverNews, Reply, Say, Sender, Sound, Wish};
 use std::process::Abort;
 
 /// A state of a sender from which lines of its table are tried. The number is that of the outstanding block.
@@ -325,6 +325,22 @@ enum Answers {
     NothingChanges,
 }
 
+impl Answers {
+    fn news(self) -> ReceiverNews {
+        let (accepted, reply, ended) = match self {
+            Answers::With(reply) => (false, Some(reply), false),
+            Answers::Accepts(reply) => (true, Some(reply), false),
+            Answers::Ends => (false, None, true),
+            Answers::NothingChanges => (false, None, false),
+        };
+        ReceiverNews {
+            accepted,
+            reply,
+            ended,
+        }
+    }
+}
+
 /// A line of the receiver's table: the state, the sounds, the wishes, and what follows.
 #[derive(Clone, Copy, Debug)]
 struct ReceiverLine(Receiving, &'static [Sound], &'static [Wish], Answers);
@@ -449,77 +465,58 @@ fn receiver_at(at: Receiving) -> Receiver {
     receiver
 }
 
+/// What a sender shows of itself: what is due, its outcome, and the tries and the holds that it keeps.
+type Shown = (Say, Option<Outcome>, usize, usize);
+
+fn shown(sender: Sender) -> Shown {
+    (
+        sender.say(),
+        sender.outcome(),
+        tries_of(sender),
+        holds_of(sender),
+    )
+}
+
 /// One line of the sender's table, at one of its sounds.
 fn assert_sender_line(rt: &impl Abort, line: SenderLine, sound: Sound) {
     let SenderLine(at, _, follows) = line;
-    let pause = matches!(at, Sending::PausedDelay);
     let before = sender_at(at);
     let mut after = before;
-    let news = after.hear(sound, Next::Block, pause);
+    let news = after.hear(sound, Next::Block, matches!(at, Sending::PausedDelay));
     let counted = matches!(follows, Follows::Counted);
-    assert_eq!(rt; news.counted, counted, "counted at {at:?} {sound:?}");
     let (tries, holds) = (tries_of(before), holds_of(before));
-    match follows {
-        Follows::Progress | Follows::Counted => assert_waits(rt, after, Say::Block, 0, 0),
-        Follows::Try(due) => assert_waits(rt, after, due, tries + 1, holds),
-        Follows::Hold(due) => assert_waits(rt, after, due, tries, holds + 1),
-        Follows::OverEnded => {
-            assert_eq!(rt; after.say(), Say::Nothing, "due at {at:?} {sound:?}");
-            assert_eq!(rt;
-                after.outcome(),
-                Some(Outcome::Ended),
-                "outcome at {at:?} {sound:?}"
-            );
+    let due = match follows {
+        Follows::NothingChanges => {
+            assert!(rt; after == before, "state at {at:?} {sound:?}");
+            shown(before)
         }
-        Follows::NothingChanges => assert_eq!(rt; after, before, "state at {at:?} {sound:?}"),
-    }
-}
-
-/// The sender goes on with this, and has counted so many tries and holds.
-fn assert_waits(rt: &impl Abort, sender: Sender, due: Say, tries: usize, holds: usize) {
-    assert_eq!(rt; sender.say(), due, "due of {sender:?}");
-    assert_eq!(rt; tries_of(sender), tries, "tries of {sender:?}");
-    assert_eq!(rt; holds_of(sender), holds, "holds of {sender:?}");
+        Follows::Progress | Follows::Counted => (Say::Block, None, 0, 0),
+        Follows::Try(due) => (due, None, tries + 1, holds),
+        Follows::Hold(due) => (due, None, tries, holds + 1),
+        Follows::OverEnded => (Say::Nothing, Some(Outcome::Ended), 0, 0),
+    };
+    assert_eq!(rt;
+        (news.counted, shown(after)),
+        (counted, due),
+        "at {at:?} {sound:?}"
+    );
 }
 
 /// One line of the receiver's table, at one of its sounds and wishes.
 fn assert_receiver_line(rt: &impl Abort, line: ReceiverLine, sound: Sound, wish: Wish) {
     let ReceiverLine(at, _, _, answers) = line;
+    let shows = (at, sound, wish);
     let before = receiver_at(at);
     let mut receiver = before;
-    let news = receiver.hear(sound, wish);
-    let accepted = matches!(answers, Answers::Accepts(_));
-    assert_eq!(rt;
-        news.accepted,
-        accepted,
-        "accepted at {at:?} {sound:?} {wish:?}"
-    );
-    let ended = matches!(answers, Answers::Ends);
-    assert_eq!(rt; news.ended, ended, "ended at {at:?} {sound:?} {wish:?}");
-    match answers {
+    assert_eq!(rt; receiver.hear(sound, wish), answers.news(), "at {shows:?}");
+    let follows = match answers {
+        Answers::NothingChanges => receiver == before,
+        Answers::Ends => receiver.hear(Sound::Enq, Wish::Go).reply.is_none(),
         Answers::With(reply) | Answers::Accepts(reply) => {
-            assert_eq!(rt;
-                news.reply,
-                Some(reply),
-                "reply at {at:?} {sound:?} {wish:?}"
-            );
-            let again = receiver.hear(Sound::Enq, Wish::Hold).reply;
-            assert_eq!(rt;
-                again,
-                Some(reply),
-                "last reply at {at:?} {sound:?} {wish:?}"
-            );
+            receiver.hear(Sound::Enq, Wish::Hold).reply == Some(reply)
         }
-        Answers::Ends => {
-            assert_eq!(rt; news.reply, None, "reply at {at:?} {sound:?} {wish:?}");
-            let again = receiver.hear(Sound::Enq, Wish::Go).reply;
-            assert_eq!(rt; again, None, "a bid at {at:?} {sound:?} {wish:?}");
-        }
-        Answers::NothingChanges => {
-            assert_eq!(rt; news.reply, None, "reply at {at:?} {sound:?} {wish:?}");
-            assert_eq!(rt; receiver, before, "state at {at:?} {sound:?} {wish:?}");
-        }
-    }
+    };
+    assert!(rt; follows, "state after {shows:?}");
 }
 
 fn assert_sender_table(rt: &impl Abort) {
@@ -541,8 +538,11 @@ fn assert_progress_table(rt: &impl Abort) {
         };
         let mut sender = sender_at(at);
         sender.hear(sound, next, pause);
-        assert_eq!(rt; sender.say(), due, "due at {line:?}");
-        assert_eq!(rt; sender.outcome(), outcome, "outcome at {line:?}");
+        assert_eq!(rt;
+            (sender.say(), sender.outcome()),
+            (due, outcome),
+            "at {line:?}"
+        );
     }
 }
 
@@ -569,12 +569,12 @@ fn sent_end_moves_from_end_alone(rt: HostRuntime) {
         let before = sender_at(at);
         let mut sender = before;
         sender.sent_end();
-        if let Sending::End = at {
-            assert_eq!(rt; sender.say(), Say::Nothing);
-            assert_eq!(rt; sender.outcome(), Some(Outcome::Done));
+        let follows = if let Sending::End = at {
+            (sender.say(), sender.outcome()) == (Say::Nothing, Some(Outcome::Done))
         } else {
-            assert_eq!(rt; sender, before, "at {at:?}");
-        }
+            sender == before
+        };
+        assert!(rt; follows, "at {at:?}");
     }
 }
 
@@ -583,10 +583,9 @@ fn a_long_quiet_ends_a_receiver_at_every_place(rt: HostRuntime) {
     for at in ALL_RECEIVING {
         let mut receiver = receiver_at(at);
         receiver.quiet_long();
-        let news = receiver.hear(Sound::Enq, Wish::Go);
-        assert_eq!(rt; news.reply, None, "reply at {at:?}");
-        let news = receiver.hear(Sound::Block, Wish::Go);
-        assert_eq!(rt; news.accepted, false, "accepted at {at:?}");
+        let reply = receiver.hear(Sound::Enq, Wish::Go).reply;
+        let accepted = receiver.hear(Sound::Block, Wish::Go).accepted;
+        assert_eq!(rt; (reply, accepted), (None, false), "at {at:?}");
     }
 }
 
@@ -599,11 +598,10 @@ fn six_quiet_bids_are_made_up_for_and_a_seventh_gives_up(rt: HostRuntime) {
     assert_eq!(rt; sender.say(), Say::Bid);
     let mut granted = sender;
     granted.hear(Sound::Ack0, Next::NewJob, false);
-    assert_eq!(rt; granted.say(), Say::Block);
-    assert_eq!(rt; granted.outcome(), None);
+    assert_eq!(rt; (granted.say(), granted.outcome()), (Say::Block, None));
     sender.hear(Sound::Quiet, Next::NewJob, false);
-    assert_eq!(rt; sender.say(), Say::End);
-    assert_eq!(rt; sender.outcome(), Some(Outcome::GaveUp));
+    let gave_up = (Say::End, Some(Outcome::GaveUp));
+    assert_eq!(rt; (sender.say(), sender.outcome()), gave_up);
 }
 
 #[test]
@@ -612,11 +610,10 @@ fn a_bid_is_held_299_times_and_no_more(rt: HostRuntime) {
     for _ in 0..299 {
         sender.hear(Sound::Wack, Next::NewJob, false);
     }
-    assert_eq!(rt; sender.say(), Say::Bid);
-    assert_eq!(rt; sender.outcome(), None);
+    assert_eq!(rt; (sender.say(), sender.outcome()), (Say::Bid, None));
     sender.hear(Sound::Wack, Next::NewJob, false);
-    assert_eq!(rt; sender.say(), Say::End);
-    assert_eq!(rt; sender.outcome(), Some(Outcome::GaveUp));
+    let gave_up = (Say::End, Some(Outcome::GaveUp));
+    assert_eq!(rt; (sender.say(), sender.outcome()), gave_up);
 }
 
 #[test]
@@ -631,14 +628,12 @@ fn a_receiver_answers_turn_by_turn(rt: HostRuntime) {
         (Sound::Enq, Wish::Hold, Reply::Wack),
         (Sound::Enq, Wish::Go, Reply::Ack1),
     ] {
-        let news = receiver.hear(sound, wish);
-        assert_eq!(rt; news.reply, Some(reply), "at {sound:?} {wish:?}");
-        assert_eq!(rt;
-            news.accepted,
-            sound == Sound::Block,
-            "at {sound:?} {wish:?}"
-        );
-        assert_eq!(rt; news.ended, false, "at {sound:?} {wish:?}");
+        let news = ReceiverNews {
+            accepted: sound == Sound::Block,
+            reply: Some(reply),
+            ended: false,
+        };
+        assert_eq!(rt; receiver.hear(sound, wish), news, "at {sound:?} {wish:?}");
     }
 }
 
@@ -646,9 +641,7 @@ fn a_receiver_answers_turn_by_turn(rt: HostRuntime) {
 fn a_block_before_a_bid_is_not_accepted(rt: HostRuntime) {
     let mut receiver = Receiver::new();
     let news = receiver.hear(Sound::Block, Wish::Go);
-    assert_eq!(rt; news.accepted, false);
-    assert_eq!(rt; news.reply, None);
+    assert_eq!(rt; (news.accepted, news.reply), (false, None));
     let news = receiver.hear(Sound::Enq, Wish::Turn);
-    assert_eq!(rt; news.accepted, false);
-    assert_eq!(rt; news.reply, Some(Reply::Ack0));
+    assert_eq!(rt; (news.accepted, news.reply), (false, Some(Reply::Ack0)));
 }
