@@ -71,3 +71,12 @@ returns-clause-gave g c is =
       brought heard.what heard.refused c.in-Some.arrival c.in-Ok.reply _ (g.L.Line.talk c.hear_other.new.line) _ sound heard.told comes,
       taken.1,
     )
+
+pub returns-in-Err-clause-fault : goal.returns-in-Err-clause-fault
+returns-in-Err-clause-fault g c = search rules
+
+pub returns-in-Err-Line-Closed-clause-hung_up : goal.returns-in-Err-Line-Closed-clause-hung_up
+returns-in-Err-Line-Closed-clause-hung_up g c = search rules
+
+pub returns-in-Err-keep-clause-takes : goal.returns-in-Err-keep-clause-takes
+returns-in-Err-keep-clause-takes g c = search rules

@@ -45,3 +45,6 @@ returns-in_err-heard-in-Ok-clause-cause g c =
     rw told (breaks fault _ _ _ _ _ _ _ _ _ hears.cause (λ f same. same)
     (λ is babbled. ((g.L.Line.talk c.speak.new.line, comes_said _ _ _ _ c.in-Ok.ensures.sent, babbled), hears.kept ∙ ap (λ f. after_refusal f c.speak.new.self) is ∙ ap (after_refusal babble.Babble) c.in-Ok.ensures.state))
     (λ over. search rules))
+
+pub returns-in-Err : goal.returns-in-Err
+returns-in-Err g c = search rules

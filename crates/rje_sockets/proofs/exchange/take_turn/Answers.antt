@@ -21,3 +21,6 @@ returns-in_ok-heard-in_default-said g c = let heard = c.in_ok-reply.ensures.hear
         (comes_replied _ _ _ c.in_ok-speak-in_default-said.ensures.sent),
   );
 }
+
+pub returns-in-Err : goal.returns-in-Err
+returns-in-Err g c = search rules

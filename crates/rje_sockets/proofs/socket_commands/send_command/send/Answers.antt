@@ -34,3 +34,6 @@ returns-in_err-station-clause-fault g c =
     let cause : IsNewCause jobs fault = rw c.as_slice.ensures.slice at c.in_err-station.ensures.refused in
     let is : c.from_residual-in_err-station.result ≡ Err (of_station fault) = search rules in
     rw is (inl (station_fails c.in_ok-jobs.field-0.marker.file.items jobs fault c.in_ok-jobs.ensures.outgoing.left cause))
+
+pub returns-in_default-clause-marked : goal.returns-in_default-clause-marked
+returns-in_default-clause-marked g c = search rules

@@ -73,3 +73,9 @@ returns-clause-count g c =
     let sets : MarksSent new.file.items station.counted new.name.now mid made = rw c.counted-counted.ensures at c.in_ok-marked.ensures.marked in
     counted_alone (Ok c.in_ok-sent.field-0) (Ok c.in_ok-marked.field-0) old new c.args.station.now station f mid made c.in_ok-sent.ensures.marked tt c.in_ok-sent.ensures.count
     c.in_ok-sent.ensures.took tt sets tt
+
+pub returns-clause-printed : goal.returns-clause-printed
+returns-clause-printed g c = search rules
+
+pub returns-clause-told : goal.returns-clause-told
+returns-clause-told g c = search rules

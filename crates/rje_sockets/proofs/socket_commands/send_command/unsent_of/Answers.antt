@@ -10,3 +10,9 @@ returns-clause-marks c =
     let has : HasEntries c.in_ok-entries.entries.items c.args.file.now = c.in_ok-entries.ensures.file in
     let pass : All CanPass c.in_ok-entries.entries.items = search rules in
     marks c.args.file.now has pass
+
+pub returns-in-Some-clause-fault : goal.returns-in-Some-clause-fault
+returns-in-Some-clause-fault c = search rules
+
+pub returns-clause-left : goal.returns-clause-left
+returns-clause-left c = search rules
