@@ -5,8 +5,6 @@ mod file_store;
 mod memory_store;
 mod reading;
 mod store;
-#[cfg(test)]
-mod tests;
 
 pub use file_store::FileStore;
 pub use memory_store::MemoryStore;

@@ -5,8 +5,6 @@ mod address;
 mod device;
 mod laws;
 mod order;
-#[cfg(test)]
-mod tests;
 mod words;
 mod words_fault;
 

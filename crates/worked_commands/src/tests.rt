@@ -5,6 +5,8 @@ mod job_commands;
 mod receiving;
 mod sending;
 mod socket_commands;
+mod stores;
 mod told_line;
 mod traced;
 mod trials;
+mod words;

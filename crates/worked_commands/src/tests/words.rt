@@ -1,9 +1,9 @@
 //! Orders and faults, by their words.
-use crate::{
+use clap::error::ErrorKind;
+use rje_words::{
     CardsOrder, Device, ExchangeOrder, FileOrder, LoopOrder, Meeting, Order, PeerOrder,
     SocketOrder, TryOrder, WordsFault, parse,
 };
-use clap::error::ErrorKind;
 use std::net::{Ipv4Addr, SocketAddr, SocketAddrV4};
 use std::process::Abort;
 

@@ -1,5 +1,5 @@
 //! What no clause says: files of the system, and that files in memory are there.
-use crate::{FileStore, MemoryStore, Store, StoreFault};
+use rje_stores::{FileStore, MemoryStore, Store, StoreFault};
 use std::test::Fail;
 use std::{fs, process};
 
