@@ -3,7 +3,7 @@ ghost use Rattle.bsc_history.specs.History.{MayBegin};
 
 use super::GOOD;
 use super::rules::converse_by_rules;
-use bsc_history::{SoundFate, SoundFault, SoundReport, SoundTurn, converse};
+use bsc_history::{SoundFate, SoundFault, SoundReport, SoundTurn, SpokenTurn, converse};
 use bsc_link::{Outcome, Reply, Say, Sound, Wish};
 use std::alloc::AllocGlobal;
 use std::process::Abort;
@@ -83,17 +83,20 @@ struct Printed<'a>(&'a [Line], usize, Option<Outcome>);
 
 /// The report is what is printed. A refusal is seen by its NAK to a whole block, which nothing else gets.
 fn assert_report(rt: &impl Abort, report: &SoundReport, printed: &Printed) {
-    assert_eq!(rt; report.turns.len(), printed.0.len());
+    assert!(rt; report.turns.len() == printed.0.len());
     for (turn, line) in report.turns.iter().zip(printed.0) {
-        assert_eq!(rt; turn.said, line.0, "said at {line:?}");
-        assert_eq!(rt; turn.arrived, line.1, "arrived at {line:?}");
-        assert_eq!(rt; turn.reply, line.2, "reply at {line:?}");
-        assert_eq!(rt; turn.heard, line.3, "heard at {line:?}");
-        let refused = matches!((line.1, line.2), (Sound::Block, Some(Reply::Nak)));
-        assert_eq!(rt; turn.refused, refused, "refused at {line:?}");
+        let printed = SpokenTurn {
+            said: line.0,
+            arrived: line.1,
+            reply: line.2,
+            heard: line.3,
+            refused: matches!((line.1, line.2), (Sound::Block, Some(Reply::Nak))),
+            ..*turn
+        };
+        assert!(rt; *turn == printed, "{turn:?} at {line:?}");
     }
-    assert_eq!(rt; report.known, printed.1);
-    assert_eq!(rt; report.outcome, printed.2);
+    assert!(rt; report.known == printed.1);
+    assert!(rt; report.outcome == printed.2);
 }
 
 /// The cores say what is printed, and so do the rules.
@@ -287,8 +290,8 @@ fn a_refused_block_is_said_again(rt: HostRuntime) -> Result<(), SoundFault> {
 /// Both refuse the schedule of one block, and tell this turn.
 fn assert_refused(rt: &(impl Abort + AllocGlobal), places: &[SoundTurn], turn: usize) {
     let fault = Some(SoundFault::NotDamage(turn));
-    assert_eq!(rt; converse(rt.alloc(), &[true], places).err(), fault);
-    assert_eq!(rt; converse_by_rules(rt.alloc(), &[true], places).err(), fault);
+    assert!(rt; converse(rt.alloc(), &[true], places).err() == fault);
+    assert!(rt; converse_by_rules(rt.alloc(), &[true], places).err() == fault);
 }
 
 #[test]

@@ -23,7 +23,7 @@ const END_LOST: Line = Line(Say::End, Sound::Quiet, None, Sound::Quiet);
 /// Whether this schedule is fair is told so.
 fn assert_fair(rt: &(impl Abort + AllocGlobal), places: &[Place], fair: bool) -> Result<(), Fail> {
     let turns = schedule(rt.alloc(), places)?;
-    assert_eq!(rt; is_fair(&turns), fair);
+    assert!(rt; is_fair(&turns) == fair);
     Ok(())
 }
 
@@ -37,7 +37,7 @@ fn assert_bound(
     needed: u64,
     fair: bool,
 ) -> Result<(), Fail> {
-    assert_eq!(rt; turns_needed(jobs), Some(needed));
+    assert!(rt; turns_needed(jobs) == Some(needed));
     assert!(rt; needed <= places.len() as u64);
     assert_fair(rt, places, fair)
 }
@@ -123,7 +123,7 @@ fn assert_needed(rt: &(impl Abort + AllocGlobal), sizes: &[usize], turns: u64) -
     for records in sizes {
         jobs.push(job_of(rt, *records, 80)?)?;
     }
-    assert_eq!(rt; turns_needed(&jobs), Some(turns));
+    assert!(rt; turns_needed(&jobs) == Some(turns));
     Ok(())
 }
 
@@ -139,7 +139,7 @@ fn the_bid_and_each_block_need_seven_turns(rt: HostRuntime) -> Result<(), Fail> 
 
 #[test]
 fn a_job_that_cannot_be_sent_has_no_number_of_turns(rt: HostRuntime) -> Result<(), Fail> {
-    assert_eq!(rt; turns_needed(&[job_of(&rt, 1, 1)?, unfit_job(&rt)?]), None);
+    assert!(rt; turns_needed(&[job_of(&rt, 1, 1)?, unfit_job(&rt)?]).is_none());
     Ok(())
 }
 

@@ -139,8 +139,8 @@ fn assert_part(rt: &impl Abort, shows: &str, spoken: Option<Spoken>, line: Optio
 
 fn assert_side(rt: &impl Abort, side: &Side, fares: Fares<'_>) {
     assert_equal_jobs(rt, side.handed.as_slice(), fares.0);
-    assert_eq!(rt; side.counted, fares.1);
-    assert_eq!(rt; side.outcome, fares.2);
+    assert!(rt; side.counted == fares.1);
+    assert!(rt; side.outcome == fares.2);
 }
 
 /// Over this schedule both calls tell the turns that are printed, and this becomes of the jobs of the primary and of the secondary.
@@ -155,7 +155,7 @@ fn assert_pair(
     let turns = pair_schedule(rt.alloc(), places)?;
     for call in CALLS {
         let report = report_by(call, rt.alloc(), jobs, &turns)?;
-        assert_eq!(rt; report.turns.len(), lines.len(), "turns where {shows}");
+        assert!(rt; report.turns.len() == lines.len(), "turns where {shows}");
         for (turn, line) in report.turns.iter().zip(lines) {
             assert_part(rt, shows, turn.primary, line.0);
             assert_part(rt, shows, turn.secondary, line.1);
@@ -309,10 +309,10 @@ fn assert_one_way(rt: &impl Abort, pair: &PairReport, report: &Report) {
     let handed = report.handed.as_slice();
     assert_side(rt, &pair.up, (handed, report.counted, report.outcome));
     assert_side(rt, &pair.down, all_sent(&[]));
-    assert_eq!(rt; pair.turns.len(), report.turns.len());
+    assert!(rt; pair.turns.len() == report.turns.len());
     for (turn, spoken) in pair.turns.iter().zip(&report.turns) {
-        assert_eq!(rt; turn.primary, Some(*spoken));
-        assert_eq!(rt; turn.secondary, None);
+        assert!(rt; turn.primary == Some(*spoken));
+        assert!(rt; turn.secondary.is_none());
     }
 }
 
@@ -328,7 +328,7 @@ fn assert_is_a_run(
         let pair = report_by(call, rt.alloc(), (jobs, &[]), &pair_turns);
         match (run(rt.alloc(), jobs, &turns), pair) {
             (Ok(report), Ok(pair)) => assert_one_way(rt, &pair, &report),
-            (report, pair) => assert_eq!(rt; report.err(), pair.err()),
+            (report, pair) => assert!(rt; report.err() == pair.err()),
         }
     }
     Ok(())
@@ -393,7 +393,7 @@ fn assert_all_sent(
     let turns = pair_schedule(rt.alloc(), &pairings)?;
     for call in CALLS {
         let report = report_by(call, rt.alloc(), (ups, downs), &turns)?;
-        assert_eq!(rt; report.turns.len(), count);
+        assert!(rt; report.turns.len() == count);
         assert_side(rt, &report.up, all_sent(ups));
         assert_side(rt, &report.down, all_sent(downs));
     }
@@ -448,7 +448,7 @@ fn assert_refused(
     let turns = pair_schedule(rt.alloc(), places)?;
     for call in CALLS {
         let refused = report_by(call, rt.alloc(), (&jobs, &jobs), &turns).err();
-        assert_eq!(rt; refused, Some(fault));
+        assert!(rt; refused == Some(fault));
     }
     Ok(())
 }
@@ -533,7 +533,7 @@ fn jobs_that_cannot_be_sent_count_from_the_primarys_first(rt: HostRuntime) -> Re
     ];
     for (ups, downs, number) in cases {
         let fault = run_pair(rt.alloc(), ups, downs, &turns).err();
-        assert_eq!(rt; fault, Some(WorldFault::BadJob(number)));
+        assert!(rt; fault == Some(WorldFault::BadJob(number)));
     }
     Ok(())
 }

@@ -27,9 +27,9 @@ fn job_of(rt: &(impl Abort + AllocGlobal), count: usize) -> Result<Job, AllocErr
 
 /// The sender said this, turn by turn. A block that found no memory got NAK, and one that was said again didn't.
 fn assert_said(rt: &impl Abort, report: &Report, said: &[Say]) {
-    assert_eq!(rt; report.turns.len(), said.len());
+    assert!(rt; report.turns.len() == said.len());
     for (turn, say) in report.turns.iter().zip(said) {
-        assert_eq!(rt; turn.said, *say);
+        assert!(rt; turn.said == *say);
         assert!(rt;
             !turn.refused
                 || (turn.arrived, turn.reply, turn.heard)
@@ -79,7 +79,7 @@ fn a_run_says_a_block_again_that_found_no_memory(rt: HostRuntime) -> Result<(), 
         }
     };
     assert_same_jobs(&rt, report.handed.as_slice(), &jobs);
-    assert_eq!(rt; report.counted, 1);
+    assert!(rt; report.counted == 1);
     if refused_block(&rt, &report) == Some(2) {
         println!(rt; "block 2 found no memory")?;
     }
@@ -90,8 +90,8 @@ fn a_run_says_a_block_again_that_found_no_memory(rt: HostRuntime) -> Result<(), 
 
 /// The report of a run that sent one job of two blocks and ended so: whether one of its blocks found no memory.
 fn is_one_refused(rt: &impl Abort, report: &Report, outcome: Outcome) -> bool {
-    assert_eq!(rt; report.counted, 1);
-    assert_eq!(rt; report.outcome, Some(outcome));
+    assert!(rt; report.counted == 1);
+    assert!(rt; report.outcome == Some(outcome));
     refused_block(rt, report).is_some()
 }
 
@@ -115,8 +115,8 @@ fn try_runs(rt: &(impl Abort + AllocGlobal)) -> &'static str {
         }
     };
     assert_same_jobs(rt, series.handed.as_slice(), &jobs);
-    assert_eq!(rt; series.counted, 2);
-    assert_eq!(rt; series.reports.len(), 2);
+    assert!(rt; series.counted == 2);
+    assert!(rt; series.reports.len() == 2);
     let first = is_one_refused(rt, &series.reports[0], Outcome::Turned);
     let second = is_one_refused(rt, &series.reports[1], Outcome::Done);
     assert!(rt; !(first && second));
@@ -190,7 +190,7 @@ fn try_pair(rt: &(impl Abort + AllocGlobal), call: Call) -> &'static str {
         (_, true) => (9, "a block of the secondary found no memory"),
         _ => (8, "each block found memory"),
     };
-    assert_eq!(rt; report.turns.len(), turns);
+    assert!(rt; report.turns.len() == turns);
     told
 }
 

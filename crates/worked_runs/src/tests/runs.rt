@@ -113,9 +113,9 @@ fn a_job_that_was_cut_off_is_not_whole(rt: HostRuntime) -> Result<(), Fail> {
     ];
     let report = assert_report(&rt, &jobs, &places, &lines, 0, Some(Outcome::GaveUp))?;
     let handed = report.handed.as_slice();
-    assert_eq!(rt; handed.len(), 1);
+    assert!(rt; handed.len() == 1);
     assert!(rt; !handed[0].whole);
-    assert_eq!(rt; handed[0].records.len(), 6);
+    assert!(rt; handed[0].records.len() == 6);
     Ok(())
 }
 
@@ -170,7 +170,7 @@ fn assert_refused(
 ) -> Result<(), Fail> {
     let jobs = [job_of(rt, 1, 1)?];
     let turns = schedule(rt.alloc(), places)?;
-    assert_eq!(rt; run(rt.alloc(), &jobs, &turns).err(), Some(fault));
+    assert!(rt; run(rt.alloc(), &jobs, &turns).err() == Some(fault));
     Ok(())
 }
 
@@ -214,7 +214,7 @@ fn damage_has_at_most_8192_bytes(rt: HostRuntime) -> Result<(), Fail> {
     assert_turns(&rt, &report.turns, &[quiet, BID, BLOCK_ACK1, END]);
     let turns = damaged_into_syn(alloc, MAX_DAMAGE + 1)?;
     let fault = run(alloc, &jobs, &turns).err();
-    assert_eq!(rt; fault, Some(WorldFault::NotDamage(1, 1)));
+    assert!(rt; fault == Some(WorldFault::NotDamage(1, 1)));
     Ok(())
 }
 
@@ -276,7 +276,7 @@ fn with_no_jobs_nothing_is_said(rt: HostRuntime) -> Result<(), Fail> {
 fn a_job_that_cannot_be_sent_is_told_before_any_turn(rt: HostRuntime) -> Result<(), Fail> {
     let turns = schedule(rt.alloc(), &[cut(&[0])])?;
     let fault = run(rt.alloc(), &[unfit_job(&rt)?], &turns).err();
-    assert_eq!(rt; fault, Some(WorldFault::BadJob(1)));
+    assert!(rt; fault == Some(WorldFault::BadJob(1)));
     Ok(())
 }
 
@@ -292,12 +292,12 @@ fn assert_long_run(
         turns.append(&mut schedule(rt.alloc(), &[GOOD])?)?;
     }
     let report = run(rt.alloc(), &jobs, &turns)?;
-    assert_eq!(rt; report.turns.len(), good_turns);
+    assert!(rt; report.turns.len() == good_turns);
     for turn in &report.turns {
         assert!(rt; !turn.refused);
     }
-    assert_eq!(rt; report.counted, 1);
-    assert_eq!(rt; report.outcome, Some(Outcome::Done));
+    assert!(rt; report.counted == 1);
+    assert!(rt; report.outcome == Some(Outcome::Done));
     assert_same_jobs(rt, report.handed.as_slice(), &jobs);
     Ok(())
 }
@@ -347,8 +347,8 @@ fn assert_events(rt: &impl Abort, trace: &Trace, events: &[Event]) {
 /// The stations of one job, after a run in which its acknowledgement was lost.
 fn assert_driven(rt: &impl Abort, driven: &Driven<'_>, jobs: &[Job]) {
     assert_turns(rt, &driven.turns, &[BID, BLOCK_UNHEARD, ASK_ACK1, END]);
-    assert_eq!(rt; driven.sender.counted(), 1);
-    assert_eq!(rt; driven.sender.outcome(), Some(Outcome::Done));
+    assert!(rt; driven.sender.counted() == 1);
+    assert!(rt; driven.sender.outcome() == Some(Outcome::Done));
     assert_same_jobs(rt, driven.receiver.jobs(), jobs);
     assert_events(rt, driven.sender.trace(), &SENDERS_EVENTS);
     assert_events(rt, driven.receiver.trace(), &RECEIVERS_EVENTS);

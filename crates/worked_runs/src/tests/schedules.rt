@@ -170,14 +170,18 @@ pub(super) fn assert_same_jobs(rt: &impl Abort, handed: &[Job], jobs: &[Job]) {
     }
 }
 
+fn is_same_job(given: &Job, job: &Job) -> bool {
+    given.whole == job.whole
+        && given.select == job.select
+        && given.mode == job.mode
+        && given.records.as_slice() == job.records.as_slice()
+}
+
 /// The jobs are the same, and the same of them are whole.
 pub(super) fn assert_equal_jobs(rt: &impl Abort, handed: &[Job], jobs: &[Job]) {
-    assert_eq!(rt; handed.len(), jobs.len());
+    assert!(rt; handed.len() == jobs.len());
     for (given, job) in handed.iter().zip(jobs) {
-        assert!(rt; given.whole == job.whole);
-        assert!(rt; given.select == job.select);
-        assert!(rt; given.mode == job.mode);
-        assert!(rt; given.records.as_slice() == job.records.as_slice());
+        assert!(rt; is_same_job(given, job));
     }
 }
 
@@ -221,7 +225,7 @@ pub(super) const END: Line = Line(Say::End, Sound::Eot, None, Sound::Quiet);
 
 /// The turns are what is printed; none was refused.
 pub(super) fn assert_turns(rt: &impl Abort, turns: &[Spoken], lines: &[Line]) {
-    assert_eq!(rt; turns.len(), lines.len());
+    assert!(rt; turns.len() == lines.len());
     for (turn, line) in turns.iter().zip(lines) {
         assert_turn(rt, turn, line);
     }
@@ -229,11 +233,14 @@ pub(super) fn assert_turns(rt: &impl Abort, turns: &[Spoken], lines: &[Line]) {
 
 /// The turn is what is printed, and wasn't refused.
 pub(super) fn assert_turn(rt: &impl Abort, turn: &Spoken, line: &Line) {
-    assert_eq!(rt; turn.said, line.0, "said at {line:?}");
-    assert_eq!(rt; turn.arrived, line.1, "arrived at {line:?}");
-    assert!(rt; !turn.refused);
-    assert_eq!(rt; turn.reply, line.2, "reply at {line:?}");
-    assert_eq!(rt; turn.heard, line.3, "heard at {line:?}");
+    let printed = Spoken {
+        said: line.0,
+        arrived: line.1,
+        refused: false,
+        reply: line.2,
+        heard: line.3,
+    };
+    assert!(rt; *turn == printed, "{turn:?} at {line:?}");
 }
 
 /// A report of what is printed, in which so many jobs were counted, and it ended so.
@@ -248,7 +255,7 @@ pub(super) fn assert_report(
     let turns = schedule(rt.alloc(), places)?;
     let report = run(rt.alloc(), jobs, &turns)?;
     assert_turns(rt, &report.turns, lines);
-    assert_eq!(rt; report.counted, counted);
-    assert_eq!(rt; report.outcome, outcome);
+    assert!(rt; report.counted == counted);
+    assert!(rt; report.outcome == outcome);
     Ok(report)
 }

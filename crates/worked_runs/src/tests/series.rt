@@ -39,7 +39,7 @@ fn assert_series(
 ) -> Result<Series, Fail> {
     let schedules = schedules(rt.alloc(), attempts)?;
     let series = run_all(rt.alloc(), jobs, &schedules)?;
-    assert_eq!(rt; series.counted, counted);
+    assert!(rt; series.counted == counted);
     Ok(series)
 }
 
@@ -50,13 +50,13 @@ struct Run<'a>(&'a [Line], usize, Outcome);
 /// The report is of this run.
 fn assert_run(rt: &impl Abort, report: &Report, run: &Run<'_>) {
     assert_turns(rt, &report.turns, run.0);
-    assert_eq!(rt; report.counted, run.1);
-    assert_eq!(rt; report.outcome, Some(run.2));
+    assert!(rt; report.counted == run.1);
+    assert!(rt; report.outcome == Some(run.2));
 }
 
 /// The reports are of these runs, one after another.
 fn assert_runs(rt: &impl Abort, reports: &[Report], runs: &[Run<'_>]) {
-    assert_eq!(rt; reports.len(), runs.len());
+    assert!(rt; reports.len() == runs.len());
     for (report, run) in reports.iter().zip(runs) {
         assert_run(rt, report, run);
     }
@@ -64,7 +64,7 @@ fn assert_runs(rt: &impl Abort, reports: &[Report], runs: &[Run<'_>]) {
 
 /// Each of the reports has handed out these jobs, one list for each.
 fn assert_each_handed(rt: &impl Abort, series: &Series, jobs: &[&[Job]]) {
-    assert_eq!(rt; series.reports.len(), jobs.len());
+    assert!(rt; series.reports.len() == jobs.len());
     for (report, handed) in series.reports.iter().zip(jobs) {
         assert_same_jobs(rt, report.handed.as_slice(), handed);
     }
@@ -110,8 +110,8 @@ fn a_job_that_was_cut_off_is_given_again(rt: HostRuntime) -> Result<(), Fail> {
         Run(&all, 2, Outcome::Done),
     ];
     assert_runs(&rt, &series.reports, &runs);
-    assert_eq!(rt; series.reports.len(), 2);
-    assert_eq!(rt; series.reports[0].handed.len(), 1);
+    assert!(rt; series.reports.len() == 2);
+    assert!(rt; series.reports[0].handed.len() == 1);
     assert_begun_then_whole(&rt, series.handed.as_slice(), &jobs);
     Ok(())
 }
@@ -125,7 +125,7 @@ fn assert_begun_then_whole(rt: &impl Abort, handed: &[Job], jobs: &[Job]) {
     assert!(rt; !begun.whole);
     assert!(rt; !jobs.is_empty());
     let records = jobs[0].records.as_slice();
-    assert_eq!(rt; records.len(), 7);
+    assert!(rt; records.len() == 7);
     assert!(rt; begun.records.as_slice() == &records[..6]);
     assert_same_jobs(rt, rest, jobs);
 }
@@ -180,7 +180,7 @@ fn assert_refused(
 ) -> Result<(), Fail> {
     let schedules = schedules(rt.alloc(), attempts)?;
     let refused = run_all(rt.alloc(), jobs, &schedules).err();
-    assert_eq!(rt; refused, Some(fault));
+    assert!(rt; refused == Some(fault));
     Ok(())
 }
 
