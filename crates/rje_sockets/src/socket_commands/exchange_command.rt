@@ -1,12 +1,13 @@
 //! `exchange`: one transmission each way over one connection.
 ghost use Rattle.std.specs.Prelude.{◌≡◌, ◌≢◌, ◌⊎◌, List, Option, IfErr, IfOk, IfSome, OnOk};
-ghost use Rattle.rje_jobs.specs.declared.job.Job.{Job};
+ghost use Rattle.std.specs.List.{flat_map};
+ghost use Rattle.rje_jobs.specs.declared.job.Job.{Job as Item};
 ghost use Rattle.rje_files.specs.Unsent.{IsLeft};
 ghost use Rattle.rje_commands.specs.Commands.{OfFile};
 ghost use Rattle.rje_commands.specs.CommandFault.{IsFailing, status_of};
 ghost use Rattle.rje_sockets.specs.BothFiles.{HoldsBoth};
 ghost use Rattle.rje_sockets.specs.Ending.{IsRefusedFile};
-ghost use Rattle.rje_sockets.specs.Exchanging.{EndsExchanging, Exchanges, ExchangesLeft, ending_of_both, rank_at};
+ghost use Rattle.rje_sockets.specs.Exchanging.{EndsExchanging, Exchanges, ExchangesLeft, ending_of_both, exchanged_text, rank_at};
 ghost use Rattle.rje_sockets.specs.Inside.Sending.{IsSendFault};
 ghost use Rattle.rje_sockets.specs.LeavingBoth.{LeavesBoth, LeavesExchange};
 ghost use Rattle.rje_stores.specs.Store.{FileMap, Discloses, IsSame};
@@ -24,7 +25,8 @@ use crate::tracer::Tracer;
 use crate::watch::{Unwatched, Watch};
 use bsc_link::{Outcome, Rank};
 use rje_commands::{CommandFault, look_beside, put_lines, tell};
-use rje_print::{counted_text, handed_text, outcome_text};
+use rje_jobs::Job;
+use rje_print::{PrintedLine, counted_text, handed_text, outcome_text};
 use rje_station::{Line, Station};
 use rje_stores::Store;
 use rje_words::{ExchangeOrder, Meeting};
@@ -154,7 +156,7 @@ fn exchange_files<'a, 'b, L: Line, S: Store, W: Watch, O: Write>(
     ensures exchanged { IfOk result (λ ending. Exchanges ending station.entry marker.entry
         keeper.entry (S.files store.old) (S.files store.new)
         (O.contents out.old) (O.contents out.new)) }
-    ensures status { IfErr result (λ fault. (jobs : List Job)
+    ensures status { IfErr result (λ fault. (jobs : List Item)
         → IsLeft marker.entry.file.items jobs → IsFailing (status_of fault)) }
     ensures files { marker.entry.marked ≡ station.entry.sender.counted
         → keeper.entry.place ≡ Growing → marker.entry.name.now ≢ keeper.entry.name.now
@@ -167,15 +169,27 @@ fn exchange_files<'a, 'b, L: Line, S: Store, W: Watch, O: Write>(
     let left = exchange_all(&mut station, line, &mut marker, &mut keeper, store, watch);
     let outcome = station.sender().outcome();
     let counted = station.sender().counted();
-    let lines = [
-        counted_text(counted, given),
-        outcome_text(outcome),
-        handed_text(station.receiver().jobs()),
-    ];
+    let lines = lines_of_both(counted, given, outcome, station.receiver().jobs());
     let marked = marker.write(counted, store);
     let kept = keep_rest(&left, &mut keeper, station.take(), store);
     let printed = put_lines(&lines, out);
     left_after(left, marked.and(kept), printed).map(|left| ending_of_both(outcome, left))
+}
+
+/// How many of so many jobs were counted, how that ended, and how many jobs came.
+fn lines_of_both(
+    counted: usize,
+    given: usize,
+    outcome: Option<Outcome>,
+    jobs: &[Job],
+) -> [PrintedLine; 3]
+    ensures { flat_map (λ line. line.items) result ≡ exchanged_text counted given outcome jobs.now }
+{
+    [
+        counted_text(counted, given),
+        outcome_text(outcome),
+        handed_text(jobs),
+    ]
 }
 
 /// The end that calls is the primary.

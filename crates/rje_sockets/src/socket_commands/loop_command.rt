@@ -16,7 +16,9 @@ use crate::socket_commands::Ending;
 use crate::socket_line::SocketLine;
 use crate::tracer::Tracer;
 use crate::watch::Watch;
+use bsc_link::Outcome;
 use rje_commands::{CommandFault, put_lines, read_job_file};
+use rje_jobs::Job;
 use rje_print::{counted_text, handed_text, outcome_text};
 use rje_station::{Line, ReceivingStation, SendingStation};
 use rje_stores::Store;
@@ -81,15 +83,31 @@ fn loop_over<'a, N: Line, F: Line, W: Watch, O: Write>(
         sender.old receiver.old watch.old sender.new receiver.new watch.new turns) }
 {
     let taken = take_turns(sender, near, receiver, far, watch);
-    let lines = [
-        counted_text(sender.counted(), given),
-        handed_text(receiver.jobs()),
-        outcome_text(sender.outcome()),
-    ];
-    let printed = put_lines(&lines, out);
+    let outcome = sender.outcome();
+    let printed = print_looped(sender.counted(), given, receiver.jobs(), outcome, out);
     taken?;
     printed?;
-    Ok(Ending::from(sender.outcome()))
+    Ok(Ending::from(outcome))
+}
+
+/// Prints how many of so many jobs were counted, how many were handed out, and how it ended.
+fn print_looped<'a, O: Write>(
+    counted: usize,
+    given: usize,
+    jobs: &[Job],
+    outcome: Option<Outcome>,
+    out: &mut O,
+) -> Result<(), CommandFault<'a>>
+    ensures text { OnOk result (Appends (O.contents out.old) (O.contents out.new)
+        (loop_text counted given jobs.now outcome)) }
+    ensures status { IfErr result (λ fault. IsFailing (status_of fault)) }
+{
+    let lines = [
+        counted_text(counted, given),
+        handed_text(jobs),
+        outcome_text(outcome),
+    ];
+    put_lines(&lines, out)
 }
 
 /// Both ends of a line: a connection to a free port of this machine.

@@ -21,6 +21,7 @@ use crate::socket_commands::Ending;
 use crate::socket_line::SocketLine;
 use crate::tracer::Tracer;
 use crate::watch::{Unwatched, Watch};
+use bsc_link::Outcome;
 use rje_commands::{CommandFault, put_lines, read_file, tell};
 use rje_files::{first_unsendable, mark_places, read_entries, unsent_jobs};
 use rje_jobs::Jobs;
@@ -202,13 +203,24 @@ fn transmit<'a, L: Line, S: Store, W: Watch, O: Write>(
     let sent = send_all(station, line, marker, store, watch);
     let counted = station.counted();
     let marked = marker.write(counted, store);
-    let lines = [
-        counted_text(counted, given),
-        outcome_text(station.outcome()),
-    ];
-    let printed = put_lines(&lines, out);
+    let outcome = station.outcome();
+    let printed = print_sent(counted, given, outcome, out);
     sent?;
     marked?;
     printed?;
-    Ok(Ending::from(station.outcome()))
+    Ok(Ending::from(outcome))
+}
+
+/// Prints how many of so many jobs were counted, and how it ended.
+fn print_sent<'a, O: Write>(
+    counted: usize,
+    given: usize,
+    outcome: Option<Outcome>,
+    out: &mut O,
+) -> Result<(), CommandFault<'a>>
+    ensures text { OnOk result (Appends (O.contents out.old) (O.contents out.new)
+        (sent_text counted given outcome)) }
+    ensures status { IfErr result (λ fault. IsFailing (status_of fault)) }
+{
+    put_lines(&[counted_text(counted, given), outcome_text(outcome)], out)
 }

@@ -1,10 +1,9 @@
-use Rattle.std.proofs.Common.{rules, length, ◌≡◌}
+use Rattle.std.proofs.Common.{rules}
+use Rattle.std.specs.List.{flat_map}
 use Rattle.std.specs.Result.{result_and}
 use Rattle.rje_station.specs.Sending.{outcome_of}
-use Rattle.rje_print.specs.ReportTexts.{counted_line, outcome_line}
-use Rattle.rje_sockets.specs.Ending.{received_text}
 use Rattle.rje_sockets.specs.Exchanging.{Exchanges, ending_of_both}
-use Rattle.rje_sockets.proofs.Exchanged.{all_exchanged, exchange_fails, three_lines}
+use Rattle.rje_sockets.proofs.Exchanged.{all_exchanged, exchange_fails}
 use Rattle.rje_sockets.proofs.LeavingBoth.{file_stays, leaves_both, marks_as_many}
 use Rattle.rje_sockets.proofs.Received.{ends_well}
 use Rattle.rje_sockets.proofs.socket_commands.exchange_command.exchange_files.Goals as goal
@@ -24,17 +23,15 @@ returns-clause-exchanged g c =
     let mid = g.S.Store.files c.exchange_all-left.new.store in
     let written = g.S.Store.files c.write-marked.new.store in
     let sets = marks_as_many c.write-marked.result marker.file.items _ station.sender.counted marker.name.now mid written c.write-marked.ensures.marked (search rules) in
-    let counted : c.counted_text.result.items ≡ counted_line station.sender.counted (length c.args.station.sender.jobs) = search rules in
-    let ended : c.outcome_text.result.items ≡ outcome_line (outcome_of station.sender) = search rules in
-    let came : c.handed_text.result.items ≡ received_text station.receiver.jobs = search rules in
     ends_well c.map.result c.left_after.result c.exchange_all-left.result (result_and c.write-marked.result c.keep_rest-kept.result) c.put_lines-printed.result (ending_of_both (outcome_of station.sender))
     (λ ending. Exchanges ending c.args.station c.args.marker c.args.keeper (g.S.Store.files c.args.store.now) (g.S.Store.files c.keep_rest-kept.new.store) (g.O.Write.contents c.args.out.now) (g.O.Write.contents c.put_lines-printed.new.out))
     (search rules) (search rules) c.map.ensures.variant
     (all_exchanged c.exchange_all-left.result c.write-marked.result c.keep_rest-kept.result c.put_lines-printed.result c.args.station station c.args.marker c.exchange_all-left.new.marker c.args.keeper
     c.exchange_all-left.new.keeper (g.S.Store.files c.args.store.now) (g.S.Store.files c.exchange_all-left.new.store) (g.S.Store.files c.write-marked.new.store) (g.S.Store.files c.keep_rest-kept.new.store)
-    (g.O.Write.contents c.args.out.now) (g.O.Write.contents c.put_lines-printed.new.out) _ c.exchange_all-left.ensures.left c.exchange_all-left.ensures.holds
+    (g.O.Write.contents c.args.out.now) (g.O.Write.contents c.put_lines-printed.new.out)
+    (flat_map (λ line. line.items) c.lines_of_both-lines.result) c.exchange_all-left.ensures.left c.exchange_all-left.ensures.holds
     sets (rw c.take.ensures at c.keep_rest-kept.ensures.file) (search rules)
-    (three_lines c.counted_text.result.items c.outcome_text.result.items c.handed_text.result.items _ _ _ counted ended came))
+    (search rules))
 
 pub returns-clause-files : goal.returns-clause-files
 returns-clause-files g c =
