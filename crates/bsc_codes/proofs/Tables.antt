@@ -4,7 +4,7 @@ use Rattle.std.specs.List.{find, list_all, slice_get, range_with_len}
 use Rattle.std.specs.Option.{option_map}
 use Rattle.std.specs.Prelude.{nat_lt, if◌then◌else◌}
 use Rattle.std.proofs.lemmas.Bool.{le-ltb, lt-ltb}
-use Rattle.std.proofs.lemmas.Option.{slice_get-get_or, none-some}
+use Rattle.std.proofs.lemmas.Option.{slice_get-get_or, none-some, same_Some}
 use Rattle.std.proofs.lemmas.List.FromFn.{get_or-map-range_with_len}
 use Rattle.std.proofs.lemmas.Bool.Decides.{nat_tests}
 use Rattle.bsc_codes.specs.declared.code_page.TheConstants.{PRINTABLE}
@@ -13,11 +13,8 @@ use Rattle.bsc_codes.proofs.Both.{both}
 
 -- ---- What is found in a list passes the test, and what every entry passes.
 
-some_same : {X : Type 0} (x y : X) → ◌≡◌ {A = Option X} (Some x) (Some y) → x ≡ y
-some_same x y q = cc
-
 first_or : {X : Type 0} (b : Bool) (x y : X) (o : Option X) → cond b (Some x) o ≡ Some y → ((b ≡ true) × (x ≡ y)) ⊎ (o ≡ Some y)
-first_or true x y o h = inl (refl, some_same x y h)
+first_or true x y o h = inl (refl, same_Some x y h)
 first_or false x y o h = inr h
 
 found_passes : (test every : Entry → Bool) (page : List Entry) (e : Entry) → list_all every page ≡ true → find test page ≡ Some e → (test e ≡ true) × (every e ≡ true)
@@ -27,9 +24,10 @@ found_passes test every (x ∷ xs) e h f =
     (λ (w : find test xs ≡ Some e). found_passes test every xs e (both _ _ h).1 w)
     (first_or (test x) x e (find test xs) f)
 
-mapped : {X Y : Type 0} (f : X → Y) (o : Option X) (y : Y) → option_map f o ≡ Some y → (x : X) × (o ≡ Some x) × (f x ≡ y)
+-- what o and a function give, where both give something
+pub mapped : {X Y : Type 0} (f : X → Y) (o : Option X) (y : Y) → option_map f o ≡ Some y → (x : X) × (o ≡ Some x) × (f x ≡ y)
 mapped f None y h = absurd (none-some y h)
-mapped f (Some x) y h = (x, refl, some_same (f x) y h)
+mapped f (Some x) y h = (x, refl, same_Some (f x) y h)
 
 -- ---- Each entry's character has its code, each entry's code its character, and no other.
 

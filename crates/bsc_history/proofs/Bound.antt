@@ -2,6 +2,7 @@
 -- enough.
 use Rattle.std.proofs.Common.{◌≡◌, ◌≢◌, ◌⊎◌, inl, inr, ℕ, zero, suc, ◌+◌, ◌*◌, ◌<◌, ◌≤◌, Bool, true, false, [], ◌∷◌, length, take, Option, Some, None, refl, sym, ◌∙◌, arith, add-one}
 use Rattle.std.proofs.lemmas.Bool.{true≢false, false≢true, cases_Bool, cases_lt, lt-leb}
+use Rattle.bsc_link.proofs.Rvi.{or-true}
 use Rattle.bsc_link.specs.declared.next.Next.{Next}
 use Rattle.bsc_link.specs.declared.reply.Reply.{Reply}
 use Rattle.bsc_link.specs.declared.say.Say.{Say}
@@ -17,7 +18,7 @@ use Rattle.bsc_history.proofs.CleanTurns.{IsClean, done_past}
 use Rattle.bsc_history.proofs.Clearing.{clean_block, clean_bid, stalled_clean, counting_progress}
 use Rattle.bsc_history.proofs.Line.{ComesAs, comes}
 use Rattle.bsc_history.proofs.OneConversation.{true-false}
-use Rattle.bsc_history.proofs.Phases.{or-true, or-false, Phase, Phase-from_spoken, Early, Level}
+use Rattle.bsc_history.proofs.Phases.{or-false, Phase, Phase-from_spoken, Early, Level}
 use Rattle.bsc_history.proofs.Plain.{IsPlain, ArePlain, Steady, steady, unheld_turn}
 use Rattle.bsc_history.proofs.Saying.{ungranted-from_bid}
 use Rattle.bsc_history.proofs.Within.{known-within, or-left-false}

@@ -3,7 +3,7 @@ pub use Rattle.bsc_history.proofs.Agreement.{at_most_one_more, in_order, convers
 pub use Rattle.bsc_history.proofs.Bound.{HasCleanPair, IsFairNow, AreFair, known_in_time}
 pub use Rattle.bsc_history.proofs.CleanTurns.{IsClean, AreClean, clean_stands}
 pub use Rattle.bsc_history.proofs.Line.{ComesAs, comes, lost-after}
-pub use Rattle.bsc_history.proofs.OneConversation.{same-sound, same-place, same-history, rest, goes-on-within, no-longer, true-false, cases-plan}
+pub use Rattle.bsc_history.proofs.OneConversation.{same-history, rest, goes-on-within, no-longer, true-false, cases-plan}
 pub use Rattle.bsc_history.proofs.OnePairConversation.{counted-quiet, vain-follows, silent-says, IsPairOf, none-alone, parts-of, same-pair_place, same-pair_history, pair-rest, pair-goes-on-within, pair-no-longer, one-speaks, unfinished}
 pub use Rattle.bsc_history.proofs.Phases.{turn, saying-speaks, no-answer, and-false, Phase, Phase-from_spoken}
 pub use Rattle.bsc_history.proofs.PairAgreement.{pair_conversations_may_be_spoken, directions_may_be_spoken}

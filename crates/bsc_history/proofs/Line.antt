@@ -1,5 +1,6 @@
 -- What a sound may come as, whatever its fate.
 use Rattle.std.proofs.Common.{◌≡◌, ◌≢◌, ◌⊎◌, inl, inr, Some, refl, sym, ◌∙◌}
+use Rattle.std.proofs.lemmas.Option.{same_Some}
 use Rattle.bsc_link.specs.declared.sound.Sound.{Sound}
 use Rattle.bsc_history.specs.declared.sound_fate.SoundFate.{SoundFate}
 use Rattle.bsc_history.specs.Fate.{after_fate, MayBeHeardAs}
@@ -11,11 +12,8 @@ ComesAs Sound.Block heard = heard ≢ Sound.Eot
 ComesAs Sound.Ttd heard = (heard ≢ Sound.Block) × (heard ≢ Sound.Eot)
 ComesAs said heard = (heard ≡ said) ⊎ ((heard ≡ Sound.Quiet) ⊎ (heard ≡ Sound.Noise))
 
-some-same : (x y : Sound) → Some x ≡ Some y → x ≡ y
-some-same x y e = cc
-
 differs : (x y z : Sound) → Some x ≡ Some y → x ≢ z → y ≢ z
-differs x y z e f = λ g. f (some-same x y e ∙ g)
+differs x y z e f = λ g. f (same_Some x y e ∙ g)
 
 comes-whole : (said : Sound) → ComesAs said said
 comes-whole Sound.Quiet = refl
@@ -37,14 +35,14 @@ comes-damaged Sound.Block heard x f e = differs heard x Sound.Eot e (λ g. cc)
 comes-damaged Sound.Ttd Sound.Block x f e = cc
 comes-damaged Sound.Ttd Sound.Eot x f e = cc
 comes-damaged Sound.Ttd heard x f e = (differs heard x Sound.Block e (λ g. cc), differs heard x Sound.Eot e (λ g. cc))
-comes-damaged said Sound.Noise x f e = inr (inr (sym (some-same Sound.Noise x e)))
-comes-damaged said Sound.Quiet x f e = inr (inl (sym (some-same Sound.Quiet x e)))
+comes-damaged said Sound.Noise x f e = inr (inr (sym (same_Some Sound.Noise x e)))
+comes-damaged said Sound.Quiet x f e = inr (inl (sym (same_Some Sound.Quiet x e)))
 comes-damaged said heard x f e = cc
 
 comes-after : (fate : SoundFate) (said x : Sound) → after_fate fate said ≡ Some x → ComesAs said x
-comes-after fate Sound.Quiet x e = sym (some-same Sound.Quiet x e)
-comes-after SoundFate.Arrives said x e = rw (← some-same said x e) (comes-whole said)
-comes-after SoundFate.Lost said x e = rw (← some-same Sound.Quiet x e) (comes-lost said)
+comes-after fate Sound.Quiet x e = sym (same_Some Sound.Quiet x e)
+comes-after SoundFate.Arrives said x e = rw (← same_Some said x e) (comes-whole said)
+comes-after SoundFate.Lost said x e = rw (← same_Some Sound.Quiet x e) (comes-lost said)
 comes-after (SoundFate.Damaged heard) said x e = comes-damaged said heard x (λ f. cc) e
 
 -- what is lost isn't heard

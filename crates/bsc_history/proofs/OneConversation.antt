@@ -1,7 +1,7 @@
 -- Of a schedule there is one conversation: what is spoken over it is a part of whatever longer is spoken over it.
 use Rattle.std.proofs.Common.{◌≡◌, ◌⊎◌, inl, inr, ℕ, ◌+◌, ◌<◌, ◌≤◌, Bool, true, false, ◌&&◌, List, [], ◌∷◌, length, slice_get, Option, Some, None, refl, sym, ap, ◌∙◌, subst, arith}
 use Rattle.std.proofs.lemmas.Bool.{cases_order, true≢false}
-use Rattle.std.proofs.lemmas.Option.{slice_get_within}
+use Rattle.std.proofs.lemmas.Option.{slice_get_within, same_Some}
 use Rattle.bsc_link.specs.declared.sound.Sound.{Sound}
 use Rattle.bsc_link.specs.declared.say.Say.{Say}
 use Rattle.bsc_link.specs.declared.wish.Wish.{Wish}
@@ -17,12 +17,6 @@ use Rattle.bsc_history.specs.Pair.{as_counted, sound_counted}
 use Rattle.bsc_history.specs.PairSchedule.{BreaksPart}
 use Rattle.bsc_history.proofs.Phases.{turn}
 
-pub same-sound : (x y : Sound) → Some x ≡ Some y → x ≡ y
-same-sound x y e = cc
-
-pub same-place : (x y : SoundTurn) → Some x ≡ Some y → x ≡ y
-same-place x y e = cc
-
 pub true-false : (b : Bool) → b ≡ true → b ≡ false → ⊥
 true-false b e f = true≢false (sym e ∙ f)
 
@@ -33,11 +27,11 @@ same-fields s s' a a' f f' r r' x x' w w' p p' es ea ef er ex ew ep = rw (es, ea
 pub same-turn : (bid_out : Bool) (plan : Plan) (gives_up : Bool) (past : History) (place : SoundTurn) (t u : SpokenTurn) → Follows plan gives_up past (as_counted bid_out t) → Follows plan gives_up past (as_counted bid_out u) → IsAt place t → IsAt place u → t ≡ u
 same-turn bid_out plan gives_up past place t u f g at on =
     let said : t.said ≡ u.said = f.said ∙ sym g.said in
-    let arrived : t.arrived ≡ u.arrived = same-sound _ _ (sym at.up ∙ ap (λ x. after_fate place.up (sound_of x)) said ∙ on.up) in
+    let arrived : t.arrived ≡ u.arrived = same_Some _ _ (sym at.up ∙ ap (λ x. after_fate place.up (sound_of x)) said ∙ on.up) in
     let refused : t.refused ≡ u.refused = at.refused ∙ ap (λ x. place.refused && is_block x) arrived ∙ sym on.refused in
     let wish : t.wish ≡ u.wish = at.wish ∙ sym on.wish in
     let reply : t.reply ≡ u.reply = f.replied ∙ rw (arrived, refused, wish) refl ∙ sym g.replied in
-    let heard : t.heard ≡ u.heard = same-sound _ _ (sym at.down ∙ ap (λ x. after_fate place.down (sound_of_reply x)) reply ∙ on.down) in
+    let heard : t.heard ≡ u.heard = same_Some _ _ (sym at.down ∙ ap (λ x. after_fate place.down (sound_of_reply x)) reply ∙ on.down) in
     same-fields _ _ _ _ _ _ _ _ _ _ _ _ _ _ said arrived refused reply heard wish (at.pause ∙ sym on.pause)
 
 pub rest : (plan : Plan) (places : List SoundTurn) (t : SpokenTurn) (past : History) → IsSpokenOver plan places (t ∷ past) → IsSpokenOver plan places past
@@ -50,7 +44,7 @@ same-history plan places [] (u ∷ g) s r e = absurd (omega (arith, e))
 same-history plan places (t ∷ h) [] s r e = absurd (omega (arith, e))
 same-history plan places (t ∷ h) (u ∷ g) s r e =
     let same : h ≡ g = same-history plan places h g (rest plan places t h s) (rest plan places u g r) (omega (arith, e)) in
-    let place : s.placed.0.0 ≡ r.placed.0.0 = same-place _ _ (sym s.placed.0.1 ∙ ap (λ x. slice_get places (length x)) same ∙ r.placed.0.1) in
+    let place : s.placed.0.0 ≡ r.placed.0.0 = same_Some _ _ (sym s.placed.0.1 ∙ ap (λ x. slice_get places (length x)) same ∙ r.placed.0.1) in
     let f : Follows plan (gives_up_now g) g t = subst (λ x. Follows plan (gives_up_now x) x t) same s.conversation.0 in
     let at : IsAt r.placed.0.0 t = subst (λ x. IsAt x t) place s.placed.0.2 in
     rw (same, same-turn false plan (gives_up_now g) g r.placed.0.0 t u f r.conversation.0 at r.placed.0.2) refl
@@ -101,14 +95,14 @@ some-none o x e f = absurd (let d : Some x ≡ None = sym e ∙ f in cc)
 pub broken-place : (bid_out : Bool) (plan : Plan) (gives_up : Bool) (past : History) (place : SoundTurn) (t : SpokenTurn) → Follows plan gives_up past (as_counted bid_out t) → IsAt place t → BreaksPart (sound_counted bid_out) plan gives_up past place → ⊥
 broken-place bid_out plan gives_up past place t f at (inl up) = some-none _ t.arrived (ap (λ x. after_fate place.up (sound_of x)) (sym f.said) ∙ at.up) up
 broken-place bid_out plan gives_up past place t f at (inr (arrived, up, down)) =
-    let same : t.arrived ≡ arrived = same-sound _ _ (sym at.up ∙ ap (λ x. after_fate place.up (sound_of x)) f.said ∙ up) in
+    let same : t.arrived ≡ arrived = same_Some _ _ (sym at.up ∙ ap (λ x. after_fate place.up (sound_of x)) f.said ∙ up) in
     let refused : t.refused ≡ (place.refused && is_block arrived) = at.refused ∙ ap (λ x. place.refused && is_block x) same in
     let reply : t.reply ≡ replying past (sound_counted bid_out arrived) (place.refused && is_block arrived) place.wish = f.replied ∙ rw (same, refused, at.wish) refl in
     some-none _ t.heard (ap (λ x. after_fate place.down (sound_of_reply x)) (sym reply) ∙ at.down) down
 
 broken-turn : (plan : Plan) (places : List SoundTurn) (n : ℕ) (t : SpokenTurn) (b : BreaksAt plan places n) → IsSpokenOver plan places (t ∷ b.past) → ⊥
 broken-turn plan places n t b s =
-    let place : s.placed.0.0 ≡ b.place = same-place _ _ (sym s.placed.0.1 ∙ b.here) in
+    let place : s.placed.0.0 ≡ b.place = same_Some _ _ (sym s.placed.0.1 ∙ b.here) in
     broken-place false plan (gives_up_now b.past) b.past b.place t s.conversation.0 (subst (λ x. IsAt x t) place s.placed.0.2) b.breaks
 
 pub none_breaks : NoneBreaks

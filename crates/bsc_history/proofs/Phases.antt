@@ -17,6 +17,7 @@ use Rattle.bsc_history.proofs.Got.{got-brought, got-same}
 use Rattle.bsc_history.proofs.Replies.{Calm, acknowledges-calm, Calm-answer, Calm-later, makes_rvi-calm, noted-stays, later, makes_rvi, brings, Fresh, Fresh-answer, Fresh-enq, Fresh-heard, Answered, Unanswered}
 use Rattle.std.proofs.Common.{length, ap, ◌≡◌, ◌≢◌, ◌⊎◌, inl, inr, ℕ, ◌+◌, Bool, true, false, ◌&&◌, ◌||◌, if◌then◌else◌, [], ◌∷◌, Option, Some, None, refl, sym, ◌∙◌}
 use Rattle.std.proofs.lemmas.Bool.{true≢false, false≢true, cases_Bool}
+use Rattle.bsc_link.proofs.Rvi.{or-true}
 
 -- before the grant
 abbrev pub IsEarly : Option Reply → Type 0
@@ -67,10 +68,6 @@ turn said arrived refused reply heard wish pause = record { said = said; arrived
 pub and-false : (a b : Bool) → b ≡ false → (a && b) ≡ false
 and-false true b e = e
 and-false false b e = refl
-
-pub or-true : (a b : Bool) → b ≡ true → (a || b) ≡ true
-or-true true b e = refl
-or-true false b e = e
 
 pub or-false : (a b : Bool) → (a || b) ≡ false → b ≡ false
 or-false true b e = absurd (true≢false e)

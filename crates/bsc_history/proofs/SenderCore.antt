@@ -14,6 +14,7 @@ use Rattle.bsc_link.specs.declared.table_line.TableLine.{TableLine}
 use Rattle.bsc_link.specs.Sender.{SenderState, say_in, outcome_in, line_for, counts_block, follow, after_progress, after_wait, is_enough, place_after_progress}
 use Rattle.std.proofs.Common.{◌≡◌, ◌≢◌, inl, inr, ℕ, ◌+◌, Bool, true, false, not, if◌then◌else◌, [], ◌∷◌, Option, None, refl, sym, ap, ◌∙◌, subst}
 use Rattle.std.proofs.lemmas.Bool.{true≢false, false≢true, cases_Bool}
+use Rattle.bsc_history.proofs.OneConversation.{true-false}
 use Rattle.bsc_history.specs.Outcome.{outcome_by, gave_up_before}
 use Rattle.bsc_history.specs.Cores.{sender_turn, sender_after, IsSpoken, SenderCoreSays, SenderCoreKeeps, SenderCoreCounts}
 use Rattle.bsc_history.proofs.Replies.{is_even-next}
@@ -88,10 +89,6 @@ outcome_in-progress Next.NewJob false true = refl
 outcome_in-progress Next.NewJob false false = refl
 outcome_in-progress Next.Block noted true = refl
 outcome_in-progress Next.Block noted false = refl
-
-pub true-false : (b : Bool) → b ≡ true → b ≡ false → ⊥
-true-false true e f = true≢false f
-true-false false e f = false≢true e
 
 after-progress : (plan : Plan) (past : History) (b : Bool) (m n : ℕ) (t : SpokenTurn) (s : SenderState) (odd noted : Bool) (next : Next) → Progresses past t → odd ≡ not (is_even (known (t ∷ past))) → noted ≡ has_heard_rvi (t ∷ past) → next ≡ what_follows plan (known (t ∷ past))
     → Matches plan (t ∷ past) b (tries_on m past t) (holds_on n past t) (after_progress odd noted next t.pause)

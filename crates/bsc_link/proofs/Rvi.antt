@@ -40,7 +40,7 @@ step-no_rvi : (s : ReceiverState) (step : ReceiverStep) → s.rvi_made ≡ true 
 step-no_rvi s (ReceiverHears sound wish) e = news-no_rvi s.place s sound wish refl e
 step-no_rvi s LongQuiet e = refl
 
-or-true : (b c : Bool) → c ≡ true → (b || c) ≡ true
+pub or-true : (b c : Bool) → c ≡ true → (b || c) ≡ true
 or-true true c e = refl
 or-true false c e = e
 

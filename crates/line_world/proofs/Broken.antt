@@ -1,7 +1,7 @@
 -- Where a looked-at fate breaks a rule there is no conversation.
 use Rattle.std.proofs.Common.{Bool, ◌≡◌, ◌≢◌, inl, inr, ℕ, zero, suc, ◌<◌, false, ◌&&◌, List, [], ◌∷◌, length, slice_get, Some, None, refl, ap, sym, ◌∙◌, subst, arith}
 use Rattle.std.proofs.lemmas.Bool.{cases_order}
-use Rattle.std.proofs.lemmas.Option.{slice_get_within}
+use Rattle.std.proofs.lemmas.Option.{slice_get_within, same_Some}
 use Rattle.bsc_codes.specs.declared.block.Block.{Block}
 use Rattle.bsc_frame.specs.declared.frame.Frame.{Frame}
 use Rattle.bsc_frame.specs.Laws.{OneHearing}
@@ -24,7 +24,7 @@ use Rattle.bsc_history.specs.Fate.{is_damage_of, sound_of, sound_of_reply, after
 use Rattle.line_world.specs.Plan.{plan_of}
 use Rattle.bsc_history.specs.SayingRule.{saying}
 use Rattle.line_world.specs.Run.{TellsTurn, TellsSchedule, FitsReply, FitsTurn, AllFit, IsConversationOn, BreaksTurn, BreaksFirst, as_it_is, NoDamageNoConversation, BadCutNoConversation}
-use Rattle.bsc_history.proofs.ForRuns.{same-sound, same-place, same-history, rest, goes-on-within, no-longer, true-false, saying-speaks}
+use Rattle.bsc_history.proofs.ForRuns.{same-history, rest, goes-on-within, no-longer, true-false, saying-speaks}
 
 -- ---- Bytes that are sent are one.
 
@@ -146,7 +146,7 @@ no_turn Breaks keeps counts blocks gives_up past turn place t u f k at fits tell
     elim b.breaks [
       | inl broken ↦ keeps turn.up said b.sent place.up t.arrived some (subst (Fits turn.up) sent fits.up.2) tells.up up broken
       | inr down ↦
-          let same : t.arrived ≡ down.arrived = same-sound _ _ (sym up ∙ down.up) in
+          let same : t.arrived ≡ down.arrived = same_Some _ _ (sym up ∙ down.up) in
           let counted : u.arrived ≡ counts down.arrived = k.arrived ∙ ap counts same in
           let refused : u.refused ≡ (place.refused && is_block down.arrived) = sym k.refused ∙ at.refused ∙ ap (λ x. place.refused && is_block x) same in
           let wish : u.wish ≡ turn.wish = sym k.wish ∙ at.wish ∙ tells.wish in
@@ -162,7 +162,7 @@ module _ (Breaks : Fate → Sound → List ℕ → Type 0) (keeps : Keeps Breaks
   stands_there : FittingTurn blocks turns places b.past → ⊥
   stands_there g =
       let turn : g.turn ≡ b.turn = same_turn _ _ (sym g.here ∙ b.here) in
-      let place : g.spoken.placed.0.0 ≡ b.place = same-place _ _ (sym g.spoken.placed.0.1 ∙ b.there) in
+      let place : g.spoken.placed.0.0 ≡ b.place = same_Some _ _ (sym g.spoken.placed.0.1 ∙ b.there) in
       no_turn Breaks keeps as_it_is blocks (gives_up_now b.past) b.past b.turn b.place g.t g.t g.spoken.conversation.0 (as_said g.t) (subst (λ x. IsAt x g.t) place g.spoken.placed.0.2) (subst (FitsTurn blocks (gives_up_now b.past) b.past g.t) turn g.fits)
       (told_at turns places (length b.past) b.turn b.place b.told b.here b.there) b.breaks
 

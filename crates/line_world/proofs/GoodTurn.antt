@@ -2,6 +2,7 @@
 use Rattle.std.proofs.Common.{◌≡◌, ℕ, zero, suc, false, List, [], ◌∷◌, ◌++◌, map, reverse, slice_get, Some, refl, ap, sym, ◌∙◌, subst}
 use Rattle.std.specs.List.{AllByRecursion}
 use Rattle.std.proofs.lemmas.List.{map-append, reverse-append}
+use Rattle.std.proofs.lemmas.Option.{same_Some}
 use Rattle.bsc_link.specs.declared.sound.Sound.{Sound}
 use Rattle.line_world.specs.declared.fate.Fate.{Fate}
 use Rattle.bsc_history.specs.declared.sound_fate.SoundFate.{SoundFate}
@@ -15,7 +16,7 @@ use Rattle.line_world.specs.Damage.{Tells}
 use Rattle.bsc_history.specs.Fate.{sound_of, sound_of_reply, after_fate}
 use Rattle.line_world.specs.GoodTurn.{AllArrives, IsGood}
 use Rattle.line_world.specs.Run.{TellsTurn, TellsSchedule, spoken_of, spoken_turns}
-use Rattle.bsc_history.proofs.ForRuns.{IsClean, same-sound}
+use Rattle.bsc_history.proofs.ForRuns.{IsClean}
 use Rattle.line_world.proofs.Comings.{after_arrives}
 
 -- ---- A good turn is clean.
@@ -26,7 +27,7 @@ told_arrives Fate.Lost told a t = absurd a
 told_arrives (Fate.Damaged bytes) told a t = absurd a
 
 heard_all : (told : SoundFate) (said heard : Sound) → told ≡ SoundFate.Arrives → after_fate told said ≡ Some heard → heard ≡ said
-heard_all told said heard e after = same-sound _ _ (sym after ∙ ap (λ f. after_fate f said) e ∙ after_arrives said)
+heard_all told said heard e after = same_Some _ _ (sym after ∙ ap (λ f. after_fate f said) e ∙ after_arrives said)
 
 pub clean_turn : (turn : Turn) (place : SoundTurn) (t : SpokenTurn) → IsGood turn → TellsTurn turn place → IsAt place t → t.refused ≡ false → IsClean t
 clean_turn turn place t good told at unrefused = record {

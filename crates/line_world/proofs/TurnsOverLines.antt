@@ -26,7 +26,7 @@ heard_turn said heard = record { said = said; arrived = Sound.Quiet; refused = f
 pub end_taken : (s s' : Sending) → s.over ≡ false → say_in s.core.place ≡ Say.End → s' ≡ after_speaking s → (t : SpokenTurn) × SenderTakes s s' t
 end_taken s s' live end e = (heard_turn Say.End Sound.Quiet, record { live = live; said = sym end; done = λ x. refl; state = e })
 
-hears : (say : Say) (s : Sending) (sound : Sound) → is_end say ≡ false → after_turn s (heard_turn say sound) ≡ after_hearing (after_speaking s) sound false
+pub hears : (say : Say) (s : Sending) (sound : Sound) → is_end say ≡ false → after_turn s (heard_turn say sound) ≡ after_hearing (after_speaking s) sound false
 hears Say.End s sound n = absurd (true≢false n)
 hears Say.Bid s sound n = refl
 hears Say.Block s sound n = refl
@@ -35,8 +35,8 @@ hears Say.Ask s sound n = refl
 hears Say.Delay s sound n = refl
 hears Say.Nothing s sound n = refl
 
-not_end : (say : Say) → is_end say ≡ false → say ≡ Say.End → ⊥
-not_end say n e = true≢false (sym (ap is_end e) ∙ n)
+pub no_end : (say : Say) → is_end say ≡ false → say ≡ Say.End → ⊥
+no_end say n e = true≢false (sym (ap is_end e) ∙ n)
 
 -- it said something else, and heard this
 pub turn_taken : (s near s' : Sending) (sound : Sound) → s.over ≡ false → near ≡ after_speaking s → near.over ≡ false → s' ≡ after_hearing near sound false
@@ -45,7 +45,7 @@ turn_taken s near s' sound live spoke listens e =
     let say = say_in s.core.place in
     let more : is_end say ≡ false = sym (ap (λ x. x.over) spoke) ∙ listens in (
       heard_turn say sound,
-      record { live = live; said = refl; done = λ end. absurd (not_end say more end); state = e ∙ ap (λ x. after_hearing x sound false) spoke ∙ sym (hears say s sound more) },
+      record { live = live; said = refl; done = λ end. absurd (no_end say more end); state = e ∙ ap (λ x. after_hearing x sound false) spoke ∙ sym (hears say s sound more) },
     )
 
 -- it took so many turns

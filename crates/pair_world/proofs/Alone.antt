@@ -47,7 +47,7 @@ use Rattle.bsc_history.specs.Pair.{without_enq, as_counted}
 use Rattle.pair_world.specs.Inside.PairDriving.{GoesAcross, ComesBack, ComesBackAfter, SpeaksAlone, after_end_of}
 use Rattle.line_world.specs.Run.{FitsTurn}
 use Rattle.rje_station.proofs.Due.{spoken_of_due, answered_of_due, due_kept}
-use Rattle.pair_world.proofs.PairCarried.{passed_enq, passed_unrefused}
+use Rattle.rje_station.proofs.PassedOver.{passed_enq, passed_unrefused}
 use Rattle.pair_world.proofs.Sends.{SendsBy}
 
 -- the laws of the crates below

@@ -1,6 +1,7 @@
 -- A contender is where looking back says.
-use Rattle.std.proofs.Common.{◌≡◌, ◌≢◌, inl, inr, Bool, true, false, not, ◌&&◌, if◌then◌else◌, [], ◌∷◌, Option, Some, None, refl, sym, ap, ◌∙◌, subst}
+use Rattle.std.proofs.Common.{◌≡◌, ◌≢◌, inl, inr, Bool, true, false, not, if◌then◌else◌, [], ◌∷◌, Option, Some, None, refl, sym, ap, ◌∙◌, subst}
 use Rattle.std.proofs.lemmas.Bool.{false≢true, cases_Bool}
+use Rattle.std.proofs.Math.Bool.{and-true}
 use Rattle.bsc_link.specs.declared.sound.Sound.{Sound}
 use Rattle.bsc_link.specs.declared.say.Say.{Say}
 use Rattle.bsc_link.specs.declared.wish.Wish.{Wish}
@@ -19,10 +20,6 @@ use Rattle.bsc_history.specs.Conversation.{Follows}
 use Rattle.bsc_history.proofs.ForRuns.{ComesAs, comes, turn, and-false, saying-speaks, ungranted-from_bid, granted-from_said, eot-said}
 use Rattle.bsc_history.specs.Pair.{has_bid, is_bid_out, is_open, without_enq, as_counted}
 use Rattle.pair_world.specs.Contending.{own_turn, other_heard, other_turn, is_sending, place_of}
-
-pub and-true : (a : Bool) → (a && true) ≡ a
-and-true true = refl
-and-true false = refl
 
 sending-not : (b : Bool) → ContenderPlace.Sending ≡ place_of b false → ⊥
 sending-not true e = cc

@@ -1,6 +1,7 @@
 -- Both contenders stand where looking back says.
 use Rattle.std.proofs.Common.{◌≡◌, inl, inr, Bool, true, false, not, if◌then◌else◌, [], ◌∷◌, Some, None, refl, sym, ap, ◌∙◌}
-use Rattle.std.proofs.lemmas.Bool.{false≢true, cases_Bool}
+use Rattle.std.proofs.lemmas.Bool.{false≢true, cases_Bool, not-true}
+use Rattle.std.proofs.Math.Bool.{and-true}
 use Rattle.bsc_link.specs.declared.rank.Rank.{Rank}
 use Rattle.bsc_link.specs.declared.sound.Sound.{Sound}
 use Rattle.bsc_link.specs.Contender.{ContenderState, first_contender_state, takes_enq}
@@ -14,11 +15,7 @@ use Rattle.bsc_history.proofs.ForRuns.{Phase, Phase-from_spoken, and-false, and-
 use Rattle.bsc_history.specs.declared.bids.Bids.{Bids}
 use Rattle.bsc_history.specs.Pair.{PairHistory, up, down, is_bid_out, is_open, without_enq, as_counted, due, is_something}
 use Rattle.pair_world.specs.Contending.{own_turn, other_turn, is_sending, place_of}
-use Rattle.pair_world.proofs.Contenders.{and-true, own-step, noted-step, other-step, noted-at, lost-at, noted-lost, rank-own, rank-other, takes-secondary, takes-primary}
-
-not-true : (b : Bool) → not b ≡ true → b ≡ false
-not-true true e = absurd (false≢true e)
-not-true false e = refl
+use Rattle.pair_world.proofs.Contenders.{own-step, noted-step, other-step, noted-at, lost-at, noted-lost, rank-own, rank-other, takes-secondary, takes-primary}
 
 -- something is due only where the station doesn't receive
 pub due-closed : (plan : Plan) (g : Bool) (own other : History) → is_something (due plan g own other) ≡ true → is_open other ≡ false

@@ -1,14 +1,11 @@
 -- What one station hears of the other over lines in memory.
 use Rattle.std.proofs.Common.{◌≡◌, ◌≢◌, inl, inr, ℕ, Bool, false, List, [], Option, Some, None, refl, ap, sym, ◌∙◌, subst}
 use Rattle.std.specs.List.{flat_map}
-use Rattle.std.proofs.lemmas.Bool.{true≢false, cases_Bool}
-use Rattle.bsc_frame.specs.declared.heard.Heard.{Heard}
+use Rattle.std.proofs.lemmas.Bool.{cases_Bool}
 use Rattle.bsc_link.specs.declared.reply.Reply.{Reply}
 use Rattle.bsc_link.specs.declared.say.Say.{Say}
 use Rattle.bsc_link.specs.declared.sound.Sound.{Sound}
 use Rattle.bsc_link.specs.declared.wish.Wish.{Wish}
-use Rattle.bsc_link.specs.Contender.{ContenderState}
-use Rattle.rje_jobs.specs.declared.job.Job.{Job}
 use Rattle.rje_station.specs.declared.arrival.Arrival.{Arrival}
 use Rattle.rje_station.specs.Hearing.{Hearing, HearsSound, sound_heard}
 use Rattle.rje_station.specs.JoinedJobs.{begun_in}
@@ -19,26 +16,16 @@ use Rattle.rje_station.specs.Station.{Contending, due_at, after_answer, HeardOth
 use Rattle.line_world.specs.declared.turn.Turn.{Turn}
 use Rattle.line_world.specs.declared.turn_fault.TurnFault.{TurnFault}
 use Rattle.line_world.specs.declared.turn_fault.TurnFault.TheVariants as Fault
-use Rattle.bsc_history.specs.Conversation.{is_block}
 use Rattle.line_world.specs.Damage.{AreHeardAs, Fits}
 use Rattle.line_world.specs.Inside.Driving.{IsReplyFault}
 use Rattle.line_world.specs.Carrying.{bytes_after, MayDamage}
 use Rattle.bsc_history.specs.Fate.{sound_of}
 use Rattle.line_world.specs.MemoryLine.{LineInMemory, talk_of}
-use Rattle.line_world.proofs.ForPairs.{line_hears, same_sound, same_refusal, refused_block}
-use Rattle.bsc_history.proofs.ForRuns.{and-false}
+use Rattle.rje_station.proofs.PassedOver.{passed_enq, passed_unrefused}
+use Rattle.line_world.proofs.ForPairs.{line_hears, same_sound, same_refusal}
 use Rattle.pair_world.specs.Inside.PairDriving.{GoesAcross, HearsNothing, IsAloneFault}
 
 -- ---- Across.
-
--- an ENQ alone is passed over
-pub passed_enq : (c : ContenderState) (sound : Sound) → lets_in c sound ≡ false → sound ≡ Sound.Enq
-passed_enq c Sound.Enq e = refl
-passed_enq c _ e = absurd (true≢false e)
-
--- and it isn't refused
-pub passed_unrefused : (what : Heard) (begun : Option Job) (refused : Bool) → sound_heard what ≡ Sound.Enq → MayRefuse what begun refused → refused ≡ false
-passed_unrefused what begun refused is may = refused_block what begun refused may ∙ and-false refused (is_block (sound_heard what)) (rw is refl)
 
 module _ (s s' : Contending) (wish : Wish) (reply : Option Reply) (l m : LineInMemory) (arrival : Arrival)
     (g : HeardOther s s' wish reply (λ what. Passes (Some (talk_of l)) (Some (talk_of m)) (λ t u. Hearing t u what)))

@@ -37,7 +37,7 @@ use Rattle.pair_world.specs.PairTraces.{ended_events, listener_events}
 use Rattle.line_world.specs.Turns.{after_turn}
 use Rattle.pair_world.proofs.Alone.{other_than_enq, unanswered, back_more}
 use Rattle.line_world.proofs.ForPairs.{turn_noted, hearing_noted, answer_noted, taken_is, taken_eot, no_eot, accepted_is, turn_of, cases_end}
-use Rattle.pair_world.proofs.PairCarried.{passed_enq, passed_unrefused}
+use Rattle.rje_station.proofs.PassedOver.{passed_enq, passed_unrefused}
 use Rattle.pair_world.proofs.Sends.{SendsBy}
 
 -- ---- The sender.

@@ -1,6 +1,7 @@
 -- Both speak at once: one turn of each direction, of which nothing arrives.
 use Rattle.std.proofs.Common.{◌≡◌, ◌≢◌, inl, inr, Bool, false, List, [], ◌∷◌, None, refl, ap, sym, ◌∙◌, subst}
 use Rattle.std.proofs.lemmas.Bool.{true≢false}
+use Rattle.std.proofs.lemmas.Option.{same_Some}
 use Rattle.bsc_codes.specs.declared.block.Block.{Block}
 use Rattle.bsc_link.specs.declared.say.Say.{Say}
 use Rattle.bsc_link.specs.declared.sound.Sound.{Sound}
@@ -25,7 +26,7 @@ use Rattle.pair_world.specs.Contending.{own_turn, other_turn}
 use Rattle.bsc_history.specs.Pair.{as_counted}
 use Rattle.pair_world.specs.Inside.PairDriving.{SpeaksInVain, HearsNothing, after_end_of}
 use Rattle.pair_world.proofs.Alone.{Laws, Listens, quiet_place, own_more, end_more, end_jobs}
-use Rattle.bsc_history.proofs.ForRuns.{same-sound, vain-follows}
+use Rattle.bsc_history.proofs.ForRuns.{vain-follows}
 use Rattle.rje_station.proofs.Due.{spoken_of_due, answered_of_due, due_kept}
 
 hears_more : (say : Say) (pause : Bool) (s s' : Contending) (heard : Sound) → say ≢ Say.End → HearsNothing say pause s s' heard → (s' ≡ after_answer s heard pause) × AreHeardAs [] heard
@@ -73,7 +74,7 @@ module _ (laws : Laws) (jobs : List Job) (own : History) (g bid_out : Bool) (s s
       let heard : s' ≡ record (after_own_speaking s) { sender = after_hearing (after_own_speaking s).sender t.heard turn.pause; contender = contender_answered (due_at s) t.heard (after_own_speaking s).contender } =
       h.0 ∙ answered_of_due (after_own_speaking s) (due_at s) t.heard turn.pause kept something in
       record {
-        heard = sym (same-sound Sound.Quiet t.heard told.after);
+        heard = sym (same_Some Sound.Quiet t.heard told.after);
         sender = ap (λ x. x.sender) heard ∙ ap (λ x. after_hearing x.sender t.heard turn.pause) spoke ∙ sym (turn_hears s.sender u t.said refl more);
         receiver = ap (λ x. x.receiver) heard ∙ ap (λ x. x.receiver) spoke;
         contender = ap (λ x. x.contender) heard ∙ ap (λ x. contender_answered (due_at s) t.heard x.contender) spoke ∙ ap (λ y. contender_answered y t.heard (contender_said y s.contender)) (sym vain.said) ∙ sym (own_more t.said t.heard s.contender more);

@@ -26,14 +26,21 @@ use Rattle.rje_commands.specs.Commands.{AreEntriesOf, AreInFront, OfFile, OfFile
 use Rattle.rje_commands.specs.Inside.Commands.{IsCardsFault, IsHeld, IsHeldFault, IsMade, IsThere, IsTryFault, IsTextFault, IsCheckFault}
 use Rattle.rje_stores.specs.Store.{FileMap, Discloses, IsSame, Sets}
 
+module _ (P Q : List ℕ → Type 0) (more : (file : List ℕ) → P file → Q file) where
+  known_more : (known : Option (List ℕ)) → IsSomeAnd known P → IsSomeAnd known Q
+  known_more None is = absurd is
+  known_more (Some file) is = more file is
+
+  pub of_file_more : (name : List ℕ) (files : Option FileMap) → OfFile name files P → OfFile name files Q
+  of_file_more name None is = tt
+  of_file_more name (Some known) is = known_more (known name) is
+
 module _ (P : List ℕ → Type 0) (bytes : List ℕ) (holds : P bytes) where
   of_known : (known : Option (List ℕ)) → IsSomeAnd known (λ file. bytes ≡ file) → IsSomeAnd known P
-  of_known None is = absurd is
-  of_known (Some file) is = subst P is holds
+  of_known = known_more (λ file. bytes ≡ file) P (λ file is. subst P is holds)
 
   pub of_file : (name : List ℕ) (files : Option FileMap) → OfFile name files (λ file. bytes ≡ file) → OfFile name files P
-  of_file name None is = tt
-  of_file name (Some known) is = of_known (known name) is
+  of_file = of_file_more (λ file. bytes ≡ file) P (λ file is. subst P is holds)
 
   of_input : (input : Option (List ℕ)) → IfSome input (λ deck. bytes ≡ deck) → IfSome input P
   of_input None is = tt
@@ -56,11 +63,6 @@ pub told_as : {T : Type 0} (result : Result T CommandFault) (fault : CommandFaul
     → IsErrAnd result (λ e. e ≡ fault) → P fault → IfErr result P
 told_as (Err e) fault P is holds = subst P (sym is) holds
 told_as (Ok x) fault P is holds = absurd is
-
--- what was read and printed
-pub done_as : {T E : Type 0} (result : Result T E) (P Q : Type 0) → OnOk result P → (P → Q) → OnOk result Q
-done_as (Ok x) P Q done go = go done
-done_as (Err e) P Q done go = tt
 
 -- what a name has after a read that left the files as they were, it had before
 there_before : (name : List ℕ) (f g : Option FileMap) (held : Option (List ℕ)) → Discloses f g IsSame → IsThere name g held → IsThere name f held

@@ -1,9 +1,9 @@
 -- The grammar read from the front is that of the files of lists of entries.
 use Rattle.std.proofs.Common.{◌≡◌, ℕ, zero, suc, ◌^◌, ◌<◌, Bool, true, false, eqb, cond, ◌==◌, Option, Some, None, List, [], ◌∷◌, ◌++◌, length, refl, ap, sym, ◌∙◌, subst, arith}
 use Rattle.std.proofs.lemmas.List.{append_assoc}
-use Rattle.std.proofs.lemmas.Bool.Decides.{nat_tests}
 use Rattle.std.specs.List.{flat_map, AllByRecursion}
 use Rattle.std.specs.Int.{bytes_high_first}
+use Rattle.std.proofs.lemmas.Bool.{eqb-true}
 use Rattle.rje_text.specs.declared.mode.Mode.{Mode}
 use Rattle.rje_text.specs.declared.mode.Mode.TheVariants.{Normal, Transparent}
 use Rattle.rje_text.specs.declared.select.Select.{Select}
@@ -267,24 +267,20 @@ entries_back v (suc n) xs h =
       bytes = front.bytes rs ∙ ap (λ (ys : List ℕ). fields v e ++ ys) body ∙ sym (append_assoc (fields v e) (records_bytes e.job.records) tail);
     }
 
--- The version's byte.
-is_byte : (b n : ℕ) → eqb b n ≡ true → b ≡ n
-is_byte b n h = grind (arith, nat_tests)
-
 first_back : (p : Bool) (v : FileVersion) → cond p (Some First) None ≡ Some v → (v ≡ First) × (p ≡ true)
 first_back true First e = (refl, refl)
 first_back true Second e = cc
 first_back false v e = cc
 
 second_back : (b : ℕ) (p q : Bool) (v : FileVersion) → eqb b 1 ≡ p → eqb b 2 ≡ q → cond p (Some First) (cond q (Some Second) None) ≡ Some v → b ≡ version_byte v
-second_back b true q First f g e = is_byte b 1 f
+second_back b true q First f g e = eqb-true b 1 f
 second_back b true q Second f g e = cc
 second_back b false true First f g e = cc
-second_back b false true Second f g e = is_byte b 2 g
+second_back b false true Second f g e = eqb-true b 2 g
 second_back b false false v f g e = cc
 
 pub version_back : (newest v : FileVersion) (b : ℕ) → version_read newest b ≡ Some v → b ≡ version_byte v
-version_back First v b e = let first = first_back (eqb b 1) v e in rw first.0 (is_byte b 1 first.1)
+version_back First v b e = let first = first_back (eqb b 1) v e in rw first.0 (eqb-true b 1 first.1)
 version_back Second v b e = second_back b (eqb b 1) (eqb b 2) v refl refl e
 
 pub only_first : (v : FileVersion) (b : ℕ) → version_read First b ≡ Some v → v ≡ First

@@ -1,20 +1,19 @@
 -- At most one fault is told of bytes.
 use Rattle.std.proofs.Common.{◌≡◌, ℕ, ◌+◌, ◌<◌, ◌≤◌, List, ◌++◌, length, take, drop, refl, ap, sym, ◌∙◌, subst, arith, Option, Some, None, ⊎_elim}
-use Rattle.std.proofs.lemmas.List.{append_assoc, take-append-drop}
+use Rattle.std.proofs.lemmas.List.{append_assoc, take-append-drop, take-take}
 use Rattle.std.proofs.lemmas.Bool.{cases_lt}
 use Rattle.rje_jobs.specs.declared.file_fault.FileFault.{FileFault}
 use Rattle.rje_jobs.specs.declared.file_fault.FileFault.TheVariants.{OutOfMemory, NotJobFile, Version, Truncated, BadField, Trailing, BadEntry}
 use Rattle.rje_files.specs.declared.entry.Entry.{Entry}
 use Rattle.rje_files.specs.Entry.{bad_entry}
 use Rattle.rje_files.specs.FileFault.{Begins, IsLongest, IsFaultAt, IsFileFault, IsEntryFault}
-use Rattle.rje_text.proofs.Prefixes.{take_take}
 
 module _ (IsFile : List ℕ → Type 0) (bytes : List ℕ) where
   -- what begins a file begins one when it is cut
   shorter : (p q : ℕ) → p ≤ q → Begins IsFile (take q bytes) → Begins IsFile (take p bytes)
   shorter p q l h =
       let both : take p (take q bytes) ++ drop p (take q bytes) ≡ take q bytes = take-append-drop p (take q bytes) in
-      let cut : take p (take q bytes) ≡ take p bytes = take_take p q bytes l in
+      let cut : take p (take q bytes) ≡ take p bytes = take-take p q bytes l in
       let whole : take p bytes ++ (drop p (take q bytes) ++ h.0) ≡ take q bytes ++ h.0 =
       sym (append_assoc (take p bytes) (drop p (take q bytes)) h.0) ∙ ap (λ (xs : List ℕ). (xs ++ drop p (take q bytes)) ++ h.0) (sym cut) ∙ ap (λ (xs : List ℕ). xs ++ h.0) both in
       (drop p (take q bytes) ++ h.0, subst IsFile (sym whole) h.1)

@@ -4,7 +4,7 @@ use Rattle.std.specs.Prelude.{nat_le}
 use Rattle.std.specs.List.{prefix_len, list_all, filter_map, cons_option, AllByRecursion}
 use Rattle.std.specs.Option.{option_or}
 use Rattle.std.specs.Str.Lines.{lines}
-use Rattle.std.proofs.lemmas.Bool.{cases_lt, lt-ltb, le-ltb}
+use Rattle.std.proofs.lemmas.Bool.{cases_lt, lt-ltb, le-ltb, not-true}
 use Rattle.std.proofs.lemmas.Bool.Decides.{nat_tests}
 use Rattle.std.proofs.lemmas.List.{length-append, length-replicate}
 use Rattle.bsc_codes.specs.CodePage.{Entry, ebcdic_of, page_037}
@@ -28,13 +28,9 @@ page_is_data : list_all (λ (e : Entry). not (is_no_data_byte e.code)) page_037 
 unfolding page_037
 page_is_data = refl
 
-not_false : (b : Bool) → not b ≡ true → b ≡ false
-not_false true h = cc
-not_false false h = refl
-
 -- a character's code is a data byte
 code_is_data : (character code : ℕ) → ebcdic_of character ≡ Some code → is_no_data_byte code ≡ false
-code_is_data x code h = not_false _ (code_passes (λ b. not (is_no_data_byte b)) page_is_data x code h)
+code_is_data x code h = not-true _ (code_passes (λ b. not (is_no_data_byte b)) page_is_data x code h)
 
 with_code : (code : Option ℕ) (rest : List ℕ) → ((c : ℕ) → code ≡ Some c → is_no_data_byte c ≡ false) → are_data rest ≡ true → are_data (cons_option code rest) ≡ true
 with_code None rest h e = e

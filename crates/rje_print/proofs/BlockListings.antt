@@ -1,5 +1,5 @@
 -- A listing of blocks as it grows.
-use Rattle.std.proofs.Common.{◌≡◌, ℕ, ◌+◌, ◌<◌, ◌≤◌, ◌^◌, ◌⊎◌, inl, inr, List, [], ◌∷◌, ◌++◌, length, Option, Some, None, Result, Ok, Err, OnOk, true, false, refl, ap, ap₂, sym, ◌∙◌, subst, arith}
+use Rattle.std.proofs.Common.{◌≡◌, ℕ, ◌+◌, ◌<◌, ◌≤◌, ◌^◌, ◌⊎◌, inl, inr, List, [], ◌∷◌, ◌++◌, length, Option, Some, None, true, false, refl, ap, ap₂, sym, ◌∙◌, subst, arith}
 use Rattle.std.specs.Prelude.{option_to_list}
 use Rattle.std.specs.List.{AllByRecursion, flat_map}
 use Rattle.std.proofs.lemmas.List.{append_assoc, append-nil, length-append}
@@ -227,11 +227,6 @@ module _ (before now : Option (List ℕ)) (all : List Record) (p : Packing) (ite
           ended all (sent ++ held_more) (sent ++ (held_more ++ back_line more)) (lines + 1 + 1) more after listed (sym (append_assoc sent held_more (back_line more))),
           appends_twice before now_more now_all sent (held_more ++ back_line more) (appends_twice before now now_more h.sent puts.0 h.written puts.1) end,
         )
-
--- where all was printed, it was
-pub all_well : {T E : Type 0} (result : Result T E) (P Q : Type 0) → OnOk result P → (P → Q) → OnOk result Q
-all_well (Ok x) P Q done go = go done
-all_well (Err e) P Q done go = tt
 
 pub begun_printing : (a : Option (List ℕ)) (all : List Record) (p : Packing) (rest : List Record) (held : List ℕ) (lines : ℕ) (so_far : Option Mode) (count : ℕ)
     → CutReadsBack → PackingIsTheCut → RecordsFit Unset Normal all → length all < 2 ^ 64

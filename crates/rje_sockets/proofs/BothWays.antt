@@ -1,21 +1,19 @@
 -- What the calls of a station that sends and receives did is a turn, and the turns so far go on by it.
 use Rattle.std.proofs.Common.{◌≡◌, ◌⊎◌, inl, inr, ℕ, ◌+◌, ◌<◌, Bool, true, false, [], ◌∷◌, List, length, Option, Some, Result, Ok, Err, IfErr, if◌then◌else◌, refl, ap, sym, subst, ◌∙◌, arith}
 use Rattle.std.specs.Result.{IsErrAnd}
-use Rattle.bsc_frame.specs.declared.frame.Frame.TheVariants as frame
+use Rattle.rje_sockets.proofs.Patience.{quiet_on}
 use Rattle.bsc_frame.specs.declared.heard.Heard.{Heard}
-use Rattle.bsc_frame.specs.declared.heard.Heard.TheVariants as heard
 use Rattle.bsc_link.specs.declared.rank.Rank.{Rank}
 use Rattle.bsc_link.specs.declared.reply.Reply.{Reply}
 use Rattle.bsc_link.specs.declared.say.Say.{Say}
 use Rattle.bsc_link.specs.declared.sound.Sound.{Sound}
 use Rattle.bsc_link.specs.declared.wish.Wish.{Wish}
-use Rattle.bsc_link.specs.Contender.{ContenderState}
-use Rattle.rje_jobs.specs.declared.job.Job.{Job}
 use Rattle.rje_station.specs.declared.arrival.Arrival.{Arrival}
 use Rattle.rje_station.specs.Hearing.{sound_heard}
 use Rattle.rje_station.specs.JoinedJobs.{begun_in}
 use Rattle.rje_station.specs.Receiving.{MayRefuse}
 use Rattle.rje_station.specs.Station.{Contending, due_at, is_deaf, lets_in, after_other, after_own_reply, after_other_ended, after_other_refusal}
+use Rattle.rje_station.proofs.PassedOver.{passed_enq, passed_unrefused}
 use Rattle.rje_station.specs.declared.line_fault.LineFault.TheVariants.{Closed}
 use Rattle.rje_station.specs.declared.station_fault.StationFault.TheVariants as fault
 use Rattle.rje_sockets.specs.declared.broken_off.BrokenOff.{BrokenOff}
@@ -26,38 +24,6 @@ use Rattle.rje_sockets.specs.Watching.{SawReceiver, SawSender}
 
 -- THE OTHER'S TURN
 
--- only an ENQ isn't let in
-kept_out : (c : ContenderState) (sound : Sound) → lets_in c sound ≡ false → sound ≡ Sound.Enq
-kept_out c Sound.Enq is = refl
-kept_out c Sound.Ack0 is = cc
-kept_out c Sound.Ack1 is = cc
-kept_out c Sound.Nak is = cc
-kept_out c Sound.Wack is = cc
-kept_out c Sound.Rvi is = cc
-kept_out c Sound.Ttd is = cc
-kept_out c Sound.Abort is = cc
-kept_out c Sound.Eot is = cc
-kept_out c Sound.Block is = cc
-kept_out c Sound.Bad is = cc
-kept_out c Sound.Noise is = cc
-kept_out c Sound.Quiet is = cc
-
--- an ENQ isn't refused
-enq_refused : (what : Heard) (begun : Option Job) (refused : Bool) → sound_heard what ≡ Sound.Enq → MayRefuse what begun refused → refused ≡ false
-enq_refused (heard.Frame frame.Enq) begun refused is may = may
-enq_refused (heard.Frame frame.Ack0) begun refused is may = cc
-enq_refused (heard.Frame frame.Ack1) begun refused is may = cc
-enq_refused (heard.Frame frame.Nak) begun refused is may = cc
-enq_refused (heard.Frame frame.Wack) begun refused is may = cc
-enq_refused (heard.Frame frame.Rvi) begun refused is may = cc
-enq_refused (heard.Frame frame.Ttd) begun refused is may = cc
-enq_refused (heard.Frame frame.Abort) begun refused is may = cc
-enq_refused (heard.Frame frame.Eot) begun refused is may = cc
-enq_refused (heard.Frame (frame.Block b)) begun refused is may = cc
-enq_refused heard.Bad begun refused is may = cc
-enq_refused heard.Noise begun refused is may = cc
-enq_refused heard.Quiet begun refused is may = cc
-
 abbrev arrival_of : Heard → Bool → Arrival
 arrival_of what refused = record { sound = sound_heard what; refused = refused }
 
@@ -66,8 +32,8 @@ other_arrival : (s : Contending) (what : Heard) (refused b : Bool) → lets_in s
     → (after_other s what refused Wish.Go).receiver.arrival ≡ Some (arrival_of what refused)
 other_arrival s what refused true is may = rw is refl
 other_arrival s what refused false is may =
-    let enq = kept_out s.contender (sound_heard what) is in
-    let none = enq_refused what (begun_in s.receiver.jobs) refused enq may in
+    let enq = passed_enq s.contender (sound_heard what) is in
+    let none = passed_unrefused what (begun_in s.receiver.jobs) refused enq may in
     let same : Some (arrival_of what refused) ≡ Some (record { sound = Sound.Enq; refused = false }) =
     ap (λ (x : Sound). Some (record { sound = x; refused = refused })) enq ∙ ap (λ (r : Bool). Some (record { sound = Sound.Enq; refused = r })) none in
     rw is (sym same)
@@ -100,10 +66,6 @@ others_taken s mid s' what refused arrival reply over live may is due came ends 
     )
 
 -- THE TURNS SO FAR
-
-quiet_on : (sound : Sound) (n : ℕ) → elim sound [ Sound.Quiet ↦ n + 1 | _ ↦ 0 ] ≡ (if (elim sound [ Sound.Quiet ↦ true | _ ↦ false ]) then n + 1 else 0)
-quiet_on Sound.Quiet n = refl
-quiet_on _ n = refl
 
 -- what was told is what was taken
 took_watched : {W : Type 0} (Sent : SawSender W) (Came : SawReceiver W) (rank : Rank) (s : Contending) (w : W) (s' : Contending) (w' : W) (turns : List StationTurn)

@@ -1,10 +1,10 @@
 -- What a station that sends and receives leaves in its two files, from what it held of them when its turns ended.
 use Rattle.std.proofs.Common.{◌≡◌, ◌⊎◌, inl, inr, ℕ, List, [], Option, Result, Ok, Err, IfErr, IfOk, OnErr, OnOk, refl, ap, sym, ◌∙◌, subst}
 use Rattle.std.specs.Prelude.{◌≢◌}
+use Rattle.std.proofs.lemmas.Result.{on_ok_weaker}
 use Rattle.rje_jobs.specs.declared.job.Job.{Job}
 use Rattle.rje_station.specs.Station.{Contending}
 use Rattle.rje_commands.specs.declared.command_fault.CommandFault.{CommandFault}
-use Rattle.rje_commands.proofs.Inputs.{done_as}
 use Rattle.rje_sockets.specs.declared.broken_off.BrokenOff.{BrokenOff}
 use Rattle.rje_sockets.specs.declared.exchange.Left.{Left}
 use Rattle.rje_sockets.specs.declared.keeper.Keeper.{Keeper}
@@ -112,8 +112,8 @@ module _ (kept : Result (Unit {0}) CommandFault) (keeper : Keeper) (last s' : Co
       → HasWhole last.receiver.jobs keeper.name.now marked made
   rest_kept Well well same makes =
       has_rest kept keeper last.receiver.jobs marked g made grows k
-      (done_as kept _ (KeepsJobs keeper last.receiver.jobs marked g → MakesJobFile last.receiver.jobs keeper.name.now marked made) makes
-      (λ m. subst (λ (x : Contending). KeepsJobs keeper x.receiver.jobs marked g → MakesJobFile x.receiver.jobs keeper.name.now marked made) (sym same) (m marked well))) still
+      (on_ok_weaker kept
+      (λ m. subst (λ (x : Contending). KeepsJobs keeper x.receiver.jobs marked g → MakesJobFile x.receiver.jobs keeper.name.now marked made) (sym same) (m marked well)) makes) still
 
   kept_then : (left : Result Left BrokenOff) → (IfErr left (λ broken. IsOfFile broken → ⊥) → last ≡ s')
       → OnOk kept ((files : Option FileMap) → IfErr left (λ broken. IsOfFile broken → ⊥) → KeepsJobs keeper s'.receiver.jobs files g → MakesJobFile s'.receiver.jobs keeper.name.now files made)

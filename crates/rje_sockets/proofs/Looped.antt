@@ -1,6 +1,5 @@
 -- What both ends did with some jobs holds of the file that has them.
-use Rattle.std.proofs.Common.{◌≡◌, ℕ, List, length, Option, Some, None, Result, Ok, Err, OnOk, IfOk}
-use Rattle.std.specs.Option.{IsSomeAnd}
+use Rattle.std.proofs.Common.{◌≡◌, ℕ, List, length, Option, Result, Ok, Err, OnOk, IfOk}
 use Rattle.std.specs.Io.KnownBytes.{Appends}
 use Rattle.rje_jobs.specs.declared.job.Job.{Job}
 use Rattle.rje_files.specs.JobFile.{HasJobs}
@@ -9,19 +8,11 @@ use Rattle.rje_station.specs.Sending.{Sending, first_sending, outcome_of}
 use Rattle.line_world.specs.AnyLines.{BothToEnd}
 use Rattle.rje_commands.specs.declared.command_fault.CommandFault.{CommandFault}
 use Rattle.rje_commands.specs.Commands.{OfFile}
+use Rattle.rje_commands.proofs.Inputs.{of_file_more}
 use Rattle.rje_stores.specs.Store.{FileMap}
 use Rattle.rje_sockets.specs.declared.socket_commands.ending.Ending.{Ending}
 use Rattle.rje_sockets.specs.Ending.{ending_of, loop_text}
 use Rattle.rje_sockets.specs.Looping.{Loops}
-
-module _ (P Q : List ℕ → Type 0) (more : (file : List ℕ) → P file → Q file) where
-  known_more : (known : Option (List ℕ)) → IsSomeAnd known P → IsSomeAnd known Q
-  known_more None is = absurd is
-  known_more (Some file) is = more file is
-
-  of_file_more : (name : List ℕ) (files : Option FileMap) → OfFile name files P → OfFile name files Q
-  of_file_more name None is = tt
-  of_file_more name (Some known) is = known_more (known name) is
 
 pub looped : (result : Result Ending CommandFault) (name : List ℕ) (files : Option FileMap) (jobs : List Job) (before after : Option (List ℕ)) (sender : Sending) (receiver : Receiving)
     → OfFile name files (HasJobs jobs) → OnOk result (BothToEnd (first_sending jobs) sender first_receiving receiver) → IfOk result (λ ending. ending ≡ ending_of (outcome_of sender))

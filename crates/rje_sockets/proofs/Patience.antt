@@ -11,7 +11,7 @@ use Rattle.rje_sockets.specs.declared.exchange.Left.{Left}
 use Rattle.rje_sockets.specs.Keeping.{BreaksOff, BreaksOffNow}
 use Rattle.rje_sockets.specs.Patience.{was_quiet, quiet_turns, WentOn, HearsOut}
 
-quiet_on : (sound : Sound) (n : ℕ) → elim sound [ Sound.Quiet ↦ n + 1 | _ ↦ 0 ] ≡ (if (elim sound [ Sound.Quiet ↦ true | _ ↦ false ]) then n + 1 else 0)
+pub quiet_on : (sound : Sound) (n : ℕ) → elim sound [ Sound.Quiet ↦ n + 1 | _ ↦ 0 ] ≡ (if (elim sound [ Sound.Quiet ↦ true | _ ↦ false ]) then n + 1 else 0)
 quiet_on Sound.Quiet n = refl
 quiet_on _ n = refl
 

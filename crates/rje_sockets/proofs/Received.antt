@@ -4,6 +4,7 @@ use Rattle.std.proofs.lemmas.List.{append-nil, take-append-drop}
 use Rattle.std.specs.Prelude.{IfSome, IsOk}
 use Rattle.std.specs.Result.{IsOkAnd, MatchResult, is_ok}
 use Rattle.std.specs.Io.KnownBytes.{Appends}
+use Rattle.std.proofs.lemmas.Result.{on_ok_weaker}
 use Rattle.rje_jobs.specs.declared.job.Job.{Job}
 use Rattle.rje_station.specs.Receiving.{Receiving, first_receiving}
 use Rattle.rje_sockets.specs.declared.broken_off.BrokenOff.{BrokenOff}
@@ -18,7 +19,6 @@ use Rattle.rje_sockets.specs.Keeping.{AreKept, GoesOnKeeping, IsOfFile, KeepsJob
 use Rattle.rje_sockets.specs.Patience.{LeavesSo}
 use Rattle.rje_stores.specs.Store.{FileMap, Discloses, IsSame}
 use Rattle.rje_sockets.proofs.Answering.{none_answered}
-use Rattle.rje_commands.proofs.Inputs.{done_as}
 use Rattle.rje_sockets.proofs.Growing.{kept_still, none_kept}
 
 -- WHERE ALL IS WELL
@@ -50,7 +50,7 @@ pub made_at_end : (written : Result (Unit {0}) CommandFault) (first last : Keepe
 made_at_end written first last station name f looked kept made before after (Err e) named none same ends makes = tt
 made_at_end written first last station name f looked kept made before after (Ok l) named none same (far, answered, jobs, (one, place, on)) makes =
     let now : KeepsJobs last station.jobs f kept = subst (λ (js : List Job). KeepsJobs last js f kept) (sym jobs) (on f (none_kept first f looked none same)) in
-    done_as written _ (MakesJobFile station.jobs name f made) makes (λ m. subst (λ (n : List ℕ). MakesJobFile station.jobs n f made) (ap (λ (n : _). n.now) one ∙ named) (m f tt now))
+    on_ok_weaker written (λ m. subst (λ (n : List ℕ). MakesJobFile station.jobs n f made) (ap (λ (n : _). n.now) one ∙ named) (m f tt now)) makes
 
 -- WHATEVER ENDS IT
 
@@ -121,13 +121,13 @@ module _ (written : Result (Unit {0}) CommandFault) (first last : Keeper) (stati
       → IfErr left (KeepsToBreak first last first_receiving station before after looked kept)
       → OnOk written ((files : Option FileMap) → IfErr left (λ broken. IsOfFile broken → ⊥) → KeepsJobs last station.jobs files kept → MakesJobFile station.jobs last.name.now files made)
       → IfErr left (λ broken. IsOfFile broken → Discloses kept made IsSame) → OnErr written (Discloses kept made IsSame) → KeepsAnswered name f made before after
-  kept_whatever (Ok l) ends breaks makes refused still = kept_to_end ends (done_as written _ (KeepsJobs last station.jobs f kept → MakesJobFile station.jobs last.name.now f made) makes (λ m. m f tt)) still
+  kept_whatever (Ok l) ends breaks makes refused still = kept_to_end ends (on_ok_weaker written (λ m. m f tt) makes) still
   kept_whatever (Err (BrokenOff.File e)) ends breaks makes refused still =
       kept_by (BrokenOff.File e) breaks (λ jobs why grown k. has_kept last jobs f made grown (still_keeps last jobs f kept made k (refused tt)))
   kept_whatever (Err (BrokenOff.Line e)) ends breaks makes refused still = kept_by (BrokenOff.Line e) breaks has where
     rest : last.place ≡ Growing → KeepsJobs last station.jobs f kept → HasWhole station.jobs last.name.now f made
     rest grown k =
-        has_rest written last station.jobs f kept made grown k (done_as written _ (KeepsJobs last station.jobs f kept → MakesJobFile station.jobs last.name.now f made) makes (λ m. m f (λ never. absurd never))) still
+        has_rest written last station.jobs f kept made grown k (on_ok_weaker written (λ m. m f (λ never. absurd never)) makes) still
 
     has : (jobs : List Job) → (station.jobs ≡ jobs) ⊎ IsOfFile (BrokenOff.Line e) → last.place ≡ Growing → KeepsJobs last jobs f kept → HasWhole jobs last.name.now f made
     has jobs (inr never) grown k = absurd never

@@ -1,6 +1,5 @@
 -- What a station's calls did is a turn that its watch was told.
 use Rattle.std.proofs.Common.{◌≡◌, Bool, false, Option, Some, refl, ap, sym, ◌∙◌, subst}
-use Rattle.std.proofs.lemmas.Bool.{true≢false}
 use Rattle.bsc_frame.specs.declared.heard.Heard.{Heard}
 use Rattle.bsc_link.specs.declared.reply.Reply.{Reply}
 use Rattle.bsc_link.specs.declared.say.Say.{Say}
@@ -13,26 +12,13 @@ use Rattle.rje_station.specs.Hearing.{sound_heard}
 use Rattle.rje_station.specs.JoinedJobs.{begun_in}
 use Rattle.rje_station.specs.Receiving.{Receiving, MayRefuse, after_receiving, after_replying}
 use Rattle.rje_station.specs.Sending.{Sending, after_speaking, after_hearing, is_end}
-use Rattle.line_world.specs.Turns.{after_turn}
-use Rattle.line_world.proofs.TurnsOverLines.{arrived_turn, heard_turn}
+use Rattle.line_world.proofs.TurnsOverLines.{arrived_turn, heard_turn, hears, no_end}
 use Rattle.rje_sockets.specs.Watching.{SawReceiver, SawSender, ReceiverWatched, SenderWatched}
 
 -- it said EOT
 pub end_watched : {W : Type 0} (Saw : SawSender W) (s s' : Sending) (w w' : W) → s.over ≡ false → say_in s.core.place ≡ Say.End → s' ≡ after_speaking s
     → Saw w w' Say.End Sound.Quiet → (t : SpokenTurn) × SenderWatched Saw s w s' w' t
 end_watched Saw s s' w w' live end e saw = (heard_turn Say.End Sound.Quiet, (record { live = live; said = sym end; done = λ x. refl; state = e }, saw))
-
-hears : (say : Say) (s : Sending) (sound : Sound) → is_end say ≡ false → after_turn s (heard_turn say sound) ≡ after_hearing (after_speaking s) sound false
-hears Say.End s sound n = absurd (true≢false n)
-hears Say.Bid s sound n = refl
-hears Say.Block s sound n = refl
-hears Say.Again s sound n = refl
-hears Say.Ask s sound n = refl
-hears Say.Delay s sound n = refl
-hears Say.Nothing s sound n = refl
-
-not_end : (say : Say) → is_end say ≡ false → say ≡ Say.End → ⊥
-not_end say n e = true≢false (sym (ap is_end e) ∙ n)
 
 -- it said something else, and heard this
 pub turn_watched : {W : Type 0} (Saw : SawSender W) (s near s' : Sending) (w w' : W) (said : Say) (heard : Sound) → said ≡ say_in s.core.place → s.over ≡ false
@@ -42,7 +28,7 @@ turn_watched Saw s near s' w w' said heard is live spoke listens e saw =
     let more : is_end say ≡ false = sym (ap (λ x. x.over) spoke) ∙ listens in (
       heard_turn say heard,
       (
-        record { live = live; said = refl; done = λ end. absurd (not_end say more end); state = e ∙ ap (λ x. after_hearing x heard false) spoke ∙ sym (hears say s heard more) },
+        record { live = live; said = refl; done = λ end. absurd (no_end say more end); state = e ∙ ap (λ x. after_hearing x heard false) spoke ∙ sym (hears say s heard more) },
         subst (λ x. Saw w w' x heard) is saw,
       ),
     )

@@ -1,6 +1,6 @@
 -- What was fed so far of one hearing.
 use Rattle.std.proofs.Common.{◌≡◌, ◌≢◌, ℕ, zero, suc, ◌+◌, ◌-◌, ◌<◌, ◌≤◌, List, [], ◌∷◌, ◌++◌, length, take, drop, Option, Some, None, refl, ap, sym, ◌∙◌, subst, arith, append_assoc, append-nil, length-append, length-take}
-use Rattle.std.proofs.lemmas.List.{take-append-drop}
+use Rattle.std.proofs.lemmas.List.{take-append-drop, take-take}
 use Rattle.bsc_frame.specs.declared.frame.Frame.{Frame}
 use Rattle.bsc_frame.specs.declared.heard.Heard.{Heard}
 use Rattle.bsc_frame.specs.declared.heard.Heard.TheVariants as heard
@@ -11,7 +11,6 @@ use Rattle.bsc_frame.specs.Heard.{IsHeard}
 use Rattle.rje_station.specs.declared.came.Came.TheVariants.{Bytes, Quiet}
 use Rattle.rje_station.specs.Line.{Talk, Passes, Hears}
 use Rattle.rje_station.specs.Hearing.{Hearing, Babbling, Ends}
-use Rattle.rje_text.proofs.Prefixes.{take_take}
 
 pub record FedSo (listener : HeardSoFar) (room : ℕ) (t u : Talk) : Type 0 where
   pub fed : List ℕ
@@ -43,7 +42,7 @@ frame_heard p room n k used piece cut f t u v s h e kn kr told =
     let w = take n piece in
     let front = s.fed ++ take used cut in
     let rest = drop used cut ++ drop k w in
-    let cut_is : cut ≡ take k w = e ∙ sym (take_take k n piece kn) in
+    let cut_is : cut ≡ take k w = e ∙ sym (take-take k n piece kn) in
     let w_is : w ≡ take used cut ++ rest =
     sym (take-append-drop k w) ∙ ap (λ x. x ++ drop k w) (sym cut_is) ∙ ap (λ x. x ++ drop k w) (sym (take-append-drop used cut)) ∙ append_assoc (take used cut) (drop used cut) (drop k w) in
     let given_is : s.fed ++ w ≡ front ++ rest = ap (λ x. s.fed ++ x) w_is ∙ sym (append_assoc s.fed (take used cut) rest) in
@@ -94,7 +93,7 @@ pub babbled : (p : HeardSoFar) (room n k : ℕ) (piece cut : List ℕ) (t u v : 
     → ((bytes : List ℕ) → HasTaken p bytes → HasNoFrame (bytes ++ cut)) → Babbling t v
 babbled p room n k piece cut t u v s h e kr over within told =
     let w = take n piece in
-    let cut_is : cut ≡ take k w = e ∙ sym (take_take k n piece (omega (arith, kr))) in
+    let cut_is : cut ≡ take k w = e ∙ sym (take-take k n piece (omega (arith, kr))) in
     let left_is : 8192 - length s.fed ≡ k = omega (arith, s.counted, kr) in
     let first : take 8192 (s.fed ++ w) ≡ s.fed ++ cut =
     take-past 8192 s.fed w (omega (arith, s.counted)) ∙ ap (λ m. s.fed ++ take m w) left_is ∙ ap (λ x. s.fed ++ x) (sym cut_is) in

@@ -2,6 +2,7 @@
 use Rattle.std.proofs.Common.{◌≡◌, ℕ, zero, suc, ◌<◌, Bool, true, false, List, [], ◌∷◌, ◌++◌, length, get_or, slice_set, Option, Some, None, is_some, not, ◌&&◌, refl, ap, sym, ◌∙◌, arith, if◌then◌else◌}
 use Rattle.std.specs.Option.{option_to_list}
 use Rattle.std.proofs.lemmas.List.{append_assoc, append-nil}
+use Rattle.std.proofs.Math.Bool.{and-false, and-true}
 use Rattle.bsc_codes.specs.declared.block.Block.{Block}
 use Rattle.rje_text.specs.declared.unpacked.Unpacked.{Unpacked}
 use Rattle.rje_text.specs.Reading.{reading}
@@ -84,14 +85,6 @@ begun_last js n d l h = by (get_or js n d).whole refl
 
 -- ---- What the core accepts.
 
-and_false : (x : Bool) → (x && false) ≡ false
-and_false true = refl
-and_false false = refl
-
-and_true : (x : Bool) → (x && true) ≡ x
-and_true true = refl
-and_true false = refl
-
 bad_not_accepted : (core : ReceiverState) (wish : Wish) (p : ReceiverPlace) → core.place ≡ p → (receiver_news core Sound.Bad wish).accepted ≡ false
 bad_not_accepted core wish Place.Idle e = rw e refl
 bad_not_accepted core wish Place.InTransmission e = rw e refl
@@ -101,8 +94,8 @@ bad_not_accepted core wish Place.Ended e = rw e refl
 pub jobs_same : (h : Heard) (refused : Bool) (core : ReceiverState) (wish : Wish) (jobs : List Job)
     → jobs_after h ((receiver_news core Sound.Block wish).accepted && not refused) jobs ≡ jobs_after h (receiver_news core (sound_taken h refused) wish).accepted jobs
 jobs_same (heard.Frame (frame.Block b)) true core wish jobs =
-    ap (λ x. jobs_after (heard.Frame (frame.Block b)) x jobs) (and_false (receiver_news core Sound.Block wish).accepted ∙ sym (bad_not_accepted core wish core.place refl))
-jobs_same (heard.Frame (frame.Block b)) false core wish jobs = ap (λ x. jobs_after (heard.Frame (frame.Block b)) x jobs) (and_true (receiver_news core Sound.Block wish).accepted)
+    ap (λ x. jobs_after (heard.Frame (frame.Block b)) x jobs) (and-false (receiver_news core Sound.Block wish).accepted ∙ sym (bad_not_accepted core wish core.place refl))
+jobs_same (heard.Frame (frame.Block b)) false core wish jobs = ap (λ x. jobs_after (heard.Frame (frame.Block b)) x jobs) (and-true (receiver_news core Sound.Block wish).accepted)
 jobs_same (heard.Frame frame.Enq) refused core wish jobs = refl
 jobs_same (heard.Frame frame.Ack0) refused core wish jobs = refl
 jobs_same (heard.Frame frame.Ack1) refused core wish jobs = refl

@@ -8,3 +8,4 @@ pub mod Counting
 pub mod Ages
 pub mod Said
 pub mod Due
+pub mod PassedOver

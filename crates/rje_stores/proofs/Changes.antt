@@ -1,7 +1,8 @@
 -- Changes of files, one after another.
-use Rattle.std.proofs.Common.{◌≡◌, ℕ, List, [], Bool, true, false, Option, Some, None, set, if◌then◌else◌, refl, ap, sym, ◌∙◌, subst}
+use Rattle.std.proofs.Common.{◌≡◌, ℕ, List, Bool, true, false, Option, Some, None, set, if◌then◌else◌, refl, sym, ◌∙◌, subst}
 use Rattle.std.proofs.lemmas.Slice.Eq.{bytes_eq-Decides}
 use Rattle.std.specs.Prelude.{bytes_eq}
+use Rattle.std.proofs.lemmas.Option.{same_Some}
 use Rattle.rje_files.specs.Growth.{grown}
 use Rattle.rje_stores.specs.Store.{FileMap, Discloses, Extends, IsSame, Sets, SetsByte}
 
@@ -58,9 +59,7 @@ set_longer name bytes front tail (Some f) None h p q = absurd p
 set_longer name bytes front tail (Some f) (Some g) None p q = absurd q
 set_longer name bytes front tail (Some f) (Some g) (Some h) p (had, there, long, sets) =
     set_again name bytes (grown front tail bytes) f g h p
-    (subst (λ (bs : List ℕ). Sets name (grown front tail bs) g h) (same (sym there ∙ set_there f g name bytes p)) sets) where
-      same : Some had ≡ Some bytes → had ≡ bytes
-      same e = ap (λ (o : Option (List ℕ)). elim o [ Some bs ↦ bs | None ↦ [] ]) e
+    (subst (λ (bs : List ℕ). Sets name (grown front tail bs) g h) (same_Some had bytes (sym there ∙ set_there f g name bytes p)) sets)
 
 -- a file that was set, and then a byte of it
 pub byte_set : (name bytes : List ℕ) (place byte : ℕ) (f g h : Option FileMap) → Discloses f g (Sets name bytes) → Discloses g h (SetsByte name place byte)
@@ -70,6 +69,4 @@ byte_set name bytes place byte (Some f) None h p q = absurd p
 byte_set name bytes place byte (Some f) (Some g) None p q = absurd q
 byte_set name bytes place byte (Some f) (Some g) (Some h) p (had, there, less, sets) =
     set_again name bytes (set bytes place byte) f g h p
-    (subst (λ (bs : List ℕ). Sets name (set bs place byte) g h) (same (sym there ∙ set_there f g name bytes p)) sets) where
-      same : Some had ≡ Some bytes → had ≡ bytes
-      same e = ap (λ (o : Option (List ℕ)). elim o [ Some bs ↦ bs | None ↦ [] ]) e
+    (subst (λ (bs : List ℕ). Sets name (set bs place byte) g h) (same_Some had bytes (sym there ∙ set_there f g name bytes p)) sets)

@@ -1,15 +1,12 @@
 -- The codes of the actions, and the actions of the codes.
-use Rattle.std.proofs.Common.{◌≡◌, ℕ, Bool, true, false, cond, List, [], ◌∷◌, Option, Some, None, refl, ap, subst, eqb, arith}
+use Rattle.std.proofs.Common.{◌≡◌, ℕ, Bool, true, false, cond, List, [], ◌∷◌, Option, Some, None, refl, ap, subst, eqb}
 use Rattle.std.specs.List.{find}
 use Rattle.std.specs.Option.{option_map_or}
-use Rattle.std.proofs.lemmas.Bool.Decides.{nat_tests}
 use Rattle.rje_text.specs.declared.action.Action.{Action}
 use Rattle.rje_text.specs.declared.action.Action.TheVariants.{Plain, Single, Double, Triple, Suppress, Ch1, Ch2, Ch3, Ch4, Ch5, Ch6, Ch7, Ch8, Ch9, Ch10, Ch11, Ch12}
 use Rattle.rje_text.specs.Action.{code_of, has_code, coded_actions, action_of}
 use Rattle.std.proofs.lemmas.Option.{none-some, same_Some}
-
-true_false : false ≡ true → ⊥
-true_false e = cc
+use Rattle.std.proofs.lemmas.Bool.{eqb-true, false≢true}
 
 find_step : {X : Type 0} (p : X → Bool) (y : X) (ys : List X) (x : X) (b : Bool) → p y ≡ b → (find p ys ≡ Some x → p x ≡ true) → cond b (Some y) (find p ys) ≡ Some x → p x ≡ true
 find_step p y ys x true t rest e = subst (λ z. p z ≡ true) (same_Some y x e) t
@@ -44,12 +41,9 @@ from_code Ch12 = refl
 pub action_of-code : (a : Action) (code : ℕ) → code_of a ≡ Some code → action_of code ≡ Some a
 action_of-code a code e = subst (λ o. option_map_or (λ c. action_of c) o (Some a) ≡ Some a) e (from_code a)
 
-equal : (x y : ℕ) → eqb x y ≡ true → x ≡ y
-equal x y e = grind (arith, nat_tests)
-
 same_code : (o : Option ℕ) (code : ℕ) → option_map_or (λ c. eqb c code) o false ≡ true → o ≡ Some code
-same_code None code e = absurd (true_false e)
-same_code (Some c) code e = ap Some (equal c code e)
+same_code None code e = absurd (false≢true e)
+same_code (Some c) code e = ap Some (eqb-true c code e)
 
 -- the action that a code stands for has it
 pub code_of-action : (a : Action) (code : ℕ) → action_of code ≡ Some a → code_of a ≡ Some code

@@ -1,9 +1,9 @@
 -- What the texts of records stand for, byte by byte.
-use Rattle.std.proofs.Common.{◌≡◌, ◌≢◌, ℕ, zero, suc, ◌+◌, ◌-◌, ◌<◌, ◌≤◌, Bool, true, false, leb, eqb, List, [], ◌∷◌, ◌++◌, length, take, drop, replicate, get_or, Option, Some, None, refl, ap, sym, ◌∙◌, subst, arith, IsSome, is_some, cond, ap₂, ⊎_elim, inl, inr, ◌⊎◌}
+use Rattle.std.proofs.Common.{◌≡◌, ◌≢◌, ℕ, zero, suc, ◌+◌, ◌-◌, ◌<◌, ◌≤◌, Bool, true, false, eqb, List, [], ◌∷◌, ◌++◌, length, take, drop, replicate, get_or, Option, Some, None, refl, ap, sym, ◌∙◌, subst, arith, IsSome, is_some, cond, ap₂, ⊎_elim, inl, inr, ◌⊎◌}
 use Rattle.std.specs.Option.{option_map, option_and_then}
 use Rattle.std.proofs.lemmas.List.{append_assoc, length-append, append-nil, take_more, length-replicate, drop-append-le, length-take-le, take_all, drop_all, drop_more, get_or-drop, drop-drop, length-drop}
 use Rattle.std.proofs.lemmas.Option.{slice_get-get_or, slice_get_past, none-some}
-use Rattle.std.proofs.lemmas.Bool.{cases_lt}
+use Rattle.std.proofs.lemmas.Bool.{cases_lt, le-leb, lt-leb, false≢true}
 use Rattle.std.proofs.lemmas.Bool.Decides.{nat_tests}
 use Rattle.bsc_codes.specs.Bytes.{BLANK, IGS, ESC}
 use Rattle.rje_text.specs.declared.action.Action.{Action}
@@ -114,17 +114,11 @@ code_at [] action l e h = absurd (omega (arith, l))
 code_at (x ∷ []) action l e h = absurd (omega (arith, l))
 code_at (x ∷ c ∷ xs) action l e h = subst (λ b. HasHead (b ∷ c ∷ xs) 2 action) (sym e) (escape_head c xs action (sym h))
 
-fits : (n : ℕ) → n ≤ 144 → leb n 144 ≡ true
-fits n h = grind (arith, nat_tests)
-
-too_many : (n : ℕ) → 144 < n → leb n 144 ≡ false
-too_many n h = grind (arith, nat_tests)
-
 pub record_with_room : (action : Action) (ys : List ℕ) → length ys ≤ 144 → record_with action ys ≡ Some (record { action = action; bytes = record { items = ys } })
-record_with_room action ys h = rw (fits (length ys) h) refl
+record_with_room action ys h = rw (le-leb (length ys) 144 h) refl
 
 no_record_with : (action : Action) (ys : List ℕ) → 144 < length ys → record_with action ys ≡ None
-no_record_with action ys h = rw (too_many (length ys) h) refl
+no_record_with action ys h = rw (lt-leb (length ys) 144 h) refl
 
 -- below, the record's text has a head, and its first i bytes stand for ys behind that
 module _ (text ys : List ℕ) (n i : ℕ) (action : Action) (head : HasHead text n action) (behind : n ≤ i) where
@@ -185,14 +179,11 @@ pub record IsBuilt (text : List ℕ) (i : ℕ) (action : Action) (bytes : List �
   pub room : length (bytes ++ more) ≤ 144
   pub read : record_of text ≡ Some (record { action = action; bytes = record { items = bytes ++ more } })
 
-false_true : false ≡ true → ⊥
-false_true q = cc
-
 with_room : (action : Action) (o : Option (List ℕ)) → IsSome (option_and_then (record_with action) o)
     → (more : List ℕ) × (o ≡ Some more) × (length more ≤ 144) × (option_and_then (record_with action) o ≡ Some (record { action = action; bytes = record { items = more } }))
-with_room action None h = absurd (false_true h)
+with_room action None h = absurd (false≢true h)
 with_room action (Some more) h =
-    ⊎_elim (λ (l : 144 < length more). absurd (false_true (sym (ap is_some (no_record_with action more l)) ∙ h)))
+    ⊎_elim (λ (l : 144 < length more). absurd (false≢true (sym (ap is_some (no_record_with action more l)) ∙ h)))
     (λ (l : length more ≤ 144). (more, refl, l, record_with_room action more l)) (cases_lt 144 (length more))
 
 pub nothing_built : (text : List ℕ) (n : ℕ) (action : Action) → HasHead text n action → IsSome (record_of text) → IsBuilt text n action []

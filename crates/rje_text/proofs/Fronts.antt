@@ -1,6 +1,6 @@
 -- The records of a text that is read from the front, record by record.
 use Rattle.std.proofs.Common.{◌≡◌, ◌≢◌, ℕ, zero, suc, ◌+◌, ◌-◌, ◌<◌, ◌≤◌, true, false, List, [], ◌∷◌, ◌++◌, length, take, drop, get_or, Option, Some, None, refl, ap, sym, ◌∙◌, subst, arith, IsSome, is_some, ⊎_elim}
-use Rattle.std.proofs.lemmas.Bool.{cases_lt, cases_eq}
+use Rattle.std.proofs.lemmas.Bool.{cases_lt, cases_eq, false≢true}
 use Rattle.std.specs.Option.{option_map, option_and_then}
 use Rattle.std.proofs.lemmas.List.{append_assoc, append-nil, take_more, get_or-take, get_or-drop, take_all, drop_all, length-take-le, length-drop, take-append-drop, take-take, drop-take, drop-drop}
 use Rattle.bsc_codes.specs.Bytes.{IRS}
@@ -97,11 +97,8 @@ take_split : (n m : ℕ) (xs : List ℕ) → take (n + m) xs ≡ take n xs ++ ta
 take_split n m xs =
     sym (take-append-drop n (take (n + m) xs)) ∙ ap (λ ys. ys ++ drop n (take (n + m) xs)) (take-take n (n + m) xs (omega arith)) ∙ ap (λ ys. take n xs ++ ys) (drop-take n m xs)
 
-false_true : false ≡ true → ⊥
-false_true q = cc
-
 pub some_of : {X : Type 0} (o : Option X) → IsSome o → (x : X) × (o ≡ Some x)
-some_of None h = absurd (false_true h)
+some_of None h = absurd (false≢true h)
 some_of (Some x) h = (x, refl)
 
 pub front_whole : (text : List ℕ) (start : ℕ) (rs : List Record) → length text ≤ start → IsFront (take start text) rs → records_in text ≡ Some rs

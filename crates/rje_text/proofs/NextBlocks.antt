@@ -7,6 +7,7 @@ use Rattle.std.specs.List.{AllByRecursion, list_any}
 use Rattle.std.proofs.lemmas.List.{append_assoc, length-append, drop_more, length-drop}
 use Rattle.std.proofs.lemmas.Map.Views.{list_any-from_Contains}
 use Rattle.std.proofs.lemmas.Bool.Decides.{nat_tests}
+use Rattle.std.proofs.lemmas.Bool.{le-leb, leb-true, leb-false}
 use Rattle.bsc_codes.specs.Bytes.{IRS, IGS, ESC, control_bytes}
 use Rattle.bsc_codes.specs.declared.block.Block.{Block}
 use Rattle.bsc_codes.specs.declared.block.Closing.{Closing}
@@ -141,15 +142,6 @@ taken_cut mode text r rs h = rw h refl
 full_cut : (mode : Mode) (text : List ℕ) (r : Record) (rs : List Record) → room_for mode text r ≡ false → cut_behind mode text (r ∷ rs) ≡ block mode Etb text ∷ cut_behind mode (spelling mode r) rs
 full_cut mode text r rs h = rw h refl
 
-fits : (n : ℕ) → leb n 510 ≡ true → n ≤ 510
-fits n h = grind (arith, nat_tests)
-
-over : (n : ℕ) → leb n 510 ≡ false → 510 < n
-over n h = grind (arith, nat_tests)
-
-is_true : (n : ℕ) → n ≤ 510 → leb n 510 ≡ true
-is_true n h = grind (arith, nat_tests)
-
 -- the record at a place, and those behind it
 here_on : (records : List Record) (place : ℕ) (r : Record) → place < length records → r ≡ get_or records place r → drop place records ≡ r ∷ drop (place + 1) records
 here_on records place r l e = drop_more records place r l ∙ ap (λ x. x ∷ drop (place + 1) records) (sym e)
@@ -166,19 +158,19 @@ packed_on select mode text records from place r s l e t =
       begun = inr (omega (arith, s.ahead));
       so = sym (ap (cut_behind mode text) cut ∙ taken_cut mode text r (drop (place + 1) records) t) ∙ s.so;
       stands = spelling_stands select mode r text sent.0 s.stands;
-      room = fits (length (text ++ spelling mode r)) t;
+      room = leb-true (length (text ++ spelling mode r)) 510 t;
     }
 
 pub packed_full : (select : Select) (mode : Mode) (text : List ℕ) (records : List Record) (from place : ℕ) (r : Record) → PackedSo select mode text records from place → place < length records → r ≡ get_or records place r
     → room_for mode text r ≡ false → length (spelling mode r) ≤ 147 → IsNextBlock select mode records from (block mode Etb text) place
 packed_full select mode text records from place r s l e t short =
     let cut = here_on records place r l e in
-    let big = over (length (text ++ spelling mode r)) t in
+    let big = leb-false (length (text ++ spelling mode r)) 510 t in
     let moved : from < place = ⊎_elim
     (λ (n : text ≡ front_at select mode from). absurd (omega (arith, big, short, length-append text (spelling mode r), ap length n, front_short select mode from)))
     (λ (m : from < place). m) s.begun in
     let later : front_at select mode place ≡ [] = front_later select mode place (omega (arith, moved)) in
-    let alone : cut_behind mode [] (r ∷ drop (place + 1) records) ≡ cut_behind mode (spelling mode r) (drop (place + 1) records) = taken_cut mode [] r (drop (place + 1) records) (is_true (length (spelling mode r)) (omega (arith, short))) in
+    let alone : cut_behind mode [] (r ∷ drop (place + 1) records) ≡ cut_behind mode (spelling mode r) (drop (place + 1) records) = taken_cut mode [] r (drop (place + 1) records) (le-leb (length (spelling mode r)) 510 (omega (arith, short))) in
     let next : cut_from select mode records place ≡ cut_behind mode (spelling mode r) (drop (place + 1) records) = ap (λ f. cut_behind mode f (drop place records)) later ∙ ap (cut_behind mode []) cut ∙ alone in
     record {
       first = sym s.so ∙ ap (cut_behind mode text) cut ∙ full_cut mode text r (drop (place + 1) records) t ∙ ap (λ bs. block mode Etb text ∷ bs) (sym next);

@@ -2,7 +2,7 @@
 use Rattle.std.proofs.Common.{◌≡◌, ◌≢◌, ◌⊎◌, inl, inr, ℕ, zero, suc, ◌+◌, ◌-◌, ◌<◌, ◌≤◌, Bool, true, false, List, [], ◌∷◌, ◌++◌, length, take, drop, get_or, Option, refl, ap, sym, ◌∙◌, subst, arith, ⊎_elim, IsSome, IfSome}
 use Rattle.std.proofs.lemmas.List.{take-append-drop, take-take, drop-take, take_all, take_more, get_or-drop, get_or_past}
 use Rattle.std.proofs.lemmas.Option.{slice_get-get_or}
-use Rattle.std.proofs.lemmas.Bool.{cases_eq, cases_lt}
+use Rattle.std.proofs.lemmas.Bool.{cases_eq, cases_lt, true≢false}
 use Rattle.bsc_codes.specs.Bytes.{IGS}
 use Rattle.bsc_codes.specs.declared.block.Block.{Block}
 use Rattle.rje_text.specs.declared.mode.Mode.{Mode}
@@ -10,11 +10,8 @@ use Rattle.rje_text.specs.declared.text_fault.TextFault.{TextFault}
 use Rattle.rje_text.specs.declared.text_fault.TextFault.TheVariants.{OutOfMemory, BadCount, RecordTooLong, CardsNot80, MixedModes}
 use Rattle.rje_text.specs.Reading.{is_count, card_reading, reading}
 use Rattle.rje_text.specs.TextFault.{HasNoCount, LacksCount, PassesLimit, width_at, reads_normal, IsTextFault}
-use Rattle.rje_text.proofs.Prefixes.{last_of, last-append, IsOpen, EndsWell, CutsWell, normal_front}
+use Rattle.rje_text.proofs.Prefixes.{last_of, last-append, IsOpen, EndsWell, CutsWell, normal_front, count_other}
 use Rattle.rje_text.proofs.Expanding.{not_equal}
-
-false_true : true ≡ false → ⊥
-false_true e = cc
 
 no_count_here : (text : List ℕ) (p : ℕ) → HasNoCount text p → is_count (get_or text p 0) ≡ false
 no_count_here text p h =
@@ -27,11 +24,11 @@ last_taken : (text : List ℕ) (k : ℕ) → k < length text → last_of (take (
 last_taken text k h = ap last_of (take_more text k 0 h) ∙ last-append (take k text) (get_or text k 0) []
 
 first_dropped : (text : List ℕ) (n m : ℕ) → is_count (get_or (take m (drop n text)) 0 0) ≡ true → (0 < m) × (is_count (get_or text n 0) ≡ true)
-first_dropped text n zero h = absurd (false_true (sym h))
+first_dropped text n zero h = absurd (true≢false (sym h))
 first_dropped text n (suc m) h = (omega arith, by (drop n text) (get_or-drop n text 0 0) h)
   where
     by : (ts : List ℕ) → get_or ts 0 0 ≡ get_or text (n + 0) 0 → is_count (get_or (take (suc m) ts) 0 0) ≡ true → is_count (get_or text n 0) ≡ true
-    by [] e t = absurd (false_true (sym t))
+    by [] e t = absurd (true≢false (sym t))
     by (x ∷ xs) e t = let same : n + 0 ≡ n = omega arith in subst (λ k. is_count (get_or text k 0) ≡ true) same (subst (λ z. is_count z ≡ true) e t)
 
 -- a text that is cut well reads up to q; its byte at k stands before that
@@ -73,7 +70,7 @@ module _ (reads : List ℕ → Bool) (well : CutsWell reads) (text : List ℕ) w
   lacked : (p : ℕ) (h : LacksCount reads text p) (q : ℕ) → h.at < q → reads (take q text) ≡ true → ⊥
   lacked p h q l e =
       let counted = igs_counted h.at q l h.within h.igs e in
-      false_true (sym counted.1 ∙ subst (λ k. is_count (get_or text k 0) ≡ false) h.behind (no_count_here text p h.lacks))
+      true≢false (sym counted.1 ∙ subst (λ k. is_count (get_or text k 0) ≡ false) h.behind (no_count_here text p h.lacks))
 
   passed : (p : ℕ) → PassesLimit reads text p → (q : ℕ) → p < q → reads (take q text) ≡ true → ⊥
   passed p h q l e =
@@ -84,15 +81,12 @@ module _ (reads : List ℕ → Bool) (well : CutsWell reads) (text : List ℕ) w
       let counted = igs_counted p q l (omega arith) i e in
       let two : (p + 1) + 1 ≡ p + 2 = omega arith in
       let here = other_reads (p + 1) q counted.0 (omega arith) (count_other (get_or text (p + 1) 0) counted.1) e in
-      false_true (sym (subst (λ k. reads (take k text) ≡ true) two here) ∙ subst (λ w. reads (take (p + w) text) ≡ false) width h.passes))
+      true≢false (sym (subst (λ k. reads (take k text) ≡ true) two here) ∙ subst (λ w. reads (take (p + w) text) ≡ false) width h.passes))
       (λ (n : get_or text p 0 ≢ IGS).
       let width : width_at text p ≡ 1 = rw (not_equal (get_or text p 0) IGS n) refl in
       let within : p + 1 ≤ length text = subst (λ w. p + w ≤ length text) width h.within in
-      false_true (sym (other_reads p q l (omega arith) n e) ∙ subst (λ w. reads (take (p + w) text) ≡ false) width h.passes))
+      true≢false (sym (other_reads p q l (omega arith) n e) ∙ subst (λ w. reads (take (p + w) text) ≡ false) width h.passes))
       (cases_eq (get_or text p 0) IGS)
-    where
-      count_other : (c : ℕ) → is_count c ≡ true → c ≢ IGS
-      count_other c t e = false_true (sym (subst (λ d. is_count d ≡ true) e t))
 
   whole_reads : reads text ≡ true → reads (take (length text) text) ≡ true
   whole_reads e = subst (λ t. reads t ≡ true) (sym (take_all (length text) text (omega arith))) e
@@ -136,7 +130,7 @@ module _ (reads : List ℕ → Bool) (well : CutsWell reads) (text : List ℕ) w
       let same : h.at ≡ q = omega arith in
       let counted = g.counted (subst (λ k. get_or text k 0 ≡ IGS) same h.igs) in
       let place : p ≡ q + 1 = omega (arith, h.behind) in
-      false_true (sym counted ∙ subst (λ k. is_count (get_or text k 0) ≡ false) place (no_count_here text p h.lacks)))
+      true≢false (sym counted ∙ subst (λ k. is_count (get_or text k 0) ≡ false) place (no_count_here text p h.lacks)))
       (cases_lt q h.at))
       (cases_lt h.at q)
 
@@ -155,10 +149,10 @@ module _ (b : Block) (so_far : Option Mode) where
   limit_unread p h e = passed_whole (reads_normal so_far) (normal_front so_far) b.text.items p h.1 (normal_reads b so_far h.0 e)
 
   cards_unread : IsTextFault b so_far CardsNot80 → IsSome (reading b so_far) → ⊥
-  cards_unread h e = false_true (sym (cards_read b so_far h.0 e) ∙ h.1)
+  cards_unread h e = true≢false (sym (cards_read b so_far h.0 e) ∙ h.1)
 
   normal_or_cards : b.transparent ≡ false → b.transparent ≡ true → ⊥
-  normal_or_cards n t = false_true (sym t ∙ n)
+  normal_or_cards n t = true≢false (sym t ∙ n)
 
   pub one_told : (f g : TextFault) → IsTextFault b so_far f → IsTextFault b so_far g → f ≡ g
   one_told (BadCount p) (BadCount q) h k = ap BadCount (same_lack (reads_normal so_far) (normal_front so_far) b.text.items p q h.1 k.1)

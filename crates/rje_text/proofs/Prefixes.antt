@@ -1,9 +1,8 @@
 -- Beginnings of texts that read: a beginning reads too, unless it ends in an IGS, whose count then stands behind it.
-use Rattle.std.proofs.Common.{◌≡◌, ◌≢◌, ◌⊎◌, inl, inr, ℕ, ◌+◌, ◌-◌, ◌<◌, ◌≤◌, Bool, true, false, cond, eqb, leb, List, [], ◌∷◌, ◌++◌, length, replicate, get_or, Option, Some, None, refl, ap, sym, ◌∙◌, subst, arith, ⊎_elim, is_some, take, zero, suc}
+use Rattle.std.proofs.Common.{◌≡◌, ◌≢◌, ◌⊎◌, inl, inr, ℕ, ◌+◌, ◌-◌, ◌<◌, ◌≤◌, Bool, true, false, cond, eqb, List, [], ◌∷◌, ◌++◌, length, replicate, get_or, Option, Some, None, refl, ap, sym, ◌∙◌, subst, arith, ⊎_elim, is_some}
 use Rattle.std.specs.Option.{option_map, option_and_then, option_map_or}
 use Rattle.std.proofs.lemmas.List.{append_assoc, length-append, length-replicate}
-use Rattle.std.proofs.lemmas.Bool.{cases_eq, cases_lt}
-use Rattle.std.proofs.lemmas.Bool.Decides.{nat_tests}
+use Rattle.std.proofs.lemmas.Bool.{cases_eq, cases_lt, le-leb, lt-leb, false≢true}
 use Rattle.bsc_codes.specs.Bytes.{BLANK, IGS, IRS, ESC}
 use Rattle.rje_text.specs.declared.mode.Mode.{Mode}
 use Rattle.rje_text.specs.declared.select.Select.{Select}
@@ -15,17 +14,8 @@ use Rattle.rje_text.specs.Reading.{is_count, expanded, record_with, record_of, r
 use Rattle.rje_text.specs.TextFault.{reads_normal}
 use Rattle.rje_text.proofs.Expanding.{not_equal, expanded-igs, expanded-byte}
 use Rattle.rje_text.proofs.Fronts.{LacksIrs, one_first, records_in-more, records_in-piece, records_in-nil}
-use Rattle.std.proofs.lemmas.Option.{none-some, same_Some}
-
--- the beginning of a beginning
-pub take_take : (p q : ℕ) (xs : List ℕ) → p ≤ q → take p (take q xs) ≡ take p xs
-take_take zero q xs l = refl
-take_take (suc p) zero xs l = absurd (omega (arith, l))
-take_take (suc p) (suc q) [] l = refl
-take_take (suc p) (suc q) (x ∷ xs) l = ap (λ (ys : List ℕ). x ∷ ys) (take_take p q xs (omega (arith, l)))
-
-true_false : false ≡ true → ⊥
-true_false e = cc
+use Rattle.std.proofs.lemmas.Option.{none-some}
+use Rattle.bsc_codes.proofs.Tables.{mapped}
 
 -- the last byte, and 0 where there is none
 abbrev pub last_of : List ℕ → ℕ
@@ -46,8 +36,8 @@ last-append [] y ys = refl
 last-append (x ∷ []) y ys = refl
 last-append (x ∷ z ∷ zs) y ys = last-append (z ∷ zs) y ys
 
-count_other : (c : ℕ) → is_count c ≡ true → c ≢ IGS
-count_other c t e = true_false (subst (λ d. is_count d ≡ true) e t)
+pub count_other : (c : ℕ) → is_count c ≡ true → c ≢ IGS
+count_other c t e = false≢true (subst (λ d. is_count d ≡ true) e t)
 
 -- u ends in an IGS, and v begins with its count
 abbrev pub IsOpen : List ℕ → List ℕ → Type 0
@@ -68,11 +58,6 @@ record ExpandsWithin (u : List ℕ) (n : ℕ) : Type 0 where
   within : length data_of ≤ n
   ends : last_of u ≢ IGS
 
--- what o and a function give, where both give something
-map_parts : {X Y : Type 0} (f : X → Y) (o : Option X) (y : Y) → option_map f o ≡ Some y → (x : X) × (o ≡ Some x) × (f x ≡ y)
-map_parts f None y e = absurd (none-some y e)
-map_parts f (Some x) y e = (x, refl, same_Some (f x) y e)
-
 within_byte : (x : ℕ) (u : List ℕ) (n : ℕ) → x ≢ IGS → ExpandsWithin u n → ExpandsWithin (x ∷ u) (n + 1)
 within_byte x u n h w =
     record { data_of = x ∷ w.data_of; is = expanded-byte x u h ∙ ap (option_map (λ ys. x ∷ ys)) w.is; within = omega (arith, w.within); ends = last_other x u h w.ends }
@@ -88,7 +73,7 @@ within_count c u n h w = record {
 -- what a text that begins with a byte or with an IGS stands for
 byte_parts : (x : ℕ) (xs ys : List ℕ) → x ≢ IGS → expanded (x ∷ xs) ≡ Some ys → (zs : List ℕ) × (expanded xs ≡ Some zs) × (length ys ≡ length zs + 1)
 byte_parts x xs ys h e =
-    let p = map_parts (λ zs. x ∷ zs) (expanded xs) ys (sym (expanded-byte x xs h) ∙ e) in
+    let p = mapped (λ zs. x ∷ zs) (expanded xs) ys (sym (expanded-byte x xs h) ∙ e) in
     (p.0, p.1, omega (arith, ap length p.2))
 
 no_count : (c : ℕ) (xs : List ℕ) → is_count c ≡ false → expanded (IGS ∷ c ∷ xs) ≡ None
@@ -99,7 +84,7 @@ count_parts c xs ys e = by (is_count c) refl
   where
     by : (b : Bool) → is_count c ≡ b → (is_count c ≡ true) × ((zs : List ℕ) × (expanded xs ≡ Some zs) × (length ys ≡ (c - BLANK) + length zs))
     by true t =
-        let p = map_parts (λ zs. replicate (c - BLANK) BLANK ++ zs) (expanded xs) ys (sym (expanded-igs c xs t) ∙ e) in
+        let p = mapped (λ zs. replicate (c - BLANK) BLANK ++ zs) (expanded xs) ys (sym (expanded-igs c xs t) ∙ e) in
         (t, (p.0, p.1, omega (arith, ap length p.2, length-append (replicate (c - BLANK) BLANK) p.0, length-replicate (c - BLANK) BLANK)))
     by false t = absurd (none-some ys (sym (no_count c xs t) ∙ e))
 
@@ -140,22 +125,16 @@ reads_record t = is_some (record_of t)
 abbrev reads_as : Action → List ℕ → Bool
 reads_as a t = is_some (option_and_then (record_with a) (expanded t))
 
-too_many : (n : ℕ) → 144 < n → leb n 144 ≡ false
-too_many n h = grind (arith, nat_tests)
-
-few_enough : (n : ℕ) → n ≤ 144 → leb n 144 ≡ true
-few_enough n h = grind (arith, nat_tests)
-
 room_from : (a : Action) (ys : List ℕ) → is_some (record_with a ys) ≡ true → length ys ≤ 144
 room_from a ys e =
-    ⊎_elim (λ (l : 144 < length ys). absurd (true_false (rw (too_many (length ys) l) at e))) (λ (l : length ys ≤ 144). l) (cases_lt 144 (length ys))
+    ⊎_elim (λ (l : 144 < length ys). absurd (false≢true (rw (lt-leb (length ys) 144 l) at e))) (λ (l : length ys ≤ 144). l) (cases_lt 144 (length ys))
 
 as_parts : (a : Action) (o : Option (List ℕ)) → is_some (option_and_then (record_with a) o) ≡ true → (ys : List ℕ) × (o ≡ Some ys) × (length ys ≤ 144)
-as_parts a None e = absurd (true_false e)
+as_parts a None e = absurd (false≢true e)
 as_parts a (Some ys) e = (ys, refl, room_from a ys e)
 
 as_from : (a : Action) (o : Option (List ℕ)) (ys : List ℕ) → o ≡ Some ys → length ys ≤ 144 → is_some (option_and_then (record_with a) o) ≡ true
-as_from a o ys e l = rw (e, few_enough (length ys) l) refl
+as_from a o ys e l = rw (e, le-leb (length ys) 144 l) refl
 
 as_front : (a : Action) → CutsWell (reads_as a)
 as_front a u v e = from (as_parts a (expanded (u ++ v)) e)
@@ -248,13 +227,13 @@ abbrev reads_records : List ℕ → Bool
 reads_records t = is_some (records_in t)
 
 both_parts : (o : Option Record) (os : Option (List Record)) → is_some (one_first o os) ≡ true → (is_some o ≡ true) × (is_some os ≡ true)
-both_parts None os e = absurd (true_false e)
-both_parts (Some r) None e = absurd (true_false e)
+both_parts None os e = absurd (false≢true e)
+both_parts (Some r) None e = absurd (false≢true e)
 both_parts (Some r) (Some rs) e = (refl, refl)
 
 both_from : (o : Option Record) (os : Option (List Record)) → is_some o ≡ true → is_some os ≡ true → is_some (one_first o os) ≡ true
-both_from None os e d = absurd (true_false e)
-both_from (Some r) None e d = absurd (true_false d)
+both_from None os e d = absurd (false≢true e)
+both_from (Some r) None e d = absurd (false≢true d)
 both_from (Some r) (Some rs) e d = refl
 
 piece_parts : (p t : List ℕ) → LacksIrs p → reads_records (p ++ IRS ∷ t) ≡ true → (reads_record p ≡ true) × (reads_records t ≡ true)
@@ -272,7 +251,7 @@ end_reads [] h = ap is_some records_in-nil ∙ sym nil_reads
 end_reads (x ∷ xs) h = ap is_some (records_in-piece (x ∷ xs) (omega arith) h) ∙ one_record (record_of (x ∷ xs))
 
 counts_first : (p : List ℕ) (y : ℕ) (t : List ℕ) → is_count (get_or p 0 0) ≡ true → is_count (get_or (p ++ y ∷ t) 0 0) ≡ true
-counts_first [] y t e = absurd (true_false e)
+counts_first [] y t e = absurd (false≢true e)
 counts_first (x ∷ p) y t e = e
 
 end_front : {v : List ℕ} (u : List ℕ) → LacksIrs u → Pieces v → reads_records (u ++ v) ≡ true → EndsWell reads_records u ⊎ IsOpen u v
@@ -295,7 +274,7 @@ pieces_front (more p t n ps) v e =
 records_front : CutsWell reads_records
 records_front u v e = pieces_front (pieces u) v e
 
-is_some-map : {X Y : Type 0} (f : X → Y) (o : Option X) → is_some (option_map f o) ≡ is_some o
+pub is_some-map : {X Y : Type 0} (f : X → Y) (o : Option X) → is_some (option_map f o) ≡ is_some o
 is_some-map f None = refl
 is_some-map f (Some x) = refl
 
@@ -314,8 +293,8 @@ selected_front (Some s) x u v h e =
     (records_front u v (sym (selected_reads (Some s) x (u ++ v)) ∙ e))
 
 igs_selects_not : (so_far : Option Mode) (x : ℕ) (t : List ℕ) → option_map_or (λ s. true) (selection_in so_far (x ∷ t)) false ≡ true → x ≢ IGS
-igs_selects_not None x t e q = true_false (subst (λ z. option_map_or (λ s. true) (selection_in None (z ∷ t)) false ≡ true) q e)
-igs_selects_not (Some mode) x t e q = true_false e
+igs_selects_not None x t e q = false≢true (subst (λ z. option_map_or (λ s. true) (selection_in None (z ∷ t)) false ≡ true) q e)
+igs_selects_not (Some mode) x t e q = false≢true e
 
 nothing_reads : (so_far : Option Mode) → reads_normal so_far [] ≡ true
 unfolding normal_reading records_in

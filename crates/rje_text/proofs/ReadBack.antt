@@ -8,6 +8,7 @@ use Rattle.std.proofs.lemmas.Bool.Decides.{nat_tests}
 use Rattle.std.proofs.lemmas.Grind.{flat_map-append}
 use Rattle.std.proofs.lemmas.List.{append_assoc, append-nil, length-append, replicate-append-replicate, replicate_more, take_all}
 use Rattle.std.proofs.Math.Seq.{take-append_seam, drop-append_seam}
+use Rattle.std.proofs.lemmas.Option.{none-some}
 use Rattle.bsc_codes.specs.Bytes.{BLANK, IGS, IRS, ESC, DC1, DC2, DC3}
 use Rattle.bsc_codes.specs.declared.block.Block.{Block}
 use Rattle.bsc_codes.specs.declared.block.Closing.{Closing}
@@ -34,9 +35,6 @@ use Rattle.rje_text.proofs.Expanding.{not_equal, Stands, nothing, byte, count, S
 use Rattle.rje_text.proofs.Fronts.{LacksIrs, one_first, records_in-more, records_in-nil}
 use Rattle.rje_text.proofs.ActionCodes.{action_of-code}
 use Rattle.rje_text.proofs.ShortSpelling.{rest_is, spelling_short}
-
-some_none : {X : Type 0} (x : X) → Some x ≡ None → ⊥
-some_none x e = cc
 
 -- how full counts and the rest stand for blanks
 full_counts_stand : (n : ℕ) → Stands (full_counts n) (replicate (63 * n) BLANK)
@@ -129,7 +127,7 @@ quiet_lacks (x ∷ xs) h = (quiet_apart x IRS (λ e. absurd (omega (arith, e))) 
 
 or_parts : (a b : Option PackFault) → option_or a b ≡ None → (a ≡ None) × (b ≡ None)
 or_parts None b e = (refl, e)
-or_parts (Some x) b e = absurd (some_none x e)
+or_parts (Some x) b e = absurd (none-some x (sym e))
 
 abbrev IsSent : Select → Mode → Record → Type 0
 IsSent job mode r = (length r.bytes.items ≤ 144) × (pack_fault job mode r ≡ None)
@@ -152,11 +150,11 @@ data_from (x ∷ xs) h =
 
 none_past : (a b : ℕ) → cond (ltb a b) (Some a) None ≡ None → b ≤ a
 none_past a b h =
-    ⊎_elim (λ (l : a < b). let t = lt-ltb a b l in absurd (some_none a (rw t at h))) (λ (l : b ≤ a). l) (cases_lt a b)
+    ⊎_elim (λ (l : a < b). let t = lt-ltb a b l in absurd (none-some a (sym (rw t at h)))) (λ (l : b ≤ a). l) (cases_lt a b)
 
 no_place : (o : Option ℕ) → option_map BadByte o ≡ None → o ≡ None
 no_place None h = refl
-no_place (Some p) h = absurd (some_none (BadByte p) h)
+no_place (Some p) h = absurd (none-some (BadByte p) (sym h))
 
 pub data_of : (job : Select) (r : Record) → pack_fault job Normal r ≡ None → AreData r.bytes.items
 unfolding pack_fault
@@ -172,14 +170,14 @@ record_is r a e = let f = sym e in λ i. record { action = f i; bytes = r.bytes 
 
 plain_only : (a : Action) → code_of a ≡ None → a ≡ Plain
 plain_only Plain e = refl
-plain_only a e = absurd (some_none _ e)
+plain_only a e = absurd (none-some _ (sym e))
 
 irs_acts_not : action_of IRS ≡ None
 unfolding action_of
 irs_acts_not = refl
 
 no_irs_code : (a : Action) (c : ℕ) → code_of a ≡ Some c → c ≢ IRS
-no_irs_code a c h e = some_none a (sym (action_of-code a c h) ∙ ap action_of e ∙ irs_acts_not)
+no_irs_code a c h e = none-some a (sym (sym (action_of-code a c h) ∙ ap action_of e ∙ irs_acts_not))
 
 -- a record's text, without its IRS
 abbrev piece_of : Record → List ℕ
@@ -262,11 +260,11 @@ abbrev IsCard : Record → Type 0
 IsCard r = (length r.bytes.items ≡ 80) × (r.action ≡ Plain)
 
 eighty : (n : ℕ) → card_length Punch Transparent n ≡ None → n ≡ 80
-eighty n h = ⊎_elim (λ (e : n ≡ 80). e) (λ (e : n ≢ 80). absurd (some_none (CardLength n) (rw (not_equal n 80 e) at h))) (cases_eq n 80)
+eighty n h = ⊎_elim (λ (e : n ≡ 80). e) (λ (e : n ≢ 80). absurd (none-some (CardLength n) (sym (rw (not_equal n 80 e) at h)))) (cases_eq n 80)
 
 no_action_here : (a : Action) → action_here true a ≡ None → a ≡ Plain
 no_action_here Plain h = refl
-no_action_here a h = absurd (some_none ActionHere h)
+no_action_here a h = absurd (none-some ActionHere (sym h))
 
 sent_card : (r : Record) → IsSent Punch Transparent r → IsCard r
 unfolding pack_fault

@@ -18,6 +18,8 @@ use Rattle.rje_text.specs.Inside.RecordText.{HasFront, unpacked, reads_records, 
 use Rattle.rje_text.proofs.Expanding.{not_equal}
 use Rattle.rje_text.proofs.Lifting.{IsPart, rest_is_part, lift_fault}
 use Rattle.std.proofs.lemmas.Option.{none-some}
+use Rattle.std.proofs.lemmas.Bool.{false≢true}
+use Rattle.rje_text.proofs.Prefixes.{is_some-map}
 
 unselected : (so_far : Option Mode) (text : List ℕ) → selection_in so_far text ≡ None → normal_reading so_far text ≡ option_map (unpacked Unset) (records_in text)
 unfolding normal_reading
@@ -31,9 +33,6 @@ no_front so_far text h = record { within = omega arith; reads = λ k l. unselect
     shorter None text zero h = refl
     shorter None [] (suc k) h = refl
     shorter None (x ∷ xs) (suc k) h = h
-
-false_true : false ≡ true → ⊥
-false_true q = cc
 
 selected_first : (x : ℕ) (xs : List ℕ) (select : Select) → selection_in None (x ∷ xs) ≡ Some select → normal_reading None (x ∷ xs) ≡ option_map (unpacked select) (records_in xs)
 unfolding normal_reading
@@ -53,7 +52,7 @@ abbrev pub select_byte : ℕ → Option Select
 select_byte x = cond (eqb x DC1) (Some Printer) (cond (eqb x DC2 || eqb x DC3) (Some Punch) None)
 
 pub later_block : (so_far : Option Mode) (text : List ℕ) → is_some so_far ≡ true → selection_in so_far text ≡ None
-later_block None text h = absurd (false_true h)
+later_block None text h = absurd (false≢true h)
 later_block (Some mode) text h = refl
 
 pub empty_text : (so_far : Option Mode) (text : List ℕ) → eqb (length text) 0 ≡ true → selection_in so_far text ≡ None
@@ -65,8 +64,8 @@ empty_text None (x ∷ xs) h = absurd (omega (arith, no (suc (length xs)) h))
     no n h = grind (arith, nat_tests)
 
 pub first_byte : (so_far : Option Mode) (text : List ℕ) → is_some so_far ≡ false → eqb (length text) 0 ≡ false → selection_in so_far text ≡ select_byte (get_or text 0 0)
-first_byte (Some mode) text h l = absurd (false_true (sym h))
-first_byte None [] h l = absurd (false_true (sym l))
+first_byte (Some mode) text h l = absurd (false≢true (sym h))
+first_byte None [] h l = absurd (false≢true (sym l))
 first_byte None (x ∷ xs) h l = refl
 
 pub prints : (x : ℕ) → x ≡ DC1 → select_byte x ≡ Some Printer
@@ -78,10 +77,6 @@ punches x n (inr e) = rw e refl
 
 pub selects_nothing : (x : ℕ) → x ≢ DC1 → x ≢ DC2 → x ≢ DC3 → select_byte x ≡ None
 selects_nothing x n m k = rw (not_equal x DC1 n, not_equal x DC2 m, not_equal x DC3 k) refl
-
-is_some-map : {A B : Type 0} (f : A → B) (o : Option A) → is_some (option_map f o) ≡ is_some o
-is_some-map f None = refl
-is_some-map f (Some x) = refl
 
 -- below, the normal text has a front of n bytes, and rest stands behind it
 module _ (so_far : Option Mode) (text rest : List ℕ) (n : ℕ) (select : Select) (front : HasFront so_far text n select) (rest_is : rest ≡ drop n text) where

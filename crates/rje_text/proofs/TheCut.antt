@@ -3,6 +3,7 @@ use Rattle.std.proofs.Common.{◌≡◌, ◌≢◌, ◌⊎◌, inl, inr, ℕ, �
 use Rattle.std.specs.List.{flat_map, AllByRecursion}
 use Rattle.std.proofs.lemmas.List.{append_assoc, append-nil, length-append}
 use Rattle.std.proofs.lemmas.Bool.Decides.{nat_tests}
+use Rattle.std.proofs.lemmas.Bool.{le-leb, lt-leb}
 use Rattle.bsc_codes.specs.declared.block.Block.{Block}
 use Rattle.bsc_codes.specs.declared.block.Closing.TheVariants.{Etb, Etx}
 use Rattle.rje_text.specs.declared.mode.Mode.{Mode}
@@ -13,12 +14,6 @@ use Rattle.rje_text.specs.declared.record.Record.{Record}
 use Rattle.rje_text.specs.Spelling.{spelling, selection}
 use Rattle.rje_text.specs.Cut.{block, text_of, texts_of, AreFilled, blocks_of, IsCut, cut_behind, cut}
 use Rattle.rje_text.proofs.ShortSpelling.{spelling_short}
-
-fits_true : (n : ℕ) → n ≤ 510 → leb n 510 ≡ true
-fits_true n h = grind (arith, nat_tests)
-
-over_false : (n : ℕ) → 510 < n → leb n 510 ≡ false
-over_false n h = grind (arith, nat_tests)
 
 abbrev joined : List (List Record) → List Record
 joined runs = flat_map (λ run. run) runs
@@ -90,7 +85,7 @@ module _ (mode : Mode) where
   by_run : (runs : List (List Record)) → ((front : List ℕ) → AreLongest mode front ([] ∷ runs) → run_blocks mode front ([] ∷ runs) ≡ cut_behind mode front (joined runs)) → Claim runs
   by_run runs base front [] h = base front h
   by_run runs base front (r ∷ run) h =
-      let t = fits_true (length (front ++ spelling mode r)) (first_fits front r run runs h) in
+      let t = le-leb (length (front ++ spelling mode r)) 510 (first_fits front r run runs h) in
       rw t (blocks_shift front r run runs ∙ by_run runs base (front ++ spelling mode r) run (longest_shift front r run runs h))
 
   claim : (runs : List (List Record)) → Claim runs
@@ -99,7 +94,7 @@ module _ (mode : Mode) where
   claim ((r ∷ next) ∷ runs) =
       by_run ((r ∷ next) ∷ runs) (λ front h.
       let over : 510 < length (front ++ spelling mode r) = subst (λ t. 510 < length (front ++ t)) (append-nil (spelling mode r)) h.1 in
-      let t = over_false (length (front ++ spelling mode r)) over in
+      let t = lt-leb (length (front ++ spelling mode r)) 510 over in
       let rest = claim runs (spelling mode r) next (longest_shift [] r next runs h.2) in
       rw t (ap (λ x. block mode Etb x ∷ run_blocks mode [] ((r ∷ next) ∷ runs)) (append-nil front) ∙ ap (λ bs. block mode Etb front ∷ bs) (blocks_shift [] r next runs ∙ rest)))
 
@@ -188,5 +183,5 @@ cut_is select mode [] h =
 cut_is select mode (r ∷ rs) h =
     let room = first_room select mode r h.0 in
     let c = is_cut_behind mode (selection select mode ++ spelling mode r) rs room (all_fit mode rs h.1) in
-    rw (fits_true (length (selection select mode ++ spelling mode r)) room)
+    rw (le-leb (length (selection select mode ++ spelling mode r)) 510 room)
     (is_cut_from mode select (r ∷ rs) _ (run_more mode (selection select mode) r rs _ c) (inr (not_nil (r ∷ c.run) c.runs, (not_nil r c.run, c.later))))

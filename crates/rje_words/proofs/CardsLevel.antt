@@ -1,5 +1,5 @@
 -- What clap makes of the words behind `cards`, in any order.
-use Rattle.std.proofs.Common.{ℕ, List, [], ◌∷◌, ◌++◌, ◌≡◌, ◌==◌, arith, Option, Some, None, Bool, true, false, refl, codes, not, cond, ap, ap₂, ◌∙◌, ◌&&◌, ◌||◌, sym, subst, append_assoc, append-nil, ◌⊎◌, inl, inr}
+use Rattle.std.proofs.Common.{ℕ, List, [], ◌∷◌, ◌++◌, ◌≡◌, ◌==◌, arith, Option, Some, None, Bool, true, false, refl, codes, cond, ap, ap₂, ◌∙◌, ◌&&◌, ◌||◌, sym, subst, append_assoc, append-nil, ◌⊎◌, inl, inr}
 use Rattle.std.specs.Prelude.{option_map, unwrap_or, is_some, find, fold, if◌then◌else◌, slice_get}
 use Rattle.std.specs.Str.{bytes_eq}
 use Rattle.std.proofs.lemmas.Bool.Decides.{nat_tests}
@@ -16,6 +16,8 @@ use Rattle.clap.proofs.OnLiterals.{clap_on_literals}
 use Rattle.rje_words.specs.Asking.{is_on, word_in}
 use Rattle.clap.specs.Walk.{option as waits_for}
 use Rattle.std.specs.List.{flat_map}
+use Rattle.std.proofs.lemmas.Bool.{not-true}
+use Rattle.std.proofs.Math.Bool.{and-false}
 use Rattle.rje_words.specs.CardsWords.{CardsWord, CardsOption, append, file, named, option, option_text, printer, punch, transparent, words_typed}
 use Rattle.rje_words.specs.CommandLine.{is_file, names_file, rje_app}
 
@@ -303,10 +305,6 @@ or_else-right : (ks : Kinds) → or_else ks [] ≡ ks
 or_else-right [] = refl
 or_else-right (k ∷ ks) = refl
 
-and_false : (b : Bool) → (b && false) ≡ false
-and_false true = refl
-and_false false = refl
-
 -- OPTIONS
 
 option_row : (o : CardsOption) (rows : List Row) (seen : Seen) → Holds rows seen → look (option_rule o).id rows ≡ if_given o (is_seen o seen)
@@ -408,10 +406,6 @@ option_stands o h seen st e =
 
 -- FILES
 
-not_false : (b : Bool) → not b ≡ true → b ≡ false
-not_false true h = cc
-not_false false h = refl
-
 abbrev deck_kinds : Held → Kinds
 deck_kinds h = if is_pending deck_rule h.pending && takes_several deck_rule then [] else settle_fault rules false h
 
@@ -441,22 +435,22 @@ single_deck c h false e = (deck_turn c [] h e, deck_walked c [] h e)
 is_deck : (name : Text) (h : Held) → is_file name ≡ true → IsDeck name h
 is_deck [] h e = cc
 is_deck (c ∷ []) h e = single_deck c h (c == 45) refl
-is_deck (c ∷ d ∷ rest) h e = (deck_turn c (d ∷ rest) h (not_false (c == 45) e), deck_walked c (d ∷ rest) h (not_false (c == 45) e))
+is_deck (c ∷ d ∷ rest) h e = (deck_turn c (d ∷ rest) h (not-true (c == 45) e), deck_walked c (d ∷ rest) h (not-true (c == 45) e))
 
 is_jobs : (name : Text) (h : Held) → names_file name ≡ true
     → (turn_fault cards [] (at h 2) name ≡ jobs_kinds h) × (walked rules [] (at h 2) name ≡ at (positional_held rules jobs_rule name h) 3)
 is_jobs [] h e = cc
-is_jobs (c ∷ cs) h e = (jobs_turn c cs h (not_false (c == 45) e), jobs_walked c cs h (not_false (c == 45) e))
+is_jobs (c ∷ cs) h e = (jobs_turn c cs h (not-true (c == 45) e), jobs_walked c cs h (not-true (c == 45) e))
 
 quiet_kinds : (b : Bool) (ks : Kinds) → ks ≡ [] → (if b then [] else ks) ≡ []
 quiet_kinds true ks e = refl
 quiet_kinds false ks e = e
 
 deck_held : (name : Text) (h : Held) → positional_held rules deck_rule name h ≡ held_file (codes "DECK") name h
-deck_held name h = ap (λ (b : Bool). pushed (codes "DECK") name (if b then h else settled rules h)) (and_false (is_pending deck_rule h.pending))
+deck_held name h = ap (λ (b : Bool). pushed (codes "DECK") name (if b then h else settled rules h)) (and-false (is_pending deck_rule h.pending))
 
 jobs_held : (name : Text) (h : Held) → positional_held rules jobs_rule name h ≡ held_file (codes "JOBS") name h
-jobs_held name h = ap (λ (b : Bool). pushed (codes "JOBS") name (if b then h else settled rules h)) (and_false (is_pending jobs_rule h.pending))
+jobs_held name h = ap (λ (b : Bool). pushed (codes "JOBS") name (if b then h else settled rules h)) (and-false (is_pending jobs_rule h.pending))
 
 deck_quiet : (name : Text) (rows : List Row) → has_row (codes "DECK") rows ≡ false → use_fault false deck_rule (name ∷ []) rows ≡ []
 deck_quiet name rows e = rw e refl
@@ -518,7 +512,7 @@ value_turn c cs h position e = rw (e, e) refl
 is_value : (name : Text) (h : Held) (position : ℕ) → names_file name ≡ true
     → (turn_fault cards [] (asked h position) name ≡ []) × (walked rules [] (asked h position) name ≡ at (held_file (codes "name") name h) position)
 is_value [] h position e = cc
-is_value (c ∷ cs) h position e = (value_turn c cs h position (not_false (c == 45) e), name_walked c cs h position (not_false (c == 45) e))
+is_value (c ∷ cs) h position e = (value_turn c cs h position (not-true (c == 45) e), name_walked c cs h position (not-true (c == 45) e))
 
 name_quiet : (name : Text) (rows : List Row) → has_row (codes "name") rows ≡ false → use_fault false named_rule (name ∷ []) rows ≡ []
 name_quiet name rows e = rw e refl

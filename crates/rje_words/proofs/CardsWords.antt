@@ -2,6 +2,8 @@
 use Rattle.std.proofs.Common.{List, [], ◌∷◌, ◌≡◌, Option, Some, None, Bool, true, false, refl, codes, not, ap, ◌∙◌, ◌⊎◌, ◌&&◌, ◌||◌, inl, inr, sym, subst}
 use Rattle.std.specs.List.{flat_map}
 use Rattle.std.specs.Option.{IsSomeAnd}
+use Rattle.std.proofs.lemmas.Option.{none-some, same_Some}
+use Rattle.std.proofs.lemmas.Bool.{not-true, true≢false}
 use Rattle.clap.specs.Words.{HasKind, Row, Text, fault_of, first_of, subcommand_of}
 use Rattle.clap.specs.Faults.{level_fault}
 use Rattle.clap.specs.Walk.{nothing_held, rows_after}
@@ -173,10 +175,6 @@ names_fit ws (Some name) h = (subst (NamesFit None) (sym h.0) h.1, ap (name_afte
 abbrev NoneAgain : List CardsWord → Seen → Type 0
 NoneAgain ws seen = (o : CardsOption) → (is_seen o seen && is_among o ws) ≡ false
 
-not_true : (b : Bool) → not b ≡ true → b ≡ false
-not_true true e = cc
-not_true false e = refl
-
 fresh : (s q m : Bool) → (s && (q || m)) ≡ false → q ≡ true → s ≡ false
 fresh true true m e is = cc
 fresh true false m e is = cc
@@ -231,7 +229,7 @@ all_fit (option given ∷ ws) seen files names once none =
     let parts = both (not (is_among given ws)) (has_each_once ws) once in (
       fresh (is_seen given seen) (is_same given given) (is_among given ws) (none given) (same_option given),
       all_fit ws (with_option given seen) (same_files given) (subst (λ o. NamesFit o (names_in ws)) (sym (option_unnamed given seen)) names) parts.1 (λ o. ap (λ b. b && is_among o ws) (option_seen o given seen)
-          ∙ later_fresh (is_seen o seen) (is_same given o) (is_among o ws) (none o) (same_among given o ws (not_true (is_among given ws) parts.0))),
+          ∙ later_fresh (is_seen o seen) (is_same given o) (is_among o ws) (none o) (same_among given o ws (not-true (is_among given ws) parts.0))),
     )
   where
     same_files : (o : CardsOption) → FilesFit (with_option o seen).deck (with_option o seen).jobs (files_in ws)
@@ -250,10 +248,7 @@ names_apart None name is none = cc
 names_apart (Some text) name is none = none is.0 is.1 is.2
 
 same_name : (given : Option Text) (name other : Text) → IsGivenName given (Some name) → IsGivenName given (Some other) → name ≡ other
-same_name None name other a b = some_is (a ∙ sym b)
-  where
-    some_is : {X : Type 0} {x y : X} → Some x ≡ Some y → x ≡ y
-    some_is {X} {x} {y} e = cc
+same_name None name other a b = same_Some name other (a ∙ sym b)
 same_name (Some text) name other a b = a.3 ∙ sym b.3
 
 module _ (ws : List CardsWord) (deck jobs : Text) (given : Option Text) (have : HaveFiles ws deck jobs) (has_name : HaveName ws given) (once : has_each_once ws ≡ true) where
@@ -317,10 +312,7 @@ module _ (ws : List CardsWord) (deck jobs : Text) (given : Option Text) (have : 
 
   bad_or_memory : (device : Device) → device_among ws ≡ Some device → (fault : WordsFault) → IsWordsFault words fault → (fault ≡ BadName) ⊎ IsWantOfMemory fault
   bad_or_memory device one (Refused error) h = inr (memory_only error (subst (λ kinds. HasKind kinds error) faultless h))
-  bad_or_memory device one TwoDevices h = absurd (none_some (sym one ∙ sym device_is ∙ (of_rows (λ name rs. IsFaultOf name rs TwoDevices) h.1).1))
-    where
-      none_some : Some device ≡ None → ⊥
-      none_some e = cc
+  bad_or_memory device one TwoDevices h = absurd (none-some device (sym (sym one ∙ sym device_is ∙ (of_rows (λ name rs. IsFaultOf name rs TwoDevices) h.1).1)))
   bad_or_memory device one BadName h = inl refl
   bad_or_memory device one BadAddress h = absurd (no_address (codes "cards") rows refl refl refl (of_rows (λ name rs. IsFaultOf name rs BadAddress) h.1))
   bad_or_memory device one NoMeeting h = absurd (no_meeting h.1)
@@ -330,21 +322,15 @@ module _ (ws : List CardsWord) (deck jobs : Text) (given : Option Text) (have : 
   order_read device name (Files (Cards order)) h is named_is = (
     h.1.deck ∙ level.1.of_deck,
     h.1.jobs ∙ level.1.of_jobs,
-    some_is (sym h.1.device ∙ device_is ∙ is),
+    same_Some order.device device (sym h.1.device ∙ device_is ∙ is),
     same_name given order.name name (subst (λ o. IsGivenName o (Some order.name)) name_is h.1.name) named_is,
     h.1.append ∙ append_is,
   )
-    where
-      some_is : {X : Type 0} {a b : X} → Some a ≡ Some b → a ≡ b
-      some_is {X} {a} {b} e = cc
   order_read device name (Files _) h is named_is = absurd (apart _ _ h.0 refl)
   order_read device name (Sockets order) h is named_is = absurd (no_socket (codes "cards") rows order refl refl refl refl h)
 
   no_order : (order : Order) → IsOrderOf (codes "cards") rows order → device_among ws ≡ None → ⊥
-  no_order (Files (Cards order)) h is = some_none (sym h.1.device ∙ device_is ∙ is)
-    where
-      some_none : {X : Type 0} {a : X} → Some a ≡ None → ⊥
-      some_none {X} {a} e = cc
+  no_order (Files (Cards order)) h is = none-some order.device (sym (sym h.1.device ∙ device_is ∙ is))
   no_order (Files _) h is = absurd (apart _ _ h.0 refl)
   no_order (Sockets order) h is = absurd (no_socket (codes "cards") rows order refl refl refl refl h)
 
@@ -358,12 +344,9 @@ cards_asked ws deck jobs given device name have has_name once is named_is = reco
   order = λ order h. order_read ws deck jobs given have has_name once device name order
       (of_rows ws deck jobs given have has_name once (λ n rs. IsOrderOf n rs order) h.1) is named_is;
   fault = λ fault h. memory ws deck jobs given have has_name once fault
-      (λ two. absurd (none_some (sym is ∙ sym (device_is ws deck jobs given have has_name once) ∙ two.1)))
+      (λ two. absurd (none-some device (sym (sym is ∙ sym (device_is ws deck jobs given have has_name once) ∙ two.1))))
       (λ bad. names_apart given name named_is (subst (λ o. IsGivenName o None) (name_is ws deck jobs given have has_name once) bad.1.1)) h;
 }
-  where
-    none_some : Some device ≡ None → ⊥
-    none_some e = cc
 
 pub two_devices_told : TwoDevicesTold
 two_devices_told ws deck jobs given have has_name once is = record {
@@ -429,10 +412,6 @@ and_rest : (a r : Bool) → (not a && r) ≡ false → a ≡ false → r ≡ fal
 and_rest true r e f = cc
 and_rest false r e f = e
 
-not_both : (b : Bool) → b ≡ true → b ≡ false → ⊥
-not_both true t f = cc
-not_both false t f = cc
-
 unnamed : (name : Text) (o : CardsOption) (seen : Seen) → is_seen o (with_word (named name) seen) ≡ is_seen o seen
 unnamed name printer seen = refl
 unnamed name punch seen = refl
@@ -447,7 +426,7 @@ among_repeats (option given ∷ ws) seen o s e = by_cases (is_seen given seen) (
   f,
   among_repeats ws (with_option given seen) o
       (option_seen o given seen ∙ ap (λ b. b || is_same given o) s)
-      (or_rest (is_same given o) (is_among o ws) e (by_cases (is_same given o) (λ t. absurd (not_both (is_seen given seen) (same_seen given o seen t s) f)) (λ n. n))),
+      (or_rest (is_same given o) (is_among o ws) e (by_cases (is_same given o) (λ t. absurd (true≢false (sym (same_seen given o seen t s) ∙ f))) (λ n. n))),
 ))
 
 some_repeat : (ws : List CardsWord) (seen : Seen) → has_each_once ws ≡ false → Repeats ws seen

@@ -1,9 +1,9 @@
 -- What clap makes of canonical words over files, and what they ask for.
-use Rattle.std.proofs.Common.{ℕ, List, [], ◌∷◌, ◌≡◌, ◌==◌, arith, Option, Some, None, Bool, true, false, refl, codes, not, ap, ◌∙◌, inl, inr, sym, subst}
+use Rattle.std.proofs.Common.{ℕ, List, [], ◌∷◌, ◌≡◌, ◌==◌, arith, Option, Some, None, Bool, true, false, refl, codes, ap, ◌∙◌, inl, inr, sym, subst}
 use Rattle.std.specs.Prelude.{option_map, unwrap_or}
 use Rattle.std.specs.Option.{IsSomeAnd}
 use Rattle.std.specs.Str.{bytes_eq}
-use Rattle.std.proofs.lemmas.Bool.{true≢false}
+use Rattle.std.proofs.lemmas.Bool.{true≢false, not-true}
 use Rattle.std.proofs.lemmas.Bool.Decides.{nat_tests}
 use Rattle.std.proofs.lemmas.Slice.Eq.{bytes_eq-Decides}
 use Rattle.clap.specs.Words.{HasKind, Row, Text, fault_of, subcommand_of}
@@ -61,10 +61,6 @@ module _ {V : Type 0} (view : List Row → V) (word : Text) (words : List Text) 
       → (order : Order) → AsksFor (word ∷ words) order → P order
   only_order P reads order h = let r = as_seen view _ name value (λ n rows. IsOrderOf n rows order) taken.found h.1 in reads r.0 r.1 order r.2
 
-pub not_false : (b : Bool) → not b ≡ true → b ≡ false
-not_false true h = cc
-not_false false h = refl
-
 -- `blocks DECK`
 
 abbrev pub deck_in : List Row → Text
@@ -100,13 +96,13 @@ deck_single_taken c false h = deck_name_taken c [] h
 pub blocks_found : (deck : List ℕ) → is_file deck ≡ true → seen deck_in (subcommand_of rje_app (codes "blocks" ∷ deck ∷ [])) ≡ Some (codes "blocks", deck)
 blocks_found [] h = cc
 blocks_found (c ∷ []) h = deck_single c (c == 45) refl
-blocks_found (c ∷ d ∷ rest) h = deck_name c (d ∷ rest) (not_false (c == 45) h)
+blocks_found (c ∷ d ∷ rest) h = deck_name c (d ∷ rest) (not-true (c == 45) h)
 
 -- clap takes the words
 pub blocks_taken : (deck : List ℕ) → is_file deck ≡ true → fault_of rje_app (codes "blocks" ∷ deck ∷ []) ≡ []
 blocks_taken [] h = cc
 blocks_taken (c ∷ []) h = deck_single_taken c (c == 45) refl
-blocks_taken (c ∷ d ∷ rest) h = deck_name_taken c (d ∷ rest) (not_false (c == 45) h)
+blocks_taken (c ∷ d ∷ rest) h = deck_name_taken c (d ∷ rest) (not-true (c == 45) h)
 
 -- `show JOBS`, `check JOBS` AND `print JOBS`
 
@@ -124,11 +120,11 @@ show_name_taken c rest h = rw (h, h) refl
 
 pub show_found : (jobs : List ℕ) → names_file jobs ≡ true → seen jobs_in (subcommand_of rje_app (codes "show" ∷ jobs ∷ [])) ≡ Some (codes "show", jobs)
 show_found [] h = cc
-show_found (c ∷ rest) h = show_name c rest (not_false (c == 45) h)
+show_found (c ∷ rest) h = show_name c rest (not-true (c == 45) h)
 
 pub show_taken : (jobs : List ℕ) → names_file jobs ≡ true → fault_of rje_app (codes "show" ∷ jobs ∷ []) ≡ []
 show_taken [] h = cc
-show_taken (c ∷ rest) h = show_name_taken c rest (not_false (c == 45) h)
+show_taken (c ∷ rest) h = show_name_taken c rest (not-true (c == 45) h)
 
 check_name : (c : ℕ) (rest : List ℕ) → (c == 45) ≡ false
     → seen jobs_in (subcommand_of rje_app (codes "check" ∷ (c ∷ rest) ∷ [])) ≡ Some (codes "check", c ∷ rest)
@@ -141,11 +137,11 @@ check_name_taken c rest h = rw (h, h) refl
 
 pub check_found : (jobs : List ℕ) → names_file jobs ≡ true → seen jobs_in (subcommand_of rje_app (codes "check" ∷ jobs ∷ [])) ≡ Some (codes "check", jobs)
 check_found [] h = cc
-check_found (c ∷ rest) h = check_name c rest (not_false (c == 45) h)
+check_found (c ∷ rest) h = check_name c rest (not-true (c == 45) h)
 
 pub check_taken : (jobs : List ℕ) → names_file jobs ≡ true → fault_of rje_app (codes "check" ∷ jobs ∷ []) ≡ []
 check_taken [] h = cc
-check_taken (c ∷ rest) h = check_name_taken c rest (not_false (c == 45) h)
+check_taken (c ∷ rest) h = check_name_taken c rest (not-true (c == 45) h)
 
 print_name : (c : ℕ) (rest : List ℕ) → (c == 45) ≡ false
     → seen jobs_in (subcommand_of rje_app (codes "print" ∷ (c ∷ rest) ∷ [])) ≡ Some (codes "print", c ∷ rest)
@@ -158,11 +154,11 @@ print_name_taken c rest h = rw (h, h) refl
 
 pub print_found : (jobs : List ℕ) → names_file jobs ≡ true → seen jobs_in (subcommand_of rje_app (codes "print" ∷ jobs ∷ [])) ≡ Some (codes "print", jobs)
 print_found [] h = cc
-print_found (c ∷ rest) h = print_name c rest (not_false (c == 45) h)
+print_found (c ∷ rest) h = print_name c rest (not-true (c == 45) h)
 
 pub print_taken : (jobs : List ℕ) → names_file jobs ≡ true → fault_of rje_app (codes "print" ∷ jobs ∷ []) ≡ []
 print_taken [] h = cc
-print_taken (c ∷ rest) h = print_name_taken c rest (not_false (c == 45) h)
+print_taken (c ∷ rest) h = print_name_taken c rest (not-true (c == 45) h)
 
 -- `try JOBS SCRIPT`
 
@@ -187,12 +183,12 @@ pub try_found : (jobs script : List ℕ) → names_file jobs ≡ true → names_
     → seen files_in (subcommand_of rje_app (codes "try" ∷ jobs ∷ script ∷ [])) ≡ Some (codes "try", record { jobs = jobs; script = script })
 try_found [] script h k = cc
 try_found (c ∷ cs) [] h k = cc
-try_found (c ∷ cs) (d ∷ ds) h k = try_names c d cs ds (not_false (c == 45) h) (not_false (d == 45) k)
+try_found (c ∷ cs) (d ∷ ds) h k = try_names c d cs ds (not-true (c == 45) h) (not-true (d == 45) k)
 
 pub try_taken : (jobs script : List ℕ) → names_file jobs ≡ true → names_file script ≡ true → fault_of rje_app (codes "try" ∷ jobs ∷ script ∷ []) ≡ []
 try_taken [] script h k = cc
 try_taken (c ∷ cs) [] h k = cc
-try_taken (c ∷ cs) (d ∷ ds) h k = try_names_taken c d cs ds (not_false (c == 45) h) (not_false (d == 45) k)
+try_taken (c ∷ cs) (d ∷ ds) h k = try_names_taken c d cs ds (not-true (c == 45) h) (not-true (d == 45) k)
 
 -- WHAT THE WORDS ASK FOR
 

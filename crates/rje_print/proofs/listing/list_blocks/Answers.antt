@@ -1,6 +1,7 @@
 use Rattle.std.proofs.Common.{rules, ◌≡◌, true, ap, length, arith}
+use Rattle.std.proofs.lemmas.Result.{on_ok_weaker}
 use Rattle.rje_text.specs.Packing.{Packing, with_record}
-use Rattle.rje_print.proofs.BlockListings.{full_next, can_print, may_count, printed, can_print_last, may_count_last, printed_all, all_well, begun_printing}
+use Rattle.rje_print.proofs.BlockListings.{full_next, can_print, may_count, printed, can_print_last, may_count_last, printed_all, begun_printing}
 use Rattle.rje_print.proofs.listing.list_blocks.Goals as goal
 
 pub loop-item-init : goal.loop-item-init
@@ -53,7 +54,7 @@ add-requires-2-clause-few g c =
 
 pub returns : goal.returns
 returns g c =
-    all_well c.end.result _ _ c.end.ensures (λ end.
+    on_ok_weaker c.end.result (λ end.
     printed_all _ _ c.args.cards c.loop-item.packer _ _ c.loop-item.listing.lines _ _ c.loop-item.invariant c.close-2.result c.in-None.ensures.steps.0 c.close-2.ensures.block
     (g.O.Write.contents c.add-2.new.out) (g.O.Write.contents c.end.new.out) c.add-2.new.self.piece.bytes.items c.add-2.new.self.so_far c.add-2.new.self.count
-    c.in_ok-add-2.ensures.puts c.in_ok-add-2.ensures.reads end)
+    c.in_ok-add-2.ensures.puts c.in_ok-add-2.ensures.reads end) c.end.ensures

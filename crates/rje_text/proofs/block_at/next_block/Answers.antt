@@ -1,4 +1,4 @@
-use Rattle.std.proofs.Common.{rules, ◌≡◌, ◌≤◌, ◌++◌, leb, length, true, get_or}
+use Rattle.std.proofs.Common.{rules, ◌≡◌, ◌++◌, leb, length, true, get_or}
 use Rattle.rje_text.specs.Spelling.{spelling}
 use Rattle.rje_text.proofs.NextBlocks.{packed_on}
 use Rattle.rje_text.proofs.block_at.next_block.Goals as goal

@@ -1,11 +1,12 @@
 use Rattle.std.proofs.Common.{◌≡◌, length, ◌∙◌, subst, ap, inr, OnOk}
 use Rattle.std.specs.Prelude.{option_map}
 use Rattle.std.specs.Io.KnownBytes.{Appends}
+use Rattle.std.proofs.lemmas.Result.{on_ok_weaker}
 use Rattle.rje_print.specs.JobTexts.{cards_line}
 use Rattle.rje_words.specs.declared.order.FileOrder.{FileOrder}
 use Rattle.rje_commands.specs.Commands.{IsFault, MakesCards, MakesFile, deck_job}
 use Rattle.rje_commands.specs.Inside.Commands.{IsCardsFault}
-use Rattle.rje_commands.proofs.Inputs.{of_deck, told_as, done_as, cards_fault, held_fault, made_file, whatever}
+use Rattle.rje_commands.proofs.Inputs.{of_deck, told_as, cards_fault, held_fault, made_file, whatever}
 use Rattle.rje_commands.proofs.commands.cards_command.cards.Goals as goal
 
 pub returns-in_err-held-clause-fault : goal.returns-in_err-held-clause-fault
@@ -42,9 +43,9 @@ returns-clause-done g c =
     let line = c.as_slice-3.ensures.value ∙ c.cards_text.ensures.line ∙ ap cards_line count in
     let before = g.O.Write.contents c.args.out.now in
     let after = g.O.Write.contents c.put.new.out in
-    done_as c.put.result _ _ (subst (λ text. OnOk c.put.result (Appends before after text)) line c.put.ensures.text) (λ printed.
+    on_ok_weaker c.put.result (λ printed.
     of_deck (λ read. MakesCards order read files (g.S.Store.files c.write_file.new.store) before after) deck
-    (made, printed) order.deck.now files input c.in_ok-deck.ensures.deck)
+    (made, printed) order.deck.now files input c.in_ok-deck.ensures.deck) (subst (λ text. OnOk c.put.result (Appends before after text)) line c.put.ensures.text)
 
 pub returns-clause-files : goal.returns-clause-files
 returns-clause-files g c =

@@ -1,9 +1,9 @@
 use Rattle.std.proofs.Common.{rules, ◌≡◌, ◌≤◌, length, Err}
+use Rattle.std.proofs.lemmas.Result.{on_ok_weaker}
 use Rattle.rje_commands.specs.declared.command_fault.CommandFault.TheVariants as told
-use Rattle.rje_sockets.specs.Ending.{MarksSent}
 use Rattle.rje_stores.specs.Store.{Sets, Discloses}
 use Rattle.rje_sockets.proofs.Failing.{memory_fails}
-use Rattle.rje_commands.proofs.Inputs.{done_as, done_both}
+use Rattle.rje_commands.proofs.Inputs.{done_both}
 use Rattle.rje_sockets.proofs.marker.Marker.write.Goals as goal
 
 pub returns-clause-marked : goal.returns-clause-marked
@@ -15,9 +15,8 @@ returns-clause-marked g c =
     let file = c.args.self.now.file.items in
     let sets = rw c.as_slice-2.ensures.value at c.write_file.ensures.sets in
     let few = rw c.as_slice-2.ensures.value at c.write_file.ensures.limit in
-    done_as c.write_file.result _ (MarksSent file c.args.counted name old new)
+    on_ok_weaker c.write_file.result (λ done. (bytes, rw c.as_slice.ensures.value at c.in_ok-bytes.ensures.file, done.0, done.1))
     (done_both c.write_file.result (length bytes ≤ 16777216) (Discloses old new (Sets name bytes)) few sets)
-    (λ done. (bytes, rw c.as_slice.ensures.value at c.in_ok-bytes.ensures.file, done.0, done.1))
 
 pub returns-in_err-bytes-clause-status : goal.returns-in_err-bytes-clause-status
 returns-in_err-bytes-clause-status g c =
