@@ -1,10 +1,10 @@
 //! `loop`: both ends in one process, over a connection on this machine.
-ghost use Rattle.std.specs.Prelude.{◌≡◌, ◌⊎◌, List, IfErr, IfOk, OnOk};
+ghost use Rattle.std.specs.Prelude.{◌≡◌, ◌⊎◌, List, IfErr, IfOk, OnOk, true};
 ghost use Rattle.std.specs.Io.KnownBytes.{Appends};
 ghost use Rattle.rje_station.specs.Sending.{outcome_of};
 ghost use Rattle.line_world.specs.AnyLines.{BothToEnd};
 ghost use Rattle.line_world.specs.declared.spoken.Spoken.{Spoken};
-ghost use Rattle.rje_commands.specs.CommandFault.{IsFailing, status_of};
+ghost use Rattle.rje_commands.specs.CommandFault.{IsFailing, is_of_output, status_of};
 ghost use Rattle.rje_commands.specs.Commands.{OfFile};
 ghost use Rattle.rje_sockets.specs.Ending.{ending_of, loop_text};
 ghost use Rattle.rje_sockets.specs.Looping.{IsUnloopedFault, Loops};
@@ -100,7 +100,7 @@ fn print_looped<'a, O: Write>(
 ) -> Result<(), CommandFault<'a>>
     ensures text { OnOk result (Appends (O.contents out.old) (O.contents out.new)
         (loop_text counted given jobs.now outcome)) }
-    ensures status { IfErr result (λ fault. IsFailing (status_of fault)) }
+    ensures fault { IfErr result (λ fault. is_of_output fault ≡ true) }
 {
     let lines = [
         counted_text(counted, given),

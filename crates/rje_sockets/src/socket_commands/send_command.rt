@@ -1,5 +1,5 @@
 //! `send`: one transmission of what is left of a job file to a listening receiver.
-ghost use Rattle.std.specs.Prelude.{◌≡◌, ◌⊎◌, List, Option, length, IfErr, IfOk, OnOk};
+ghost use Rattle.std.specs.Prelude.{◌≡◌, ◌⊎◌, List, Option, length, IfErr, IfOk, OnOk, true};
 ghost use Rattle.std.specs.Io.KnownBytes.{Appends};
 ghost use Rattle.rje_jobs.specs.declared.job.Job.{Job};
 ghost use Rattle.bsc_history.specs.History.{History};
@@ -8,7 +8,7 @@ ghost use Rattle.rje_files.specs.Unsent.{IsLeft};
 ghost use Rattle.rje_station.specs.Sending.{outcome_of};
 ghost use Rattle.line_world.specs.AnyLines.{SendsToEnd};
 ghost use Rattle.rje_commands.specs.Commands.{OfFile};
-ghost use Rattle.rje_commands.specs.CommandFault.{IsFailing, status_of};
+ghost use Rattle.rje_commands.specs.CommandFault.{IsFailing, is_of_output, status_of};
 ghost use Rattle.rje_sockets.specs.Ending.{ending_of, sent_text, IsRefusedFile, IsUnsentFault, MarksSent, SendsLeft, EndsSending};
 ghost use Rattle.rje_sockets.specs.Inside.Sending.{IsOutgoing, IsSendFault};
 ghost use Rattle.rje_sockets.specs.Marking.{Marks, MarksCounted, MarksNoMore};
@@ -220,7 +220,7 @@ fn print_sent<'a, O: Write>(
 ) -> Result<(), CommandFault<'a>>
     ensures text { OnOk result (Appends (O.contents out.old) (O.contents out.new)
         (sent_text counted given outcome)) }
-    ensures status { IfErr result (λ fault. IsFailing (status_of fault)) }
+    ensures fault { IfErr result (λ fault. is_of_output fault ≡ true) }
 {
     put_lines(&[counted_text(counted, given), outcome_text(outcome)], out)
 }
