@@ -1,8 +1,8 @@
 //! The program `rje`: jobs of cards and lines over a Binary Synchronous line.
 #![tactic(auto)]
 
-use rje_commands::{CommandFault, command};
-use rje_sockets::{is_for_sockets, socket_command};
+use rje_commands::CommandFault;
+use rje_program::{command, is_for_sockets, socket_command};
 use rje_stores::FileStore;
 use std::fs::File;
 use std::io::IsTerminal;

@@ -1,5 +1,5 @@
 -- What holds of the bytes that were read holds of the file, and of the deck, that they are.
-use Rattle.std.proofs.Common.{◌≡◌, ◌≤◌, ℕ, Bor, Bool, true, false, List, length, Option, Some, None, Result, Ok, Err, OnOk, IfErr, inl, inr, refl, sym, subst, ◌∙◌}
+use Rattle.std.proofs.Common.{◌≡◌, ◌≤◌, ℕ, Bor, Bool, true, false, List, length, Option, Some, None, Result, Ok, Err, OnOk, IfErr, inr, refl, sym, subst, ◌∙◌}
 use Rattle.std.specs.Prelude.{IfSome}
 use Rattle.std.specs.Option.{IsSomeAnd}
 use Rattle.std.specs.Result.{IsErrAnd}
@@ -14,15 +14,12 @@ use Rattle.line_world.specs.Run.{IsRunFault}
 use Rattle.rje_print.specs.Script.{IsScript}
 use Rattle.rje_stores.proofs.Changes.{same_twice, set_after}
 use Rattle.rje_commands.specs.CommandFault.{of_world}
-use Rattle.rje_words.specs.declared.order.CardsOrder.{CardsOrder}
-use Rattle.rje_words.specs.declared.order.TryOrder.{TryOrder}
-use Rattle.rje_words.specs.declared.order.FileOrder.{FileOrder}
-use Rattle.rje_words.specs.declared.order.Order.TheVariants.{Files}
-use Rattle.rje_words.specs.Asking.{AsksFor}
+use Rattle.rje_orders.specs.declared.order.CardsOrder.{CardsOrder}
+use Rattle.rje_orders.specs.declared.order.TryOrder.{TryOrder}
+use Rattle.rje_orders.specs.declared.order.FileOrder.{FileOrder}
 use Rattle.rje_commands.specs.declared.command_fault.CommandFault.{CommandFault}
 use Rattle.rje_commands.specs.declared.command_fault.CommandFault.TheVariants as told
-use Rattle.rje_commands.specs.Command.{LeavesAsAsked}
-use Rattle.rje_commands.specs.Commands.{AreEntriesOf, AreInFront, OfFile, OfFiles, OfDeck, IsFault, MakesFile, Leaves}
+use Rattle.rje_commands.specs.Commands.{AreEntriesOf, AreInFront, OfFile, OfFiles, OfDeck, IsFault, MakesFile}
 use Rattle.rje_commands.specs.Inside.Commands.{IsCardsFault, IsHeld, IsHeldFault, IsMade, IsThere, IsTryFault, IsTextFault, IsCheckFault}
 use Rattle.rje_stores.specs.Store.{FileMap, Discloses, IsSame, Sets}
 
@@ -126,17 +123,6 @@ module _ (order : TryOrder) (f g : Option FileMap) (a b : List ℕ)
   try_fault (told.NotDamage turn) h = both (λ file script. IsTryFault file script (told.NotDamage turn)) h
   try_fault (told.BadCut turn) h = both (λ file script. IsTryFault file script (told.BadCut turn)) h
   try_fault _ h = absurd h
-
--- what an order leaves of the files is what the words that ask for it do
-pub leaves : (words : List (List ℕ)) (order : FileOrder) (f g : Option FileMap) (input : Option (List ℕ))
-    → AsksFor words (Files order) → Leaves order f g input → LeavesAsAsked words f g input
-leaves words (FileOrder.Cards order) f g input asked (inl same) = inl same
-leaves words (FileOrder.Cards order) f g input asked (inr made) = inr (order, asked, made)
-leaves words (FileOrder.Blocks deck) f g input asked same = inl same
-leaves words (FileOrder.Show jobs) f g input asked same = inl same
-leaves words (FileOrder.Check jobs) f g input asked same = inl same
-leaves words (FileOrder.Print jobs) f g input asked same = inl same
-leaves words (FileOrder.Try order) f g input asked same = inl same
 
 pub made_file : (order : CardsOrder) (deck bytes : List ℕ) (held : Option (List ℕ)) (f g h i : Option FileMap) → deck_fault deck ≡ None
     → IsMade order deck held bytes → length bytes ≤ 16777216 → Discloses f g IsSame → IsHeld order g held → Discloses g h IsSame

@@ -2,15 +2,11 @@
 use Rattle.std.specs.Prelude.{◌≡◌, ◌⊎◌, ℕ, Bool, true, false}
 use Rattle.std.specs.declared.io.ErrorKind.{ErrorKind}
 use Rattle.std.specs.declared.io.ErrorKind.TheVariants.{BrokenPipe}
-use Rattle.clap.specs.Words.{kind_of}
-use Rattle.clap.specs.declared.error.Error.{Error}
-use Rattle.clap.specs.declared.error.kind.ErrorKind.TheVariants.{DisplayHelp, DisplayVersion}
 use Rattle.rje_jobs.specs.declared.deck_fault.DeckFault.{DeckFault}
 use Rattle.rje_jobs.specs.declared.file_fault.FileFault.{FileFault}
 use Rattle.rje_print.specs.declared.script_fault.ScriptFault.{ScriptFault}
 use Rattle.rje_station.specs.declared.station_fault.StationFault.{StationFault}
 use Rattle.line_world.specs.declared.world_fault.WorldFault.{WorldFault}
-use Rattle.rje_words.specs.declared.words_fault.WordsFault.{WordsFault}
 use Rattle.rje_commands.specs.declared.command_fault.CommandFault.{CommandFault}
 use Rattle.rje_commands.specs.declared.command_fault.CommandFault.TheVariants.{OutOfMemory, Deck, File, BadJob, Script, NotDamage, BadCut, NoCommand, LineFailed, Babble, CannotRead, CannotWrite, Output, Closed}
 
@@ -70,15 +66,6 @@ of_world WorldFault.OutOfMemory = OutOfMemory
 of_world (WorldFault.NotDamage attempt turn) = NotDamage turn
 of_world (WorldFault.BadCut attempt turn) = BadCut turn
 of_world (WorldFault.BadJob number) = BadJob number
-
--- clap's error gives help, or the version
-abbrev pub IsHelpError : Error → Type 0
-IsHelpError error = (kind_of error ≡ DisplayHelp) ⊎ (kind_of error ≡ DisplayVersion)
-
--- the words ask for help
-abbrev pub IsHelp : WordsFault → Type 0
-IsHelp (WordsFault.Refused error) = IsHelpError error
-IsHelp _ = ⊥
 
 -- the statuses of a transmission that fails, whatever its fault: of a file, a line or an output, of memory, of an output that nobody reads
 abbrev pub IsFailing : ℕ → Type 0

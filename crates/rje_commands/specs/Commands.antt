@@ -16,10 +16,10 @@ use Rattle.line_world.specs.declared.turn.Turn.{Turn}
 use Rattle.line_world.specs.declared.world_fault.WorldFault.TheVariants as world
 use Rattle.line_world.specs.declared.world_fault.WorldFault.{WorldFault}
 use Rattle.line_world.specs.Run.{IsRun, IsRunFault}
-use Rattle.rje_words.specs.declared.device.Device.{Device}
-use Rattle.rje_words.specs.Device.{select_of, writing}
-use Rattle.rje_words.specs.declared.order.CardsOrder.{CardsOrder}
-use Rattle.rje_words.specs.declared.order.FileOrder.{FileOrder}
+use Rattle.rje_orders.specs.declared.device.Device.{Device}
+use Rattle.rje_orders.specs.Device.{select_of, writing}
+use Rattle.rje_orders.specs.declared.order.CardsOrder.{CardsOrder}
+use Rattle.rje_orders.specs.declared.order.FileOrder.{FileOrder}
 use Rattle.rje_print.specs.BlockListing.{IsBlockListing}
 use Rattle.rje_print.specs.JobTexts.{cards_line, IsShown, IsChecked, IsPaper}
 use Rattle.rje_print.specs.ReportTexts.{run_text}

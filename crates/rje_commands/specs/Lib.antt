@@ -2,4 +2,3 @@ pub mod Commands
 pub mod CommandFault
 pub mod Inside
 pub mod NamedFile
-pub mod Command

@@ -10,8 +10,8 @@ use Rattle.rje_files.specs.JobFile.{HasEntries}
 use Rattle.rje_files.specs.Unsent.{unsent}
 use Rattle.rje_station.specs.Sending.{outcome_of}
 use Rattle.rje_station.specs.Station.{Contending, first_contending}
-use Rattle.rje_words.specs.declared.order.Meeting.{Meeting}
-use Rattle.rje_words.specs.declared.order.Meeting.TheVariants.{Calls, Listens}
+use Rattle.rje_orders.specs.declared.order.Meeting.{Meeting}
+use Rattle.rje_orders.specs.declared.order.Meeting.TheVariants.{Calls, Listens}
 use Rattle.rje_commands.specs.Commands.{OfFile}
 use Rattle.rje_sockets.specs.declared.exchange.Left.{Left}
 use Rattle.rje_sockets.specs.declared.keeper.Keeper.{Keeper}

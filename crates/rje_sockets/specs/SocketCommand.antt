@@ -1,27 +1,17 @@
--- What one run of the program over sockets does, by the words that it was given (own profile).
-use Rattle.std.specs.Prelude.{◌≡◌, ◌⊎◌, ℕ, List, [], ◌∷◌, Option, IfSome, codes}
-use Rattle.rje_words.specs.declared.order.FileOrder.{FileOrder}
-use Rattle.rje_words.specs.declared.order.Order.TheVariants.{Files, Sockets}
-use Rattle.rje_words.specs.declared.order.SocketOrder.{SocketOrder}
-use Rattle.rje_words.specs.declared.words_fault.WordsFault.{WordsFault}
-use Rattle.rje_words.specs.Asking.{AsksFor, IsWordsFault}
+-- What a command over sockets does, by its order (own profile).
+use Rattle.std.specs.Prelude.{◌≡◌, ◌⊎◌, ℕ, List, Option, IfSome}
+use Rattle.rje_orders.specs.declared.order.SocketOrder.{SocketOrder}
 use Rattle.rje_commands.specs.declared.command_fault.CommandFault.{CommandFault}
-use Rattle.rje_commands.specs.Command.{AsksForHelp}
 use Rattle.rje_commands.specs.CommandFault.{IsFailing, status_of}
 use Rattle.rje_commands.specs.Commands.{OfFile}
 use Rattle.rje_sockets.specs.declared.socket_commands.ending.Ending.{Ending}
 use Rattle.rje_sockets.specs.Answering.{KeepsAnswered}
-use Rattle.rje_sockets.specs.Ending.{IsUnsentFault, Receives, SendsLeft, ending_status}
+use Rattle.rje_sockets.specs.Ending.{IsUnsentFault, Receives, SendsLeft}
 use Rattle.rje_sockets.specs.Exchanging.{ExchangesLeft, rank_at}
 use Rattle.rje_sockets.specs.LeavingBoth.{LeavesExchange}
 use Rattle.rje_sockets.specs.Looping.{IsUnloopedFault, Loops}
 use Rattle.rje_sockets.specs.Marking.{MarksNoMore}
 use Rattle.rje_stores.specs.Store.{FileMap, Discloses, IsSame}
-
--- the first word names a command over sockets
-abbrev pub NamesSockets : List (List ℕ) → Type 0
-NamesSockets [] = ⊥
-NamesSockets (word ∷ words) = (word ≡ codes "loop") ⊎ ((word ≡ codes "send") ⊎ ((word ≡ codes "receive") ⊎ (word ≡ codes "exchange")))
 
 -- WHAT A COMMAND DOES
 
@@ -56,29 +46,3 @@ Refuses (SocketOrder.Exchange order) files fault = OfFile order.send.now files (
 -- or a file, a line, an output or memory fails
 abbrev pub IsSocketFault : SocketOrder → Option FileMap → CommandFault → Type 0
 IsSocketFault order files fault = IsFailing (status_of fault) ⊎ ((status_of fault ≡ 1) × Refuses order files fault)
-
--- BY THE WORDS
-
--- the words ask for a command over sockets, this is what it does, and this is the status of how it ended; or they ask for help or the version
-abbrev pub TransmitsAsAsked : (status : ℕ) → List (List ℕ) → (files made : Option FileMap) → (before after : Option (List ℕ)) → Type 0
-TransmitsAsAsked status words files made before after =
-    ((order : SocketOrder) × (ending : Ending) × AsksFor words (Sockets order) × (status ≡ ending_status ending) × Transmits order ending files made before after)
-    ⊎ ((status ≡ 0) × AsksForHelp words)
-
--- the words ask for a command over sockets, and the job file that it sends is refused
-abbrev pub RefusesAsAsked : List (List ℕ) → Option FileMap → Type 0
-RefusesAsAsked words files =
-    (order : SocketOrder) × (fault : CommandFault) × AsksFor words (Sockets order) × Refuses order files fault × (status_of fault ≡ 1)
-
--- the words ask for nothing that can be done, or for a command over files
-abbrev pub AsksForNoSockets : List (List ℕ) → Type 0
-AsksForNoSockets words = ((fault : WordsFault) × IsWordsFault words fault) ⊎ ((order : FileOrder) × AsksFor words (Files order))
-
--- the exit statuses of a command over sockets
-abbrev pub IsSocketStatus : ℕ → Type 0
-IsSocketStatus status = (status ≡ 0) ⊎ ((status ≡ 4) ⊎ ((status ≡ 1) ⊎ ((status ≡ 2) ⊎ IsFailing status)))
-
--- no file changed, or the words ask for a command over sockets, which leaves the files so
-abbrev pub LeavesFilesAsAsked : List (List ℕ) → (files made : Option FileMap) → Type 0
-LeavesFilesAsAsked words files made =
-    Discloses files made IsSame ⊎ ((order : SocketOrder) × AsksFor words (Sockets order) × LeavesFiles order files made)

@@ -12,6 +12,6 @@ mod socket_line;
 mod tracer;
 mod watch;
 
-pub use over_sockets::{is_for_sockets, socket_command};
-pub use socket_commands::{exchange_over, receive_over, send_over};
+pub use over_sockets::carry_out;
+pub use socket_commands::{Ending, exchange_over, receive_over, send_over};
 pub use socket_line::SocketLine;

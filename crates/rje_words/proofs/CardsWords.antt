@@ -8,17 +8,17 @@ use Rattle.clap.specs.Words.{HasKind, Row, Text, fault_of, first_of, subcommand_
 use Rattle.clap.specs.Faults.{level_fault}
 use Rattle.clap.specs.Walk.{nothing_held, rows_after}
 use Rattle.clap.specs.declared.error.kind.ErrorKind.TheVariants.{ArgumentConflict}
-use Rattle.rje_words.specs.declared.device.Device.{Device}
-use Rattle.rje_words.specs.declared.order.Order.{Order}
-use Rattle.rje_words.specs.declared.order.Order.TheVariants.{Files, Sockets}
-use Rattle.rje_words.specs.declared.order.FileOrder.TheVariants.{Cards}
+use Rattle.rje_orders.specs.declared.device.Device.{Device}
+use Rattle.rje_orders.specs.declared.order.Order.{Order}
+use Rattle.rje_orders.specs.declared.order.Order.TheVariants.{Files, Sockets}
+use Rattle.rje_orders.specs.declared.order.FileOrder.TheVariants.{Cards}
 use Rattle.rje_words.specs.declared.words_fault.WordsFault.{WordsFault}
 use Rattle.rje_words.specs.declared.words_fault.WordsFault.TheVariants.{Refused, TwoDevices, BadName, BadAddress, NoMeeting}
 use Rattle.rje_words.specs.Asking.{IsFaultOf, IsGivenName, IsOrderOf, IsWordsFault, device_in, is_on}
 use Rattle.rje_words.specs.Canonical.{BadNameTold, CardsAsked, RepeatedRefused, TwoDevicesTold}
 use Rattle.rje_words.specs.CardsWords.{CardsWord, CardsOption, HaveFiles, HaveName, adds_among, append, device_among, file, files_in, has_each_once, is_among, is_same, named, names_in, option, printer, punch, transparent, words_typed}
 use Rattle.rje_words.specs.CommandLine.{is_file, names_file, rje_app}
-use Rattle.rje_words.specs.Device.{chosen}
+use Rattle.rje_orders.specs.Device.{chosen}
 use Rattle.rje_words.specs.Orders.{IsCards}
 use Rattle.rje_words.specs.WordsFault.{IsRefusedFor, IsWantOfMemory}
 use Rattle.rje_words.proofs.CardsLevel.{AllFilesFit, AllFit, FileFits, Repeats, Reads, Seen, cards, cards_fault, cards_met, is_seen, level_conflicts, level_passes, nothing_seen, rules, with_file, with_option, with_word, with_words}

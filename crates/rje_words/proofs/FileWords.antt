@@ -9,11 +9,11 @@ use Rattle.std.proofs.lemmas.Slice.Eq.{bytes_eq-Decides}
 use Rattle.clap.specs.Words.{HasKind, Row, Text, fault_of, subcommand_of}
 use Rattle.clap.proofs.OnLiterals.{clap_on_literals}
 use Rattle.clap.specs.declared.error.Error.{Error}
-use Rattle.rje_words.specs.declared.order.Order.{Order}
-use Rattle.rje_words.specs.declared.order.Order.TheVariants.{Files, Sockets}
-use Rattle.rje_words.specs.declared.order.FileOrder.TheVariants.{Blocks, Show, Check, Print, Try}
-use Rattle.rje_words.specs.declared.order.SocketOrder.{SocketOrder}
-use Rattle.rje_words.specs.declared.order.SocketOrder.TheVariants.{Loop, Send, Receive, Exchange}
+use Rattle.rje_orders.specs.declared.order.Order.{Order}
+use Rattle.rje_orders.specs.declared.order.Order.TheVariants.{Files, Sockets}
+use Rattle.rje_orders.specs.declared.order.FileOrder.TheVariants.{Blocks, Show, Check, Print, Try}
+use Rattle.rje_orders.specs.declared.order.SocketOrder.{SocketOrder}
+use Rattle.rje_orders.specs.declared.order.SocketOrder.TheVariants.{Loop, Send, Receive, Exchange}
 use Rattle.rje_words.specs.declared.words_fault.WordsFault.{WordsFault}
 use Rattle.rje_words.specs.declared.words_fault.WordsFault.TheVariants.{Refused, TwoDevices, BadName, BadAddress, NoMeeting}
 use Rattle.rje_words.specs.Asking.{AsksFor, IsFaultOf, IsOrderOf, IsWordsFault, word_in}

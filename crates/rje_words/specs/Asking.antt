@@ -5,23 +5,23 @@ use Rattle.std.specs.Str.{bytes_eq}
 use Rattle.std.specs.Str.Parse.{IsNumeral, digits_value, without_leading_plus}
 use Rattle.clap.specs.Words.{HasKind, Row, Text, fault_of, first_of, one_of, subcommand_of}
 use Rattle.rje_files.specs.Entry.{IsNameOf, blank_name}
-use Rattle.rje_words.specs.declared.device.Device.{Device}
-use Rattle.rje_words.specs.declared.order.CardsOrder.{CardsOrder}
-use Rattle.rje_words.specs.declared.order.ExchangeOrder.{ExchangeOrder}
-use Rattle.rje_words.specs.declared.order.LoopOrder.{LoopOrder}
-use Rattle.rje_words.specs.declared.order.Meeting.{Meeting}
-use Rattle.rje_words.specs.declared.order.Meeting.TheVariants.{Calls, Listens}
-use Rattle.rje_words.specs.declared.order.Order.{Order}
-use Rattle.rje_words.specs.declared.order.Order.TheVariants.{Files, Sockets}
-use Rattle.rje_words.specs.declared.order.FileOrder.TheVariants.{Blocks, Cards, Show, Check, Print, Try}
-use Rattle.rje_words.specs.declared.order.SocketOrder.TheVariants.{Loop, Send, Receive, Exchange}
-use Rattle.rje_words.specs.declared.order.PeerOrder.{PeerOrder}
-use Rattle.rje_words.specs.declared.order.TryOrder.{TryOrder}
+use Rattle.rje_orders.specs.declared.device.Device.{Device}
+use Rattle.rje_orders.specs.declared.order.CardsOrder.{CardsOrder}
+use Rattle.rje_orders.specs.declared.order.ExchangeOrder.{ExchangeOrder}
+use Rattle.rje_orders.specs.declared.order.LoopOrder.{LoopOrder}
+use Rattle.rje_orders.specs.declared.order.Meeting.{Meeting}
+use Rattle.rje_orders.specs.declared.order.Meeting.TheVariants.{Calls, Listens}
+use Rattle.rje_orders.specs.declared.order.Order.{Order}
+use Rattle.rje_orders.specs.declared.order.Order.TheVariants.{Files, Sockets}
+use Rattle.rje_orders.specs.declared.order.FileOrder.TheVariants.{Blocks, Cards, Show, Check, Print, Try}
+use Rattle.rje_orders.specs.declared.order.SocketOrder.TheVariants.{Loop, Send, Receive, Exchange}
+use Rattle.rje_orders.specs.declared.order.PeerOrder.{PeerOrder}
+use Rattle.rje_orders.specs.declared.order.TryOrder.{TryOrder}
 use Rattle.rje_words.specs.declared.words_fault.WordsFault.{WordsFault}
 use Rattle.rje_words.specs.declared.words_fault.WordsFault.TheVariants.{Refused, TwoDevices, BadName, BadAddress, NoMeeting}
 use Rattle.rje_words.specs.Address.{IsAddressOf}
 use Rattle.rje_words.specs.CommandLine.{rje_app}
-use Rattle.rje_words.specs.Device.{chosen}
+use Rattle.rje_orders.specs.Device.{chosen}
 use Rattle.rje_words.specs.Orders.{IsBlocks}
 
 -- the word that was found for a value, and no character where none was

@@ -4,8 +4,8 @@ use Rattle.std.specs.List.{flat_map}
 use Rattle.clap.specs.Words.{Text}
 use Rattle.clap.specs.declared.error.kind.ErrorKind.TheVariants.{ArgumentConflict}
 use Rattle.rje_files.specs.Entry.{IsNameOf}
-use Rattle.rje_words.specs.declared.device.Device.{Device}
-use Rattle.rje_words.specs.declared.order.Order.{Order}
+use Rattle.rje_orders.specs.declared.device.Device.{Device}
+use Rattle.rje_orders.specs.declared.order.Order.{Order}
 use Rattle.rje_words.specs.declared.words_fault.WordsFault.{WordsFault}
 use Rattle.rje_words.specs.declared.words_fault.WordsFault.TheVariants.{TwoDevices, BadName}
 use Rattle.rje_words.specs.Asking.{AsksFor, IsGivenName, IsWordsFault}

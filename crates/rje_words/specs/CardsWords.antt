@@ -1,9 +1,9 @@
 -- The words behind `cards`: two files, options and a name, in any order (own profile).
 use Rattle.std.specs.Prelude.{◌≡◌, Bool, false, true, not, ◌||◌, ◌&&◌, List, [], ◌∷◌, Option, None, Some, codes}
 use Rattle.clap.specs.Words.{Text}
-use Rattle.rje_words.specs.declared.device.Device.{Device}
+use Rattle.rje_orders.specs.declared.device.Device.{Device}
 use Rattle.rje_words.specs.CommandLine.{is_file, names_file}
-use Rattle.rje_words.specs.Device.{chosen}
+use Rattle.rje_orders.specs.Device.{chosen}
 
 -- an option that takes no value: for a device, or to add the job to those of the file
 pub data CardsOption : Type 0 where

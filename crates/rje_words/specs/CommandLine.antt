@@ -7,7 +7,7 @@ use Rattle.clap.specs.declared.builder.arg.Arg.{Arg}
 use Rattle.clap.specs.declared.builder.command.Command.{Command}
 use Rattle.clap.specs.declared.builder.action.ArgAction.TheVariants.{Set, SetTrue}
 use Rattle.clap.specs.declared.builder.value_parser.ValueParser.TheVariants as parser
-use Rattle.rje_words.specs.declared.device.Device.{Device}
+use Rattle.rje_orders.specs.declared.device.Device.{Device}
 
 -- the argument has this rule, and is its command's own
 abbrev pub IsArg : Rule → Arg → Type 0

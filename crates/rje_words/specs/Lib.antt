@@ -1,4 +1,3 @@
-pub mod Device
 pub mod Address
 pub mod Orders
 pub mod WordsFault

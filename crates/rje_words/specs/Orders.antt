@@ -1,10 +1,10 @@
 -- What an order is for.
 use Rattle.std.specs.Prelude.{◌≡◌, Bool}
 use Rattle.clap.specs.Words.{Text}
-use Rattle.rje_words.specs.declared.device.Device.{Device}
-use Rattle.rje_words.specs.declared.order.Order.{Order}
-use Rattle.rje_words.specs.declared.order.Order.TheVariants.{Files}
-use Rattle.rje_words.specs.declared.order.FileOrder.TheVariants.{Blocks, Cards, Show, Check, Print, Try}
+use Rattle.rje_orders.specs.declared.device.Device.{Device}
+use Rattle.rje_orders.specs.declared.order.Order.{Order}
+use Rattle.rje_orders.specs.declared.order.Order.TheVariants.{Files}
+use Rattle.rje_orders.specs.declared.order.FileOrder.TheVariants.{Blocks, Cards, Show, Check, Print, Try}
 
 -- the order is for the blocks of this deck
 abbrev pub IsBlocks : Text → Order → Type 0

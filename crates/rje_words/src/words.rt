@@ -10,19 +10,15 @@ ghost use Rattle.rje_words.specs.Asking.{word_in, is_on};
 mod app;
 
 use crate::address::address_of;
-use crate::device::Device;
-use crate::order::{
-    CardsOrder, ExchangeOrder, FileOrder, LoopOrder, Meeting, Order, PeerOrder, SocketOrder,
-    TryOrder,
-};
 use crate::words_fault::WordsFault;
 use app::program;
 use clap::ArgMatches;
 use rje_files::{JobName, NO_NAME, name_of};
+use rje_orders::{
+    CardsOrder, Device, ExchangeOrder, FileOrder, LoopOrder, Meeting, Order, PeerOrder,
+    STANDARD_INPUT, SocketOrder, TryOrder,
+};
 use std::alloc::Global;
-
-/// The deck that is standard input.
-pub const STANDARD_INPUT: &str = "-";
 
 /// What these words, which are those behind the program's name, ask for. No words ask for the
 /// blocks of the deck on standard input.

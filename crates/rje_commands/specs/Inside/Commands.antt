@@ -11,7 +11,7 @@ use Rattle.line_world.specs.declared.world_fault.WorldFault.TheVariants as world
 use Rattle.rje_print.specs.JobTexts.{IsShown}
 use Rattle.rje_print.specs.Script.{IsFirstBadLine}
 use Rattle.rje_commands.specs.declared.command_fault.CommandFault.{CommandFault}
-use Rattle.rje_words.specs.declared.order.CardsOrder.{CardsOrder}
+use Rattle.rje_orders.specs.declared.order.CardsOrder.{CardsOrder}
 use Rattle.rje_commands.specs.Commands.{AreEntriesOf, HasBadJob, IsFaultOfRun, deck_entry}
 use Rattle.rje_commands.specs.NamedFile.{IsReadFault}
 use Rattle.rje_stores.specs.Store.{FileMap}

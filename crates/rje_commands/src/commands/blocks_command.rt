@@ -1,6 +1,6 @@
 //! `blocks`: the blocks of a deck's job, and how many records come back.
 ghost use Rattle.std.specs.Prelude.{◌≡◌, IfErr, OnOk, false};
-ghost use Rattle.rje_words.specs.declared.order.FileOrder.{FileOrder};
+ghost use Rattle.rje_orders.specs.declared.order.FileOrder.{FileOrder};
 ghost use Rattle.rje_commands.specs.Commands.{Does, IsFault};
 ghost use Rattle.rje_commands.specs.CommandFault.{is_of_output};
 ghost use Rattle.rje_stores.specs.Store.{Discloses, IsSame};

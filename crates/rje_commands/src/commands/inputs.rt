@@ -9,8 +9,8 @@ ghost use Rattle.rje_stores.specs.Store.{Discloses, IsSame};
 use crate::command_fault::CommandFault;
 use rje_files::{Entry, jobs_of, read_entries};
 use rje_jobs::Jobs;
+use rje_orders::STANDARD_INPUT;
 use rje_stores::{Store, StoreFault, read_all};
-use rje_words::STANDARD_INPUT;
 use std::alloc::Global;
 use std::io::Read;
 

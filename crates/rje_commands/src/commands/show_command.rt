@@ -1,6 +1,6 @@
 //! `show`: a line for each job of a job file.
 ghost use Rattle.std.specs.Prelude.{◌≡◌, IfErr, IfOk, OnOk, None, false};
-ghost use Rattle.rje_words.specs.declared.order.FileOrder.{FileOrder};
+ghost use Rattle.rje_orders.specs.declared.order.FileOrder.{FileOrder};
 ghost use Rattle.rje_commands.specs.Commands.{Does, IsFault};
 ghost use Rattle.rje_commands.specs.CommandFault.{is_of_output};
 ghost use Rattle.rje_commands.specs.Inside.Commands.{IsEntriesText, IsTextFault};

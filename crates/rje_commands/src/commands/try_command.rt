@@ -1,6 +1,6 @@
 //! `try`: the run of a job file's jobs over a script of losses and damage.
 ghost use Rattle.std.specs.Prelude.{◌≡◌, IfErr, IfOk, OnOk, None, false};
-ghost use Rattle.rje_words.specs.declared.order.FileOrder.{FileOrder};
+ghost use Rattle.rje_orders.specs.declared.order.FileOrder.{FileOrder};
 ghost use Rattle.rje_commands.specs.Commands.{Does, IsFault, IsRunText};
 ghost use Rattle.rje_commands.specs.Inside.Commands.{IsTryFault};
 ghost use Rattle.rje_commands.specs.CommandFault.{is_of_output};
@@ -11,9 +11,9 @@ use crate::commands::inputs::read_file;
 use crate::commands::output::put;
 use line_world::run;
 use rje_files::{jobs_of, read_entries};
+use rje_orders::TryOrder;
 use rje_print::{read_script, run_text};
 use rje_stores::Store;
-use rje_words::TryOrder;
 use std::alloc::{AllocError, Global};
 use std::io::Write;
 

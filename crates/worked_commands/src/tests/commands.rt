@@ -1,6 +1,6 @@
 //! Commands, by their words.
 use arrayvec::ArrayVec;
-use rje_commands::command;
+use rje_program::command;
 use rje_stores::{MAX_INPUT, MemoryStore, Store};
 use std::io::{self, ErrorKind, Read, Write};
 use std::process::Abort;

@@ -2,7 +2,7 @@
 ghost use Rattle.std.specs.Prelude.{None};
 
 use arrayvec::ArrayVec;
-use rje_commands::command;
+use rje_program::command;
 use rje_stores::{MemoryStore, Store, StoreFault};
 use std::alloc::Global;
 use std::process::Abort;

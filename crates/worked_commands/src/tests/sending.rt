@@ -3,7 +3,7 @@ ghost use Rattle.std.specs.Prelude.{None};
 
 use arrayvec::ArrayVec;
 use line_world::MemoryLine;
-use rje_commands::command;
+use rje_program::command;
 use rje_sockets::{receive_over, send_over};
 use rje_stores::{MemoryStore, Place, Store, StoreFault};
 use std::alloc::Global;

@@ -3,8 +3,8 @@ ghost use Rattle.std.specs.Prelude.{None};
 
 use arrayvec::ArrayVec;
 use line_world::MemoryLine;
-use rje_commands::command;
-use rje_sockets::{SocketLine, is_for_sockets, receive_over, socket_command};
+use rje_program::{command, is_for_sockets, socket_command};
+use rje_sockets::{SocketLine, receive_over};
 use rje_stores::{MemoryStore, Store, StoreFault};
 use std::alloc::Global;
 use std::io::Write;

@@ -3,7 +3,7 @@ use arrayvec::ArrayVec;
 use bsc_link::{Reply, Say, Sound};
 use line_world::Spoken;
 use rje_print::{both_text, peer_text, receiver_text, sender_text};
-use rje_sockets::socket_command;
+use rje_program::socket_command;
 use rje_station::Arrival;
 use rje_stores::{MemoryStore, Store};
 use std::cell::Cell;

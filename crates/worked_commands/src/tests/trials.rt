@@ -1,6 +1,6 @@
 //! `try`, by its words.
 use arrayvec::ArrayVec;
-use rje_commands::command;
+use rje_program::command;
 use rje_stores::{MemoryStore, Store};
 use std::process::Abort;
 use std::test::Fail;

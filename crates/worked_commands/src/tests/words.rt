@@ -1,9 +1,10 @@
 //! Orders and faults, by their words.
 use clap::error::ErrorKind;
-use rje_words::{
+use rje_orders::{
     CardsOrder, Device, ExchangeOrder, FileOrder, LoopOrder, Meeting, Order, PeerOrder,
-    SocketOrder, TryOrder, WordsFault, parse,
+    SocketOrder, TryOrder,
 };
+use rje_words::{WordsFault, parse};
 use std::net::{Ipv4Addr, SocketAddr, SocketAddrV4};
 use std::process::Abort;
 

@@ -3,7 +3,7 @@ use Rattle.std.specs.Prelude.{option_map}
 use Rattle.std.specs.Io.KnownBytes.{Appends}
 use Rattle.std.proofs.lemmas.Result.{on_ok_weaker}
 use Rattle.rje_print.specs.JobTexts.{cards_line}
-use Rattle.rje_words.specs.declared.order.FileOrder.{FileOrder}
+use Rattle.rje_orders.specs.declared.order.FileOrder.{FileOrder}
 use Rattle.rje_commands.specs.Commands.{IsFault, MakesCards, MakesFile, deck_job}
 use Rattle.rje_commands.specs.Inside.Commands.{IsCardsFault}
 use Rattle.rje_commands.proofs.Inputs.{of_deck, told_as, cards_fault, held_fault, made_file, whatever}

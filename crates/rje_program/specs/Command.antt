@@ -1,15 +1,27 @@
 -- What one run of the program over files does, by the words that it was given (own profile).
 use Rattle.std.specs.Prelude.{◌≡◌, ◌⊎◌, ℕ, List, Option}
-use Rattle.rje_words.specs.declared.order.CardsOrder.{CardsOrder}
-use Rattle.rje_words.specs.declared.order.FileOrder.{FileOrder}
-use Rattle.rje_words.specs.declared.order.Order.TheVariants.{Files, Sockets}
-use Rattle.rje_words.specs.declared.order.SocketOrder.{SocketOrder}
+use Rattle.clap.specs.Words.{kind_of}
+use Rattle.clap.specs.declared.error.Error.{Error}
+use Rattle.clap.specs.declared.error.kind.ErrorKind.TheVariants.{DisplayHelp, DisplayVersion}
+use Rattle.rje_orders.specs.declared.order.CardsOrder.{CardsOrder}
+use Rattle.rje_orders.specs.declared.order.FileOrder.{FileOrder}
+use Rattle.rje_orders.specs.declared.order.Order.TheVariants.{Files, Sockets}
+use Rattle.rje_orders.specs.declared.order.SocketOrder.{SocketOrder}
 use Rattle.rje_words.specs.declared.words_fault.WordsFault.{WordsFault}
 use Rattle.rje_words.specs.Asking.{AsksFor, IsWordsFault}
 use Rattle.rje_commands.specs.declared.command_fault.CommandFault.{CommandFault}
-use Rattle.rje_commands.specs.CommandFault.{status_of, IsHelp}
+use Rattle.rje_commands.specs.CommandFault.{status_of}
 use Rattle.rje_commands.specs.Commands.{Does, IsFault, MakesFile, OfDeck}
 use Rattle.rje_stores.specs.Store.{FileMap, Discloses, IsSame}
+
+-- clap's error gives help, or the version
+abbrev pub IsHelpError : Error → Type 0
+IsHelpError error = (kind_of error ≡ DisplayHelp) ⊎ (kind_of error ≡ DisplayVersion)
+
+-- the words ask for help
+abbrev pub IsHelp : WordsFault → Type 0
+IsHelp (WordsFault.Refused error) = IsHelpError error
+IsHelp _ = ⊥
 
 -- the words ask for help, or for the version
 abbrev pub AsksForHelp : List (List ℕ) → Type 0

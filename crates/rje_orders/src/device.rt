@@ -1,6 +1,6 @@
 //! The devices that a deck's job may be for.
 ghost use Rattle.std.specs.Prelude.{◌≡◌};
-ghost use Rattle.rje_words.specs.Device.{select_of, writing, chosen};
+ghost use Rattle.rje_orders.specs.Device.{select_of, writing, chosen};
 
 use rje_text::{Mode, Select};
 

@@ -2,7 +2,7 @@
 use Rattle.std.specs.Prelude.{Bool, true, false, Option, Some, None}
 use Rattle.rje_text.specs.declared.mode.Mode.{Mode}
 use Rattle.rje_text.specs.declared.select.Select.{Select}
-use Rattle.rje_words.specs.declared.device.Device.{Device}
+use Rattle.rje_orders.specs.declared.device.Device.{Device}
 
 -- the selection of the job
 abbrev pub select_of : Device → Select

@@ -1,6 +1,6 @@
 use Rattle.std.proofs.Common.{map}
-use Rattle.rje_commands.proofs.Inputs.{leaves}
-use Rattle.rje_commands.proofs.over_files.command.Goals as goal
+use Rattle.rje_program.proofs.Leaving.{leaves}
+use Rattle.rje_program.proofs.over_files.command.Goals as goal
 
 pub returns-in-Ok-clause-files : goal.returns-in-Ok-clause-files
 returns-in-Ok-clause-files g c =

@@ -1,9 +1,12 @@
-//! What the words of the command line ask for.
+//! The orders of the program's commands.
 use crate::device::Device;
 use rje_files::JobName;
 use std::net::SocketAddr;
 
-/// What the words ask for.
+/// The deck that is standard input.
+pub const STANDARD_INPUT: &str = "-";
+
+/// What the program is asked for.
 #[derive(Clone, Copy, Debug, PartialEq, Eq)]
 pub enum Order<'a> {
     /// A command over files.

@@ -1,0 +1,52 @@
+//! One run of the program over files, a reader and two writers.
+ghost use Rattle.std.specs.Prelude.{◌≡◌, ◌≢◌, ◌⊎◌, map};
+ghost use Rattle.rje_orders.specs.declared.order.FileOrder.{FileOrder as Asked};
+ghost use Rattle.rje_words.specs.Asking.{AsksFor, IsWordsFault};
+ghost use Rattle.rje_commands.specs.Commands.{Does, IsFault, Leaves};
+ghost use Rattle.rje_program.specs.Command.{DoesAsAsked, IsRefused, LeavesAsAsked, AsksForNoFiles, IsStatus};
+ghost use Rattle.rje_stores.specs.Store.{Discloses, IsSame};
+
+use crate::telling::tell_words;
+use rje_commands::{CommandFault, carry_out, tell};
+use rje_orders::Order;
+use rje_stores::Store;
+use rje_words::parse;
+use std::alloc::Global;
+use std::io::{Read, Write};
+
+/// Runs the command over files that these words ask for, which are those behind the program's name, and answers its exit status: 0 where
+/// it did what it is for (or gave help or the version), 1 where what it reads is refused, 2 where the words ask for no command over files,
+/// 3 where the store, the reader or a writer failed, 5 where there was no memory, 141 where nobody reads `out` any more. What the command
+/// gives goes to `out`, and why it fails to `err`; with 141 nothing does.
+pub fn command<S: Store, I: Read, O: Write, E: Write>(
+    alloc: Global,
+    words: &[&str],
+    store: &mut S,
+    input: &mut I,
+    out: &mut O,
+    err: &mut E,
+) -> u8
+    ensures done { result ≡ 0 → DoesAsAsked (map (λ word. word.now) words.now)
+        (S.files store.old) (S.files store.new) (I.remaining input.old)
+        (O.contents out.old) (O.contents out.new) }
+    ensures refused { result ≡ 1 → IsRefused (map (λ word. word.now) words.now)
+        (S.files store.old) (I.remaining input.old) }
+    ensures words { result ≡ 2 → AsksForNoFiles (map (λ word. word.now) words.now) }
+    ensures status { IsStatus result }
+    ensures files { LeavesAsAsked (map (λ word. word.now) words.now)
+        (S.files store.old) (S.files store.new) (I.remaining input.old) }
+    ensures files_kept { result ≢ 0 → result ≢ 3 → result ≢ 141
+        → Discloses (S.files store.old) (S.files store.new) IsSame }
+    ensures silent { result ≢ 0 → result ≢ 3 → result ≢ 141 → out.new ≡ out.old }
+    ensures quiet { result ≡ 141 → err.new ≡ err.old }
+{
+    let order = match parse(alloc, words) {
+        Ok(Order::Files(order)) => order,
+        Ok(Order::Sockets(_)) => return tell(&CommandFault::NoCommand, err),
+        Err(fault) => return tell_words(&fault, out, err),
+    };
+    match carry_out(alloc, order, store, input, out) {
+        Ok(()) => 0,
+        Err(fault) => tell(&fault, err),
+    }
+}

@@ -1,0 +1,67 @@
+//! One run of the program over sockets, files and two writers.
+ghost use Rattle.std.specs.Prelude.{◌≡◌, ◌⊎◌, map, true, false};
+ghost use Rattle.rje_orders.specs.declared.order.SocketOrder.{SocketOrder as Asked};
+ghost use Rattle.rje_words.specs.Asking.{AsksFor, IsWordsFault};
+ghost use Rattle.rje_commands.specs.CommandFault.{status_of};
+ghost use Rattle.rje_sockets.specs.SocketCommand.{IsSocketFault, LeavesFiles, Transmits};
+ghost use Rattle.rje_program.specs.SocketCommand.{AsksForNoSockets, IsSocketStatus, LeavesFilesAsAsked, NamesSockets, RefusesAsAsked};
+ghost use Rattle.rje_program.specs.SocketCommand.{TransmitsAsAsked};
+ghost use Rattle.rje_stores.specs.Store.{Discloses, IsSame};
+
+use crate::telling::tell_words;
+use rje_commands::{CommandFault, tell};
+use rje_orders::Order;
+use rje_sockets::carry_out;
+use rje_stores::Store;
+use rje_words::parse;
+use std::alloc::Global;
+use std::io::Write;
+use std::net::Net;
+use std::time::Clock;
+
+/// Whether these words, which are those behind the program's name, ask for a command over sockets: by the first of them.
+pub fn is_for_sockets(words: &[&str]) -> bool
+    ensures yes { result ≡ true → NamesSockets (map (λ word. word.now) words.now) }
+    ensures no { result ≡ false → NamesSockets (map (λ word. word.now) words.now) → ⊥ }
+{
+    match words.first() {
+        Some(word) => matches!(*word, "loop" | "send" | "receive" | "exchange"),
+        None => false,
+    }
+}
+
+/// Runs the command over sockets that these words ask for, and answers its exit status: 0 where all was sent and received (or it gave help or
+/// the version), 4 where some was not, 1 where the job file that it sends is refused, 2 where the words ask for no command over sockets, 3
+/// where a file, a line or an output failed, 5 where there was no memory, 141 where nobody reads `out` any more. What the command gives goes
+/// to `out`, and why it fails to `err`, and its turns as they happen where that is asked for.
+pub fn socket_command<R: Net + Clock, S: Store, O: Write, E: Write>(
+    rt: &R,
+    alloc: Global,
+    words: &[&str],
+    store: &mut S,
+    out: &mut O,
+    err: &mut E,
+) -> u8
+    ensures done { (result ≡ 0) ⊎ (result ≡ 4)
+        → TransmitsAsAsked result (map (λ word. word.now) words.now)
+        (S.files store.old) (S.files store.new) (O.contents out.old) (O.contents out.new) }
+    ensures refused { result ≡ 1
+        → RefusesAsAsked (map (λ word. word.now) words.now) (S.files store.old) }
+    ensures words { result ≡ 2 → AsksForNoSockets (map (λ word. word.now) words.now) }
+    ensures status { IsSocketStatus result }
+    ensures files { LeavesFilesAsAsked (map (λ word. word.now) words.now)
+        (S.files store.old) (S.files store.new) }
+    ensures files_kept { (result ≡ 1) ⊎ (result ≡ 2)
+        → Discloses (S.files store.old) (S.files store.new) IsSame }
+    ensures silent { (result ≡ 1) ⊎ (result ≡ 2) → out.new ≡ out.old }
+{
+    let order = match parse(alloc, words) {
+        Ok(Order::Sockets(order)) => order,
+        Ok(Order::Files(_)) => return tell(&CommandFault::NoCommand, err),
+        Err(fault) => return tell_words(&fault, out, err),
+    };
+    match carry_out(rt, alloc, order, store, out, err) {
+        Ok(ending) => ending.status(),
+        Err(fault) => tell(&fault, err),
+    }
+}
