@@ -2,7 +2,8 @@
 use Rattle.std.specs.Prelude.{◌≡◌, ◌⊎◌, ℕ, List, Option}
 use Rattle.clap.specs.Words.{kind_of}
 use Rattle.clap.specs.declared.error.Error.{Error}
-use Rattle.clap.specs.declared.error.kind.ErrorKind.TheVariants.{DisplayHelp, DisplayVersion}
+use Rattle.clap.specs.declared.error.kind.ErrorKind.{ErrorKind}
+use Rattle.clap.specs.declared.error.kind.ErrorKind.TheVariants.{DisplayHelp, DisplayVersion, OutOfMemory}
 use Rattle.rje_orders.specs.declared.order.CardsOrder.{CardsOrder}
 use Rattle.rje_orders.specs.declared.order.FileOrder.{FileOrder}
 use Rattle.rje_orders.specs.declared.order.Order.TheVariants.{Files, Sockets}
@@ -23,6 +24,21 @@ abbrev pub IsHelp : WordsFault → Type 0
 IsHelp (WordsFault.Refused error) = IsHelpError error
 IsHelp _ = ⊥
 
+-- the exit status of words that ask for nothing that can be done: after help and the version 0, where memory ran out 5, of a mistake 2
+abbrev pub error_status : ErrorKind → ℕ
+error_status DisplayHelp = 0
+error_status DisplayVersion = 0
+error_status OutOfMemory = 5
+error_status _ = 2
+
+abbrev pub words_status : WordsFault → ℕ
+words_status (WordsFault.Refused error) = error_status (kind_of error)
+words_status _ = 2
+
+-- there is a mistake in the words
+abbrev pub AreMistaken : List (List ℕ) → Type 0
+AreMistaken words = (fault : WordsFault) × IsWordsFault words fault × (words_status fault ≡ 2)
+
 -- the words ask for help, or for the version
 abbrev pub AsksForHelp : List (List ℕ) → Type 0
 AsksForHelp words = (fault : WordsFault) × IsWordsFault words fault × IsHelp fault
@@ -37,9 +53,9 @@ abbrev pub IsRefused : List (List ℕ) → Option FileMap → (input : Option (L
 IsRefused words files input =
     (order : FileOrder) × (fault : CommandFault) × AsksFor words (Files order) × IsFault order files input fault × (status_of fault ≡ 1)
 
--- the words ask for nothing that can be done, or for a command over sockets
+-- there is a mistake in the words, or they ask for a command over sockets
 abbrev pub AsksForNoFiles : List (List ℕ) → Type 0
-AsksForNoFiles words = ((fault : WordsFault) × IsWordsFault words fault) ⊎ ((order : SocketOrder) × AsksFor words (Sockets order))
+AsksForNoFiles words = AreMistaken words ⊎ ((order : SocketOrder) × AsksFor words (Sockets order))
 
 -- the exit statuses of a command over files
 abbrev pub IsStatus : ℕ → Type 0

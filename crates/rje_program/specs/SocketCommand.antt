@@ -3,14 +3,13 @@ use Rattle.std.specs.Prelude.{◌≡◌, ◌⊎◌, ℕ, List, [], ◌∷◌, Op
 use Rattle.rje_orders.specs.declared.order.FileOrder.{FileOrder}
 use Rattle.rje_orders.specs.declared.order.Order.TheVariants.{Files, Sockets}
 use Rattle.rje_orders.specs.declared.order.SocketOrder.{SocketOrder}
-use Rattle.rje_words.specs.declared.words_fault.WordsFault.{WordsFault}
-use Rattle.rje_words.specs.Asking.{AsksFor, IsWordsFault}
+use Rattle.rje_words.specs.Asking.{AsksFor}
 use Rattle.rje_commands.specs.declared.command_fault.CommandFault.{CommandFault}
 use Rattle.rje_commands.specs.CommandFault.{IsFailing, status_of}
 use Rattle.rje_sockets.specs.declared.socket_commands.ending.Ending.{Ending}
 use Rattle.rje_sockets.specs.Ending.{ending_status}
 use Rattle.rje_sockets.specs.SocketCommand.{LeavesFiles, Refuses, Transmits}
-use Rattle.rje_program.specs.Command.{AsksForHelp}
+use Rattle.rje_program.specs.Command.{AreMistaken, AsksForHelp}
 use Rattle.rje_stores.specs.Store.{FileMap, Discloses, IsSame}
 
 -- the first word names a command over sockets
@@ -29,9 +28,9 @@ abbrev pub RefusesAsAsked : List (List ℕ) → Option FileMap → Type 0
 RefusesAsAsked words files =
     (order : SocketOrder) × (fault : CommandFault) × AsksFor words (Sockets order) × Refuses order files fault × (status_of fault ≡ 1)
 
--- the words ask for nothing that can be done, or for a command over files
+-- there is a mistake in the words, or they ask for a command over files
 abbrev pub AsksForNoSockets : List (List ℕ) → Type 0
-AsksForNoSockets words = ((fault : WordsFault) × IsWordsFault words fault) ⊎ ((order : FileOrder) × AsksFor words (Files order))
+AsksForNoSockets words = AreMistaken words ⊎ ((order : FileOrder) × AsksFor words (Files order))
 
 -- the exit statuses of a command over sockets
 abbrev pub IsSocketStatus : ℕ → Type 0

@@ -1,6 +1,7 @@
 //! Words that ask for no command, told, and their exit status.
 ghost use Rattle.std.specs.Prelude.{◌≡◌, ◌≢◌, ◌⊎◌};
-ghost use Rattle.rje_program.specs.Command.{IsHelp, IsHelpError};
+ghost use Rattle.clap.specs.Words.{kind_of};
+ghost use Rattle.rje_program.specs.Command.{IsHelp, IsHelpError, error_status, words_status};
 
 use clap::Error;
 use clap::error::ErrorKind;
@@ -11,8 +12,8 @@ use std::io::Write;
 /// Gives the help or the version that was asked for, or tells why the words ask for nothing that can be done. Answers the exit status.
 pub fn tell_words<O: Write, E: Write>(fault: &WordsFault, out: &mut O, err: &mut E) -> u8
     ensures help { result ≡ 0 → IsHelp fault.now }
-    ensures status { (result ≡ 0) ⊎ ((result ≡ 2) ⊎ ((result ≡ 3)
-        ⊎ ((result ≡ 5) ⊎ (result ≡ 141)))) }
+    ensures status { (result ≡ words_status fault.now) ⊎ ((result ≡ 3) ⊎ (result ≡ 141)) }
+    ensures closed { result ≡ 141 → IsHelp fault.now }
     ensures silent { result ≢ 0 → result ≢ 3 → result ≢ 141 → out.new ≡ out.old }
     ensures quiet { result ≡ 141 → err.new ≡ err.old }
 {
@@ -33,8 +34,9 @@ pub fn tell_words<O: Write, E: Write>(fault: &WordsFault, out: &mut O, err: &mut
 /// Gives help, or tells why the words aren't taken.
 fn tell_error<O: Write, E: Write>(error: &Error, out: &mut O, err: &mut E) -> u8
     ensures help { result ≡ 0 → IsHelpError error.now }
-    ensures status { (result ≡ 0) ⊎ ((result ≡ 2) ⊎ ((result ≡ 3)
-        ⊎ ((result ≡ 5) ⊎ (result ≡ 141)))) }
+    ensures status { (result ≡ error_status (kind_of error.now))
+        ⊎ ((result ≡ 3) ⊎ (result ≡ 141)) }
+    ensures closed { result ≡ 141 → IsHelpError error.now }
     ensures silent { result ≢ 0 → result ≢ 3 → result ≢ 141 → out.new ≡ out.old }
     ensures quiet { result ≡ 141 → err.new ≡ err.old }
 {
