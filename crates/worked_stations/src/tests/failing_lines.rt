@@ -22,6 +22,8 @@ const BLOCK: [u8; 9] = [0x32, 0x32, 0x02, 0xC1, 0x1E, 0x03, 0x18, 0x5D, 0xFF];
 
 const EOT: [u8; 4] = [0x32, 0x32, 0x37, 0xFF];
 
+const OVER: Option<StationFault> = Some(StationFault::Over);
+
 /// A line in memory on which these come, one in each hearing, and of which this call fails, or none where it is 0.
 fn line_of(alloc: Global, pieces: &[&[u8]], failing: u64) -> Result<MemoryLine, Fail> {
     let mut put = Vec::new(alloc);
@@ -69,32 +71,58 @@ fn well(failing: u64) -> u64 {
     }
 }
 
+/// What the call of this number answers where this one of the line fails.
+fn answer(call: u64, failing: u64) -> Option<StationFault> {
+    if call <= well(failing) {
+        None
+    } else if call == failing {
+        FAILED
+    } else {
+        OVER
+    }
+}
+
+/// The five calls of a sender answer as they must where this one of the line fails; the fourth hears that the block is acknowledged.
+fn assert_sender_fails(
+    rt: &impl Abort,
+    station: &mut SendingStation,
+    line: &mut MemoryLine,
+    failing: u64,
+) {
+    for call in 1..6 {
+        assert!(rt; call_sender(station, line, call) == answer(call, failing));
+    }
+    let counted = 4 <= well(failing);
+    assert!(rt; station.counted() == usize::from(counted));
+    assert!(rt; station.outcome().is_some() == counted);
+    assert!(rt; station.outcome().is_none() || station.outcome() == Some(Outcome::Done));
+    assert!(rt; station.jobs().len() == 1);
+}
+
 #[test]
 fn the_call_of_a_sender_that_fails_answers_so(rt: HostRuntime) -> Result<(), Fail> {
     let jobs = [job_of(&rt, 1, 1)?];
     for failing in 0..6 {
         let mut line = line_of(rt.alloc(), &[&ACK0, &ACK1], failing)?;
         let mut station = SendingStation::new(rt.alloc(), &jobs)?;
-        let well = well(failing);
-        for call in 1..6 {
-            let fault = call_sender(&mut station, &mut line, call);
-            if call <= well {
-                assert!(rt; fault.is_none());
-            } else if call == failing {
-                assert!(rt; fault == FAILED);
-            } else {
-                assert!(rt; fault == Some(StationFault::Over));
-            }
-        }
-
-        // The fourth call hears that the block is acknowledged.
-        let counted = 4 <= well;
-        assert!(rt; station.counted() == usize::from(counted));
-        assert!(rt; station.outcome().is_some() == counted);
-        assert!(rt; station.outcome().is_none() || station.outcome() == Some(Outcome::Done));
-        assert!(rt; station.jobs().len() == 1);
+        assert_sender_fails(&rt, &mut station, &mut line, failing);
     }
     Ok(())
+}
+
+/// The five calls of a receiver answer as they must where this one of the line fails; the third hears the block.
+fn assert_receiver_fails(
+    rt: &impl Abort,
+    station: &mut ReceivingStation,
+    line: &mut MemoryLine,
+    failing: u64,
+) {
+    for call in 1..6 {
+        assert!(rt; call_receiver(station, line, call) == answer(call, failing));
+    }
+    assert!(rt; station.jobs().len() == usize::from(3 <= well(failing)));
+    assert!(rt; station.jobs().iter().all(is_the_job));
+    assert!(rt; call_receiver(station, line, 6) == OVER);
 }
 
 #[test]
@@ -102,22 +130,7 @@ fn the_call_of_a_receiver_that_fails_answers_so(rt: HostRuntime) -> Result<(), F
     for failing in 0..6 {
         let mut line = line_of(rt.alloc(), &[&ENQ, &BLOCK, &EOT], failing)?;
         let mut station = ReceivingStation::new(rt.alloc())?;
-        let well = well(failing);
-        for call in 1..6 {
-            let fault = call_receiver(&mut station, &mut line, call);
-            if call <= well {
-                assert!(rt; fault.is_none());
-            } else if call == failing {
-                assert!(rt; fault == FAILED);
-            } else {
-                assert!(rt; fault == Some(StationFault::Over));
-            }
-        }
-
-        // The third call hears the block.
-        assert!(rt; station.jobs().len() == usize::from(3 <= well));
-        assert!(rt; station.jobs().iter().all(is_the_job));
-        assert!(rt; call_receiver(&mut station, &mut line, 6) == Some(StationFault::Over));
+        assert_receiver_fails(&rt, &mut station, &mut line, failing);
     }
     Ok(())
 }
@@ -177,8 +190,6 @@ impl Line for ClosedLine {
 }
 
 const CLOSED: Option<StationFault> = Some(StationFault::Line(LineFault::Closed));
-
-const OVER: Option<StationFault> = Some(StationFault::Over);
 
 /// The sender's first call, a speaking or a hearing, finds its line closed.
 fn assert_closed(rt: &impl Abort, sender: &mut SendingStation, first: u64) {

@@ -1,10 +1,9 @@
 //! Transmissions that are cut or changed: what the line's quiet says of them, and that nothing is handed out but what was sent.
 use super::failing_lines::is_the_job;
-use super::stations::{ENQ, one_piece};
+use super::stations::{one_piece, open_receiver};
 use bsc_frame::{Heard, Listener};
 use bsc_link::{Reply, Wish};
-use line_world::MemoryLine;
-use rje_station::{ReceivingStation, StationFault};
+use rje_station::StationFault;
 use std::process::Abort;
 use std::test::Fail;
 
@@ -51,11 +50,7 @@ fn heard_of(
     rt: &(impl Abort + AllocGlobal),
     bytes: &[u8],
 ) -> Result<(Option<Reply>, usize), StationFault> {
-    let mut receiver = ReceivingStation::new(rt.alloc())?;
-    let mut line = MemoryLine::new(rt.alloc());
-    line.put(one_piece(rt.alloc(), &ENQ)?);
-    receiver.hear(&mut line, Wish::Go)?;
-    receiver.speak(&mut line)?;
+    let (mut receiver, mut line) = open_receiver(rt.alloc())?;
     line.put(one_piece(rt.alloc(), bytes)?);
     let reply = receiver.hear(&mut line, Wish::Go)?;
     assert!(rt; receiver.jobs().iter().all(is_the_job));

@@ -74,24 +74,44 @@ fn one_record(rt: &impl Abort) -> Frame {
     block_of(rt, 0xC1, Closing::Etx)
 }
 
-#[test]
-fn a_receiver_without_memory_answers_nak_and_keeps_its_jobs(rt: HostRuntime) {
-    let Ok(mut station) = ReceivingStation::new(rt.alloc()) else {
-        return;
-    };
+/// The station hears a bid, and answers ACK0.
+fn hear_bid(
+    rt: &(impl Abort + AllocGlobal),
+    station: &mut ReceivingStation,
+) -> Result<(), AllocError> {
     let mut line = MemoryLine::new(rt.alloc());
-    let block = one_record(&rt);
-    if put_frame(rt.alloc(), &mut line, &Frame::Enq).is_err() {
-        return;
-    }
+    put_frame(rt.alloc(), &mut line, &Frame::Enq)?;
     assert!(rt; station.hear(&mut line, Wish::Go) == Ok(Some(Reply::Ack0)));
-    if put_frame(rt.alloc(), &mut line, &block).is_err() {
-        return;
-    }
+    Ok(())
+}
+
+/// The station hears the block of a job: it has it then, or it answers NAK.
+fn hear_job(
+    rt: &(impl Abort + AllocGlobal),
+    station: &mut ReceivingStation,
+) -> Result<(), AllocError> {
+    let mut line = MemoryLine::new(rt.alloc());
+    put_frame(rt.alloc(), &mut line, &one_record(rt))?;
     match station.hear(&mut line, Wish::Go) {
         Ok(Some(Reply::Ack1)) => assert!(rt; station.jobs().len() == 1),
         Ok(Some(Reply::Nak)) => assert!(rt; station.jobs().is_empty()),
         _ => assert!(rt; false),
+    }
+    Ok(())
+}
+
+/// A receiver hears a bid and then the block of a job.
+fn try_job(rt: &(impl Abort + AllocGlobal)) -> Result<(), StationFault> {
+    let mut station = ReceivingStation::new(rt.alloc())?;
+    hear_bid(rt, &mut station)?;
+    hear_job(rt, &mut station)?;
+    Ok(())
+}
+
+#[test]
+fn a_receiver_without_memory_answers_nak_and_keeps_its_jobs(rt: HostRuntime) {
+    if let Err(fault) = try_job(&rt) {
+        assert!(rt; fault == StationFault::OutOfMemory);
     }
 }
 
@@ -179,9 +199,7 @@ fn hear_step(
 /// A receiver hears the blocks of two jobs, of which one may find no memory at first: what came of it, for the script.
 fn try_blocks(rt: &(impl Abort + AllocGlobal)) -> Result<&'static str, StationFault> {
     let mut station = ReceivingStation::new(rt.alloc())?;
-    let mut line = MemoryLine::new(rt.alloc());
-    put_frame(rt.alloc(), &mut line, &Frame::Enq)?;
-    assert!(rt; station.hear(&mut line, Wish::Go)? == Some(Reply::Ack0));
+    hear_bid(rt, &mut station)?;
     let mut told = "each block found memory";
     for step in &STEPS {
         if hear_step(rt, &mut station, step)? {
@@ -219,32 +237,53 @@ fn a_station_of_either_rank_is_made_or_finds_no_memory(rt: HostRuntime) {
     }
 }
 
+/// A station that may have memory hears a bid of the other one, and answers ACK0.
+fn hear_other_bid(
+    rt: &(impl Abort + AllocGlobal),
+    station: &mut Station<'_>,
+) -> Result<(), AllocError> {
+    let mut line = MemoryLine::new(rt.alloc());
+    put_frame(rt.alloc(), &mut line, &Frame::Enq)?;
+    assert!(rt; station.hear_other(&mut line, Wish::Go) == Ok(Some(Reply::Ack0)));
+    Ok(())
+}
+
+/// It hears the block of a job of the other one: it has one job more then, or it answers NAK. All its jobs are whole.
+fn hear_other_job(
+    rt: &(impl Abort + AllocGlobal),
+    station: &mut Station<'_>,
+) -> Result<(), AllocError> {
+    let mut line = MemoryLine::new(rt.alloc());
+    put_frame(rt.alloc(), &mut line, &one_record(rt))?;
+    let before = station.receiver().jobs().len();
+    let reply = station.hear_other(&mut line, Wish::Go);
+    let jobs = station.receiver().jobs();
+    if reply == Ok(Some(Reply::Nak)) {
+        assert!(rt; jobs.len() == before);
+    } else {
+        assert!(rt; reply == Ok(Some([Reply::Ack1, Reply::Ack0][before % 2])));
+        assert!(rt; jobs.len().checked_sub(before) == Some(1));
+    }
+    for job in jobs {
+        assert!(rt; job.whole);
+        assert!(rt; job.records.len() == 1);
+    }
+    Ok(())
+}
+
+/// A secondary hears a bid and then the blocks of three jobs.
+fn try_jobs(rt: &(impl Abort + AllocGlobal)) -> Result<(), StationFault> {
+    let mut station = Station::new(rt.alloc(), Rank::Secondary, &[])?;
+    hear_other_bid(rt, &mut station)?;
+    for _ in 0..3 {
+        hear_other_job(rt, &mut station)?;
+    }
+    Ok(())
+}
+
 #[test]
 fn a_station_without_memory_answers_nak_and_keeps_its_jobs(rt: HostRuntime) {
-    let Ok(mut station) = Station::new(rt.alloc(), Rank::Secondary, &[]) else {
-        return;
-    };
-    let mut line = MemoryLine::new(rt.alloc());
-    if put_frame(rt.alloc(), &mut line, &Frame::Enq).is_err() {
-        return;
-    }
-    assert!(rt; station.hear_other(&mut line, Wish::Go) == Ok(Some(Reply::Ack0)));
-    for _ in 0..3 {
-        if put_frame(rt.alloc(), &mut line, &one_record(&rt)).is_err() {
-            return;
-        }
-        let before = station.receiver().jobs().len();
-        let reply = station.hear_other(&mut line, Wish::Go);
-        let jobs = station.receiver().jobs();
-        if reply == Ok(Some(Reply::Nak)) {
-            assert!(rt; jobs.len() == before);
-        } else {
-            assert!(rt; reply == Ok(Some([Reply::Ack1, Reply::Ack0][before % 2])));
-            assert!(rt; jobs.len().checked_sub(before) == Some(1));
-        }
-        for job in jobs {
-            assert!(rt; job.whole);
-            assert!(rt; job.records.len() == 1);
-        }
+    if let Err(fault) = try_jobs(&rt) {
+        assert!(rt; fault == StationFault::OutOfMemory);
     }
 }

@@ -215,7 +215,7 @@ fn a_job_that_cannot_be_sent_is_told_by_its_number(rt: HostRuntime) -> Result<()
 }
 
 /// A receiver that was bid for, and its line.
-fn open_receiver(alloc: Global) -> Result<(ReceivingStation, MemoryLine), StationFault> {
+pub(super) fn open_receiver(alloc: Global) -> Result<(ReceivingStation, MemoryLine), StationFault> {
     let mut receiver = ReceivingStation::new(alloc)?;
     let mut line = MemoryLine::new(alloc);
     line.put(one_piece(alloc, &ENQ)?);
