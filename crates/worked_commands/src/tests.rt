@@ -10,3 +10,53 @@ mod told_line;
 mod traced;
 mod trials;
 mod words;
+
+use arrayvec::ArrayVec;
+use line_world::MemoryLine;
+use rje_stores::{MemoryStore, Store};
+use std::alloc::Global;
+use std::process::Abort;
+use std::test::Fail;
+
+/// What a command writes, in memory of its own.
+type Written = ArrayVec<u8, 4096>;
+
+/// The version 1 file of one job (default device, normal, whole, one record `A`).
+const FILE: &[u8] =
+    b"RJ37\x00\x01\x00\x00\x00\x00\x00\x00\x00\x01\x00\x00\x01\x00\x00\x00\x00\x00\x00\x00\x01\x00\x01\xC1";
+
+/// The version 2 file of no jobs.
+const NO_JOBS: &[u8] = b"RJ37\x00\x02\x00\x00\x00\x00\x00\x00\x00\x00";
+
+/// These, one after another.
+fn joined(rt: &impl Abort, pieces: &[&[u8]]) -> Written {
+    let mut all = Written::new();
+    for piece in pieces {
+        assert!(rt; all.try_extend_from_slice(piece).is_ok());
+    }
+    all
+}
+
+/// A line in memory on which these come, one in each hearing.
+fn line_of(alloc: Global, pieces: &[&[u8]]) -> Result<MemoryLine, Fail> {
+    let mut put = Vec::new(alloc);
+    for piece in pieces {
+        put.push(Vec::from_slice(alloc, piece)?)?;
+    }
+    let mut line = MemoryLine::new(alloc);
+    line.put(put);
+    Ok(line)
+}
+
+/// A store of one file, of this name.
+fn store_of(alloc: Global, name: &str, file: &[u8]) -> Result<MemoryStore, Fail> {
+    let mut store = MemoryStore::new(alloc);
+    store.write(name, file)?;
+    Ok(store)
+}
+
+/// The file of this name is this.
+fn assert_file(rt: &(impl Abort + AllocGlobal), store: &mut impl Store, name: &str, file: &[u8]) {
+    let held = store.read(rt.alloc(), name).expect(rt, "a file");
+    assert!(rt; held.as_slice() == file);
+}

@@ -1,13 +1,10 @@
 //! Commands, by their words.
-use arrayvec::ArrayVec;
+use super::Written;
 use rje_program::command;
 use rje_stores::{MAX_INPUT, MemoryStore, Store};
 use std::io::{self, ErrorKind, Read, Write};
 use std::process::Abort;
 use std::test::Fail;
-
-/// What a command writes, in memory of its own.
-type Written = ArrayVec<u8, 4096>;
 
 /// The command of these words, over this input and no files, ends with this status and writes these texts.
 fn assert_command(

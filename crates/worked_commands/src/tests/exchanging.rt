@@ -1,15 +1,13 @@
 //! What `exchange` sends and receives, and what is in its two files then.
-use super::sending::{ReadOnly, line_of};
+use super::sending::ReadOnly;
 use super::told_line::ToldLine;
-use arrayvec::ArrayVec;
+use super::{NO_JOBS, Written, assert_file, joined, line_of, store_of};
 use bsc_link::Rank;
 use rje_sockets::exchange_over;
-use rje_stores::{MemoryStore, Store};
+use rje_station::Line;
+use rje_stores::Store;
 use std::process::Abort;
 use std::test::Fail;
-
-/// What a command writes, in memory of its own.
-type Written = ArrayVec<u8, 4096>;
 
 const ENQ: &[u8] = b"\x32\x32\x2D\xFF";
 
@@ -26,28 +24,39 @@ const B: &[u8] = b"\x32\x32\x02\xC2\x1E\x03\xE8\x5D\xFF";
 
 const QUIET: &[u8] = b"";
 
-/// The version 2 file of no jobs.
-const NONE: &[u8] = b"RJ37\x00\x02\x00\x00\x00\x00\x00\x00\x00\x00";
-
 /// The version 2 file of one job in this state (0 waiting, 1 sent, 2 whole), of this one record.
 fn one_job(rt: &impl Abort, state: u8, record: u8) -> Written {
-    let mut file = Written::new();
-    let header = b"RJ37\x00\x02\x00\x00\x00\x00\x00\x00\x00\x01        ";
-    assert!(rt; file.try_extend_from_slice(header).is_ok());
-    assert!(rt; file.try_push(state).is_ok());
-    let rest = b"\x00\x00\x00\x00\x00\x00\x00\x00\x00\x01\x00\x01";
-    assert!(rt; file.try_extend_from_slice(rest).is_ok());
-    assert!(rt; file.try_push(record).is_ok());
-    file
+    let header = b"RJ37\x00\x02\x00\x00\x00\x00\x00\x00\x00\x01        ".as_slice();
+    let rest = b"\x00\x00\x00\x00\x00\x00\x00\x00\x00\x01\x00\x01".as_slice();
+    joined(rt, &[header, &[state], rest, &[record]])
 }
 
-/// These, one after another.
-fn joined(rt: &impl Abort, pieces: &[&[u8]]) -> Written {
-    let mut all = Written::new();
-    for piece in pieces {
-        assert!(rt; all.try_extend_from_slice(piece).is_ok());
-    }
-    all
+/// An end of this rank exchanges the file `out` for the file of this name over this line: it ends with this status and writes these texts.
+fn assert_ends(
+    rt: &(impl Abort + AllocGlobal),
+    rank: Rank,
+    line: &mut impl Line,
+    received: &str,
+    store: &mut impl Store,
+    status: u8,
+    text: &[u8],
+    told: &[u8],
+) {
+    let mut out = Written::new();
+    let mut err = Written::new();
+    let ended = exchange_over(
+        rt.alloc(),
+        rank,
+        line,
+        "out",
+        received,
+        store,
+        &mut out,
+        &mut err,
+    );
+    assert!(rt; ended == status);
+    assert!(rt; out.as_slice() == text);
+    assert!(rt; err.as_slice() == told);
 }
 
 /// An end of this rank exchanges the job `A` for the job `B` where this comes, and says that.
@@ -57,28 +66,13 @@ fn assert_exchanges(
     coming: &[&[u8]],
     said: &[&[u8]],
 ) -> Result<(), Fail> {
-    let mut store = MemoryStore::new(rt.alloc());
-    store.write("out", one_job(rt, 0, 0xC1).as_slice())?;
+    let mut store = store_of(rt.alloc(), "out", one_job(rt, 0, 0xC1).as_slice())?;
     let mut line = ToldLine::new(coming);
-    let mut out = Written::new();
-    let mut err = Written::new();
-    let ended = exchange_over(
-        rt.alloc(),
-        rank,
-        &mut line,
-        "out",
-        "got",
-        &mut store,
-        &mut out,
-        &mut err,
-    );
-    assert!(rt; ended == 0);
     let text = b"counted 1 of 1 jobs\noutcome done\nhanded 1 jobs, 1 whole\n";
-    assert!(rt; out.as_slice() == text.as_slice());
-    assert!(rt; err.is_empty());
+    assert_ends(rt, rank, &mut line, "got", &mut store, 0, text, b"");
     assert!(rt; line.sent.as_slice() == joined(rt, said).as_slice());
-    assert!(rt; store.read(rt.alloc(), "out")?.as_slice() == one_job(rt, 1, 0xC1).as_slice());
-    assert!(rt; store.read(rt.alloc(), "got")?.as_slice() == one_job(rt, 2, 0xC2).as_slice());
+    assert_file(rt, &mut store, "out", one_job(rt, 1, 0xC1).as_slice());
+    assert_file(rt, &mut store, "got", one_job(rt, 2, 0xC2).as_slice());
     Ok(())
 }
 
@@ -92,26 +86,20 @@ fn assert_breaks_off(
     text: &[u8],
     told: &[u8],
 ) -> Result<(), Fail> {
-    let mut store = MemoryStore::new(rt.alloc());
-    store.write("out", one_job(rt, 0, 0xC1).as_slice())?;
+    let mut store = store_of(rt.alloc(), "out", one_job(rt, 0, 0xC1).as_slice())?;
     let mut line = line_of(rt.alloc(), coming)?;
     line.fail_at(call);
-    let mut out = Written::new();
-    let mut err = Written::new();
-    let ended = exchange_over(
-        rt.alloc(),
+    assert_ends(
+        rt,
         Rank::Primary,
         &mut line,
-        "out",
         "got",
         &mut store,
-        &mut out,
-        &mut err,
+        3,
+        text,
+        told,
     );
-    assert!(rt; ended == 3);
-    assert!(rt; out.as_slice() == text);
-    assert!(rt; err.as_slice() == told);
-    assert!(rt; store.read(rt.alloc(), "out")?.as_slice() == one_job(rt, state, 0xC1).as_slice());
+    assert_file(rt, &mut store, "out", one_job(rt, state, 0xC1).as_slice());
     Ok(())
 }
 
@@ -146,54 +134,34 @@ fn a_secondary_listens_before_each_bid_and_gives_way(rt: HostRuntime) -> Result<
 
 #[test]
 fn an_end_with_no_jobs_leaves_after_40_quiet_hearings(rt: HostRuntime) -> Result<(), Fail> {
+    let text = b"counted 0 of 0 jobs\noutcome done\nhanded 0 jobs, 0 whole\n";
     for rank in [Rank::Primary, Rank::Secondary] {
-        let mut store = MemoryStore::new(rt.alloc());
-        store.write("out", NONE)?;
+        let mut store = store_of(rt.alloc(), "out", NO_JOBS)?;
         let mut line = ToldLine::new(&[]);
-        let mut out = Written::new();
-        let mut err = Written::new();
-        let ended = exchange_over(
-            rt.alloc(),
-            rank,
-            &mut line,
-            "out",
-            "got",
-            &mut store,
-            &mut out,
-            &mut err,
-        );
-        assert!(rt; ended == 4);
-        let text = b"counted 0 of 0 jobs\noutcome done\nhanded 0 jobs, 0 whole\n";
-        assert!(rt; out.as_slice() == text.as_slice());
-        assert!(rt; err.is_empty());
+        assert_ends(&rt, rank, &mut line, "got", &mut store, 4, text, b"");
         assert!(rt; line.sent.is_empty());
-        assert!(rt; store.read(rt.alloc(), "got")?.as_slice() == NONE);
+        assert_file(&rt, &mut store, "got", NO_JOBS);
     }
     Ok(())
 }
 
 #[test]
 fn one_file_cannot_hold_both_directions(rt: HostRuntime) -> Result<(), Fail> {
-    let mut store = MemoryStore::new(rt.alloc());
-    store.write("out", one_job(&rt, 0, 0xC1).as_slice())?;
+    let mut store = store_of(rt.alloc(), "out", one_job(&rt, 0, 0xC1).as_slice())?;
     let mut line = ToldLine::new(&[]);
-    let mut out = Written::new();
-    let mut err = Written::new();
-    let ended = exchange_over(
-        rt.alloc(),
+    let told = b"rje: can't write out\n";
+    assert_ends(
+        &rt,
         Rank::Primary,
         &mut line,
         "out",
-        "out",
         &mut store,
-        &mut out,
-        &mut err,
+        3,
+        b"",
+        told,
     );
-    assert!(rt; ended == 3);
-    assert!(rt; out.is_empty());
-    assert!(rt; err.as_slice() == b"rje: can't write out\n".as_slice());
     assert!(rt; line.sent.is_empty());
-    assert!(rt; store.read(rt.alloc(), "out")?.as_slice() == one_job(&rt, 0, 0xC1).as_slice());
+    assert_file(&rt, &mut store, "out", one_job(&rt, 0, 0xC1).as_slice());
     Ok(())
 }
 
@@ -223,20 +191,16 @@ fn of_two_files_that_cannot_be_written_the_sent_one_is_told(rt: HostRuntime) {
         file: one_job(&rt, 0, 0xC1),
     };
     let mut line = ToldLine::new(&[ACK0, ACK1]);
-    let mut out = Written::new();
-    let mut err = Written::new();
-    let ended = exchange_over(
-        rt.alloc(),
+    let text = b"counted 1 of 1 jobs\noutcome done\nhanded 0 jobs, 0 whole\n";
+    let told = b"rje: can't write out\n";
+    assert_ends(
+        &rt,
         Rank::Primary,
         &mut line,
-        "out",
         "got",
         &mut store,
-        &mut out,
-        &mut err,
+        3,
+        text,
+        told,
     );
-    assert!(rt; ended == 3);
-    let text = b"counted 1 of 1 jobs\noutcome done\nhanded 0 jobs, 0 whole\n";
-    assert!(rt; out.as_slice() == text.as_slice());
-    assert!(rt; err.as_slice() == b"rje: can't write out\n".as_slice());
 }

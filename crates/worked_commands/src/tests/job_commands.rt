@@ -1,23 +1,16 @@
 //! `cards`, `show`, `check` and `print`, by their words.
 ghost use Rattle.std.specs.Prelude.{None};
 
-use arrayvec::ArrayVec;
+use super::{FILE, Written, assert_file, joined, store_of};
 use rje_program::command;
 use rje_stores::{MemoryStore, Store, StoreFault};
 use std::alloc::Global;
 use std::process::Abort;
 use std::test::Fail;
 
-/// What a command writes, in memory of its own.
-type Written = ArrayVec<u8, 4096>;
-
-/// The file of one job (default device, normal, whole, one record `A`).
-const FILE: &[u8] =
-    b"RJ37\x00\x01\x00\x00\x00\x00\x00\x00\x00\x01\x00\x00\x01\x00\x00\x00\x00\x00\x00\x00\x01\x00\x01\xC1";
-
 /// The version 2 file of that job, which waits to be sent, with this name.
 fn waiting(rt: &impl Abort, name: &[u8; 8]) -> Written {
-    text_of(
+    joined(
         rt,
         &[
             b"RJ37\x00\x02\x00\x00\x00\x00\x00\x00\x00\x01",
@@ -68,28 +61,16 @@ fn assert_fails(
     assert!(rt; err.as_slice() == line);
 }
 
-/// These pieces as one text.
-fn text_of(rt: &impl Abort, pieces: &[&[u8]]) -> Written {
-    let mut text = Written::new();
-    for piece in pieces {
-        assert!(rt; text.try_extend_from_slice(piece).is_ok());
-    }
-    text
-}
-
-/// A store with this job file, named `jobs`.
-fn store_of(rt: &impl AllocGlobal, file: &[u8]) -> Result<MemoryStore, Fail> {
-    let mut store = MemoryStore::new(rt.alloc());
-    store.write("jobs", file)?;
-    Ok(store)
-}
-
 #[test]
 fn one_job_is_made_shown_checked_and_printed(rt: HostRuntime) -> Result<(), Fail> {
-    let mut store = MemoryStore::new(rt.alloc());
-    store.write("deck", b"A\n")?;
+    let mut store = store_of(rt.alloc(), "deck", b"A\n")?;
     assert_prints(&rt, &["cards", "deck", "jobs"], &mut store, b"1 cards\n");
-    assert!(rt; store.read(rt.alloc(), "jobs")?.as_slice() == waiting(&rt, b"        ").as_slice());
+    assert_file(
+        &rt,
+        &mut store,
+        "jobs",
+        waiting(&rt, b"        ").as_slice(),
+    );
     assert_prints(
         &rt,
         &["show", "jobs"],
@@ -103,8 +84,7 @@ fn one_job_is_made_shown_checked_and_printed(rt: HostRuntime) -> Result<(), Fail
 
 #[test]
 fn each_device_has_its_option(rt: HostRuntime) -> Result<(), Fail> {
-    let mut store = MemoryStore::new(rt.alloc());
-    store.write("deck", b"A\r\nB C")?;
+    let mut store = store_of(rt.alloc(), "deck", b"A\r\nB C")?;
     for (option, line) in [
         (
             "--printer",
@@ -120,7 +100,7 @@ fn each_device_has_its_option(rt: HostRuntime) -> Result<(), Fail> {
         assert_prints(&rt, &words, &mut store, b"2 cards\n");
         assert_prints(&rt, &["show", "jobs"], &mut store, line);
     }
-    let cards = text_of(&rt, &[b"A", &[b' '; 79], b"\n", b"B C", &[b' '; 77], b"\n"]);
+    let cards = joined(&rt, &[b"A", &[b' '; 79], b"\n", b"B C", &[b' '; 77], b"\n"]);
     assert_prints(&rt, &["print", "jobs"], &mut store, cards.as_slice());
     Ok(())
 }
@@ -131,7 +111,12 @@ fn a_deck_may_be_the_input(rt: HostRuntime) -> Result<(), Fail> {
     let (status, out, _) = run(&rt, &["cards", "-", "jobs"], &mut store, b"A\n");
     assert!(rt; status == 0);
     assert!(rt; out.as_slice() == b"1 cards\n".as_slice());
-    assert!(rt; store.read(rt.alloc(), "jobs")?.as_slice() == waiting(&rt, b"        ").as_slice());
+    assert_file(
+        &rt,
+        &mut store,
+        "jobs",
+        waiting(&rt, b"        ").as_slice(),
+    );
     Ok(())
 }
 
@@ -146,8 +131,7 @@ fn two_devices_are_refused_before_the_deck_is_looked_for(rt: HostRuntime) {
 
 #[test]
 fn a_job_has_a_name(rt: HostRuntime) -> Result<(), Fail> {
-    let mut store = MemoryStore::new(rt.alloc());
-    store.write("deck", b"A\n")?;
+    let mut store = store_of(rt.alloc(), "deck", b"A\n")?;
     for (given, name, line) in [
         (
             "PAY1",
@@ -167,7 +151,7 @@ fn a_job_has_a_name(rt: HostRuntime) -> Result<(), Fail> {
     ] {
         let words = ["cards", "--name", given, "deck", "jobs"];
         assert_prints(&rt, &words, &mut store, b"1 cards\n");
-        assert!(rt; store.read(rt.alloc(), "jobs")?.as_slice() == waiting(&rt, name).as_slice());
+        assert_file(&rt, &mut store, "jobs", waiting(&rt, name).as_slice());
         assert_prints(&rt, &["show", "jobs"], &mut store, line);
         assert_prints(&rt, &["check", "jobs"], &mut store, b"good 1 jobs\n");
         assert_prints(&rt, &["print", "jobs"], &mut store, b"A\n");
@@ -180,19 +164,23 @@ const REST: &[u8] = b"\x00\x00\x00\x00\x00\x00\x00\x00\x00\x01\x00\x01\xC1";
 
 #[test]
 fn a_job_is_added_behind_those_of_the_file(rt: HostRuntime) -> Result<(), Fail> {
-    let mut store = MemoryStore::new(rt.alloc());
-    store.write("deck", b"A\n")?;
+    let mut store = store_of(rt.alloc(), "deck", b"A\n")?;
     let words = ["cards", "deck", "jobs", "--append", "--name", "PAY1"];
     assert_prints(&rt, &words, &mut store, b"1 cards\n");
-    assert!(rt; store.read(rt.alloc(), "jobs")?.as_slice() == waiting(&rt, b"PAY1    ").as_slice());
+    assert_file(
+        &rt,
+        &mut store,
+        "jobs",
+        waiting(&rt, b"PAY1    ").as_slice(),
+    );
     let two = b"RJ37\x00\x02\x00\x00\x00\x00\x00\x00\x00\x02";
     store.write(
         "jobs",
-        text_of(&rt, &[two, b"PAY1    \x01", REST, b"        \x03", REST]).as_slice(),
+        joined(&rt, &[two, b"PAY1    \x01", REST, b"        \x03", REST]).as_slice(),
     )?;
     let words = ["cards", "--append", "deck", "jobs"];
     assert_prints(&rt, &words, &mut store, b"1 cards\n");
-    let three = text_of(
+    let three = joined(
         &rt,
         &[
             b"RJ37\x00\x02\x00\x00\x00\x00\x00\x00\x00\x03PAY1    \x01",
@@ -203,19 +191,24 @@ fn a_job_is_added_behind_those_of_the_file(rt: HostRuntime) -> Result<(), Fail> 
             REST,
         ],
     );
-    assert!(rt; store.read(rt.alloc(), "jobs")?.as_slice() == three.as_slice());
+    assert_file(&rt, &mut store, "jobs", three.as_slice());
     assert_prints(&rt, &["cards", "deck", "jobs"], &mut store, b"1 cards\n");
-    assert!(rt; store.read(rt.alloc(), "jobs")?.as_slice() == waiting(&rt, b"        ").as_slice());
+    assert_file(
+        &rt,
+        &mut store,
+        "jobs",
+        waiting(&rt, b"        ").as_slice(),
+    );
     Ok(())
 }
 
 #[test]
 fn an_older_file_that_is_added_to_becomes_version_2(rt: HostRuntime) -> Result<(), Fail> {
-    let mut store = store_of(&rt, FILE)?;
+    let mut store = store_of(rt.alloc(), "jobs", FILE)?;
     store.write("deck", b"A\n")?;
     let words = ["cards", "deck", "--append", "jobs", "--name", "B2"];
     assert_prints(&rt, &words, &mut store, b"1 cards\n");
-    let two = text_of(
+    let two = joined(
         &rt,
         &[
             b"RJ37\x00\x02\x00\x00\x00\x00\x00\x00\x00\x02        \x02",
@@ -224,13 +217,13 @@ fn an_older_file_that_is_added_to_becomes_version_2(rt: HostRuntime) -> Result<(
             REST,
         ],
     );
-    assert!(rt; store.read(rt.alloc(), "jobs")?.as_slice() == two.as_slice());
+    assert_file(&rt, &mut store, "jobs", two.as_slice());
     Ok(())
 }
 
 #[test]
 fn nothing_is_added_to_what_is_no_job_file(rt: HostRuntime) -> Result<(), Fail> {
-    let mut store = store_of(&rt, b"RJ36")?;
+    let mut store = store_of(rt.alloc(), "jobs", b"RJ36")?;
     store.write("deck", b"A\n")?;
     store.write("bad", b"A\tB\n")?;
     let words = ["cards", "deck", "jobs", "--append"];
@@ -242,7 +235,7 @@ fn nothing_is_added_to_what_is_no_job_file(rt: HostRuntime) -> Result<(), Fail> 
         1,
         b"rje: deck line 1 column 2: no EBCDIC character\n",
     );
-    assert!(rt; store.read(rt.alloc(), "jobs")?.as_slice() == b"RJ36".as_slice());
+    assert_file(&rt, &mut store, "jobs", b"RJ36");
     assert_prints(&rt, &["cards", "deck", "jobs"], &mut store, b"1 cards\n");
     Ok(())
 }
@@ -287,7 +280,7 @@ fn each_state_is_shown(rt: HostRuntime) -> Result<(), Fail> {
         if 22 < file.len() {
             file[22] = state;
         }
-        let mut store = store_of(&rt, file.as_slice())?;
+        let mut store = store_of(rt.alloc(), "jobs", file.as_slice())?;
         assert_prints(&rt, &["show", "jobs"], &mut store, line);
     }
     Ok(())
@@ -295,7 +288,7 @@ fn each_state_is_shown(rt: HostRuntime) -> Result<(), Fail> {
 
 #[test]
 fn a_bad_deck_leaves_the_file_as_it_was(rt: HostRuntime) -> Result<(), Fail> {
-    let mut store = store_of(&rt, FILE)?;
+    let mut store = store_of(rt.alloc(), "jobs", FILE)?;
     store.write("deck", b"A\tB\n")?;
     assert_fails(
         &rt,
@@ -304,7 +297,7 @@ fn a_bad_deck_leaves_the_file_as_it_was(rt: HostRuntime) -> Result<(), Fail> {
         1,
         b"rje: deck line 1 column 2: no EBCDIC character\n",
     );
-    assert!(rt; store.read(rt.alloc(), "jobs")?.as_slice() == FILE);
+    assert_file(&rt, &mut store, "jobs", FILE);
     assert_fails(
         &rt,
         &["cards", "deck", "new"],
@@ -390,7 +383,7 @@ fn a_bad_file_is_told_by_every_command(rt: HostRuntime) -> Result<(), Fail> {
         ),
     ];
     for (file, line) in cases {
-        let mut store = store_of(&rt, file)?;
+        let mut store = store_of(rt.alloc(), "jobs", file)?;
         for word in ["show", "check", "print"] {
             assert_fails(&rt, &[word, "jobs"], &mut store, 1, line);
         }
@@ -401,7 +394,7 @@ fn a_bad_file_is_told_by_every_command(rt: HostRuntime) -> Result<(), Fail> {
 /// The file of two jobs: a listing of `X` that ends in a skip to channel 1, and a card of 81 `A` for the punch.
 /// The byte says whether the first is whole.
 fn two_jobs(rt: &impl Abort, whole: u8) -> Written {
-    text_of(
+    joined(
         rt,
         &[
             b"RJ37\x00\x01\x00\x00\x00\x00\x00\x00\x00\x02\x01\x00",
@@ -419,7 +412,7 @@ fn the_first_job_that_cannot_be_sent_is_told(rt: HostRuntime) -> Result<(), Fail
         (0, b"rje: job 1 can't be sent\n".as_slice()),
         (1, b"rje: job 2 can't be sent\n".as_slice()),
     ] {
-        let mut store = store_of(&rt, two_jobs(&rt, whole).as_slice())?;
+        let mut store = store_of(rt.alloc(), "jobs", two_jobs(&rt, whole).as_slice())?;
         assert_fails(&rt, &["check", "jobs"], &mut store, 1, line);
     }
     Ok(())
@@ -427,14 +420,14 @@ fn the_first_job_that_cannot_be_sent_is_told(rt: HostRuntime) -> Result<(), Fail
 
 #[test]
 fn cut_jobs_and_long_cards_are_shown_and_printed(rt: HostRuntime) -> Result<(), Fail> {
-    let mut store = store_of(&rt, two_jobs(&rt, 0).as_slice())?;
+    let mut store = store_of(rt.alloc(), "jobs", two_jobs(&rt, 0).as_slice())?;
     assert_prints(
         &rt,
         &["show", "jobs"],
         &mut store,
         b"1 printer normal cut 1 records\n2 punch normal whole 1 records\n",
     );
-    let text = text_of(&rt, &[b"X\n\x0C", &[b'A'; 81], b"\n"]);
+    let text = joined(&rt, &[b"X\n\x0C", &[b'A'; 81], b"\n"]);
     assert_prints(&rt, &["print", "jobs"], &mut store, text.as_slice());
     Ok(())
 }
@@ -445,7 +438,7 @@ fn a_file_of_no_jobs_is_good(rt: HostRuntime) -> Result<(), Fail> {
         b"RJ37\x00\x01\x00\x00\x00\x00\x00\x00\x00\x00".as_slice(),
         b"RJ37\x00\x02\x00\x00\x00\x00\x00\x00\x00\x00".as_slice(),
     ] {
-        let mut store = store_of(&rt, file)?;
+        let mut store = store_of(rt.alloc(), "jobs", file)?;
         assert_prints(&rt, &["show", "jobs"], &mut store, b"");
         assert_prints(&rt, &["check", "jobs"], &mut store, b"good 0 jobs\n");
         assert_prints(&rt, &["print", "jobs"], &mut store, b"");

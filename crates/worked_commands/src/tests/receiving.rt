@@ -1,13 +1,14 @@
-//! When `receive` leaves by itself, and what it answers on the line.
+//! What `receive` makes of what comes over a line: its file, its texts, what it answers, and when it leaves by itself.
+ghost use Rattle.std.specs.Prelude.{None};
+
 use super::told_line::ToldLine;
-use arrayvec::ArrayVec;
+use super::{NO_JOBS, Written, assert_file, line_of};
 use rje_sockets::receive_over;
-use rje_stores::MemoryStore;
+use rje_station::Line;
+use rje_stores::{MemoryStore, Store, StoreFault};
+use std::alloc::Global;
 use std::process::Abort;
 use std::test::Fail;
-
-/// What a command writes, in memory of its own.
-type Written = ArrayVec<u8, 4096>;
 
 const ENQ: &[u8] = b"\x32\x32\x2D";
 
@@ -15,16 +16,39 @@ const EOT: &[u8] = b"\x32\x32\x37";
 
 const QUIET: &[u8] = b"";
 
-/// The receiver of what is told ends with this status, and its answers stand so on the line.
-fn assert_receives(rt: &(impl Abort + AllocGlobal), told: &[&[u8]], status: u8, answers: &[u8]) {
-    let mut line = ToldLine::new(told);
-    let mut store = MemoryStore::new(rt.alloc());
+/// The version 2 file of one job (default device, normal, whole, one record `A`) as it was received.
+const RECEIVED: &[u8] =
+    b"RJ37\x00\x02\x00\x00\x00\x00\x00\x00\x00\x01        \x02\x00\x00\x00\x00\x00\x00\x00\x00\x00\x01\x00\x01\xC1";
+
+const ONE_JOB: &[u8] = b"handed 1 jobs, 1 whole\n";
+
+const FAILED: &[u8] = b"rje: line failed\n";
+
+const NOT_WRITTEN: &[u8] = b"rje: can't write got\n";
+
+/// What comes over this line is received into the file `got` of this store: it ends with this status and writes these texts.
+pub(super) fn assert_receives(
+    rt: &(impl Abort + AllocGlobal),
+    line: &mut impl Line,
+    store: &mut impl Store,
+    status: u8,
+    text: &[u8],
+    told: &[u8],
+) {
     let mut out = Written::new();
     let mut err = Written::new();
-    let ended = receive_over(rt.alloc(), &mut line, "got", &mut store, &mut out, &mut err);
+    let ended = receive_over(rt.alloc(), line, "got", store, &mut out, &mut err);
     assert!(rt; ended == status);
-    assert!(rt; out.as_slice() == b"handed 0 jobs, 0 whole\n".as_slice());
-    assert!(rt; err.is_empty());
+    assert!(rt; out.as_slice() == text);
+    assert!(rt; err.as_slice() == told);
+}
+
+/// The receiver of what is told, in which no job is, ends with this status, and its answers stand so on the line.
+fn assert_answers(rt: &(impl Abort + AllocGlobal), told: &[&[u8]], status: u8, answers: &[u8]) {
+    let mut line = ToldLine::new(told);
+    let mut store = MemoryStore::new(rt.alloc());
+    let text = b"handed 0 jobs, 0 whole\n";
+    assert_receives(rt, &mut line, &mut store, status, text, b"");
     assert!(rt; line.sent.as_slice() == answers);
 }
 
@@ -49,18 +73,153 @@ fn between(
 #[test]
 fn quiet_hearings_are_counted_in_a_row(rt: HostRuntime) -> Result<(), Fail> {
     let ack0 = b"\x32\x32\x10\x70\xFF";
-    assert_receives(&rt, between(&rt, 39, &[ENQ])?.as_slice(), 0, ack0);
-    assert_receives(&rt, between(&rt, 40, &[ENQ])?.as_slice(), 4, b"");
+    assert_answers(&rt, between(&rt, 39, &[ENQ])?.as_slice(), 0, ack0);
+    assert_answers(&rt, between(&rt, 40, &[ENQ])?.as_slice(), 4, b"");
 
     // Noise isn't quiet, nor is a text that is spoiled; each ends with the line's quiet. Neither is answered before a bid.
     let noise: &[u8] = b"\x00";
     let spoiled: &[u8] = b"\x32\x32\x02\xC1";
     for heard in [noise, spoiled] {
-        assert_receives(&rt, between(&rt, 39, &[heard, QUIET])?.as_slice(), 0, b"");
+        assert_answers(&rt, between(&rt, 39, &[heard, QUIET])?.as_slice(), 0, b"");
     }
 
     // Pads are quiet: 39 and these are 40.
     let pads: &[u8] = b"\xFF\x55\x32";
-    assert_receives(&rt, between(&rt, 39, &[pads, QUIET])?.as_slice(), 4, b"");
+    assert_answers(&rt, between(&rt, 39, &[pads, QUIET])?.as_slice(), 4, b"");
+    Ok(())
+}
+
+/// A bid, the block of the record `A`, and the end.
+const TRANSMISSION: [&[u8]; 3] = [
+    b"\x32\x32\x2D",
+    b"\x32\x32\x02\xC1\x1E\x03\x18\x5D\xFF",
+    b"\x32\x32\x37",
+];
+
+#[test]
+fn a_transmission_is_received_into_a_job_file(rt: HostRuntime) -> Result<(), Fail> {
+    let mut line = line_of(rt.alloc(), &TRANSMISSION)?;
+    let mut store = MemoryStore::new(rt.alloc());
+    assert_receives(&rt, &mut line, &mut store, 0, ONE_JOB, b"");
+    assert_file(&rt, &mut store, "got", RECEIVED);
+    Ok(())
+}
+
+#[test]
+fn a_receiver_leaves_after_40_quiet_hearings(rt: HostRuntime) -> Result<(), Fail> {
+    let mut line = line_of(rt.alloc(), &TRANSMISSION[..2])?;
+
+    // Two hearings, an answer to each, and then 40 quiet ones: a call that would fail comes too late, and one before doesn't.
+    line.fail_at(45);
+    let mut store = MemoryStore::new(rt.alloc());
+    assert_receives(&rt, &mut line, &mut store, 4, ONE_JOB, b"");
+    assert_file(&rt, &mut store, "got", RECEIVED);
+    let mut line = line_of(rt.alloc(), &TRANSMISSION[..2])?;
+    line.fail_at(44);
+    assert_receives(&rt, &mut line, &mut store, 3, ONE_JOB, FAILED);
+    Ok(())
+}
+
+#[test]
+fn a_babbling_peer_is_told(rt: HostRuntime) -> Result<(), Fail> {
+    let mut line = line_of(rt.alloc(), &[&[0x00; 8193]])?;
+    let mut store = MemoryStore::new(rt.alloc());
+    let text = b"handed 0 jobs, 0 whole\n";
+    assert_receives(&rt, &mut line, &mut store, 3, text, b"rje: babble\n");
+    assert_file(&rt, &mut store, "got", NO_JOBS);
+    Ok(())
+}
+
+/// No files, and none that can be written.
+#[derive(Drop)]
+struct NoFiles;
+
+impl Store for NoFiles {
+    ghost files = { λ _. None };
+
+    fn read(&mut self, _alloc: Global, _name: &str) -> Result<Vec<u8>, StoreFault> {
+        Err(StoreFault::Failed)
+    }
+
+    fn write(&mut self, _name: &str, _bytes: &[u8]) -> Result<(), StoreFault> {
+        Err(StoreFault::Failed)
+    }
+}
+
+#[test]
+fn a_job_file_that_cannot_be_written_is_told_behind_the_lines(rt: HostRuntime) -> Result<(), Fail> {
+    let mut line = line_of(rt.alloc(), &TRANSMISSION)?;
+    assert_receives(&rt, &mut line, &mut NoFiles, 3, ONE_JOB, NOT_WRITTEN);
+    let mut line = line_of(rt.alloc(), &TRANSMISSION[..2])?;
+    line.fail_at(3);
+    let text = b"handed 0 jobs, 0 whole\n";
+    assert_receives(&rt, &mut line, &mut NoFiles, 3, text, FAILED);
+    Ok(())
+}
+
+/// A bid, the blocks of two jobs of the record `A`, and the end.
+const TWO_JOBS: [&[u8]; 4] = [
+    b"\x32\x32\x2D",
+    b"\x32\x32\x02\xC1\x1E\x03\x18\x5D\xFF",
+    b"\x32\x32\x02\xC1\x1E\x03\x18\x5D\xFF",
+    b"\x32\x32\x37",
+];
+
+/// Files in memory of which some can be written, and then no more.
+#[derive(Drop)]
+struct FillingStore {
+    files: MemoryStore,
+    room: u32,
+}
+
+impl Store for FillingStore {
+    ghost files = { λ _. None };
+
+    fn read(&mut self, alloc: Global, name: &str) -> Result<Vec<u8>, StoreFault> {
+        self.files.read(alloc, name)
+    }
+
+    fn write(&mut self, name: &str, bytes: &[u8]) -> Result<(), StoreFault> {
+        if self.room == 0 {
+            return Err(StoreFault::Failed);
+        }
+        self.room -= 1;
+        self.files.write(name, bytes)
+    }
+}
+
+#[test]
+fn a_job_that_cannot_be_kept_is_not_acknowledged(rt: HostRuntime) -> Result<(), Fail> {
+    let answers: [&[u8]; 3] = [
+        b"\x32\x32\x10\x70\xFF",
+        b"\x32\x32\x10\x61\xFF",
+        b"\x32\x32\x10\x70\xFF",
+    ];
+    for room in 0..3 {
+        let mut line = line_of(rt.alloc(), &TWO_JOBS)?;
+        let mut store = FillingStore {
+            files: MemoryStore::new(rt.alloc()),
+            room,
+        };
+        let mut out = Written::new();
+        let mut err = Written::new();
+        let ended = receive_over(rt.alloc(), &mut line, "got", &mut store, &mut out, &mut err);
+        assert!(rt; line.sent() == answers[room as usize]);
+        let (status, told) = if room < 2 {
+            (3, NOT_WRITTEN)
+        } else {
+            (0, b"".as_slice())
+        };
+        assert!(rt; ended == status);
+        assert!(rt; err.as_slice() == told);
+        match room {
+            0 => assert!(rt; store.read(rt.alloc(), "got") == Err(StoreFault::Missing)),
+            1 => assert_file(&rt, &mut store, "got", RECEIVED),
+            _ => {
+                let held = store.read(rt.alloc(), "got").expect(&rt, "a file");
+                assert!(rt; held.len() == RECEIVED.len() + RECEIVED.len() - 14);
+            }
+        }
+    }
     Ok(())
 }

@@ -1,7 +1,7 @@
 //! What `send` sends of a job file, and what it writes back.
 ghost use Rattle.std.specs.Prelude.{None};
 
-use arrayvec::ArrayVec;
+use super::{FILE, Written, assert_file, joined, line_of, store_of};
 use line_world::MemoryLine;
 use rje_program::command;
 use rje_sockets::{receive_over, send_over};
@@ -9,9 +9,6 @@ use rje_stores::{MemoryStore, Place, Store, StoreFault};
 use std::alloc::Global;
 use std::process::Abort;
 use std::test::Fail;
-
-/// What a command writes, in memory of its own.
-type Written = ArrayVec<u8, 4096>;
 
 const ACK0: &[u8] = b"\x32\x32\x10\x70\xFF";
 
@@ -23,27 +20,25 @@ const RVI: &[u8] = b"\x32\x32\x10\x7C\xFF";
 
 /// The version 2 file of three jobs in these states (0 waiting, 1 sent), of one record `A` each.
 fn three_jobs(rt: &impl Abort, states: [u8; 3]) -> Written {
-    let mut file = Written::new();
-    let header = b"RJ37\x00\x02\x00\x00\x00\x00\x00\x00\x00\x03";
-    assert!(rt; file.try_extend_from_slice(header).is_ok());
-    for state in states {
-        assert!(rt; file.try_extend_from_slice(b"        ").is_ok());
-        assert!(rt; file.try_push(state).is_ok());
-        let rest = b"\x00\x00\x00\x00\x00\x00\x00\x00\x00\x01\x00\x01\xC1";
-        assert!(rt; file.try_extend_from_slice(rest).is_ok());
-    }
-    file
-}
-
-/// A line in memory on which these come, one in each hearing.
-pub(super) fn line_of(alloc: Global, pieces: &[&[u8]]) -> Result<MemoryLine, Fail> {
-    let mut put = Vec::new(alloc);
-    for piece in pieces {
-        put.push(Vec::from_slice(alloc, piece)?)?;
-    }
-    let mut line = MemoryLine::new(alloc);
-    line.put(put);
-    Ok(line)
+    let header = b"RJ37\x00\x02\x00\x00\x00\x00\x00\x00\x00\x03".as_slice();
+    let name = b"        ".as_slice();
+    let rest = b"\x00\x00\x00\x00\x00\x00\x00\x00\x00\x01\x00\x01\xC1".as_slice();
+    let [first, second, third] = states;
+    joined(
+        rt,
+        &[
+            header,
+            name,
+            &[first],
+            rest,
+            name,
+            &[second],
+            rest,
+            name,
+            &[third],
+            rest,
+        ],
+    )
 }
 
 /// What is left of the file `jobs` of this store is sent over this line: it ends with this status and
@@ -64,38 +59,43 @@ fn assert_sends(
     assert!(rt; err.as_slice() == told);
 }
 
-/// The file `jobs` of this store is this.
-fn assert_file(
-    rt: &(impl Abort + AllocGlobal),
-    store: &mut MemoryStore,
-    file: &[u8],
-) -> Result<(), Fail> {
-    assert!(rt; store.read(rt.alloc(), "jobs")?.as_slice() == file);
+#[test]
+fn what_was_sent_is_passed_over(rt: HostRuntime) -> Result<(), Fail> {
+    let mut store = store_of(rt.alloc(), "jobs", three_jobs(&rt, [0, 1, 0]).as_slice())?;
+    let mut line = line_of(rt.alloc(), &[ACK0, ACK1, ACK0])?;
+    let text = b"counted 2 of 2 jobs\noutcome done\n";
+    assert_sends(&rt, &mut line, &mut store, 0, text, b"");
+    assert_file(
+        &rt,
+        &mut store,
+        "jobs",
+        three_jobs(&rt, [1, 1, 1]).as_slice(),
+    );
     Ok(())
 }
 
 #[test]
-fn what_was_sent_is_passed_over(rt: HostRuntime) -> Result<(), Fail> {
-    let mut store = MemoryStore::new(rt.alloc());
-    store.write("jobs", three_jobs(&rt, [0, 1, 0]).as_slice())?;
-    let mut line = line_of(rt.alloc(), &[ACK0, ACK1, ACK0])?;
-    let text = b"counted 2 of 2 jobs\noutcome done\n";
-    assert_sends(&rt, &mut line, &mut store, 0, text, b"");
-    assert_file(&rt, &mut store, three_jobs(&rt, [1, 1, 1]).as_slice())
-}
-
-#[test]
 fn what_was_not_counted_is_sent_by_the_next(rt: HostRuntime) -> Result<(), Fail> {
-    let mut store = MemoryStore::new(rt.alloc());
-    store.write("jobs", three_jobs(&rt, [0, 1, 0]).as_slice())?;
+    let mut store = store_of(rt.alloc(), "jobs", three_jobs(&rt, [0, 1, 0]).as_slice())?;
     let mut line = line_of(rt.alloc(), &[ACK0, RVI])?;
     let text = b"counted 1 of 2 jobs\noutcome turned\n";
     assert_sends(&rt, &mut line, &mut store, 4, text, b"");
-    assert_file(&rt, &mut store, three_jobs(&rt, [1, 1, 0]).as_slice())?;
+    assert_file(
+        &rt,
+        &mut store,
+        "jobs",
+        three_jobs(&rt, [1, 1, 0]).as_slice(),
+    );
     let mut line = line_of(rt.alloc(), &[ACK0, ACK1])?;
     let text = b"counted 1 of 1 jobs\noutcome done\n";
     assert_sends(&rt, &mut line, &mut store, 0, text, b"");
-    assert_file(&rt, &mut store, three_jobs(&rt, [1, 1, 1]).as_slice())
+    assert_file(
+        &rt,
+        &mut store,
+        "jobs",
+        three_jobs(&rt, [1, 1, 1]).as_slice(),
+    );
+    Ok(())
 }
 
 #[test]
@@ -113,50 +113,62 @@ fn a_transmission_that_ends_otherwise_is_told_with_status_4(rt: HostRuntime) -> 
             1,
         ),
     ] {
-        let mut store = MemoryStore::new(rt.alloc());
-        store.write("jobs", three_jobs(&rt, [0, 1, 0]).as_slice())?;
+        let mut store = store_of(rt.alloc(), "jobs", three_jobs(&rt, [0, 1, 0]).as_slice())?;
         let mut line = line_of(rt.alloc(), pieces)?;
         assert_sends(&rt, &mut line, &mut store, 4, text, b"");
-        assert_file(&rt, &mut store, three_jobs(&rt, [counted, 1, 0]).as_slice())?;
+        assert_file(
+            &rt,
+            &mut store,
+            "jobs",
+            three_jobs(&rt, [counted, 1, 0]).as_slice(),
+        );
     }
     Ok(())
 }
 
 #[test]
 fn a_receiver_that_babbles_is_told_behind_the_lines(rt: HostRuntime) -> Result<(), Fail> {
-    let mut store = MemoryStore::new(rt.alloc());
-    store.write("jobs", three_jobs(&rt, [0, 1, 0]).as_slice())?;
+    let mut store = store_of(rt.alloc(), "jobs", three_jobs(&rt, [0, 1, 0]).as_slice())?;
     let mut line = line_of(rt.alloc(), &[ACK0, ACK1, &[0x00; 8193]])?;
     let text = b"counted 1 of 2 jobs\noutcome open\n";
     assert_sends(&rt, &mut line, &mut store, 3, text, b"rje: babble\n");
-    assert_file(&rt, &mut store, three_jobs(&rt, [1, 1, 0]).as_slice())
+    assert_file(
+        &rt,
+        &mut store,
+        "jobs",
+        three_jobs(&rt, [1, 1, 0]).as_slice(),
+    );
+    Ok(())
 }
 
 #[test]
 fn what_was_counted_is_marked_after_a_fault_of_the_line(rt: HostRuntime) -> Result<(), Fail> {
-    let mut store = MemoryStore::new(rt.alloc());
-    store.write("jobs", three_jobs(&rt, [0, 1, 0]).as_slice())?;
+    let mut store = store_of(rt.alloc(), "jobs", three_jobs(&rt, [0, 1, 0]).as_slice())?;
     let mut line = line_of(rt.alloc(), &[ACK0, ACK1])?;
 
     // The bid and its answer, the first block and its answer, and then the second block.
     line.fail_at(5);
     let text = b"counted 1 of 2 jobs\noutcome open\n";
     assert_sends(&rt, &mut line, &mut store, 3, text, b"rje: line failed\n");
-    assert_file(&rt, &mut store, three_jobs(&rt, [1, 1, 0]).as_slice())
+    assert_file(
+        &rt,
+        &mut store,
+        "jobs",
+        three_jobs(&rt, [1, 1, 0]).as_slice(),
+    );
+    Ok(())
 }
 
 #[test]
 fn an_older_file_is_written_back_as_version_2(rt: HostRuntime) -> Result<(), Fail> {
-    let older =
-        b"RJ37\x00\x01\x00\x00\x00\x00\x00\x00\x00\x01\x00\x00\x01\x00\x00\x00\x00\x00\x00\x00\x01\x00\x01\xC1";
     let sent =
         b"RJ37\x00\x02\x00\x00\x00\x00\x00\x00\x00\x01        \x01\x00\x00\x00\x00\x00\x00\x00\x00\x00\x01\x00\x01\xC1";
-    let mut store = MemoryStore::new(rt.alloc());
-    store.write("jobs", older)?;
+    let mut store = store_of(rt.alloc(), "jobs", FILE)?;
     let mut line = line_of(rt.alloc(), &[ACK0, ACK1])?;
     let text = b"counted 1 of 1 jobs\noutcome done\n";
     assert_sends(&rt, &mut line, &mut store, 0, text, b"");
-    assert_file(&rt, &mut store, sent)
+    assert_file(&rt, &mut store, "jobs", sent);
+    Ok(())
 }
 
 /// One file under any name, which can't be written.
@@ -328,7 +340,8 @@ fn a_byte_is_set_where_there_is_one(rt: HostRuntime) -> Result<(), Fail> {
     store.write("jobs", &[7, 8, 9])?;
     assert!(rt; store.set_byte(rt.alloc(), "jobs", 1, 1) == Ok(()));
     assert!(rt; store.set_byte(rt.alloc(), "jobs", 3, 1) == Err(StoreFault::Failed));
-    assert_file(&rt, &mut store, &[7, 1, 9])
+    assert_file(&rt, &mut store, "jobs", &[7, 1, 9]);
+    Ok(())
 }
 
 #[test]
@@ -392,5 +405,6 @@ fn the_number_of_a_bad_job_is_that_in_the_file(rt: HostRuntime) -> Result<(), Fa
         b"",
         b"rje: job 3 can't be sent\n",
     );
-    assert_file(&rt, &mut store, file.as_slice())
+    assert_file(&rt, &mut store, "jobs", file.as_slice());
+    Ok(())
 }

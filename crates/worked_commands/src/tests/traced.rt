@@ -1,5 +1,5 @@
 //! What `--trace` tells: its lines by hand, and those of a `loop` by a clock of the tests' own.
-use arrayvec::ArrayVec;
+use super::{FILE, Written};
 use bsc_link::{Reply, Say, Sound};
 use line_world::Spoken;
 use rje_print::{both_text, peer_text, receiver_text, sender_text};
@@ -12,10 +12,6 @@ use std::net::{Ipv4Addr, Ipv6Addr, Net, SocketAddr};
 use std::process::Abort;
 use std::test::Fail;
 use std::time::{Clock, Duration};
-
-/// The file of one job (default device, normal, whole, one record `A`).
-const FILE: &[u8] =
-    b"RJ37\x00\x01\x00\x00\x00\x00\x00\x00\x00\x01\x00\x00\x01\x00\x00\x00\x00\x00\x00\x00\x01\x00\x01\xC1";
 
 /// What a loop of that file prints.
 const TEXT: &[u8] = b"counted 1 of 1 jobs\nhanded 1 jobs, 1 whole\noutcome done\n";
@@ -114,7 +110,7 @@ fn assert_loop<R: Net + Abort + AllocGlobal>(
     };
     let mut store = MemoryStore::new(rt.alloc());
     store.write("jobs", FILE)?;
-    let mut out = ArrayVec::<u8, 4096>::new();
+    let mut out = Written::new();
     let ended = socket_command(&clock, rt.alloc(), words, &mut store, &mut out, err);
     assert!(rt; ended == 0);
     assert!(rt; out.as_slice() == TEXT);
@@ -136,7 +132,7 @@ const TRACED: [&str; 3] = ["loop", "jobs", "--trace"];
 
 #[test]
 fn a_loop_tells_each_turn_with_its_time(rt: HostRuntime) -> Result<(), Fail> {
-    let mut err = ArrayVec::<u8, 4096>::new();
+    let mut err = Written::new();
     assert_loop(&rt, &TRACED, 100, &mut err)?;
     assert!(rt; err.as_slice() == TRACE);
     Ok(())
@@ -144,7 +140,7 @@ fn a_loop_tells_each_turn_with_its_time(rt: HostRuntime) -> Result<(), Fail> {
 
 #[test]
 fn a_loop_tells_nothing_where_it_is_not_asked_to(rt: HostRuntime) -> Result<(), Fail> {
-    let mut err = ArrayVec::<u8, 4096>::new();
+    let mut err = Written::new();
     assert_loop(&rt, &TRACED[..2], 100, &mut err)?;
     assert!(rt; err.is_empty());
     Ok(())
@@ -159,7 +155,7 @@ fn a_trace_goes_quiet_where_the_clock_fails(rt: HostRuntime) -> Result<(), Fail>
         (3, CUT[0]),
         (4, TRACE),
     ] {
-        let mut err = ArrayVec::<u8, 4096>::new();
+        let mut err = Written::new();
         assert_loop(&rt, &TRACED, looks, &mut err)?;
         assert!(rt; err.as_slice() == told);
     }
@@ -169,7 +165,7 @@ fn a_trace_goes_quiet_where_the_clock_fails(rt: HostRuntime) -> Result<(), Fail>
 /// A writer of which one write, counted from 0, fails.
 #[derive(Drop)]
 struct Failing {
-    written: ArrayVec<u8, 4096>,
+    written: Written,
     writes: u32,
     failing: u32,
 }
@@ -193,7 +189,7 @@ impl Write for Failing {
 fn a_trace_goes_quiet_where_a_write_fails(rt: HostRuntime) -> Result<(), Fail> {
     for (failing, told) in [(0, b"".as_slice()), (1, CUT[1]), (2, CUT[0]), (3, TRACE)] {
         let mut err = Failing {
-            written: ArrayVec::new(),
+            written: Written::new(),
             writes: 0,
             failing,
         };

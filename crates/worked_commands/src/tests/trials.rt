@@ -1,16 +1,9 @@
 //! `try`, by its words.
-use arrayvec::ArrayVec;
+use super::{FILE, Written};
 use rje_program::command;
 use rje_stores::{MemoryStore, Store};
 use std::process::Abort;
 use std::test::Fail;
-
-/// What a command writes, in memory of its own.
-type Written = ArrayVec<u8, 4096>;
-
-/// The file of one job (default device, normal, whole, one record `A`).
-const FILE: &[u8] =
-    b"RJ37\x00\x01\x00\x00\x00\x00\x00\x00\x00\x01\x00\x00\x01\x00\x00\x00\x00\x00\x00\x00\x01\x00\x01\xC1";
 
 /// Trying the jobs of this file over this script ends with this status and writes these texts.
 fn assert_tried(
