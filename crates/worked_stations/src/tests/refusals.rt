@@ -237,7 +237,7 @@ fn a_station_of_either_rank_is_made_or_finds_no_memory(rt: HostRuntime) {
     }
 }
 
-/// A station that may have memory hears a bid of the other one, and answers ACK0.
+/// The station hears a bid of the other one, and answers ACK0.
 fn hear_other_bid(
     rt: &(impl Abort + AllocGlobal),
     station: &mut Station<'_>,
