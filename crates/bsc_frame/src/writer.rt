@@ -81,7 +81,8 @@ fn write_block(out: &mut ArrayVec<u8, MAX_TRANSMISSION>, block: &Block) -> Resul
 fn bad_place(block: &Block) -> Option<usize>
     ensures { MatchOption result (OnFalse block.now.transparent
         (AllByRecursion IsNormalText block.now.text.items))
-        (λ place. IsTextRefused block.now.transparent block.now.text.items (FrameFault.TextByte place)) }
+        (λ place. IsTextRefused block.now.transparent block.now.text.items
+        (FrameFault.TextByte place)) }
 {
     if block.transparent {
         None

@@ -36,9 +36,19 @@ impl Model for Receiver {
 
     ghost Value = { ReceiverState };
 
-    ghost view = { λ r. record { place = r.place; odd_accepted = r.odd_accepted; last_reply = r.last_reply; rvi_made = r.rvi_made } };
+    ghost view = { λ r. record {
+      place = r.place;
+      odd_accepted = r.odd_accepted;
+      last_reply = r.last_reply;
+      rvi_made = r.rvi_made;
+    } };
 
-    ghost inverse = { λ r. record { place = r.place; odd_accepted = r.odd_accepted; last_reply = r.last_reply; rvi_made = r.rvi_made } };
+    ghost inverse = { λ r. record {
+      place = r.place;
+      odd_accepted = r.odd_accepted;
+      last_reply = r.last_reply;
+      rvi_made = r.rvi_made;
+    } };
 }
 
 impl Receiver {

@@ -63,11 +63,23 @@ impl Model for Sender {
 
     ghost Value = { SenderState };
 
-    ghost view = { λ s. record { place = s.place; odd_counted = s.odd_counted; rvi_noted = s.rvi_noted; tries = s.tries; holds = s.holds } };
+    ghost view = { λ s. record {
+      place = s.place;
+      odd_counted = s.odd_counted;
+      rvi_noted = s.rvi_noted;
+      tries = s.tries;
+      holds = s.holds;
+    } };
 
     ghost invariant = { λ s. (s.tries < 7) × (s.holds < 300) };
 
-    ghost inverse = { λ s. record { place = s.place; odd_counted = s.odd_counted; rvi_noted = s.rvi_noted; tries = s.tries; holds = s.holds } };
+    ghost inverse = { λ s. record {
+      place = s.place;
+      odd_counted = s.odd_counted;
+      rvi_noted = s.rvi_noted;
+      tries = s.tries;
+      holds = s.holds;
+    } };
 }
 
 impl Sender {

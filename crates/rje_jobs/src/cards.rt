@@ -34,7 +34,8 @@ impl<'a> Model for Cards<'a> {
 
     ghost view = { λ cards. cards_of cards.mode cards.rest.now };
 
-    ghost invariant = { λ cards. (cards.left ≡ length (lines cards.rest.now)) × AreSound cards.rest.now };
+    ghost invariant = { λ cards. (cards.left ≡ length (lines cards.rest.now))
+        × AreSound cards.rest.now };
 }
 
 impl<'a> Cards<'a> {

@@ -50,7 +50,8 @@ fn push_paper(entry: &FileEntry, text: &mut Vec<u8>) -> Result<(), AllocError>
 }
 
 fn push_all_cards(entry: &FileEntry, text: &mut Vec<u8>) -> Result<(), AllocError>
-    ensures cards { OnOk result (text.new.items ≡ text.old.items ++ punched Form.Ascii entry.now.job) }
+    ensures cards { OnOk result
+        (text.new.items ≡ text.old.items ++ punched Form.Ascii entry.now.job) }
 {
     for item in entry.records() {
         push_card(&item, Form::Ascii, text)?;

@@ -10,7 +10,8 @@ use std::alloc::{AllocError, Global};
 /// The text of a run of so many jobs: a line for each turn, and three lines of the whole.
 pub fn run_text(alloc: Global, given: usize, report: &Report) -> Result<Vec<u8>, AllocError>
     ensures text { IfOk result (λ text. text.items
-        ≡ text_of given report.now.turns.items report.now.handed report.now.counted report.now.outcome) }
+        ≡ text_of given report.now.turns.items
+        report.now.handed report.now.counted report.now.outcome) }
 {
     let mut text = turns_text(alloc, report.turns.as_slice())?;
     text.extend_from_slice(counted_text(report.counted, given).as_slice())?;

@@ -41,7 +41,14 @@ impl Model for ReceivingStation {
 
     ghost Value = { Receiving };
 
-    ghost view = { λ s. record { jobs = s.jobs; core = s.core; due = s.due; over = s.over; arrival = s.arrival; trace = s.trace } };
+    ghost view = { λ s. record {
+      jobs = s.jobs;
+      core = s.core;
+      due = s.due;
+      over = s.over;
+      arrival = s.arrival;
+      trace = s.trace;
+    } };
 }
 
 impl ReceivingStation {

@@ -33,7 +33,12 @@ impl<'a> Model for Station<'a> {
 
     ghost Value = { Contending };
 
-    ghost view = { λ s. record { sender = s.sender; receiver = s.receiver; contender = s.contender; failed = s.failed } };
+    ghost view = { λ s. record {
+      sender = s.sender;
+      receiver = s.receiver;
+      contender = s.contender;
+      failed = s.failed;
+    } };
 }
 
 impl<'a> Station<'a> {

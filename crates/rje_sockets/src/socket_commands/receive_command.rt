@@ -117,7 +117,8 @@ pub(super) fn keep_rest<'a, S: Store>(
     jobs: Vec<Job>,
     store: &mut S,
 ) -> Result<(), CommandFault<'a>>
-    ensures file { OnOk result ((files : Option FileMap) → IfErr left.now (λ broken. IsOfFile broken → ⊥)
+    ensures file { OnOk result ((files : Option FileMap)
+        → IfErr left.now (λ broken. IsOfFile broken → ⊥)
         → KeepsJobs keeper.old jobs.items files (S.files store.old)
         → MakesJobFile jobs.items keeper.old.name.now files (S.files store.new)) }
     ensures refused { IfErr left.now (λ broken. IsOfFile broken
