@@ -95,17 +95,9 @@ abbrev pub BothTake : Option Spoken → Sending → Sending → Receiving → Re
 BothTake None s s' r r' = (s.over ≡ true) × (s' ≡ s) × (r' ≡ r)
 BothTake (Some t) s s' r r' = SenderTakes s s' (unhindered t) × ReceiverTakes r r' (unhindered t)
 
--- a sending station took some turns to its end
-abbrev pub SendsToEnd : Sending → Sending → Type 0
-SendsToEnd s s' = (h : History) × SenderTook s h s' × IsThrough s' h
-
--- it took some turns, and then it failed
+-- a sending station took some turns, and then it failed
 abbrev pub SendsToFault : Sending → Sending → StationFault → Type 0
 SendsToFault s s' fault = (h : History) × (near : Sending) × SenderTook s h near × SenderFails near s' fault
-
--- a receiving station took some turns, and then it failed
-abbrev pub ReceivesToFault : Receiving → Receiving → StationFault → Type 0
-ReceivesToFault r r' fault = (h : History) × (far : Receiving) × ReceiverTook r h far × ReceiverFails far r' fault
 
 -- both took the same turns to the end
 abbrev pub BothToEnd : Sending → Sending → Receiving → Receiving → Type 0

@@ -1,5 +1,5 @@
 -- What a line transmitted of a receiving station's replies, and what is kept by then.
-use Rattle.std.proofs.Common.{◌≡◌, inl, inr, ℕ, Bool, false, [], ◌∷◌, Option, refl, ap, ◌∙◌}
+use Rattle.std.proofs.Common.{◌≡◌, inl, ℕ, Bool, false, [], ◌∷◌, Option, refl, ap, ◌∙◌}
 use Rattle.bsc_frame.specs.declared.heard.Heard.{Heard}
 use Rattle.bsc_link.specs.declared.say.Say.{Say}
 use Rattle.bsc_link.specs.declared.sound.Sound.{Sound}
@@ -21,7 +21,7 @@ use Rattle.rje_sockets.specs.Answering.{Answered, BreaksKeeping, KeepsToBreak, K
 use Rattle.rje_sockets.specs.Keeping.{GoesOnKeeping}
 use Rattle.rje_stores.specs.Store.{FileMap, Discloses, IsSame}
 use Rattle.rje_sockets.proofs.Growing.{goes_still}
-use Rattle.rje_sockets.proofs.Keeping.{goes_on_twice, goes_nowhere}
+use Rattle.rje_sockets.proofs.Keeping.{goes_on_twice}
 
 -- ONE TURN
 
@@ -50,10 +50,6 @@ pub not_kept : (k k' : Keeper) (r r' : Receiving) (before after : ℕ) (f g : Op
     → BreaksKeeping k k' r r' before after f g (BrokenOff.File fault)
 not_kept k k' r r' before after f g fault same unchanged still = inl (same, goes_still k k' r.jobs f g unchanged still, inl tt)
 
--- nothing came
-pub nothing_heard : (k : Keeper) (r r' : Receiving) (before after : ℕ) (f : Option FileMap) (broken : BrokenOff) → after ≡ before → r'.jobs ≡ r.jobs → BreaksKeeping k k r r' before after f f broken
-nothing_heard k r r' before after f broken same jobs = inl (same, goes_nowhere k r.jobs f, inr jobs)
-
 pub refusal_jobs : (fault : StationFault) (s : Receiving) → (after_refusal fault s).jobs ≡ s.jobs
 refusal_jobs fault.Over s = refl
 refusal_jobs _ s = refl
@@ -64,9 +60,6 @@ line_failed (fault.Line f) failed over middle after other cause tried = tried
 line_failed fault.Over failed over middle after other cause tried = absurd (other refl)
 line_failed fault.Babble failed over middle after other cause tried = absurd cause.0
 line_failed _ failed over middle after other cause tried = absurd cause
-
-pub bare : (r r' : Receiving) (before after : ℕ) → ((t : SpokenTurn) × ReceiverTakes r r' t × (after ≡ with_answer t before)) → (t : SpokenTurn) × ReceiverTakes r r' t
-bare r r' before after (t, takes, sent) = (t, takes)
 
 -- SOME TURNS
 

@@ -2,6 +2,7 @@
 use Rattle.std.proofs.Common.{◌≡◌, ◌⊎◌, inl, inr, ℕ, ◌+◌, ◌<◌, Bool, true, false, [], ◌∷◌, List, length, Option, Some, Result, Ok, Err, IfErr, if◌then◌else◌, refl, ap, sym, subst, ◌∙◌, arith}
 use Rattle.std.specs.Result.{IsErrAnd}
 use Rattle.rje_sockets.proofs.Patience.{quiet_on}
+use Rattle.bsc_codes.specs.declared.block.Block.{Block}
 use Rattle.bsc_frame.specs.declared.heard.Heard.{Heard}
 use Rattle.bsc_link.specs.declared.rank.Rank.{Rank}
 use Rattle.bsc_link.specs.declared.reply.Reply.{Reply}
@@ -11,6 +12,7 @@ use Rattle.bsc_link.specs.declared.wish.Wish.{Wish}
 use Rattle.rje_station.specs.declared.arrival.Arrival.{Arrival}
 use Rattle.rje_station.specs.Hearing.{sound_heard}
 use Rattle.rje_station.specs.JoinedJobs.{begun_in}
+use Rattle.rje_station.specs.Line.{Talk}
 use Rattle.rje_station.specs.Receiving.{MayRefuse}
 use Rattle.rje_station.specs.Station.{Contending, due_at, is_deaf, lets_in, after_other, after_own_reply, after_other_ended, after_other_refusal}
 use Rattle.rje_station.proofs.PassedOver.{passed_enq, passed_unrefused}
@@ -19,6 +21,7 @@ use Rattle.rje_station.specs.declared.station_fault.StationFault.TheVariants as 
 use Rattle.rje_sockets.specs.declared.broken_off.BrokenOff.{BrokenOff}
 use Rattle.rje_sockets.specs.declared.exchange.Left.{Left}
 use Rattle.rje_sockets.specs.BothWays.{AreOver, ExchangesTo, Fails, FailsInOthers, Others, Own, StationTurn, TakesOthers, TakesOwn, Took, Waits, Watched, after_answering_other, has_listened, quiet_in_a_row}
+use Rattle.rje_sockets.specs.OverLine.{HeardAndReplied, SpokeAndHeard}
 use Rattle.rje_sockets.specs.Patience.{was_quiet}
 use Rattle.rje_sockets.specs.Watching.{SawReceiver, SawSender}
 
@@ -50,7 +53,8 @@ others_arrived s mid what refused arrival may is came =
 
 pub others_taken : (s mid s' : Contending) (what : Heard) (refused : Bool) (arrival : Arrival) (reply : Option Reply) (over : Bool) → is_deaf s ≡ false
     → MayRefuse what (begun_in s.receiver.jobs) refused → mid ≡ after_other s what refused Wish.Go → reply ≡ mid.receiver.due → Some arrival ≡ mid.receiver.arrival
-    → over ≡ mid.receiver.over → s' ≡ (if over then after_other_ended mid else after_own_reply mid) → TakesOthers s s' arrival reply × (s'.receiver.arrival ≡ Some arrival)
+    → over ≡ mid.receiver.over → s' ≡ (if over then after_other_ended mid else after_own_reply mid)
+    → (takes : TakesOthers s s' arrival reply) × (takes.what ≡ what) × (s'.receiver.arrival ≡ Some arrival)
 others_taken s mid s' what refused arrival reply over live may is due came ends answers =
     let same = others_arrived s mid what refused arrival may is came in (
       record {
@@ -62,13 +66,14 @@ others_taken s mid s' what refused arrival reply over live may is due came ends 
         state = answers ∙ ap (λ (o : Bool). if o then after_other_ended mid else after_own_reply mid) ends ∙ ap after_answering_other is
             ∙ ap (λ (a : Arrival). after_answering_other (after_other s what a.refused Wish.Go)) (sym same);
       },
+      refl,
       ap (λ (x : Contending). x.receiver.arrival) answers ∙ answered_arrival mid over ends ∙ sym came,
     )
 
 -- THE TURNS SO FAR
 
 -- what was told is what was taken
-took_watched : {W : Type 0} (Sent : SawSender W) (Came : SawReceiver W) (rank : Rank) (s : Contending) (w : W) (s' : Contending) (w' : W) (turns : List StationTurn)
+pub took_watched : {W : Type 0} (Sent : List Block → SawSender W) (Came : Heard → SawReceiver W) (rank : Rank) (s : Contending) (w : W) (s' : Contending) (w' : W) (turns : List StationTurn)
     → Watched Sent Came rank s w s' w' turns → Took rank s turns s'
 took_watched Sent Came rank s w s' w' [] (same, told) = same
 took_watched Sent Came rank s w s' w' (t ∷ past) (near, mid, before, next, takes, saw) = (near, took_watched Sent Came rank s w near mid past before, next, takes)
@@ -82,7 +87,7 @@ others_listened : (rank : Rank) (arrival : Arrival) (reply : Option Reply) (past
 others_listened Rank.Primary arrival reply past = refl
 others_listened Rank.Secondary arrival reply past = refl
 
-module _ {W : Type 0} (Sent : SawSender W) (Came : SawReceiver W) (s : Contending) (w : W) where
+module _ {W : Type 0} (Sent : List Block → SawSender W) (Came : Heard → SawReceiver W) (s : Contending) (w : W) where
   -- it took so many turns, so many of the last of them the other's and quiet, and just those were told; and whether it has listened since
   pub record SoFar (n quiet : ℕ) (listened : Bool) (s' : Contending) (w' : W) : Type 0 where
     pub turns : List StationTurn
@@ -97,7 +102,7 @@ module _ {W : Type 0} (Sent : SawSender W) (Came : SawReceiver W) (s : Contendin
 
   module _ (near s' : Contending) (mid w' : W) (n quiet : ℕ) (listened : Bool) (p : SoFar n quiet listened near mid) where
     pub so_own : (now : Bool) → now ≡ has_listened s.contender.rank [] → (due_at near ≡ Say.Bid → (listened ≡ true) ⊎ (near.receiver.over ≡ true))
-        → ((said : Say) × (heard : Sound) × TakesOwn near s' said heard × Sent mid w' said heard) → SoFar (n + 1) 0 now s' w'
+        → ((said : Say) × (heard : Sound) × TakesOwn near s' said heard × Sent near.sender.rest mid w' said heard) → SoFar (n + 1) 0 now s' w'
     so_own now is bids (said, heard, takes, saw) = record {
       turns = Own said heard ∷ p.turns;
       watched = (near, mid, p.watched, subst (λ (b : Bool). due_at near ≡ Say.Bid → (b ≡ true) ⊎ (near.receiver.over ≡ true)) p.listened_is bids, takes, saw);
@@ -109,7 +114,7 @@ module _ {W : Type 0} (Sent : SawSender W) (Came : SawReceiver W) (s : Contendin
 
     -- the other's turn
     abbrev Came_now : Type 0
-    Came_now = (arrival : Arrival) × (reply : Option Reply) × TakesOthers near s' arrival reply × Came mid w' arrival reply × (s'.receiver.arrival ≡ Some arrival)
+    Came_now = (arrival : Arrival) × (reply : Option Reply) × (takes : TakesOthers near s' arrival reply) × Came takes.what mid w' arrival reply × (s'.receiver.arrival ≡ Some arrival)
 
     abbrev Listens : Bool → Type 0
     Listens b = (due_at near ≡ Say.Nothing) ⊎ ((due_at near ≡ Say.Bid) × (b ≡ false))
@@ -145,26 +150,38 @@ module _ {W : Type 0} (Sent : SawSender W) (Came : SawReceiver W) (s : Contendin
       listened_is = others_heard c;
     }
 
-    -- it gave up hope
-    pub forty_quiet : (now : ℕ) (left : Contending) → Listens listened → Came_now → now ≡ (if was_quiet s'.receiver.arrival then quiet + 1 else 0) → now ≡ 40 → left ≡ after_other_ended s'
-        → ExchangesTo Left.Abandoned s left
-    forty_quiet now left next c is forty ended =
-        (with_others c, s', took_watched Sent Came s.contender.rank s w s' w' (with_others c) (others_watched next c), inl (others_quiet c ∙ sym is ∙ forty, ended))
-
     pub forty_told : Listens listened → Came_now → (turns : List StationTurn) × Watched Sent Came s.contender.rank s w s' w' turns
     forty_told next c = (with_others c, others_watched next c)
 
     pub took : Took s.contender.rank s p.turns near
     took = took_watched Sent Came s.contender.rank s w near mid p.turns p.watched
 
-    pub ends_over : AreOver near → ExchangesTo Left.Ended s near
-    ends_over over = (p.turns, near, took, inl (over, refl))
+-- HOW IT ENDS, over a line
 
-    pub ends_hung_up : Waits near → s' ≡ after_other_refusal (fault.Line Closed) near → ExchangesTo Left.Ended s s'
-    ends_hung_up waits is = (p.turns, near, took, inr (waits, is))
+module _ (s : Contending) (t : Option Talk) where
+  abbrev pub SoFarOver : (n quiet : ℕ) → Bool → Contending → Option Talk → Type 0
+  SoFarOver = SoFar SpokeAndHeard HeardAndReplied s t
 
-    pub ends_long : n ≡ 1000000000 → ExchangesTo Left.Abandoned s near
-    ends_long e = (p.turns, near, took, inr (p.long ∙ e, refl))
+  module _ (near s' : Contending) (mid u : Option Talk) (n quiet : ℕ) (listened : Bool) (p : SoFarOver n quiet listened near mid) where
+    pub ends_over : AreOver near → s' ≡ near → u ≡ mid → ExchangesTo Left.Ended s t s' u
+    ends_over over is same = (p.turns, near, mid, p.watched, inl (over, is, same))
+
+    pub ends_hung_up : Waits near → s' ≡ after_other_refusal (fault.Line Closed) near → ExchangesTo Left.Ended s t s' u
+    ends_hung_up waits is = (p.turns, near, mid, p.watched, inr (waits, is))
+
+    -- it gave up hope
+    pub forty_quiet : (now : ℕ) (left : Contending) → Listens SpokeAndHeard HeardAndReplied s t near s' mid u n quiet listened p listened
+        → Came_now SpokeAndHeard HeardAndReplied s t near s' mid u n quiet listened p → now ≡ (if was_quiet s'.receiver.arrival then quiet + 1 else 0) → now ≡ 40 → left ≡ after_other_ended s'
+        → ExchangesTo Left.Abandoned s t left u
+    forty_quiet now left next c is forty ended = (
+      with_others SpokeAndHeard HeardAndReplied s t near s' mid u n quiet listened p c,
+      s',
+      others_watched SpokeAndHeard HeardAndReplied s t near s' mid u n quiet listened p next c,
+      inl (others_quiet SpokeAndHeard HeardAndReplied s t near s' mid u n quiet listened p c ∙ sym is ∙ forty, ended),
+    )
+
+  pub ends_long : (near : Contending) (mid : Option Talk) (n quiet : ℕ) (listened : Bool) → SoFarOver n quiet listened near mid → n ≡ 1000000000 → ExchangesTo Left.Abandoned s t near mid
+  ends_long near mid n quiet listened p e = (p.turns, near, p.watched, inr (p.long ∙ e, refl))
 
 pub fails_as : {X : Type 0} (r : Result X BrokenOff) (broken : BrokenOff) (P : BrokenOff → Type 0) → IsErrAnd r (λ b. b ≡ broken) → P broken → IfErr r P
 fails_as (Err b) broken P is holds = subst P (sym is) holds

@@ -11,6 +11,7 @@ use Rattle.rje_files.specs.Entry.{jobs_in}
 use Rattle.rje_files.specs.JobFile.{HasEntries}
 use Rattle.rje_files.specs.Marks.{AreMarks}
 use Rattle.rje_files.specs.Unsent.{IsLeft, unsent}
+use Rattle.rje_station.specs.Line.{Talk}
 use Rattle.rje_station.specs.Sending.{outcome_of}
 use Rattle.rje_station.specs.Station.{Contending, first_contending}
 use Rattle.rje_commands.specs.declared.command_fault.CommandFault.{CommandFault}
@@ -51,18 +52,18 @@ makes_both old new counted n before after jobs later f mid g h on sets makes two
     )
 
 -- a transmission each way that nothing ended but itself
-pub all_exchanged : (left : Result Left BrokenOff) (marked kept printed : Result (Unit {0}) CommandFault) (s station : Contending) (old new : Marker) (before after : Keeper) (f mid g h : Option FileMap)
-    (had has : Option (List ℕ)) (text : List ℕ) → IfOk left (λ l. ExchangesTo l s station)
+pub all_exchanged : (left : Result Left BrokenOff) (marked kept printed : Result (Unit {0}) CommandFault) (t u : Option Talk) (s station : Contending) (old new : Marker) (before after : Keeper) (f mid g h : Option FileMap)
+    (had has : Option (List ℕ)) (text : List ℕ) → IfOk left (λ l. ExchangesTo l s t station u)
     → OnOk left (GoesOnHolding old new s.sender.counted station.sender.counted before after s.receiver.jobs station.receiver.jobs f mid)
     → OnOk marked (MarksSent new.file.items station.sender.counted new.name.now mid g)
     → OnOk kept ((files : Option FileMap) → IfErr left (λ broken. IsOfFile broken → ⊥) → KeepsJobs after station.receiver.jobs files g → MakesJobFile station.receiver.jobs after.name.now files h)
     → OnOk printed (Appends had has text) → text ≡ exchanged_text station.sender.counted (length s.sender.jobs) (outcome_of station.sender) station.receiver.jobs
-    → IfOk left (λ l. OnOk (result_and marked kept) (OnOk printed (Exchanges (ending_of_both (outcome_of station.sender) l) s old before f h had has)))
-all_exchanged (Err b) marked kept printed s station old new before after f mid g h had has text exchanges holds sets keeps prints is = tt
-all_exchanged (Ok l) (Err e) kept printed s station old new before after f mid g h had has text exchanges holds sets keeps prints is = tt
-all_exchanged (Ok l) (Ok m) (Err e) printed s station old new before after f mid g h had has text exchanges holds sets keeps prints is = tt
-all_exchanged (Ok l) (Ok m) (Ok k) (Err e) s station old new before after f mid g h had has text exchanges holds sets keeps prints is = tt
-all_exchanged (Ok l) (Ok m) (Ok k) (Ok p) s station old new before after f mid g h had has text exchanges holds sets keeps prints is = record {
+    → IfOk left (λ l. OnOk (result_and marked kept) (OnOk printed (Exchanges (ending_of_both (outcome_of station.sender) l) t u s old before f h had has)))
+all_exchanged (Err b) marked kept printed t u s station old new before after f mid g h had has text exchanges holds sets keeps prints is = tt
+all_exchanged (Ok l) (Err e) kept printed t u s station old new before after f mid g h had has text exchanges holds sets keeps prints is = tt
+all_exchanged (Ok l) (Ok m) (Err e) printed t u s station old new before after f mid g h had has text exchanges holds sets keeps prints is = tt
+all_exchanged (Ok l) (Ok m) (Ok k) (Err e) t u s station old new before after f mid g h had has text exchanges holds sets keeps prints is = tt
+all_exchanged (Ok l) (Ok m) (Ok k) (Ok p) t u s station old new before after f mid g h had has text exchanges holds sets keeps prints is = record {
   left = l;
   station = station;
   exchanges = exchanges;
@@ -105,14 +106,14 @@ holds_nothing marker counted keeper jobs f g none zero are kept empty same_files
 made_before : (file : List ℕ) (n : ℕ) (jobs : List Job) (send received : List ℕ) (f g h : Option FileMap) → Discloses f g IsSame → MakesBoth file n jobs send received g h → MakesBoth file n jobs send received f h
 made_before file n jobs send received f g h same (marked, sent, kept) = (marked, marked_after file send n f g marked same sent, kept)
 
-pub exchanges_left : (r : Result Ending CommandFault) (rank : Rank) (send received : List ℕ) (jobs : List Job) (s : Contending) (marker : Marker) (keeper : Keeper)
+pub exchanges_left : (r : Result Ending CommandFault) (t u : Option Talk) (rank : Rank) (send received : List ℕ) (jobs : List Job) (s : Contending) (marker : Marker) (keeper : Keeper)
     (f read looked h : Option FileMap) (before after : Option (List ℕ))
     → IsOutgoing send f jobs marker → Discloses f read IsSame → s ≡ first_contending rank jobs
     → keeper.name.now ≡ received → keeper.kept ≡ 0 → send ≢ received → Discloses read looked IsSame
-    → IfOk r (λ ending. Exchanges ending s marker keeper looked h before after)
-    → IfOk r (λ ending. OfFile send f (λ bytes. ExchangesLeft ending rank send received bytes f h before after))
-exchanges_left (Err fault) rank send received jobs s marker keeper f read looked h before after out same first called kept two same' done = tt
-exchanges_left (Ok ending) rank send received jobs s marker keeper f read looked h before after out same first called kept two same' done =
+    → IfOk r (λ ending. Exchanges ending t u s marker keeper looked h before after)
+    → IfOk r (λ ending. OfFile send f (λ bytes. ExchangesLeft ending t u rank send received bytes f h before after))
+exchanges_left (Err fault) t u rank send received jobs s marker keeper f read looked h before after out same first called kept two same' done = tt
+exchanges_left (Ok ending) t u rank send received jobs s marker keeper f read looked h before after out same first called kept two same' done =
     let file = marker.file.items in
     let left = out.left in
     let given : length jobs ≡ length (unsent left.0) = ap length left.3 ∙ length-map (unsent left.0) (λ e. e.job) in
@@ -121,12 +122,12 @@ exchanges_left (Ok ending) rank send received jobs s marker keeper f read looked
     let had = holds_nothing marker s.sender.counted keeper s.receiver.jobs read looked out.none (ap (λ (x : Contending). x.sender.counted) first) out.marks kept
     (ap (λ (x : Contending). x.receiver.jobs) first) same' in
     let makes = done.makes apart read had in
-    of_file (λ bytes. ExchangesLeft ending rank send received bytes f h before after) file (record {
+    of_file (λ bytes. ExchangesLeft ending t u rank send received bytes f h before after) file (record {
       entries = left.0;
       left = done.left;
       station = done.station;
       file_is = left.1;
-      exchanges = subst (λ (x : Contending). ExchangesTo done.left x done.station) (first ∙ ap (first_contending rank) left.3) done.exchanges;
+      exchanges = subst (λ (x : Contending). ExchangesTo done.left x t done.station u) (first ∙ ap (first_contending rank) left.3) done.exchanges;
       makes = made_before file done.station.sender.counted done.station.receiver.jobs send received f read h same
           (subst (λ (n : List ℕ). MakesBoth file done.station.sender.counted done.station.receiver.jobs n received read h) out.named
           (subst (λ (n : List ℕ). MakesBoth file done.station.sender.counted done.station.receiver.jobs marker.name.now n read h) called makes));
@@ -144,10 +145,6 @@ alone_before s file name f g h same (inr (last, came, sets)) = inr (last, came, 
 both_before : (s : Contending) (file send received : List ℕ) (f g h : Option FileMap) → Discloses f g IsSame → LeavesBoth s file send received g h → LeavesBoth s file send received f h
 both_before s file send received f g h same left =
     record { marked = left.marked; marks = alone_before s file send f g left.marked same left.marks; last = left.last; came = left.came; kept = left.kept }
-
-pub leaves_same : (rank : Rank) (send received : List ℕ) (f h : Option FileMap) → Discloses f h IsSame → IfSome f (λ _. LeavesExchange rank send received f h)
-leaves_same rank send received None h same = tt
-leaves_same rank send received (Some f) h same = inl same
 
 known_before : (P : Type 0) (f g : Option FileMap) → Discloses f g IsSame → IfSome g (λ _. P) → IfSome f (λ _. P)
 known_before P None g same known = tt

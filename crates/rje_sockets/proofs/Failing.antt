@@ -56,13 +56,6 @@ pub send_fails : {X : Type 0} (r : Result X CommandFault) (name : List ℕ) (fil
 send_fails (Ok x) name files fails = tt
 send_fails (Err fault) name files fails = inl fails
 
--- what is told of a file that was read
-pub send_refused : {X : Type 0} (r : Result X CommandFault) (name file : List ℕ) (files : Option FileMap) → OfFile name files (λ read. file ≡ read)
-    → IfErr r (λ fault. IsFailing (status_of fault) ⊎ IsUnsentFault file fault) → IfErr r (IsSendFault name files)
-send_refused (Ok x) name file files read told = tt
-send_refused (Err fault) name file files read (inl fails) = inl fails
-send_refused (Err fault) name file files read (inr refused) = inr (file, refused, read)
-
 -- where all that is left can be sent
 pub left_fails : {X : Type 0} (r : Result X CommandFault) (file : List ℕ) (jobs : List Job) → IsLeft file jobs
     → IfErr r (λ fault. (jobs : List Job) → IsLeft file jobs → IsFailing (status_of fault)) → IfErr r (λ fault. IsFailing (status_of fault))

@@ -8,7 +8,7 @@ use Rattle.rje_files.specs.Growth.{GrowsBy, grown}
 use Rattle.rje_files.specs.JobFile.{IsEntryFileOf, file_of}
 use Rattle.rje_stores.specs.declared.store.Place.{Place}
 use Rattle.rje_stores.specs.declared.store.Place.TheVariants.{Growing, Once}
-use Rattle.rje_stores.proofs.Changes.{same_after, same_twice, set_after, set_longer, set_over}
+use Rattle.rje_stores.proofs.Changes.{same_after, same_twice, set_after, set_longer}
 use Rattle.rje_sockets.specs.Ending.{MakesJobFile}
 use Rattle.rje_sockets.specs.declared.keeper.Keeper.{Keeper}
 use Rattle.rje_sockets.specs.Keeping.{AreKept, GoesOnKeeping, KeepsJobs}
@@ -50,11 +50,6 @@ next_kept (j ∷ js) name front tail job count long longer files f g n some grow
 
 -- THE END
 
--- a file that is written in place of what was kept
-pub made_after : (kept jobs : List Job) (long : ℕ) (name : List ℕ) (files f g : Option FileMap) → AreKept kept long name files f → MakesJobFile jobs name f g → MakesJobFile jobs name files g
-made_after [] jobs long name files f g same (bytes, file, few, sets) = (bytes, file, few, set_after name bytes files f g same sets)
-made_after (j ∷ js) jobs long name files f g kept (bytes, file, few, sets) = (bytes, file, few, set_over name kept.0 bytes files f g kept.4 sets)
-
 -- what was kept is the file
 pub made_of : (kept jobs : List Job) (long : ℕ) (name : List ℕ) (files f : Option FileMap) → kept ≡ jobs → (length jobs ≡ 0 → ⊥) → AreKept kept long name files f → MakesJobFile jobs name files f
 made_of [] jobs long name files f is some kept = absurd (some (ap length (sym is)))
@@ -75,10 +70,6 @@ grows_not_once Growing other = refl
 grows_not_once Once other = absurd (other refl)
 
 -- A WHOLE TRANSMISSION
-
--- the file stays where no file changes
-pub made_still : (jobs : List Job) (name : List ℕ) (f g h : Option FileMap) → MakesJobFile jobs name f g → Discloses g h IsSame → MakesJobFile jobs name f h
-made_still jobs name f g h (bytes, file, few, sets) same = (bytes, file, few, same_after name bytes f g h sets same)
 
 -- a keeper that has kept nothing
 pub none_kept : (keeper : Keeper) (f g : Option FileMap) → keeper.kept ≡ 0 → Discloses f g IsSame → KeepsJobs keeper [] f g

@@ -3,6 +3,7 @@ use Rattle.std.proofs.Common.{◌≡◌, ◌⊎◌, inl, inr, ℕ, List, [], Opt
 use Rattle.std.specs.Prelude.{◌≢◌}
 use Rattle.std.proofs.lemmas.Result.{on_ok_weaker}
 use Rattle.rje_jobs.specs.declared.job.Job.{Job}
+use Rattle.rje_station.specs.Line.{Talk}
 use Rattle.rje_station.specs.Station.{Contending}
 use Rattle.rje_commands.specs.declared.command_fault.CommandFault.{CommandFault}
 use Rattle.rje_sockets.specs.declared.broken_off.BrokenOff.{BrokenOff}
@@ -12,12 +13,14 @@ use Rattle.rje_sockets.specs.declared.marker.Marker.{Marker}
 use Rattle.rje_stores.specs.declared.store.Place.TheVariants.{Growing}
 use Rattle.rje_sockets.specs.Answering.{HasWhole}
 use Rattle.rje_sockets.specs.BothFiles.{BreaksBoth, GoesOnHolding, HoldsBoth}
-use Rattle.rje_sockets.specs.BothWays.{ExchangesTo, StationTurn, Took}
+use Rattle.rje_sockets.specs.BothWays.{ExchangesTo, StationTurn, Took, TookOver}
 use Rattle.rje_sockets.specs.Ending.{MakesJobFile, MarksSent}
 use Rattle.rje_sockets.specs.Keeping.{IsOfFile, KeepsJobs}
 use Rattle.rje_sockets.specs.LeavingBoth.{CameTo, HasCounted, LeavesBoth, MarksAlone}
 use Rattle.rje_sockets.specs.Marking.{AreMarked}
+use Rattle.rje_sockets.specs.OverLine.{HeardAndReplied, SpokeAndHeard}
 use Rattle.rje_sockets.proofs.BothFiles.{holds_written}
+use Rattle.rje_sockets.proofs.BothWays.{took_watched}
 use Rattle.rje_sockets.proofs.Received.{has_kept, has_rest, still_keeps}
 use Rattle.rje_stores.specs.Store.{FileMap, Discloses, IsSame}
 
@@ -33,11 +36,14 @@ counted_on s near start had has came before (inr new) = inr (near, came, sym new
 
 -- WHEN THEY ENDED
 
-came_left : (s s' : Contending) (left : Left) → ExchangesTo left s s' → CameTo s s'
-came_left s s' Left.Ended (turns, near, took, inl (over, same)) = (turns, near, took, inl (inl same))
-came_left s s' Left.Ended (turns, near, took, inr (waits, closed)) = (turns, near, took, inl (inr (inr closed)))
-came_left s s' Left.Abandoned (turns, near, took, inl (quiet, ended)) = (turns, near, took, inl (inr (inl ended)))
-came_left s s' Left.Abandoned (turns, near, took, inr (long, same)) = (turns, near, took, inl (inl same))
+took_over : (s near : Contending) (t u : Option Talk) (turns : List StationTurn) → TookOver s t turns near u → Took s.contender.rank s turns near
+took_over s near t u turns took = took_watched SpokeAndHeard HeardAndReplied s.contender.rank s t near u turns took
+
+came_left : (s s' : Contending) (t u : Option Talk) (left : Left) → ExchangesTo left s t s' u → CameTo s s'
+came_left s s' t u Left.Ended (turns, near, mid, took, inl (over, same, talk)) = (turns, near, took_over s near t mid turns took, inl (inl same))
+came_left s s' t u Left.Ended (turns, near, mid, took, inr (waits, closed)) = (turns, near, took_over s near t mid turns took, inl (inr (inr closed)))
+came_left s s' t u Left.Abandoned (turns, near, took, inl (quiet, ended)) = (turns, near, took_over s near t u turns took, inl (inr (inl ended)))
+came_left s s' t u Left.Abandoned (turns, near, took, inr (long, same)) = (turns, near, took_over s near t u turns took, inl (inl same))
 
 -- what was held then: of the jobs of the station where it stands, or, where the last one couldn't be kept, of those that it had before
 record Held (left : Result Left BrokenOff) (s s' : Contending) (old new : Marker) (before after : Keeper) (f g : Option FileMap) : Type 0 where
@@ -48,12 +54,12 @@ record Held (left : Result Left BrokenOff) (s s' : Contending) (old new : Marker
   pub same : IfErr left (λ broken. IsOfFile broken → ⊥) → last ≡ s'
   pub holds : GoesOnHolding old new s.sender.counted counted before after s.receiver.jobs last.receiver.jobs f g
 
-held : (left : Result Left BrokenOff) (s s' : Contending) (old new : Marker) (before after : Keeper) (f g : Option FileMap) → IfOk left (λ l. ExchangesTo l s s')
+held : (left : Result Left BrokenOff) (t u : Option Talk) (s s' : Contending) (old new : Marker) (before after : Keeper) (f g : Option FileMap) → IfOk left (λ l. ExchangesTo l s t s' u)
     → OnOk left (GoesOnHolding old new s.sender.counted s'.sender.counted before after s.receiver.jobs s'.receiver.jobs f g) → IfErr left (BreaksBoth s s' old new before after f g)
     → Held left s s' old new before after f g
-held (Ok l) s s' old new before after f g exchanges holds breaks =
-    record { counted = s'.sender.counted; last = s'; came = came_left s s' l exchanges; ended = came_left s s' l exchanges; same = λ well. refl; holds = holds }
-held (Err (BrokenOff.Line fault)) s s' old new before after f g exchanges holds b = record {
+held (Ok l) t u s s' old new before after f g exchanges holds breaks =
+    record { counted = s'.sender.counted; last = s'; came = came_left s s' t u l exchanges; ended = came_left s s' t u l exchanges; same = λ well. refl; holds = holds }
+held (Err (BrokenOff.Line fault)) t u s s' old new before after f g exchanges holds b = record {
   counted = b.near.sender.counted;
   last = s';
   came = (b.turns, b.near, b.took, inr (BrokenOff.Line fault, b.fails));
@@ -61,7 +67,7 @@ held (Err (BrokenOff.Line fault)) s s' old new before after f g exchanges holds 
   same = λ well. refl;
   holds = b.holds;
 }
-held (Err (BrokenOff.File fault)) s s' old new before after f g exchanges holds b = record {
+held (Err (BrokenOff.File fault)) t u s s' old new before after f g exchanges holds b = record {
   counted = b.near.sender.counted;
   last = b.near;
   came = came_near s b.near b.turns b.took;
@@ -71,10 +77,10 @@ held (Err (BrokenOff.File fault)) s s' old new before after f g exchanges holds 
 }
 
 -- the file that was read stays the same
-pub file_stays : (left : Result Left BrokenOff) (s s' : Contending) (old new : Marker) (before after : Keeper) (f g : Option FileMap) → IfOk left (λ l. ExchangesTo l s s')
+pub file_stays : (left : Result Left BrokenOff) (t u : Option Talk) (s s' : Contending) (old new : Marker) (before after : Keeper) (f g : Option FileMap) → IfOk left (λ l. ExchangesTo l s t s' u)
     → OnOk left (GoesOnHolding old new s.sender.counted s'.sender.counted before after s.receiver.jobs s'.receiver.jobs f g) → IfErr left (BreaksBoth s s' old new before after f g)
     → new.file ≡ old.file
-file_stays left s s' old new before after f g exchanges holds breaks = (held left s s' old new before after f g exchanges holds breaks).holds.file
+file_stays left t u s s' old new before after f g exchanges holds breaks = (held left t u s s' old new before after f g exchanges holds breaks).holds.file
 
 -- THE WHOLE FILE OF WHAT IS SENT
 
@@ -123,8 +129,8 @@ module _ (kept : Result (Unit {0}) CommandFault) (keeper : Keeper) (last s' : Co
   kept_then (Err (BrokenOff.File e)) same makes refused = has_kept keeper last.receiver.jobs marked made grows (still_keeps keeper last.receiver.jobs marked g made k (refused tt))
 
 -- both
-pub leaves_both : {X : Type 0} (left : Result Left BrokenOff) (written : Result X CommandFault) (kept : Result (Unit {0}) CommandFault) (s s' : Contending) (old new : Marker) (before after : Keeper)
-    (f g h made : Option FileMap) → IfOk left (λ l. ExchangesTo l s s')
+pub leaves_both : {X : Type 0} (left : Result Left BrokenOff) (written : Result X CommandFault) (kept : Result (Unit {0}) CommandFault) (t u : Option Talk) (s s' : Contending) (old new : Marker) (before after : Keeper)
+    (f g h made : Option FileMap) → IfOk left (λ l. ExchangesTo l s t s' u)
     → OnOk left (GoesOnHolding old new s.sender.counted s'.sender.counted before after s.receiver.jobs s'.receiver.jobs f g) → IfErr left (BreaksBoth s s' old new before after f g)
     → (new.marked ≡ old.marked) ⊎ HasCounted s new.marked
     → OnOk written (MarksSent new.file.items s'.sender.counted new.name.now g h) → OnErr written (Discloses g h IsSame)
@@ -132,8 +138,8 @@ pub leaves_both : {X : Type 0} (left : Result Left BrokenOff) (written : Result 
     → IfErr left (λ broken. IsOfFile broken → Discloses h made IsSame) → OnErr kept (Discloses h made IsSame)
     → old.marked ≡ s.sender.counted → before.place ≡ Growing → old.name.now ≢ before.name.now
     → (files : Option FileMap) → HoldsBoth old s.sender.counted before s.receiver.jobs files f → LeavesBoth s old.file.items old.name.now before.name.now files made
-leaves_both left written kept s s' old new before after f g h made exchanges holding breaks count sets stays makes refused still start grows two files had =
-    let on = held left s s' old new before after f g exchanges holding breaks in
+leaves_both left written kept t u s s' old new before after f g h made exchanges holding breaks count sets stays makes refused still start grows two files had =
+    let on = held left t u s s' old new before after f g exchanges holding breaks in
     let apart : new.name.now ≢ after.name.now = λ is. two (sym (ap (λ (x : _). x.now) on.holds.name) ∙ is ∙ ap (λ (x : _). x.now) on.holds.own) in
     let m = marked_then s s' old new count start written on.counted after on.last.receiver.jobs files g h apart on.ended sets stays (on.holds.holds two files had) in
     record {

@@ -4,7 +4,7 @@ pub mod LeavingBoth
 pub mod BothWays
 pub mod Live
 pub mod LineBreak
-pub mod Babble
+pub mod OverLine
 pub mod Exchanged
 pub mod Sending
 pub mod Outgoing

@@ -2,14 +2,15 @@
 use Rattle.std.proofs.Common.{◌≡◌, inl, inr, ℕ, ◌+◌, ◌<◌, List, set, true, Option, Some, Result, Ok, Err, OnOk, OnErr, IfErr, [], ◌⊎◌, refl, ap, sym, ◌∙◌, subst, arith}
 use Rattle.std.proofs.lemmas.List.{length-set}
 use Rattle.std.specs.List.{slice_get}
+use Rattle.bsc_history.specs.History.{History}
 use Rattle.rje_jobs.specs.declared.job.Job.{Job}
 use Rattle.rje_files.specs.Marks.{AreMarks}
 use Rattle.rje_files.specs.Unsent.{IsLeft, IsSentFile}
 use Rattle.rje_station.specs.declared.station_fault.StationFault.{StationFault}
 use Rattle.rje_station.specs.declared.station_fault.StationFault.TheVariants as fault
+use Rattle.rje_station.specs.Line.{Talk}
 use Rattle.rje_station.specs.Sending.{Sending, after_refusal, after_speaking, first_sending}
-use Rattle.line_world.specs.AnyLines.{SenderFails, SenderTook, SendsToEnd, SendsToFault}
-use Rattle.line_world.proofs.TurnsOverLines.{SendsSoFar}
+use Rattle.line_world.specs.AnyLines.{SenderFails, SenderTook, SendsToFault}
 use Rattle.rje_stores.proofs.Changes.{byte_set, same_after, same_itself, same_twice, set_after, set_over}
 use Rattle.rje_sockets.specs.declared.marker.Marker.{Marker}
 use Rattle.rje_commands.specs.declared.command_fault.CommandFault.{CommandFault}
@@ -17,9 +18,11 @@ use Rattle.rje_commands.specs.Commands.{OfFile}
 use Rattle.rje_sockets.specs.Ending.{MarksSent}
 use Rattle.rje_sockets.specs.Inside.Sending.{IsOutgoing}
 use Rattle.rje_sockets.specs.Marking.{AreMarked, GoesOnMarking, Marks, MarksCounted, MarksNoMore, WereCounted}
+use Rattle.rje_sockets.specs.OverLine.{SendsOver, SpokeAndHeard}
 use Rattle.rje_stores.specs.Store.{FileMap, Discloses, IsSame, SetsByte}
 use Rattle.rje_commands.proofs.Inputs.{of_file}
 use Rattle.rje_sockets.proofs.Sending.{marked_after}
+use Rattle.rje_sockets.proofs.Watched.{sender_took}
 
 -- the next mark
 next_mark : (file places name : List ℕ) (n counted place : ℕ) (files g h : Option FileMap) → slice_get places n ≡ Some place → counted ≡ n + 1 → 0 < n
@@ -105,9 +108,9 @@ begun (Ok x) marker name start counted f h of none zero are on =
 -- WHAT IS MARKED WAS COUNTED, whatever ends the transmission
 
 -- turn by turn
-pub counts_on : (s near : Sending) (k start had has : ℕ) → SendsSoFar s k near → (had ≡ start) ⊎ WereCounted s had → (has ≡ had) ⊎ (has ≡ near.counted) → (has ≡ start) ⊎ WereCounted s has
-counts_on s near k start had has turns before (inl same) = subst (λ (n : ℕ). (n ≡ start) ⊎ WereCounted s n) (sym same) before
-counts_on s near k start had has (h, took, long) before (inr new) = inr (h, near, took, sym new)
+pub counts_on : (s near : Sending) (start had has : ℕ) → (h : History) × SenderTook s h near → (had ≡ start) ⊎ WereCounted s had → (has ≡ had) ⊎ (has ≡ near.counted) → (has ≡ start) ⊎ WereCounted s has
+counts_on s near start had has took before (inl same) = subst (λ (n : ℕ). (n ≡ start) ⊎ WereCounted s n) (sym same) before
+counts_on s near start had has (h, took) before (inr new) = inr (h, near, took, sym new)
 
 -- a fault leaves the count
 refused_count : (f : StationFault) (s : Sending) → (after_refusal f s).counted ≡ s.counted
@@ -121,8 +124,11 @@ failed_count : (near s' : Sending) (f : StationFault) → SenderFails near s' f 
 failed_count near s' f (inl e) = ap (λ x. x.counted) e ∙ refused_count f near
 failed_count near s' f (inr e) = ap (λ x. x.counted) e ∙ refused_count f (after_speaking near)
 
-ended_count : {X : Type 0} (sent : Result X StationFault) (s s' : Sending) → OnOk sent (SendsToEnd s s') → IfErr sent (SendsToFault s s') → WereCounted s s'.counted
-ended_count (Ok x) s s' (h, took, through) fails = (h, s', took, refl)
+pub counted_over : (s s' : Sending) (t u : Option Talk) → SendsOver s t s' u → WereCounted s s'.counted
+counted_over s s' t u (h, took, through) = (h, s', sender_took SpokeAndHeard s t s' u h took, refl)
+
+ended_count : {X : Type 0} (sent : Result X StationFault) (s s' : Sending) → OnOk sent (WereCounted s s'.counted) → IfErr sent (SendsToFault s s') → WereCounted s s'.counted
+ended_count (Ok x) s s' counted fails = counted
 ended_count (Err f) s s' ends (h, near, took, fails) = (h, near, took, sym (failed_count near s' f fails))
 
 -- at the end the whole file is written, or it stays
@@ -151,7 +157,7 @@ some_count (Err e) old new s s' f g on broken = broken
 
 pub counted_alone : {X Y : Type 0} (sent : Result X StationFault) (written : Result Y CommandFault) (old new : Marker) (s s' : Sending) (f g h : Option FileMap)
     → OnOk sent (GoesOnMarking old new s.counted s'.counted f g) → OnErr sent ((n : ℕ) × GoesOnMarking old new s.counted n f g)
-    → (new.marked ≡ old.marked) ⊎ WereCounted s new.marked → OnOk sent (SendsToEnd s s') → IfErr sent (SendsToFault s s')
+    → (new.marked ≡ old.marked) ⊎ WereCounted s new.marked → OnOk sent (WereCounted s s'.counted) → IfErr sent (SendsToFault s s')
     → OnOk written (MarksSent new.file.items s'.counted new.name.now g h) → OnErr written (Discloses g h IsSame)
     → (files : Option FileMap) → old.marked ≡ s.counted → Marks old s.counted files f → MarksCounted s old.file.items old.name.now files h
 counted_alone sent written old new s s' f g h marked broken count ends fails sets same files start m =

@@ -3,7 +3,7 @@ use Rattle.std.proofs.Common.{◌≡◌, ℕ, List, Option, Result, IfOk, OnOk, 
 use Rattle.std.specs.Io.KnownBytes.{Appends}
 use Rattle.rje_jobs.specs.declared.job.Job.{Job}
 use Rattle.rje_station.specs.Sending.{Sending, first_sending, outcome_of}
-use Rattle.line_world.specs.AnyLines.{SendsToEnd}
+use Rattle.rje_station.specs.Line.{Talk}
 use Rattle.rje_commands.specs.declared.command_fault.CommandFault.{CommandFault}
 use Rattle.rje_commands.specs.Commands.{OfFile}
 use Rattle.rje_sockets.specs.declared.marker.Marker.{Marker}
@@ -11,17 +11,18 @@ use Rattle.rje_sockets.specs.declared.socket_commands.ending.Ending.{Ending}
 use Rattle.rje_sockets.specs.Ending.{MarksSent, SendsLeft, ending_of, sent_text}
 use Rattle.rje_sockets.specs.Inside.Sending.{IsOutgoing}
 use Rattle.rje_sockets.specs.Marking.{Marks}
+use Rattle.rje_sockets.specs.OverLine.{SendsOver}
 use Rattle.rje_sockets.proofs.Marked.{begun}
 use Rattle.rje_sockets.proofs.Sending.{sends_left}
 use Rattle.rje_stores.specs.Store.{FileMap, IsSame, Discloses}
 
-pub sends_outgoing : (r : Result Ending CommandFault) (name : List ℕ) (jobs : List Job) (marker : Marker) (s s' : Sending) (f g h : Option FileMap) (before after : Option (List ℕ))
-    → IsOutgoing name f jobs marker → Discloses f g IsSame → s ≡ first_sending jobs → OnOk r (SendsToEnd s s') → IfOk r (λ ending. ending ≡ ending_of (outcome_of s'))
+pub sends_outgoing : (r : Result Ending CommandFault) (t u : Option Talk) (name : List ℕ) (jobs : List Job) (marker : Marker) (s s' : Sending) (f g h : Option FileMap) (before after : Option (List ℕ))
+    → IsOutgoing name f jobs marker → Discloses f g IsSame → s ≡ first_sending jobs → OnOk r (SendsOver s t s' u) → IfOk r (λ ending. ending ≡ ending_of (outcome_of s'))
     → OnOk r (Appends before after (sent_text s'.counted (length s.jobs) (outcome_of s')))
     → OnOk r ((files : Option FileMap) → Marks marker s.counted files g → MarksSent marker.file.items s'.counted marker.name.now files h)
-    → IfOk r (λ ending. OfFile name f (λ read. SendsLeft ending name read f h before after))
-sends_outgoing r name jobs marker s s' f g h before after out same first took ended printed marked =
-    sends_left r name marker.file.items jobs s' f g h before after out.read same out.left
-    (subst (λ (x : Sending). OnOk r (SendsToEnd x s')) first took) ended
+    → IfOk r (λ ending. OfFile name f (λ read. SendsLeft ending t u name read f h before after))
+sends_outgoing r t u name jobs marker s s' f g h before after out same first took ended printed marked =
+    sends_left r t u name marker.file.items jobs s' f g h before after out.read same out.left
+    (subst (λ (x : Sending). OnOk r (SendsOver x t s' u)) first took) ended
     (subst (λ (n : ℕ). OnOk r (Appends before after (sent_text s'.counted n (outcome_of s')))) (ap (λ (x : Sending). length x.jobs) first) printed)
     (begun r marker name s.counted s'.counted g h out.named out.none (ap (λ (x : Sending). x.counted) first) out.marks marked)

@@ -1,68 +1,75 @@
 -- A receiving station that goes on as long as its patience lasts.
-use Rattle.std.proofs.Common.{◌≡◌, inl, inr, ℕ, ◌+◌, ◌<◌, Bool, true, false, [], ◌∷◌, length, Some, if◌then◌else◌, refl, ap, sym, ◌∙◌, arith}
+use Rattle.std.proofs.Common.{◌≡◌, inl, inr, ℕ, ◌+◌, ◌<◌, Bool, true, false, [], ◌∷◌, length, Option, Some, if◌then◌else◌, refl, ap, sym, ◌∙◌, arith}
 use Rattle.bsc_link.specs.declared.sound.Sound.{Sound}
+use Rattle.rje_station.specs.Line.{Talk}
 use Rattle.rje_station.specs.Receiving.{Receiving}
 use Rattle.bsc_history.specs.declared.spoken_turn.SpokenTurn.{SpokenTurn}
 use Rattle.bsc_history.specs.History.{History}
-use Rattle.line_world.specs.AnyLines.{ReceiverTakes, ReceiverTook}
 use Rattle.line_world.proofs.TurnsOverLines.{arrival_is}
 use Rattle.rje_sockets.specs.declared.broken_off.BrokenOff.{BrokenOff}
 use Rattle.rje_sockets.specs.declared.exchange.Left.{Left}
 use Rattle.rje_sockets.specs.Keeping.{BreaksOff, BreaksOffNow}
+use Rattle.rje_sockets.specs.OverLine.{HeardAndReplied}
 use Rattle.rje_sockets.specs.Patience.{was_quiet, quiet_turns, WentOn, HearsOut}
+use Rattle.rje_sockets.specs.Watching.{ReceiverWatched, ReceiverWatchedAll}
+use Rattle.rje_sockets.proofs.Watched.{receiver_took}
 
 pub quiet_on : (sound : Sound) (n : ℕ) → elim sound [ Sound.Quiet ↦ n + 1 | _ ↦ 0 ] ≡ (if (elim sound [ Sound.Quiet ↦ true | _ ↦ false ]) then n + 1 else 0)
 quiet_on Sound.Quiet n = refl
 quiet_on _ n = refl
 
--- it took so many turns, so many of the last of them quiet
-pub record HearsSoFar (r : Receiving) (n quiet : ℕ) (r' : Receiving) : Type 0 where
+-- it took so many turns over a line, so many of the last of them quiet
+pub record HearsSoFar (r : Receiving) (t : Option Talk) (n quiet : ℕ) (r' : Receiving) (u : Option Talk) : Type 0 where
   pub history : History
-  pub took : ReceiverTook r history r'
+  pub took : ReceiverWatchedAll HeardAndReplied r t r' u history
   pub long : length history ≡ n
   pub quiet_is : quiet_turns history ≡ quiet
   pub few : quiet < 40
   pub went_on : WentOn history
 
-pub hears_first : (r : Receiving) → HearsSoFar r 0 0 r
-hears_first r = record { history = []; took = refl; long = refl; quiet_is = refl; few = omega arith; went_on = tt }
-
--- one more
-record HearsOneMore (r : Receiving) (n quiet : ℕ) (r' : Receiving) : Type 0 where
-  history : History
-  took : ReceiverTook r history r'
-  long : length history ≡ n + 1
-  quiet_is : quiet_turns history ≡ (if was_quiet r'.arrival then quiet + 1 else 0)
-  went_on : WentOn history
-
-one_more : (r far r' : Receiving) (n quiet : ℕ) → HearsSoFar r n quiet far → ((t : SpokenTurn) × ReceiverTakes far r' t) → HearsOneMore r n quiet r'
-one_more r far r' n quiet p (t, takes) = record {
-  history = t ∷ p.history;
-  took = (far, p.took, takes);
-  long = omega (arith, p.long);
-  quiet_is = quiet_on t.arrived (quiet_turns p.history) ∙ ap (λ m. if was_quiet (Some (record { sound = t.arrived; refused = t.refused })) then m + 1 else 0) p.quiet_is
-      ∙ ap (λ a. if was_quiet a then quiet + 1 else 0) (sym (arrival_is far r' t takes));
-  went_on = (omega (arith, p.quiet_is, p.few), p.went_on);
-}
+pub hears_first : (r : Receiving) (t : Option Talk) → HearsSoFar r t 0 0 r t
+hears_first r t = record { history = []; took = (refl, refl); long = refl; quiet_is = refl; few = omega arith; went_on = tt }
 
 -- fewer than forty and one more, but not forty
 below_forty : (now quiet : ℕ) (b : Bool) → now ≡ (if b then quiet + 1 else 0) → quiet < 40 → (now ≡ 40 → ⊥) → now < 40
 below_forty now quiet true e l n = omega (arith, e, l, n)
 below_forty now quiet false e l n = omega (arith, e)
 
-pub hears_on : (r far r' : Receiving) (n quiet now : ℕ) → HearsSoFar r n quiet far → ((t : SpokenTurn) × ReceiverTakes far r' t) → now ≡ (if was_quiet r'.arrival then quiet + 1 else 0) → (now ≡ 40 → ⊥) → HearsSoFar r (n + 1) now r'
-hears_on r far r' n quiet now p takes is less =
-    let q = one_more r far r' n quiet p takes in
-    record { history = q.history; took = q.took; long = q.long; quiet_is = q.quiet_is ∙ sym is; few = below_forty now quiet (was_quiet r'.arrival) is p.few less; went_on = q.went_on }
+pub hears_long : (r : Receiving) (t : Option Talk) (r' : Receiving) (u : Option Talk) (n quiet : ℕ) → HearsSoFar r t n quiet r' u → n ≡ 1000000000 → HearsOut Left.Abandoned r t r' u
+hears_long r t r' u n quiet p e = (p.history, p.went_on, inr (p.long ∙ e), p.took)
 
-pub hears_end : (r far r' : Receiving) (n quiet : ℕ) → HearsSoFar r n quiet far → ((t : SpokenTurn) × ReceiverTakes far r' t) → r'.over ≡ true → HearsOut Left.Ended r r'
-hears_end r far r' n quiet p takes over = let q = one_more r far r' n quiet p takes in (q.history, q.went_on, q.took, over)
+module _ (r : Receiving) (t : Option Talk) (far : Receiving) (mid : Option Talk) (n quiet : ℕ) (p : HearsSoFar r t n quiet far mid) where
+  pub hears_fault : (r' : Receiving) (broken : BrokenOff) → BreaksOffNow far r' broken → BreaksOff r r' broken
+  hears_fault r' broken breaks = (p.history, far, receiver_took HeardAndReplied r t far mid p.history p.took, breaks)
 
-pub hears_quiet : (r far r' : Receiving) (n quiet now : ℕ) → HearsSoFar r n quiet far → ((t : SpokenTurn) × ReceiverTakes far r' t) → now ≡ (if was_quiet r'.arrival then quiet + 1 else 0) → now ≡ 40 → HearsOut Left.Abandoned r r'
-hears_quiet r far r' n quiet now p takes is forty = let q = one_more r far r' n quiet p takes in (q.history, q.went_on, inl (q.quiet_is ∙ sym is ∙ forty), q.took)
+  -- one more
+  module _ (r' : Receiving) (u : Option Talk) (x : (turn : SpokenTurn) × ReceiverWatched HeardAndReplied far mid r' u turn) where
+    abbrev history : History
+    history = x.0 ∷ p.history
 
-pub hears_long : (r r' : Receiving) (n quiet : ℕ) → HearsSoFar r n quiet r' → n ≡ 1000000000 → HearsOut Left.Abandoned r r'
-hears_long r r' n quiet p e = (p.history, p.went_on, inr (p.long ∙ e), p.took)
+    one_more : ReceiverWatchedAll HeardAndReplied r t r' u history
+    one_more = (far, mid, p.took, x.1)
 
-pub hears_fault : (r far r' : Receiving) (n quiet : ℕ) (broken : BrokenOff) → HearsSoFar r n quiet far → BreaksOffNow far r' broken → BreaksOff r r' broken
-hears_fault r far r' n quiet broken p breaks = (p.history, far, p.took, breaks)
+    quiet_now : quiet_turns history ≡ (if was_quiet r'.arrival then quiet + 1 else 0)
+    quiet_now =
+        quiet_on x.0.arrived (quiet_turns p.history) ∙ ap (λ m. if was_quiet (Some (record { sound = x.0.arrived; refused = x.0.refused })) then m + 1 else 0) p.quiet_is
+        ∙ ap (λ a. if was_quiet a then quiet + 1 else 0) (sym (arrival_is far r' x.0 x.1.0))
+
+    went_on : WentOn history
+    went_on = (omega (arith, p.quiet_is, p.few), p.went_on)
+
+    pub hears_end : r'.over ≡ true → HearsOut Left.Ended r t r' u
+    hears_end over = (history, went_on, one_more, over)
+
+    pub hears_quiet : (now : ℕ) → now ≡ (if was_quiet r'.arrival then quiet + 1 else 0) → now ≡ 40 → HearsOut Left.Abandoned r t r' u
+    hears_quiet now is forty = (history, went_on, inl (quiet_now ∙ sym is ∙ forty), one_more)
+
+    pub hears_on : (now : ℕ) → now ≡ (if was_quiet r'.arrival then quiet + 1 else 0) → (now ≡ 40 → ⊥) → HearsSoFar r t (n + 1) now r' u
+    hears_on now is less = record {
+      history = history;
+      took = one_more;
+      long = omega (arith, p.long);
+      quiet_is = quiet_now ∙ sym is;
+      few = below_forty now quiet (was_quiet r'.arrival) is p.few less;
+      went_on = went_on;
+    }

@@ -6,6 +6,7 @@ use Rattle.std.specs.Result.{IsOkAnd, MatchResult, is_ok}
 use Rattle.std.specs.Io.KnownBytes.{Appends}
 use Rattle.std.proofs.lemmas.Result.{on_ok_weaker}
 use Rattle.rje_jobs.specs.declared.job.Job.{Job}
+use Rattle.rje_station.specs.Line.{Talk}
 use Rattle.rje_station.specs.Receiving.{Receiving, first_receiving}
 use Rattle.rje_sockets.specs.declared.broken_off.BrokenOff.{BrokenOff}
 use Rattle.rje_commands.specs.declared.command_fault.CommandFault.{CommandFault}
@@ -34,13 +35,13 @@ ends_well (Ok ending) (Ok l) (Ok was) (Err e) printed ending_by P well told same
 ends_well (Ok ending) (Ok l) (Ok was) (Ok w) (Err e) ending_by P well told same holds = absurd (true≢false (sym well.2))
 ends_well (Ok ending) (Ok l) (Ok was) (Ok w) (Ok p) ending_by P well told same holds = subst P (ap ending_by well.0 ∙ sym told) holds
 
-pub receives : (left : Result Left BrokenOff) (written printed : Result (Unit {0}) CommandFault) (name : List ℕ) (files made : Option FileMap) (before after : Option (List ℕ)) (station : Receiving)
-    → IfOk left (λ l. LeavesSo l first_receiving station) → IfOk left (λ l. OnOk written (MakesJobFile station.jobs name files made)) → OnOk printed (Appends before after (received_text station.jobs))
-    → IfOk left (λ l. OnOk written (OnOk printed (Receives (ending_of_left l) name files made before after)))
-receives (Err b) written printed name files made before after station leaves makes text = tt
-receives (Ok l) (Err e) printed name files made before after station leaves makes text = tt
-receives (Ok l) (Ok w) (Err e) name files made before after station leaves makes text = tt
-receives (Ok l) (Ok w) (Ok p) name files made before after station leaves makes text = record { left = l; station = station; leaves = leaves; ending_is = refl; writes = (makes, text) }
+pub receives : (left : Result Left BrokenOff) (written printed : Result (Unit {0}) CommandFault) (t u : Option Talk) (name : List ℕ) (files made : Option FileMap) (before after : Option (List ℕ)) (station : Receiving)
+    → IfOk left (λ l. LeavesSo l first_receiving t station u) → IfOk left (λ l. OnOk written (MakesJobFile station.jobs name files made)) → OnOk printed (Appends before after (received_text station.jobs))
+    → IfOk left (λ l. OnOk written (OnOk printed (Receives (ending_of_left l) t u name files made before after)))
+receives (Err b) written printed t u name files made before after station leaves makes text = tt
+receives (Ok l) (Err e) printed t u name files made before after station leaves makes text = tt
+receives (Ok l) (Ok w) (Err e) t u name files made before after station leaves makes text = tt
+receives (Ok l) (Ok w) (Ok p) t u name files made before after station leaves makes text = record { left = l; station = station; leaves = leaves; ending_is = refl; writes = (makes, text) }
 
 -- where it came to an end, the file is that of its jobs
 pub made_at_end : (written : Result (Unit {0}) CommandFault) (first last : Keeper) (station : Receiving) (name : List ℕ) (f looked kept made : Option FileMap) (before after : ℕ) (left : Result Left BrokenOff)

@@ -5,12 +5,13 @@ use Rattle.std.proofs.lemmas.List.{length-map}
 use Rattle.rje_jobs.specs.declared.job.Job.{Job}
 use Rattle.rje_files.specs.Unsent.{IsLeft, unsent}
 use Rattle.rje_station.specs.Sending.{Sending, first_sending, outcome_of}
-use Rattle.line_world.specs.AnyLines.{SendsToEnd}
+use Rattle.rje_station.specs.Line.{Talk}
 use Rattle.rje_stores.proofs.Changes.{set_after}
 use Rattle.rje_commands.specs.declared.command_fault.CommandFault.{CommandFault}
 use Rattle.rje_sockets.specs.declared.socket_commands.ending.Ending.{Ending}
 use Rattle.rje_commands.specs.Commands.{OfFile}
 use Rattle.rje_sockets.specs.Ending.{MarksSent, SendsLeft, ending_of, sent_text}
+use Rattle.rje_sockets.specs.OverLine.{SendsOver}
 use Rattle.rje_stores.specs.Store.{FileMap, IsSame, Discloses}
 use Rattle.rje_commands.proofs.Inputs.{of_file}
 
@@ -18,19 +19,19 @@ use Rattle.rje_commands.proofs.Inputs.{of_file}
 pub marked_after : (file name : List ℕ) (counted : ℕ) (f g h : Option FileMap) → Discloses f g IsSame → MarksSent file counted name g h → MarksSent file counted name f h
 marked_after file name counted f g h same m = (m.0, m.1, m.2, set_after name m.0 f g h same m.3)
 
-pub sends_left : (r : Result Ending CommandFault) (name file : List ℕ) (jobs : List Job) (station : Sending)
+pub sends_left : (r : Result Ending CommandFault) (t u : Option Talk) (name file : List ℕ) (jobs : List Job) (station : Sending)
     (f g h : Option FileMap) (before after : Option (List ℕ))
-    → OfFile name f (λ read. file ≡ read) → Discloses f g IsSame → IsLeft file jobs → OnOk r (SendsToEnd (first_sending jobs) station) → IfOk r (λ ending. ending ≡ ending_of (outcome_of station))
+    → OfFile name f (λ read. file ≡ read) → Discloses f g IsSame → IsLeft file jobs → OnOk r (SendsOver (first_sending jobs) t station u) → IfOk r (λ ending. ending ≡ ending_of (outcome_of station))
     → OnOk r (Appends before after (sent_text station.counted (length jobs) (outcome_of station))) → OnOk r (MarksSent file station.counted name g h)
-    → IfOk r (λ ending. OfFile name f (λ read. SendsLeft ending name read f h before after))
-sends_left (Err fault) name file jobs station f g h before after read same left took ended printed marked = tt
-sends_left (Ok ending) name file jobs station f g h before after read same left took ended printed marked =
+    → IfOk r (λ ending. OfFile name f (λ read. SendsLeft ending t u name read f h before after))
+sends_left (Err fault) t u name file jobs station f g h before after read same left took ended printed marked = tt
+sends_left (Ok ending) t u name file jobs station f g h before after read same left took ended printed marked =
     let given : length jobs ≡ length (unsent left.0) = ap length left.3 ∙ length-map (unsent left.0) (λ e. e.job) in
-    of_file (λ read. SendsLeft ending name read f h before after) file (record {
+    of_file (λ read. SendsLeft ending t u name read f h before after) file (record {
       entries = left.0;
       station = station;
       file_is = left.1;
-      sends = subst (λ js. SendsToEnd (first_sending js) station) left.3 took;
+      sends = subst (λ js. SendsOver (first_sending js) t station u) left.3 took;
       marks = marked_after file name station.counted f g h same marked;
       ending_is = ended;
       text_is = subst (λ n. Appends before after (sent_text station.counted n (outcome_of station))) given printed;

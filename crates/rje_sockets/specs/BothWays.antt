@@ -1,5 +1,6 @@
 -- A station that sends and receives over one line, whatever that does: turn by turn, and how it ends (own profile).
 use Rattle.std.specs.Prelude.{◌≡◌, ◌≢◌, ◌⊎◌, ◌+◌, ℕ, Bool, true, false, List, [], ◌∷◌, length, Option, if◌then◌else◌}
+use Rattle.bsc_codes.specs.declared.block.Block.{Block}
 use Rattle.bsc_frame.specs.declared.heard.Heard.{Heard}
 use Rattle.bsc_link.specs.declared.rank.Rank.{Rank}
 use Rattle.bsc_link.specs.declared.reply.Reply.{Reply}
@@ -9,6 +10,7 @@ use Rattle.bsc_link.specs.declared.wish.Wish.{Wish}
 use Rattle.rje_station.specs.declared.arrival.Arrival.{Arrival}
 use Rattle.rje_station.specs.Hearing.{sound_heard}
 use Rattle.rje_station.specs.JoinedJobs.{begun_in}
+use Rattle.rje_station.specs.Line.{Talk}
 use Rattle.rje_station.specs.Receiving.{MayRefuse}
 use Rattle.rje_station.specs.Station.{Contending, due_at, is_deaf, is_receiving, after_own_speaking, after_answer, after_other, after_own_reply, after_other_ended, after_own_refusal, after_other_refusal}
 use Rattle.rje_station.specs.declared.line_fault.LineFault.TheVariants.{Closed}
@@ -16,6 +18,7 @@ use Rattle.rje_station.specs.declared.station_fault.StationFault.{StationFault}
 use Rattle.rje_station.specs.declared.station_fault.StationFault.TheVariants as fault
 use Rattle.rje_sockets.specs.declared.broken_off.BrokenOff.{BrokenOff}
 use Rattle.rje_sockets.specs.declared.exchange.Left.{Left}
+use Rattle.rje_sockets.specs.OverLine.{HeardAndReplied, SpokeAndHeard}
 use Rattle.rje_sockets.specs.Watching.{SawReceiver, SawSender}
 
 -- after its own turn: after EOT it doesn't listen
@@ -88,24 +91,29 @@ pub record Waits (s : Contending) : Type 0 where
   pub others : is_receiving s.contender.place ≡ false
 
 -- what a watch was told of a turn
-abbrev pub Saw : {W : Type 0} → SawSender W → SawReceiver W → W → W → StationTurn → Type 0
-Saw SawSent SawCame w w' (Own said heard) = SawSent w w' said heard
-Saw SawSent SawCame w w' (Others arrival reply) = SawCame w w' arrival reply
+abbrev pub Saw : {W : Type 0} → (List Block → SawSender W) → (Heard → SawReceiver W) → (s s' : Contending) → W → W → (t : StationTurn) → Takes s s' t → Type 0
+Saw SawSent SawCame s s' w w' (Own said heard) takes = SawSent s.sender.rest w w' said heard
+Saw SawSent SawCame s s' w w' (Others arrival reply) takes = SawCame takes.what w w' arrival reply
 
 -- it took these turns, the newest first, and just those were told
-abbrev pub Watched : {W : Type 0} → SawSender W → SawReceiver W → Rank → Contending → W → Contending → W → List StationTurn → Type 0
+abbrev pub Watched : {W : Type 0} → (List Block → SawSender W) → (Heard → SawReceiver W) → Rank → Contending → W → Contending → W → List StationTurn → Type 0
 Watched SawSent SawCame rank s w s' w' [] = (s' ≡ s) × (w' ≡ w)
 Watched {W} SawSent SawCame rank s w s' w' (t ∷ past) =
-    (near : Contending) × (mid : W) × Watched SawSent SawCame rank s w near mid past × IsNext rank past near t × Takes near s' t × Saw SawSent SawCame mid w' t
+    (near : Contending) × (mid : W) × Watched SawSent SawCame rank s w near mid past × IsNext rank past near t
+    × (takes : Takes near s' t) × Saw SawSent SawCame near s' mid w' t takes
 
--- it took some turns, until both transmissions were over, or the other hung up for which it waited; or until forty of the other's turns
--- in a row brought nothing, or so many turns were taken in all
-abbrev pub ExchangesTo : Left → Contending → Contending → Type 0
-ExchangesTo Left.Ended s s' =
-    (turns : List StationTurn) × (near : Contending) × Took s.contender.rank s turns near
-    × ((AreOver near × (s' ≡ near)) ⊎ (Waits near × (s' ≡ after_other_refusal (fault.Line Closed) near)))
-ExchangesTo Left.Abandoned s s' =
-    (turns : List StationTurn) × (near : Contending) × Took s.contender.rank s turns near
+-- it took these turns, in each of which the line sent what it said and replied, and gave what it heard
+abbrev pub TookOver : Contending → Option Talk → List StationTurn → Contending → Option Talk → Type 0
+TookOver s t turns s' u = Watched SpokeAndHeard HeardAndReplied s.contender.rank s t s' u turns
+
+-- it took some turns so, until both transmissions were over, or the other hung up for which it waited; or until forty of the other's turns in
+-- a row brought nothing, or so many turns were taken in all
+abbrev pub ExchangesTo : Left → Contending → Option Talk → Contending → Option Talk → Type 0
+ExchangesTo Left.Ended s t s' u =
+    (turns : List StationTurn) × (near : Contending) × (mid : Option Talk) × TookOver s t turns near mid
+    × ((AreOver near × (s' ≡ near) × (u ≡ mid)) ⊎ (Waits near × (s' ≡ after_other_refusal (fault.Line Closed) near)))
+ExchangesTo Left.Abandoned s t s' u =
+    (turns : List StationTurn) × (near : Contending) × TookOver s t turns near u
     × (((quiet_in_a_row turns ≡ 40) × (s' ≡ after_other_ended near)) ⊎ ((length turns ≡ 1000000000) × (s' ≡ near)))
 
 -- a fault of the line ended its own turn: as it spoke, or as it listened

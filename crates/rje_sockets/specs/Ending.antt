@@ -9,15 +9,16 @@ use Rattle.rje_files.specs.Entry.{entry_of, jobs_in}
 use Rattle.rje_files.specs.FileFault.{IsFileFault}
 use Rattle.rje_files.specs.JobFile.{HasEntries, IsEntryFile, IsEntryFileOf}
 use Rattle.rje_files.specs.Unsent.{IsFirstUnsendable, IsSentFile, unsent}
+use Rattle.rje_station.specs.Line.{Talk}
 use Rattle.rje_station.specs.Receiving.{Receiving, first_receiving}
 use Rattle.rje_station.specs.Sending.{Sending, first_sending, outcome_of}
-use Rattle.line_world.specs.AnyLines.{SendsToEnd}
 use Rattle.rje_print.specs.ReportTexts.{counted_line, handed_line, outcome_line, whole_jobs}
 use Rattle.rje_sockets.specs.declared.socket_commands.ending.Ending.{Ending}
 use Rattle.rje_sockets.specs.declared.exchange.Left.{Left}
 use Rattle.rje_commands.specs.declared.command_fault.CommandFault.{CommandFault}
 use Rattle.rje_commands.specs.CommandFault.{status_of}
 use Rattle.rje_commands.specs.Commands.{OfFile}
+use Rattle.rje_sockets.specs.OverLine.{SendsOver}
 use Rattle.rje_sockets.specs.Patience.{LeavesSo}
 use Rattle.rje_stores.specs.Store.{FileMap, Discloses, Sets}
 
@@ -57,19 +58,19 @@ abbrev pub ending_of_left : Left → Ending
 ending_of_left Left.Ended = Ending.Done
 ending_of_left Left.Abandoned = Ending.Other
 
--- one transmission was received: a new station took some turns and left so, the file of this name became that of its jobs, and just their
--- line was printed
-pub record Receives (ending : Ending) (name : List ℕ) (files made : Option FileMap) (before after : Option (List ℕ)) : Type 0 where
+-- one transmission was received over a line: a new station took some turns there and left so, the file of this name became that of its jobs, and
+-- just their line was printed
+pub record Receives (ending : Ending) (t u : Option Talk) (name : List ℕ) (files made : Option FileMap) (before after : Option (List ℕ)) : Type 0 where
   pub left : Left
   pub station : Receiving
-  pub leaves : LeavesSo left first_receiving station
+  pub leaves : LeavesSo left first_receiving t station u
   pub ending_is : ending ≡ ending_of_left left
   pub writes : WritesJobs station.jobs name files made before after
 
 -- a command over a line ended with this status, and one transmission was received
-abbrev pub EndsReceiving : (status : ℕ) → (name : List ℕ) → (files made : Option FileMap) → (before after : Option (List ℕ)) → Type 0
-EndsReceiving status name files made before after =
-    (ending : Ending) × (status ≡ ending_status ending) × Receives ending name files made before after
+abbrev pub EndsReceiving : (status : ℕ) → (t u : Option Talk) → (name : List ℕ) → (files made : Option FileMap) → (before after : Option (List ℕ)) → Type 0
+EndsReceiving status t u name files made before after =
+    (ending : Ending) × (status ≡ ending_status ending) × Receives ending t u name files made before after
 
 -- the file of this name became that of the same entries as this file's, in which just the first counted of those that were not Sent are Sent,
 -- and no other file changed
@@ -88,18 +89,18 @@ IsUnsentFault file _ = ⊥
 abbrev pub IsRefusedFile : (file : List ℕ) → Type 0
 IsRefusedFile file = (fault : CommandFault) × IsUnsentFault file fault × (status_of fault ≡ 1)
 
--- what was left of the job file of this name was sent: a new station for these jobs took some turns to the end of its transmission; the
--- jobs that it counted are Sent in the file now, it ended so, and just the lines of it were printed
-pub record SendsLeft (ending : Ending) (name file : List ℕ) (files made : Option FileMap) (before after : Option (List ℕ)) : Type 0 where
+-- what was left of the job file of this name was sent over a line: a new station for these jobs took some turns there to the end of its
+-- transmission; the jobs that it counted are Sent in the file now, it ended so, and just the lines of it were printed
+pub record SendsLeft (ending : Ending) (t u : Option Talk) (name file : List ℕ) (files made : Option FileMap) (before after : Option (List ℕ)) : Type 0 where
   pub entries : List Entry
   pub station : Sending
   pub file_is : HasEntries entries file
-  pub sends : SendsToEnd (first_sending (jobs_in (unsent entries))) station
+  pub sends : SendsOver (first_sending (jobs_in (unsent entries))) t station u
   pub marks : MarksSent file station.counted name files made
   pub ending_is : ending ≡ ending_of (outcome_of station)
   pub text_is : Appends before after (sent_text station.counted (length (unsent entries)) (outcome_of station))
 
 -- a command over a line ended with this status, and what was left of the job file of this name was sent
-abbrev pub EndsSending : (status : ℕ) → (name : List ℕ) → (files made : Option FileMap) → (before after : Option (List ℕ)) → Type 0
-EndsSending status name files made before after =
-    (ending : Ending) × (status ≡ ending_status ending) × OfFile name files (λ file. SendsLeft ending name file files made before after)
+abbrev pub EndsSending : (status : ℕ) → (t u : Option Talk) → (name : List ℕ) → (files made : Option FileMap) → (before after : Option (List ℕ)) → Type 0
+EndsSending status t u name files made before after =
+    (ending : Ending) × (status ≡ ending_status ending) × OfFile name files (λ file. SendsLeft ending t u name file files made before after)

@@ -8,6 +8,7 @@ use Rattle.rje_files.specs.declared.entry.Entry.{Entry}
 use Rattle.rje_files.specs.Entry.{jobs_in}
 use Rattle.rje_files.specs.JobFile.{HasEntries}
 use Rattle.rje_files.specs.Unsent.{unsent}
+use Rattle.rje_station.specs.Line.{Talk}
 use Rattle.rje_station.specs.Sending.{outcome_of}
 use Rattle.rje_station.specs.Station.{Contending, first_contending}
 use Rattle.rje_orders.specs.declared.order.Meeting.{Meeting}
@@ -43,31 +44,31 @@ abbrev pub MakesBoth : (file : List ℕ) → (counted : ℕ) → List Job → (s
 MakesBoth file counted jobs send received files made =
     (marked : Option FileMap) × MarksSent file counted send files marked × MakesJobFile jobs received marked made
 
--- one transmission was made each way: the station took some turns and left so; what it counted is marked in the one file, what came is kept
--- in the other, and just the lines of both were printed
-pub record Exchanges (ending : Ending) (s : Contending) (marker : Marker) (keeper : Keeper) (f g : Option FileMap) (before after : Option (List ℕ)) : Type 0 where
+-- one transmission was made each way over a line: the station took some turns there and left so; what it counted is marked in the one file, what
+-- came is kept in the other, and just the lines of both were printed
+pub record Exchanges (ending : Ending) (t u : Option Talk) (s : Contending) (marker : Marker) (keeper : Keeper) (f g : Option FileMap) (before after : Option (List ℕ)) : Type 0 where
   pub left : Left
   pub station : Contending
-  pub exchanges : ExchangesTo left s station
+  pub exchanges : ExchangesTo left s t station u
   pub makes : marker.name.now ≢ keeper.name.now → (files : Option FileMap) → HoldsBoth marker s.sender.counted keeper s.receiver.jobs files f
       → MakesBoth marker.file.items station.sender.counted station.receiver.jobs marker.name.now keeper.name.now files g
   pub ending_is : ending ≡ ending_of_both (outcome_of station.sender) left
   pub text_is : Appends before after (exchanged_text station.sender.counted (length s.sender.jobs) (outcome_of station.sender) station.receiver.jobs)
 
--- what was left of the job file of the one name was exchanged for the jobs of the other station: a new station of this rank took some turns
--- and left so; the jobs that it counted are Sent in that file now, the file of the other name is that of the jobs that came, no other file
--- changed, and just the lines of both were printed
-pub record ExchangesLeft (ending : Ending) (rank : Rank) (send received file : List ℕ) (files made : Option FileMap) (before after : Option (List ℕ)) : Type 0 where
+-- what was left of the job file of the one name was exchanged over a line for the jobs of the other station: a new station of this rank took some
+-- turns there and left so; the jobs that it counted are Sent in that file now, the file of the other name is that of the jobs that came, no
+-- other file changed, and just the lines of both were printed
+pub record ExchangesLeft (ending : Ending) (t u : Option Talk) (rank : Rank) (send received file : List ℕ) (files made : Option FileMap) (before after : Option (List ℕ)) : Type 0 where
   pub entries : List Entry
   pub left : Left
   pub station : Contending
   pub file_is : HasEntries entries file
-  pub exchanges : ExchangesTo left (first_contending rank (jobs_in (unsent entries))) station
+  pub exchanges : ExchangesTo left (first_contending rank (jobs_in (unsent entries))) t station u
   pub makes : MakesBoth file station.sender.counted station.receiver.jobs send received files made
   pub ending_is : ending ≡ ending_of_both (outcome_of station.sender) left
   pub text_is : Appends before after (exchanged_text station.sender.counted (length (unsent entries)) (outcome_of station.sender) station.receiver.jobs)
 
 -- a command over a line ended with this status, and what was left of the job file of the one name was exchanged so
-abbrev pub EndsExchanging : (status : ℕ) → Rank → (send received : List ℕ) → (files made : Option FileMap) → (before after : Option (List ℕ)) → Type 0
-EndsExchanging status rank send received files made before after =
-    (ending : Ending) × (status ≡ ending_status ending) × OfFile send files (λ file. ExchangesLeft ending rank send received file files made before after)
+abbrev pub EndsExchanging : (status : ℕ) → (t u : Option Talk) → Rank → (send received : List ℕ) → (files made : Option FileMap) → (before after : Option (List ℕ)) → Type 0
+EndsExchanging status t u rank send received files made before after =
+    (ending : Ending) × (status ≡ ending_status ending) × OfFile send files (λ file. ExchangesLeft ending t u rank send received file files made before after)

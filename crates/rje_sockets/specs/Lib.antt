@@ -2,6 +2,7 @@ pub mod Keeping
 pub mod Answering
 pub mod BrokenOff
 pub mod LineBreak
+pub mod OverLine
 pub mod Babble
 pub mod Inside
 pub mod Ending

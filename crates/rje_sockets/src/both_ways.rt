@@ -10,13 +10,14 @@ ghost use Rattle.rje_station.specs.declared.station_fault.StationFault.TheVarian
 ghost use Rattle.rje_station.specs.Station.{Contending, due_at, is_deaf, after_other_refusal};
 ghost use Rattle.rje_commands.specs.CommandFault.{IsFailing, of_station, status_of};
 ghost use Rattle.rje_sockets.specs.BothWays.{has_listened, AreOver, ExchangesTo, FailsInOwn, FailsInOthers, LeavesFrom, StationTurn, TakesOwn, TakesOthers, Waits, Watched};
-ghost use Rattle.rje_sockets.specs.Babble.{BabblesInOthers, BabblesInOwn, Brought, ExchangesToBabble, GaveBack};
+ghost use Rattle.rje_sockets.specs.Babble.{BabblesInOthers, BabblesInOwn, ExchangesToBabble};
 ghost use Rattle.rje_sockets.specs.BothFiles.{BreaksBoth, GoesOnHolding, kept_of};
 ghost use Rattle.rje_sockets.specs.BrokenOff.{of_broken_off};
 ghost use Rattle.rje_sockets.specs.Keeping.{GoesOnKeeping};
 ghost use Rattle.rje_sockets.specs.LeavingBoth.{HasCounted};
 ghost use Rattle.rje_sockets.specs.LineBreak.{IsBreak, IsLineBreak};
 ghost use Rattle.rje_sockets.specs.Marking.{GoesOnMarking};
+ghost use Rattle.rje_sockets.specs.OverLine.{HeardAndReplied, SpokeAndHeard};
 
 use crate::broken_off::BrokenOff;
 use crate::exchange::{Left, MAX_HEARINGS, MAX_QUIET, quiet_after};
@@ -39,7 +40,8 @@ pub fn exchange_all<'a, 'b, L: Line, S: Store, W: Watch>(
     store: &mut S,
     watch: &mut W,
 ) -> Result<Left, BrokenOff<'b>>
-    ensures left { IfOk result (λ left. ExchangesTo left station.old station.new) }
+    ensures left { IfOk result (λ left. ExchangesTo left station.old (L.talk line.old)
+        station.new (L.talk line.new)) }
     ensures status { IfErr result (λ broken. IsFailing (status_of (of_broken_off broken))) }
     ensures cause { IfErr result (IsBreak (λ f. L.last_fault line.new ≡ Some f)
         (ExchangesToBabble station.old (L.talk line.old) station.new (L.talk line.new))
@@ -52,8 +54,8 @@ pub fn exchange_all<'a, 'b, L: Line, S: Store, W: Watch>(
     ensures count { (marker.new.marked ≡ marker.old.marked)
         ⊎ HasCounted station.old marker.new.marked }
     ensures told { OnOk result ((turns : List StationTurn) × (near : Contending)
-        × Watched W.saw_sender W.saw_receiver station.old.contender.rank station.old watch.old
-        near watch.new turns
+        × Watched (λ _. W.saw_sender) (λ _. W.saw_receiver) station.old.contender.rank
+        station.old watch.old near watch.new turns
         × LeavesFrom near station.new) }
 {
     let at_once = may_bid_at_once(station);
@@ -132,7 +134,8 @@ fn take_own_turn<'a, 'b, L: Line, S: Store, W: Watch>(
         (BabblesInOwn station.old (L.talk line.old) station.new (L.talk line.new)) ⊥) }
     ensures gave { OnOk result ((said : Word) × (heard : Tone)
         × TakesOwn station.old station.new said heard
-        × GaveBack (L.talk line.old) (L.talk line.new) said heard) }
+        × SpokeAndHeard station.old.sender.rest (L.talk line.old) (L.talk line.new)
+        said heard) }
     ensures status { IfErr result (λ fault. IsFailing (status_of (of_station fault))) }
     ensures marked { OnOk result (GoesOnMarking marker.old marker.new station.old.sender.counted
         station.new.sender.counted (S.files store.old) (S.files store.new)) }
@@ -171,8 +174,9 @@ fn take_others_turn<'a, 'b, L: Line, S: Store, W: Watch>(
         (BabblesInOthers station.old (L.talk line.old) station.new (L.talk line.new))
         (is_deaf station.old ≡ true)) }
     ensures gave { IfOk result (λ is_turn. is_turn ≡ true → (arrival : Coming)
-        × (reply : Option Answer) × TakesOthers station.old station.new arrival reply
-        × Brought (L.talk line.old) (L.talk line.new) arrival reply
+        × (reply : Option Answer)
+        × (takes : TakesOthers station.old station.new arrival reply)
+        × HeardAndReplied takes.what (L.talk line.old) (L.talk line.new) arrival reply
         × (station.new.receiver.arrival ≡ Some arrival)) }
     ensures status { IfErr result (λ broken. IsFailing (status_of (of_broken_off broken))) }
     ensures kept { OnOk result (GoesOnKeeping keeper.old keeper.new station.old.receiver.jobs

@@ -6,15 +6,16 @@ ghost use Rattle.line_world.specs.declared.spoken.Spoken.{Spoken as Turn};
 ghost use Rattle.rje_station.specs.Receiving.{Receiving, after_abandon};
 ghost use Rattle.rje_sockets.specs.Answering.{BreaksKeeping, KeepsToBreak, KeepsToEnd, with_answer};
 ghost use Rattle.rje_commands.specs.CommandFault.{IsFailing, of_station, status_of};
-ghost use Rattle.rje_sockets.specs.Babble.{BabblesToReceiver, BabblesToSender, BothToBabble, Brought, GaveBack, GaveBoth, ReceivesToBabble, SendsToBabble};
+ghost use Rattle.rje_sockets.specs.Babble.{BabblesToReceiver, BabblesToSender, BothToBabble, ReceivesToBabble, SendsToBabble};
 ghost use Rattle.rje_sockets.specs.BrokenOff.{of_broken_off};
 ghost use Rattle.rje_sockets.specs.Keeping.{BreaksOff, BreaksOffNow, GoesOnKeeping, IsOfFile};
 ghost use Rattle.rje_sockets.specs.LineBreak.{IsBreak, IsLineBreak};
 ghost use Rattle.rje_sockets.specs.Marking.{GoesOnMarking, WereCounted};
+ghost use Rattle.rje_sockets.specs.OverLine.{BothSpoke, HeardAndReplied, SendsOver, SpokeAndHeard};
 ghost use Rattle.rje_sockets.specs.Patience.{LeavesSo, HearsOut, was_quiet};
 ghost use Rattle.rje_stores.specs.Store.{Discloses, IsSame};
 ghost use Rattle.rje_sockets.specs.Watching.{SenderWatched, SenderWatchedAll, ReceiverWatched, ReceiverWatchedAll, BothWatchedAll};
-ghost use Rattle.line_world.specs.AnyLines.{SenderTakes, SenderFails, SendsToEnd, SendsToFault, ReceiverTakes, BothTake, BothFail, BothToEnd, BothToFault};
+ghost use Rattle.line_world.specs.AnyLines.{SenderFails, SendsToFault, ReceiverTakes, BothTake, BothFail, BothToEnd, BothToFault};
 
 use crate::broken_off::BrokenOff;
 use crate::keeper::Keeper;
@@ -49,7 +50,8 @@ pub fn send_all<'a, L: Line, S: Store, W: Watch>(
     store: &mut S,
     watch: &mut W,
 ) -> Result<(), StationFault>
-    ensures took { OnOk result (SendsToEnd station.old station.new) }
+    ensures took { OnOk result (SendsOver station.old (L.talk line.old)
+        station.new (L.talk line.new)) }
     ensures fault { IfErr result (SendsToFault station.old station.new) }
     ensures status { IfErr result (λ fault. IsFailing (status_of (of_station fault))) }
     ensures cause { IfErr result (IsLineBreak (λ f. L.last_fault line.new ≡ Some f)
@@ -60,8 +62,8 @@ pub fn send_all<'a, L: Line, S: Store, W: Watch>(
         station.old.counted n (S.files store.old) (S.files store.new)) }
     ensures count { (marker.new.marked ≡ marker.old.marked)
         ⊎ WereCounted station.old marker.new.marked }
-    ensures told { OnOk result ((h : History)
-        × SenderWatchedAll W.saw_sender station.old watch.old station.new watch.new h) }
+    ensures told { OnOk result ((h : History) × SenderWatchedAll (λ _. W.saw_sender)
+        station.old watch.old station.new watch.new h) }
 {
     for _ in 0..u64::MAX {
         if !speak_hear_and_mark(station, line, marker, store, watch)? {
@@ -79,8 +81,6 @@ fn speak_hear_and_mark<'a, L: Line, S: Store, W: Watch>(
     store: &mut S,
     watch: &mut W,
 ) -> Result<bool, StationFault>
-    ensures takes { IfOk result (λ is_turn. is_turn ≡ true → (t : SpokenTurn)
-        × SenderTakes station.old station.new t) }
     ensures over { IfOk result (λ is_turn. is_turn ≡ false → (station.old.over ≡ true)
         × (station.new ≡ station.old)) }
     ensures fault { IfErr result (SenderFails station.old station.new) }
@@ -88,7 +88,9 @@ fn speak_hear_and_mark<'a, L: Line, S: Store, W: Watch>(
     ensures cause { IfErr result (IsLineBreak (λ f. L.last_fault line.new ≡ Some f)
         (BabblesToSender station.old (L.talk line.old) station.new (L.talk line.new)) ⊥) }
     ensures gave { IfOk result (λ is_turn. is_turn ≡ true → (t : SpokenTurn) × SenderWatched
-        GaveBack station.old (L.talk line.old) station.new (L.talk line.new) t) }
+        SpokeAndHeard station.old (L.talk line.old) station.new (L.talk line.new) t) }
+    ensures silent { IfOk result (λ is_turn. is_turn ≡ false
+        → L.talk line.new ≡ L.talk line.old) }
     ensures marked { OnOk result (GoesOnMarking marker.old marker.new station.old.counted
         station.new.counted (S.files store.old) (S.files store.new)) }
     ensures count { (marker.new.marked ≡ marker.old.marked)
@@ -97,7 +99,7 @@ fn speak_hear_and_mark<'a, L: Line, S: Store, W: Watch>(
     ensures still { marker.new.marked ≡ marker.old.marked
         → Discloses (S.files store.old) (S.files store.new) IsSame }
     ensures told { IfOk result (λ is_turn. is_turn ≡ true → (t : SpokenTurn)
-        × SenderWatched W.saw_sender station.old watch.old station.new watch.new t) }
+        × SenderWatched (λ _. W.saw_sender) station.old watch.old station.new watch.new t) }
     ensures untold { IfOk result (λ is_turn. is_turn ≡ false → watch.new ≡ watch.old) }
 {
     let is_turn = speak_and_hear(station, line, watch)?;
@@ -111,8 +113,6 @@ fn speak_and_hear<L: Line, W: Watch>(
     line: &mut L,
     watch: &mut W,
 ) -> Result<bool, StationFault>
-    ensures takes { IfOk result (λ is_turn. is_turn ≡ true → (t : SpokenTurn)
-        × SenderTakes station.old station.new t) }
     ensures over { IfOk result (λ is_turn. is_turn ≡ false → (station.old.over ≡ true)
         × (station.new ≡ station.old)) }
     ensures fault { IfErr result (SenderFails station.old station.new) }
@@ -120,9 +120,11 @@ fn speak_and_hear<L: Line, W: Watch>(
     ensures cause { IfErr result (IsLineBreak (λ f. L.last_fault line.new ≡ Some f)
         (BabblesToSender station.old (L.talk line.old) station.new (L.talk line.new)) ⊥) }
     ensures gave { IfOk result (λ is_turn. is_turn ≡ true → (t : SpokenTurn) × SenderWatched
-        GaveBack station.old (L.talk line.old) station.new (L.talk line.new) t) }
+        SpokeAndHeard station.old (L.talk line.old) station.new (L.talk line.new) t) }
+    ensures silent { IfOk result (λ is_turn. is_turn ≡ false
+        → L.talk line.new ≡ L.talk line.old) }
     ensures told { IfOk result (λ is_turn. is_turn ≡ true → (t : SpokenTurn)
-        × SenderWatched W.saw_sender station.old watch.old station.new watch.new t) }
+        × SenderWatched (λ _. W.saw_sender) station.old watch.old station.new watch.new t) }
     ensures untold { IfOk result (λ is_turn. is_turn ≡ false → watch.new ≡ watch.old) }
 {
     match station.speak(line) {
@@ -149,7 +151,8 @@ pub fn receive_all<'a, L: Line, S: Store, W: Watch>(
     store: &mut S,
     watch: &mut W,
 ) -> Result<Left, BrokenOff<'a>>
-    ensures left { IfOk result (λ left. LeavesSo left station.old station.new) }
+    ensures left { IfOk result (λ left. LeavesSo left station.old (L.talk line.old)
+        station.new (L.talk line.new)) }
     ensures fault { IfErr result (BreaksOff station.old station.new) }
     ensures cause { IfErr result (IsBreak (λ f. L.last_fault line.new ≡ Some f)
         (ReceivesToBabble station.old (L.talk line.old) station.new (L.talk line.new))
@@ -162,7 +165,7 @@ pub fn receive_all<'a, L: Line, S: Store, W: Watch>(
         (L.transmissions line.old) (L.transmissions line.new)
         (S.files store.old) (S.files store.new)) }
     ensures told { OnOk result ((h : History) × (far : Receiving)
-        × ReceiverWatchedAll W.saw_receiver station.old watch.old far watch.new h
+        × ReceiverWatchedAll (λ _. W.saw_receiver) station.old watch.old far watch.new h
         × ((station.new ≡ far) ⊎ (station.new ≡ after_abandon far))) }
 {
     let left = hear_out(station, line, keeper, store, watch)?;
@@ -180,7 +183,8 @@ fn hear_out<'a, L: Line, S: Store, W: Watch>(
     store: &mut S,
     watch: &mut W,
 ) -> Result<Left, BrokenOff<'a>>
-    ensures heard { IfOk result (λ left. HearsOut left station.old station.new) }
+    ensures heard { IfOk result (λ left. HearsOut left station.old (L.talk line.old)
+        station.new (L.talk line.new)) }
     ensures fault { IfErr result (BreaksOff station.old station.new) }
     ensures cause { IfErr result (IsBreak (λ f. L.last_fault line.new ≡ Some f)
         (ReceivesToBabble station.old (L.talk line.old) station.new (L.talk line.new))
@@ -192,8 +196,8 @@ fn hear_out<'a, L: Line, S: Store, W: Watch>(
     ensures broken { IfErr result (KeepsToBreak keeper.old keeper.new station.old station.new
         (L.transmissions line.old) (L.transmissions line.new)
         (S.files store.old) (S.files store.new)) }
-    ensures told { OnOk result ((h : History)
-        × ReceiverWatchedAll W.saw_receiver station.old watch.old station.new watch.new h) }
+    ensures told { OnOk result ((h : History) × ReceiverWatchedAll (λ _. W.saw_receiver)
+        station.old watch.old station.new watch.new h) }
 {
     let mut quiet = 0;
     for _ in 0..MAX_HEARINGS {
@@ -241,7 +245,7 @@ fn hear_keep_and_speak<'a, L: Line, S: Store, W: Watch>(
         (BabblesToReceiver station.old (L.talk line.old) station.new (L.talk line.new))
         (station.old.over ≡ true)) }
     ensures gave { OnOk result ((t : SpokenTurn) × ReceiverWatched
-        Brought station.old (L.talk line.old) station.new (L.talk line.new) t) }
+        HeardAndReplied station.old (L.talk line.old) station.new (L.talk line.new) t) }
     ensures goes_on { IfOk result (λ goes_on. goes_on ≡ true → station.new.over ≡ false) }
     ensures kept { OnOk result (GoesOnKeeping keeper.old keeper.new station.old.jobs
         station.new.jobs (S.files store.old) (S.files store.new)) }
@@ -252,7 +256,7 @@ fn hear_keep_and_speak<'a, L: Line, S: Store, W: Watch>(
         (L.transmissions line.old) (L.transmissions line.new)
         (S.files store.old) (S.files store.new)) }
     ensures told { OnOk result ((t : SpokenTurn)
-        × ReceiverWatched W.saw_receiver station.old watch.old station.new watch.new t) }
+        × ReceiverWatched (λ _. W.saw_receiver) station.old watch.old station.new watch.new t) }
 {
     let reply = station.hear(line, Wish::Go)?;
     let Some(arrival) = station.arrival() else {
@@ -317,7 +321,7 @@ fn take_turn<N: Line, F: Line>(
         (BabblesToSender sender.old (N.talk near.old) sender.new (N.talk near.new)
         ⊎ BabblesToReceiver receiver.old (F.talk far.old) receiver.new (F.talk far.new))
         (receiver.new.over ≡ true)) }
-    ensures gave { IfOk result (λ spoken. IfSome spoken (GaveBoth
+    ensures gave { IfOk result (λ spoken. IfSome spoken (BothSpoke
         (N.talk near.old, F.talk far.old) (N.talk near.new, F.talk far.new))) }
 {
     let said = match sender.speak(near) {

@@ -1,5 +1,5 @@
 //! `exchange`: one transmission each way over one connection.
-ghost use Rattle.std.specs.Prelude.{◌≡◌, ◌≢◌, ◌⊎◌, List, Option, IfErr, IfOk, IfSome, OnOk};
+ghost use Rattle.std.specs.Prelude.{◌≡◌, ◌≢◌, ◌⊎◌, List, Option, None, IfErr, IfOk, IfSome, OnOk};
 ghost use Rattle.std.specs.List.{flat_map};
 ghost use Rattle.rje_jobs.specs.declared.job.Job.{Job as Item};
 ghost use Rattle.rje_files.specs.Unsent.{IsLeft};
@@ -47,9 +47,9 @@ pub fn exchange<'a, R: Net + Clock, S: Store, O: Write, E: Write>(
     err: &mut E,
 ) -> Result<Ending, CommandFault<'a>>
     ensures exchanged { IfOk result (λ ending. OfFile order.entry.send.now (S.files store.old)
-        (λ file. ExchangesLeft ending (rank_at order.entry.place) order.entry.send.now
-        order.entry.received.now file (S.files store.old) (S.files store.new)
-        (O.contents out.old) (O.contents out.new))) }
+        (λ file. ExchangesLeft ending None None (rank_at order.entry.place)
+        order.entry.send.now order.entry.received.now file
+        (S.files store.old) (S.files store.new) (O.contents out.old) (O.contents out.new))) }
     ensures fault { IfErr result (IsSendFault order.entry.send.now (S.files store.old)) }
     ensures files { IfSome (S.files store.old) (λ _. LeavesExchange (rank_at order.entry.place)
         order.entry.send.now order.entry.received.now (S.files store.old) (S.files store.new)) }
@@ -81,7 +81,8 @@ pub fn exchange_over<L: Line, S: Store, O: Write, E: Write>(
     out: &mut O,
     err: &mut E,
 ) -> u8
-    ensures exchanged { (result ≡ 0) ⊎ (result ≡ 4) → EndsExchanging result rank
+    ensures exchanged { (result ≡ 0) ⊎ (result ≡ 4) → EndsExchanging result
+        (L.talk line.old) (L.talk line.new) rank
         send.now received.now (S.files store.old) (S.files store.new)
         (O.contents out.old) (O.contents out.new) }
     ensures status { (result ≡ 0) ⊎ ((result ≡ 4) ⊎ ((result ≡ 1) ⊎ IsFailing result)) }
@@ -107,7 +108,8 @@ fn exchanged<'a, L: Line, S: Store, O: Write>(
     out: &mut O,
 ) -> Result<Ending, CommandFault<'a>>
     ensures exchanged { IfOk result (λ ending. OfFile send.entry.now (S.files store.old) (λ file.
-        ExchangesLeft ending rank send.entry.now received.entry.now file
+        ExchangesLeft ending (L.talk line.old) (L.talk line.new) rank
+        send.entry.now received.entry.now file
         (S.files store.old) (S.files store.new) (O.contents out.old) (O.contents out.new))) }
     ensures fault { IfErr result (IsSendFault send.entry.now (S.files store.old)) }
     ensures files { IfSome (S.files store.old) (λ _. LeavesExchange rank send.entry.now
@@ -153,8 +155,9 @@ fn exchange_files<'a, 'b, L: Line, S: Store, W: Watch, O: Write>(
     watch: &mut W,
     out: &mut O,
 ) -> Result<Ending, CommandFault<'a>>
-    ensures exchanged { IfOk result (λ ending. Exchanges ending station.entry marker.entry
-        keeper.entry (S.files store.old) (S.files store.new)
+    ensures exchanged { IfOk result (λ ending. Exchanges ending
+        (L.talk line.old) (L.talk line.new) station.entry marker.entry keeper.entry
+        (S.files store.old) (S.files store.new)
         (O.contents out.old) (O.contents out.new)) }
     ensures status { IfErr result (λ fault. (jobs : List Item)
         → IsLeft marker.entry.file.items jobs → IsFailing (status_of fault)) }

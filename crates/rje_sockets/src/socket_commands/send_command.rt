@@ -1,18 +1,18 @@
 //! `send`: one transmission of what is left of a job file to a listening receiver.
-ghost use Rattle.std.specs.Prelude.{◌≡◌, ◌⊎◌, List, Option, length, IfErr, IfOk, OnOk, true};
+ghost use Rattle.std.specs.Prelude.{◌≡◌, ◌⊎◌, List, Option, None, length, IfErr, IfOk, OnOk, true};
 ghost use Rattle.std.specs.Io.KnownBytes.{Appends};
 ghost use Rattle.rje_jobs.specs.declared.job.Job.{Job};
 ghost use Rattle.bsc_history.specs.History.{History};
 ghost use Rattle.rje_files.specs.Marks.{AreMarks};
 ghost use Rattle.rje_files.specs.Unsent.{IsLeft};
 ghost use Rattle.rje_station.specs.Sending.{outcome_of};
-ghost use Rattle.line_world.specs.AnyLines.{SendsToEnd};
 ghost use Rattle.rje_commands.specs.Commands.{OfFile};
 ghost use Rattle.rje_commands.specs.CommandFault.{IsFailing, is_of_output, status_of};
 ghost use Rattle.rje_sockets.specs.Ending.{ending_of, sent_text, IsRefusedFile, IsUnsentFault, MarksSent, SendsLeft, EndsSending};
 ghost use Rattle.rje_sockets.specs.Inside.Sending.{IsOutgoing, IsSendFault};
 ghost use Rattle.rje_sockets.specs.Marking.{Marks, MarksCounted, MarksNoMore};
 ghost use Rattle.rje_stores.specs.Store.{FileMap, Discloses, IsSame};
+ghost use Rattle.rje_sockets.specs.OverLine.{SendsOver};
 ghost use Rattle.rje_sockets.specs.Watching.{SenderWatchedAll};
 
 use crate::exchange::send_all;
@@ -45,8 +45,8 @@ pub fn send<'a, R: Net + Clock, S: Store, O: Write, E: Write>(
     err: &mut E,
 ) -> Result<Ending, CommandFault<'a>>
     ensures sent { IfOk result (λ ending. OfFile order.entry.jobs.now (S.files store.old) (λ file.
-        SendsLeft ending order.entry.jobs.now file (S.files store.old) (S.files store.new)
-        (O.contents out.old) (O.contents out.new))) }
+        SendsLeft ending None None order.entry.jobs.now file
+        (S.files store.old) (S.files store.new) (O.contents out.old) (O.contents out.new))) }
     ensures fault { IfErr result (IsSendFault order.entry.jobs.now (S.files store.old)) }
     ensures marked { MarksNoMore order.entry.jobs.now (S.files store.old) (S.files store.new) }
     ensures files_kept { IfErr result (λ fault. status_of fault ≡ 1
@@ -81,7 +81,8 @@ pub fn send_over<L: Line, S: Store, O: Write, E: Write>(
     out: &mut O,
     err: &mut E,
 ) -> u8
-    ensures sent { (result ≡ 0) ⊎ (result ≡ 4) → EndsSending result name.now
+    ensures sent { (result ≡ 0) ⊎ (result ≡ 4) → EndsSending result
+        (L.talk line.old) (L.talk line.new) name.now
         (S.files store.old) (S.files store.new) (O.contents out.old) (O.contents out.new) }
     ensures status { (result ≡ 0) ⊎ ((result ≡ 4) ⊎ ((result ≡ 1) ⊎ IsFailing result)) }
     ensures refused { result ≡ 1 → OfFile name.now (S.files store.old) IsRefusedFile }
@@ -103,8 +104,8 @@ fn sent<'a, L: Line, S: Store, O: Write>(
     out: &mut O,
 ) -> Result<Ending, CommandFault<'a>>
     ensures sent { IfOk result (λ ending. OfFile name.entry.now (S.files store.old) (λ file.
-        SendsLeft ending name.entry.now file (S.files store.old) (S.files store.new)
-        (O.contents out.old) (O.contents out.new))) }
+        SendsLeft ending (L.talk line.old) (L.talk line.new) name.entry.now file
+        (S.files store.old) (S.files store.new) (O.contents out.old) (O.contents out.new))) }
     ensures fault { IfErr result (IsSendFault name.entry.now (S.files store.old)) }
     ensures marked { MarksNoMore name.entry.now (S.files store.old) (S.files store.new) }
     ensures files_kept { IfErr result (λ fault. status_of fault ≡ 1
@@ -182,7 +183,8 @@ fn transmit<'a, L: Line, S: Store, W: Watch, O: Write>(
     watch: &mut W,
     out: &mut O,
 ) -> Result<Ending, CommandFault<'a>>
-    ensures took { OnOk result (SendsToEnd station.old station.new) }
+    ensures took { OnOk result (SendsOver station.old (L.talk line.old)
+        station.new (L.talk line.new)) }
     ensures ended { IfOk result (λ ending. ending ≡ ending_of (outcome_of station.new)) }
     ensures printed { OnOk result (Appends (O.contents out.old) (O.contents out.new)
         (sent_text station.new.counted (length station.old.jobs) (outcome_of station.new))) }
@@ -196,8 +198,8 @@ fn transmit<'a, L: Line, S: Store, W: Watch, O: Write>(
         (S.files store.new) }
     ensures status { IfErr result (λ fault. (jobs : List Job)
         → IsLeft marker.old.file.items jobs → IsFailing (status_of fault)) }
-    ensures told { OnOk result ((h : History)
-        × SenderWatchedAll W.saw_sender station.old watch.old station.new watch.new h) }
+    ensures told { OnOk result ((h : History) × SenderWatchedAll (λ _. W.saw_sender)
+        station.old watch.old station.new watch.new h) }
 {
     let given = station.jobs().len();
     let sent = send_all(station, line, marker, store, watch);

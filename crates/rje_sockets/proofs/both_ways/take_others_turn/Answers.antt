@@ -1,14 +1,13 @@
-use Rattle.std.proofs.Common.{rules, ◌≡◌, ◌∙◌, ap, refl, if◌then◌else◌}
-use Rattle.rje_station.specs.declared.arrival.Arrival.{Arrival}
+use Rattle.std.proofs.Common.{rules, ◌≡◌, ◌∙◌, ap, refl, subst, sym, if◌then◌else◌}
 use Rattle.rje_station.specs.Receiving.{Receiving}
 use Rattle.rje_station.specs.Station.{after_other_ended, after_own_reply}
 use Rattle.rje_sockets.specs.declared.broken_off.BrokenOff.{BrokenOff}
 use Rattle.rje_sockets.specs.BothFiles.{kept_of}
 use Rattle.rje_sockets.specs.Keeping.{GoesOnKeeping}
 use Rattle.rje_sockets.proofs.BothFiles.{answer_leaves, other_kept, refusal_leaves}
-use Rattle.rje_sockets.specs.Babble.{ComesAsBefore}
-use Rattle.rje_sockets.proofs.Babble.{brought, comes_replied, comes_same}
-use Rattle.rje_sockets.proofs.BothWays.{fails_as, others_arrived, others_taken}
+use Rattle.rje_sockets.specs.OverLine.{HeardAndReplied}
+use Rattle.rje_sockets.proofs.OverLine.{last_passed, other_owes, replied_as}
+use Rattle.rje_sockets.proofs.BothWays.{fails_as, others_taken}
 use Rattle.rje_sockets.proofs.both_ways.take_others_turn.Goals.{then-is_over, else-is_over+in_ok-reply}
 use Rattle.rje_sockets.proofs.both_ways.take_others_turn.Goals as goal
 
@@ -23,7 +22,7 @@ returns-clause-takes g c is =
     let taken =
     others_taken c.args.station.now c.hear_other.new.self c.if-is_over.station heard.what heard.refused c.in-Some.arrival c.in-Ok.reply c.is_over.result c.in-Ok.ensures.live
     heard.may heard.state heard.reply_is (search rules) (c.is_over.ensures ∙ ap (λ (r : Receiving). r.over) c.receiver-3.ensures) after in
-    (c.in-Some.arrival, c.in-Ok.reply, taken.0, c.receiver_took-2.ensures.saw, taken.1)
+    (c.in-Some.arrival, c.in-Ok.reply, taken.0, c.receiver_took-2.ensures.saw, taken.2)
 
 pub returns-clause-kept : goal.returns-clause-kept
 returns-clause-kept g c =
@@ -56,20 +55,22 @@ returns-clause-gave g c is =
       | then-is_over w ↦ search rules
       | else-is_over+in_ok-reply w ↦ search rules
     ] in
-    let comes : ComesAsBefore (g.L.Line.talk c.hear_other.new.line) (g.L.Line.talk c.if-is_over.line) =
+    let over = c.is_over.ensures ∙ ap (λ (r : Receiving). r.over) c.receiver-3.ensures in
+    let passed : HeardAndReplied heard.what (g.L.Line.talk c.args.line.now) (g.L.Line.talk c.if-is_over.line) c.in-Some.arrival c.in-Ok.reply =
     elim c.if-is_over.branch [
-      | then-is_over w ↦ rw w.line-is (comes_same _ _ refl)
-      | else-is_over+in_ok-reply w ↦ rw w.line-is (comes_replied _ _ _ w.in_ok-reply.ensures.sent)
+      | then-is_over w ↦
+          rw w.line-is (last_passed heard.what c.in-Some.arrival c.in-Ok.reply _ (g.L.Line.talk c.hear_other.new.line) _ heard.told
+          (heard.reply_is ∙ other_owes c.args.station.now c.hear_other.new.self heard.what heard.refused heard.state (search rules)) refl)
+      | else-is_over+in_ok-reply w ↦ rw w.line-is (g.L.Line.talk c.hear_other.new.line, heard.told, replied_as _ _ c.in-Ok.reply _ heard.reply_is w.in_ok-reply.ensures.sent)
     ] in
     let taken =
     others_taken c.args.station.now c.hear_other.new.self c.if-is_over.station heard.what heard.refused c.in-Some.arrival c.in-Ok.reply c.is_over.result c.in-Ok.ensures.live
-    heard.may heard.state heard.reply_is (search rules) (c.is_over.ensures ∙ ap (λ (r : Receiving). r.over) c.receiver-3.ensures) after in
-    let sound = ap (λ (a : Arrival). a.sound) (others_arrived c.args.station.now c.hear_other.new.self heard.what heard.refused c.in-Some.arrival heard.may heard.state (search rules)) in (
+    heard.may heard.state heard.reply_is (search rules) over after in (
       c.in-Some.arrival,
       c.in-Ok.reply,
       taken.0,
-      brought heard.what heard.refused c.in-Some.arrival c.in-Ok.reply _ (g.L.Line.talk c.hear_other.new.line) _ sound heard.told comes,
-      taken.1,
+      subst (λ what. HeardAndReplied what (g.L.Line.talk c.args.line.now) (g.L.Line.talk c.if-is_over.line) c.in-Some.arrival c.in-Ok.reply) (sym taken.1) passed,
+      taken.2,
     )
 
 pub returns-in-Err-clause-fault : goal.returns-in-Err-clause-fault

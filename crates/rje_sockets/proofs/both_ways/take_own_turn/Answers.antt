@@ -1,8 +1,8 @@
 use Rattle.std.proofs.Common.{rules, ap, subst, ◌∙◌}
 use Rattle.rje_station.specs.Sending.{Sending}
-use Rattle.rje_sockets.specs.Babble.{GaveBack}
 use Rattle.rje_sockets.specs.Marking.{GoesOnMarking}
-use Rattle.rje_sockets.proofs.Babble.{comes_due, gave_end, gave_own}
+use Rattle.rje_sockets.specs.OverLine.{SpokeAndHeard}
+use Rattle.rje_sockets.proofs.OverLine.{end_passed, own_passed, said_due}
 use Rattle.rje_sockets.proofs.both_ways.take_own_turn.Goals.{in-End, in_default+in_ok-heard-in_default}
 use Rattle.rje_sockets.proofs.both_ways.take_own_turn.Goals as goal
 
@@ -13,12 +13,14 @@ returns-clause-marked g c =
 
 pub returns-clause-gave : goal.returns-clause-gave
 returns-clause-gave g c =
-    let comes = comes_due _ _ (g.L.Line.talk c.args.line.now) (g.L.Line.talk c.speak.new.line) c.in_ok-said.ensures.sent in
-    let gave : GaveBack (g.L.Line.talk c.args.line.now) (g.L.Line.talk c.match-said.line) c.in_ok-said.said c.match-said.heard =
+    let s = c.args.station.now in
+    let said = c.in_ok-said.said in
+    let sent = said_due s said (g.L.Line.talk c.args.line.now) (g.L.Line.talk c.speak.new.line) (search rules) c.requires.due c.in_ok-said.ensures.sent in
+    let passed : SpokeAndHeard s.sender.rest (g.L.Line.talk c.args.line.now) (g.L.Line.talk c.match-said.line) said c.match-said.heard =
     elim c.match-said.branch [
-      | in-End w ↦ rw w.line-is (gave_end c.in_ok-said.said c.match-said.heard _ _ (search rules) comes)
+      | in-End w ↦ rw w.line-is (end_passed s.sender.rest _ _ said c.match-said.heard (search rules) sent)
       | in_default+in_ok-heard-in_default w ↦
-          rw (w.line-is, w.heard-is) (gave_own c.args.station.now c.speak.new.self c.in_ok-said.said _ _ (g.L.Line.talk c.speak.new.line) _ (search rules) c.requires.due (search rules) (search rules) comes
+          rw (w.line-is, w.heard-is) (own_passed s c.speak.new.self said _ _ (g.L.Line.talk c.speak.new.line) _ (search rules) c.requires.due (search rules) (search rules) sent
           w.in_ok-heard-in_default.ensures.heard)
     ] in
-    (c.in_ok-said.said, c.match-said.heard, search rules, gave)
+    (said, c.match-said.heard, search rules, passed)

@@ -3,11 +3,11 @@ use Rattle.rje_sockets.proofs.Answering.{replied_turn, last_turn, line_failed, n
 use Rattle.rje_station.specs.declared.station_fault.StationFault.{StationFault}
 use Rattle.rje_station.specs.Line.{one_more}
 use Rattle.rje_station.specs.Receiving.{Receiving}
-use Rattle.rje_sockets.specs.Babble.{Brought}
-use Rattle.rje_sockets.proofs.Babble.{brought, comes_replied, comes_same}
+use Rattle.rje_sockets.specs.OverLine.{HeardAndReplied}
 use Rattle.rje_sockets.proofs.Failing.{line_fails}
 use Rattle.rje_sockets.proofs.Keeping.{turn_kept}
 use Rattle.rje_sockets.proofs.LineBreak.{breaks}
+use Rattle.rje_sockets.proofs.OverLine.{last_passed, over_owes, replied_as}
 use Rattle.rje_sockets.proofs.Watched.{last_watched, reply_watched}
 use Rattle.rje_sockets.proofs.exchange.hear_keep_and_speak.Goals as goal
 
@@ -38,28 +38,29 @@ returns-in-Err-Over-clause-kept g c =
 pub returns-in-Ok-clause-told : goal.returns-in-Ok-clause-told
 returns-in-Ok-clause-told g c =
     let heard = c.in_ok-reply.ensures.heard in
-    reply_watched g.W.Watch.saw_receiver c.args.station.now c.hear.new.self c.speak.new.self c.args.watch.now c.receiver_took-in-Ok.new.self heard.what heard.refused c.in-Some.arrival c.in_ok-reply.reply
+    reply_watched (λ _. g.W.Watch.saw_receiver) c.args.station.now c.hear.new.self c.speak.new.self c.args.watch.now c.receiver_took-in-Ok.new.self heard.what heard.refused c.in-Some.arrival c.in_ok-reply.reply
     heard.may heard.state c.in-Ok.ensures.state (search rules) heard.reply_is c.receiver_took-in-Ok.ensures.saw
 
 pub returns-in-Err-Over-clause-told : goal.returns-in-Err-Over-clause-told
 returns-in-Err-Over-clause-told g c =
     let heard = c.in_ok-reply.ensures.heard in
-    last_watched g.W.Watch.saw_receiver c.args.station.now c.hear.new.self c.speak.new.self c.args.watch.now c.receiver_took-in-Err-Over.new.self heard.what heard.refused c.in-Some.arrival c.in_ok-reply.reply
+    last_watched (λ _. g.W.Watch.saw_receiver) c.args.station.now c.hear.new.self c.speak.new.self c.args.watch.now c.receiver_took-in-Err-Over.new.self heard.what heard.refused c.in-Some.arrival c.in_ok-reply.reply
     heard.may heard.state (search rules) (search rules) heard.reply_is c.receiver_took-in-Err-Over.ensures.saw
 
 pub returns-in-Ok-clause-gave : goal.returns-in-Ok-clause-gave
 returns-in-Ok-clause-gave g c =
     let heard = c.in_ok-reply.ensures.heard in
-    reply_watched Brought c.args.station.now c.hear.new.self c.speak.new.self (g.L.Line.talk c.args.line.now) (g.L.Line.talk c.speak.new.line) heard.what heard.refused c.in-Some.arrival c.in_ok-reply.reply
+    reply_watched HeardAndReplied c.args.station.now c.hear.new.self c.speak.new.self (g.L.Line.talk c.args.line.now) (g.L.Line.talk c.speak.new.line) heard.what heard.refused c.in-Some.arrival c.in_ok-reply.reply
     heard.may heard.state c.in-Ok.ensures.state (search rules) heard.reply_is
-    (brought heard.what heard.refused c.in-Some.arrival c.in_ok-reply.reply _ (g.L.Line.talk c.hear.new.line) _ (search rules) heard.told (comes_replied _ _ _ c.in-Ok.ensures.sent))
+    (g.L.Line.talk c.hear.new.line, heard.told, replied_as _ _ c.in_ok-reply.reply _ heard.reply_is c.in-Ok.ensures.sent)
 
 pub returns-in-Err-Over-clause-gave : goal.returns-in-Err-Over-clause-gave
 returns-in-Err-Over-clause-gave g c =
     let heard = c.in_ok-reply.ensures.heard in
-    last_watched Brought c.args.station.now c.hear.new.self c.speak.new.self (g.L.Line.talk c.args.line.now) (g.L.Line.talk c.speak.new.line) heard.what heard.refused c.in-Some.arrival c.in_ok-reply.reply
+    last_watched HeardAndReplied c.args.station.now c.hear.new.self c.speak.new.self (g.L.Line.talk c.args.line.now) (g.L.Line.talk c.speak.new.line) heard.what heard.refused c.in-Some.arrival c.in_ok-reply.reply
     heard.may heard.state (search rules) (search rules) heard.reply_is
-    (brought heard.what heard.refused c.in-Some.arrival c.in_ok-reply.reply _ (g.L.Line.talk c.hear.new.line) _ (search rules) heard.told (comes_same _ _ (search rules)))
+    (last_passed heard.what c.in-Some.arrival c.in_ok-reply.reply _ (g.L.Line.talk c.hear.new.line) _ heard.told
+    (heard.reply_is ∙ over_owes c.args.station.now c.hear.new.self heard.what heard.refused heard.state (search rules)) (search rules))
 
 pub returns-in-Err-clause-broken : goal.returns-in-Err-clause-broken
 returns-in-Err-clause-broken g c =

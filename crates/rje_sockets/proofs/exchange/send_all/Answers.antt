@@ -1,27 +1,28 @@
 use Rattle.std.proofs.Common.{rules, ◌≡◌, refl, sym, subst, inl, Err, [], ◌∷◌}
-use Rattle.line_world.proofs.TurnsOverLines.{SendsSoFar, sends_on, sends_over, sends_long, sends_fault}
+use Rattle.bsc_history.specs.History.{History}
+use Rattle.line_world.specs.AnyLines.{SenderTook}
 use Rattle.rje_sockets.proofs.LineBreak.{line_breaks_on}
 use Rattle.rje_sockets.proofs.Marked.{counts_on, marks_nothing, marks_on}
+use Rattle.rje_sockets.proofs.OverLine.{sends_fault, sends_long, sends_on, sends_over, so_far_took}
 use Rattle.rje_sockets.proofs.exchange.send_all.Goals as goal
 
 pub loop-init : goal.loop-init
 loop-init g c = record {
-  turns = ([], refl, refl);
   marked = marks_nothing c.args.marker.now c.args.station.now.counted (g.S.Store.files c.args.store.now);
   count = inl refl;
   told = ([], (refl, refl));
-  gave = ([], (refl, refl));
+  turns = ([], (refl, refl), refl);
 }
 
 pub returns-in_err-speak_hear_and_mark-clause-fault : goal.returns-in_err-speak_hear_and_mark-clause-fault
 returns-in_err-speak_hear_and_mark-clause-fault g c =
     let told : c.from_residual.result ≡ Err c.in_err-speak_hear_and_mark.field-0.0 = search rules in
-    rw told (sends_fault c.args.station.now c.loop.station c.speak_hear_and_mark.new.station c.loop.counter _ c.loop.invariant.turns c.in_err-speak_hear_and_mark.ensures.fault)
+    rw told (sends_fault c.args.station.now c.loop.station c.speak_hear_and_mark.new.station (g.L.Line.talk c.args.line.now) (g.L.Line.talk c.loop.line) c.loop.counter _ c.loop.invariant.turns c.in_err-speak_hear_and_mark.ensures.fault)
 
 pub returns-in_err-speak_hear_and_mark-clause-cause : goal.returns-in_err-speak_hear_and_mark-clause-cause
 returns-in_err-speak_hear_and_mark-clause-cause g c =
     let told : c.from_residual.result ≡ Err c.in_err-speak_hear_and_mark.field-0.0 = search rules in
-    let past = c.loop.invariant.gave in
+    let past = c.loop.invariant.turns in
     rw told (line_breaks_on c.in_err-speak_hear_and_mark.field-0.0 _ _ _ _ _ (λ babbles. (past.0, c.loop.station, g.L.Line.talk c.loop.line, past.1, babbles)) (λ never. never)
     c.in_err-speak_hear_and_mark.ensures.cause)
 
@@ -39,13 +40,15 @@ returns-in_err-speak_hear_and_mark-clause-count g c =
 pub returns-then-not-branch-clause-count : goal.returns-then-not-branch-clause-count
 returns-then-not-branch-clause-count g c =
     let over = c.in_ok-speak_hear_and_mark.ensures.over (search rules) in
-    counts_on c.args.station.now c.speak_hear_and_mark.new.station c.loop.counter c.args.marker.now.marked c.loop.marker.marked c.speak_hear_and_mark.new.marker.marked
-    (subst (λ s. SendsSoFar c.args.station.now c.loop.counter s) (sym over.1) c.loop.invariant.turns) c.loop.invariant.count c.in_ok-speak_hear_and_mark.ensures.count
+    let took = so_far_took c.args.station.now (g.L.Line.talk c.args.line.now) c.loop.counter c.loop.station (g.L.Line.talk c.loop.line) c.loop.invariant.turns in
+    counts_on c.args.station.now c.speak_hear_and_mark.new.station c.args.marker.now.marked c.loop.marker.marked c.speak_hear_and_mark.new.marker.marked
+    (subst (λ s. (h : History) × SenderTook c.args.station.now h s) (sym over.1) took) c.loop.invariant.count c.in_ok-speak_hear_and_mark.ensures.count
 
 pub returns-then-not-branch-clause-took : goal.returns-then-not-branch-clause-took
 returns-then-not-branch-clause-took g c =
     let over = c.in_ok-speak_hear_and_mark.ensures.over (search rules) in
-    sends_over c.args.station.now c.loop.station c.speak_hear_and_mark.new.station c.loop.counter c.loop.invariant.turns over.0 over.1
+    sends_over c.args.station.now c.loop.station c.speak_hear_and_mark.new.station (g.L.Line.talk c.args.line.now) (g.L.Line.talk c.loop.line) (g.L.Line.talk c.speak_hear_and_mark.new.line) c.loop.counter c.loop.invariant.turns
+    over.0 over.1 (c.in_ok-speak_hear_and_mark.ensures.silent (search rules))
 
 pub returns-then-not-branch-clause-marked : goal.returns-then-not-branch-clause-marked
 returns-then-not-branch-clause-marked g c =
@@ -58,23 +61,22 @@ returns-then-not-branch-clause-told g c =
     rw (over.1, c.in_ok-speak_hear_and_mark.ensures.untold (search rules)) c.loop.invariant.told
 
 pub loop-preserved : goal.loop-preserved
-loop-preserved g c = record {
-  turns = sends_on c.args.station.now c.loop.station c.speak_hear_and_mark.new.station c.loop.counter c.loop.invariant.turns (c.in_ok-speak_hear_and_mark.ensures.takes (search rules));
-  marked = marks_on c.args.marker.now c.loop.marker c.speak_hear_and_mark.new.marker c.args.station.now.counted c.loop.station.counted c.speak_hear_and_mark.new.station.counted
-      (g.S.Store.files c.args.store.now) (g.S.Store.files c.loop.store) (g.S.Store.files c.speak_hear_and_mark.new.store) c.loop.invariant.marked c.in_ok-speak_hear_and_mark.ensures.marked;
-  count =
-      counts_on c.args.station.now c.speak_hear_and_mark.new.station _ c.args.marker.now.marked c.loop.marker.marked c.speak_hear_and_mark.new.marker.marked
-      (sends_on c.args.station.now c.loop.station c.speak_hear_and_mark.new.station c.loop.counter c.loop.invariant.turns (c.in_ok-speak_hear_and_mark.ensures.takes (search rules)))
-      c.loop.invariant.count c.in_ok-speak_hear_and_mark.ensures.count;
-  told =
-      let past = c.loop.invariant.told in
-      let turn = c.in_ok-speak_hear_and_mark.ensures.told (search rules) in
-      (turn.0 ∷ past.0, (c.loop.station, c.loop.watch, past.1, turn.1));
-  gave =
-      let past = c.loop.invariant.gave in
-      let turn = c.in_ok-speak_hear_and_mark.ensures.gave (search rules) in
-      (turn.0 ∷ past.0, (c.loop.station, g.L.Line.talk c.loop.line, past.1, turn.1));
-}
+loop-preserved g c =
+    let turns = sends_on c.args.station.now c.loop.station c.speak_hear_and_mark.new.station (g.L.Line.talk c.args.line.now) (g.L.Line.talk c.loop.line) (g.L.Line.talk c.speak_hear_and_mark.new.line) c.loop.counter c.loop.invariant.turns
+    (c.in_ok-speak_hear_and_mark.ensures.gave (search rules)) in record {
+      turns = turns;
+      marked = marks_on c.args.marker.now c.loop.marker c.speak_hear_and_mark.new.marker c.args.station.now.counted c.loop.station.counted c.speak_hear_and_mark.new.station.counted
+          (g.S.Store.files c.args.store.now) (g.S.Store.files c.loop.store) (g.S.Store.files c.speak_hear_and_mark.new.store) c.loop.invariant.marked c.in_ok-speak_hear_and_mark.ensures.marked;
+      count =
+          counts_on c.args.station.now c.speak_hear_and_mark.new.station c.args.marker.now.marked c.loop.marker.marked c.speak_hear_and_mark.new.marker.marked
+          (so_far_took c.args.station.now (g.L.Line.talk c.args.line.now) _ c.speak_hear_and_mark.new.station (g.L.Line.talk c.speak_hear_and_mark.new.line) turns)
+          c.loop.invariant.count c.in_ok-speak_hear_and_mark.ensures.count;
+      told =
+          let past = c.loop.invariant.told in
+          let turn = c.in_ok-speak_hear_and_mark.ensures.told (search rules) in
+          (turn.0 ∷ past.0, (c.loop.station, c.loop.watch, past.1, turn.1));
+    }
 
 pub returns-clause-took : goal.returns-clause-took
-returns-clause-took g c = sends_long c.args.station.now c.loop.station c.loop.counter c.loop.invariant.turns (search rules)
+returns-clause-took g c =
+    sends_long c.args.station.now c.loop.station (g.L.Line.talk c.args.line.now) (g.L.Line.talk c.loop.line) c.loop.counter c.loop.invariant.turns (search rules)

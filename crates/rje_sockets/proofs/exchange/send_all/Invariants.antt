@@ -1,16 +1,14 @@
-use Rattle.line_world.proofs.TurnsOverLines.{SendsSoFar}
 use Rattle.bsc_history.specs.History.{History}
 use Rattle.std.specs.Prelude.{◌≡◌, ◌⊎◌}
-use Rattle.rje_sockets.specs.Babble.{GaveBack}
 use Rattle.rje_sockets.specs.Marking.{GoesOnMarking, WereCounted}
 use Rattle.rje_sockets.specs.Watching.{SenderWatchedAll}
+use Rattle.rje_sockets.proofs.OverLine.{SendsSoFar}
 use Rattle.rje_sockets.proofs.exchange.send_all.Given as goal
 
 abbrev pub invariant-loop : goal.invariant-loop
 invariant-loop g l = record {
-  turns : SendsSoFar l.initial.station l.counter l.station;
   marked : GoesOnMarking l.initial.marker l.marker l.initial.station.counted l.station.counted (g.S.Store.files l.initial.store) (g.S.Store.files l.store);
   count : (l.marker.marked ≡ l.initial.marker.marked) ⊎ WereCounted l.initial.station l.marker.marked;
-  told : (h : History) × SenderWatchedAll g.W.Watch.saw_sender l.initial.station l.initial.watch l.station l.watch h;
-  gave : (h : History) × SenderWatchedAll GaveBack l.initial.station (g.L.Line.talk l.initial.line) l.station (g.L.Line.talk l.line) h;
+  told : (h : History) × SenderWatchedAll (λ _. g.W.Watch.saw_sender) l.initial.station l.initial.watch l.station l.watch h;
+  turns : SendsSoFar l.initial.station (g.L.Line.talk l.initial.line) l.counter l.station (g.L.Line.talk l.line);
 }

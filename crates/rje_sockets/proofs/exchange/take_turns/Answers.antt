@@ -1,5 +1,5 @@
 use Rattle.std.proofs.Common.{rules, ◌≡◌, Err, IfSome, subst, [], ◌∷◌, refl}
-use Rattle.rje_sockets.specs.Babble.{GaveBoth}
+use Rattle.rje_sockets.specs.OverLine.{BothSpoke}
 use Rattle.rje_sockets.proofs.LineBreak.{line_breaks_on}
 use Rattle.line_world.specs.AnyLines.{BothTake, unhindered}
 use Rattle.line_world.proofs.TurnsOverLines.{both_on}
@@ -27,7 +27,7 @@ loop-preserved g c =
           (g.N.Line.talk c.loop.near, g.F.Line.talk c.loop.far),
           given.1,
           takes,
-          subst (λ o. IfSome o (GaveBoth (g.N.Line.talk c.loop.near, g.F.Line.talk c.loop.far) (g.N.Line.talk c.take_turn.new.near, g.F.Line.talk c.take_turn.new.far))) c.in-Some.is c.in_ok-turn.ensures.gave,
+          subst (λ o. IfSome o (BothSpoke (g.N.Line.talk c.loop.near, g.F.Line.talk c.loop.far) (g.N.Line.talk c.take_turn.new.near, g.F.Line.talk c.take_turn.new.far))) c.in-Some.is c.in_ok-turn.ensures.gave,
         ),
       );
     }

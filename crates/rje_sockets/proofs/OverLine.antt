@@ -1,0 +1,137 @@
+-- What passed over a line that tells its bytes, in a station's turn and in all of them.
+use Rattle.std.proofs.Common.{◌≡◌, ◌≢◌, inl, inr, ℕ, ◌+◌, ◌-◌, ◌^◌, Bool, true, false, List, ◌∷◌, length, Option, Some, None, refl, ap, sym, ◌∙◌, arith}
+use Rattle.std.proofs.lemmas.Bool.{true≢false}
+use Rattle.bsc_codes.specs.declared.block.Block.{Block}
+use Rattle.bsc_frame.specs.declared.heard.Heard.{Heard}
+use Rattle.bsc_history.specs.declared.spoken_turn.SpokenTurn.{SpokenTurn}
+use Rattle.bsc_history.specs.History.{History}
+use Rattle.bsc_link.specs.declared.reply.Reply.{Reply}
+use Rattle.bsc_link.specs.declared.say.Say.{Say}
+use Rattle.bsc_link.specs.declared.sound.Sound.{Sound}
+use Rattle.bsc_link.specs.declared.wish.Wish.{Wish}
+use Rattle.bsc_link.specs.Sender.{say_in}
+use Rattle.line_world.specs.AnyLines.{SenderFails, SenderTook, SendsToFault}
+use Rattle.line_world.proofs.Calm.{ended_owes}
+use Rattle.rje_station.specs.declared.arrival.Arrival.{Arrival}
+use Rattle.rje_station.specs.declared.station_fault.StationFault.{StationFault}
+use Rattle.rje_station.specs.Hearing.{Hearing, HearsSound, sound_heard}
+use Rattle.rje_station.specs.Line.{Passes, Talk}
+use Rattle.rje_station.specs.Receiving.{Receiving, Replied, after_receiving, sound_taken}
+use Rattle.rje_station.specs.Sending.{Sending, Spoke, after_speaking, is_end}
+use Rattle.rje_station.specs.Station.{Contending, HeardAnswer, SpokeDue, after_other, after_own_speaking, due_at, lets_in}
+use Rattle.rje_station.proofs.Due.{answer_heard, due_kept, not_end}
+use Rattle.rje_sockets.specs.OverLine.{Answers, HeardAndReplied, SendsOver, SpokeAndHeard, reply_after}
+use Rattle.rje_sockets.specs.Watching.{SenderWatched, SenderWatchedAll}
+use Rattle.rje_sockets.proofs.Watched.{sender_took}
+
+-- WHAT WAS SAID AND HEARD
+
+-- a station that listens after it spoke didn't say EOT
+pub said_more : (s near : Sending) (said : Say) → said ≡ say_in s.core.place → near ≡ after_speaking s → near.over ≡ false → is_end said ≡ false
+said_more s near said is spoke listens = ap is_end is ∙ sym (ap (λ (x : Sending). x.over) spoke) ∙ listens
+
+pub spoke_as : (rest : List Block) (t u : Option Talk) (said due : Say) → said ≡ due → Passes t u (Spoke due rest) → Passes t u (Spoke said rest)
+spoke_as rest t u said due is sent = rw is sent
+
+pub end_passed : (rest : List Block) (t u : Option Talk) (said : Say) (heard : Sound) → said ≡ Say.End → Passes t u (Spoke said rest) → SpokeAndHeard rest t u said heard
+end_passed rest t u said heard is sent = (u, sent, rw is refl)
+
+answers : (said : Say) (heard : Sound) (asked u : Option Talk) → is_end said ≡ false → Passes asked u (λ t u. HearsSound t u heard) → Answers said heard asked u
+answers Say.End heard asked u more hears = absurd (true≢false more)
+answers Say.Bid heard asked u more hears = hears
+answers Say.Block heard asked u more hears = hears
+answers Say.Again heard asked u more hears = hears
+answers Say.Delay heard asked u more hears = hears
+answers Say.Ask heard asked u more hears = hears
+answers Say.Nothing heard asked u more hears = hears
+
+pub turn_passed : (rest : List Block) (t asked u : Option Talk) (said : Say) (heard : Sound) → is_end said ≡ false → Passes t asked (Spoke said rest) → Passes asked u (λ t u. HearsSound t u heard)
+    → SpokeAndHeard rest t u said heard
+turn_passed rest t asked u said heard more sent hears = (asked, sent, answers said heard asked u more hears)
+
+-- WHAT WAS HEARD AND REPLIED
+
+-- nothing was replied
+replied_none : (reply : Option Reply) (t u : Option Talk) → reply ≡ None → u ≡ t → Passes t u (Replied reply)
+replied_none reply None u none is = tt
+replied_none reply (Some t) u none is = rw (none, is) refl
+
+pub replied_as : (t u : Option Talk) (reply due : Option Reply) → reply ≡ due → Passes t u (Replied due) → Passes t u (Replied reply)
+replied_as t u reply due is sent = rw is sent
+
+-- a receiving station that is over after what it heard owes no reply
+pub over_owes : (r heard : Receiving) (what : Heard) (refused : Bool) → heard ≡ after_receiving r what refused Wish.Go → heard.over ≡ true → heard.due ≡ None
+over_owes r heard what refused is over =
+    ap (λ (x : Receiving). x.due) is ∙ ended_owes r.core (sound_taken what refused) Wish.Go (sym (ap (λ (x : Receiving). x.over) is) ∙ over)
+
+pub last_passed : (what : Heard) (arrival : Arrival) (reply : Option Reply) (t heard u : Option Talk) → Passes t heard (λ t u. Hearing t u what) → reply ≡ None → u ≡ heard
+    → HeardAndReplied what t u arrival reply
+last_passed what arrival reply t heard u hears none is = (heard, hears, replied_none reply heard u none is)
+
+-- where both ends are here
+
+pub end_unanswered : (what : Heard) (arrival : Arrival) (said : Say) (reply : Option Reply) (v heard u : Option Talk) → said ≡ Say.End → Passes v heard (λ t u. Hearing t u what) → u ≡ heard
+    → HeardAndReplied what v u arrival (reply_after said reply)
+end_unanswered what arrival said reply v heard u end hears is = rw end (last_passed what arrival None v heard u hears refl is)
+
+pub turn_answered : (what : Heard) (arrival : Arrival) (said : Say) (reply : Option Reply) (v heard u : Option Talk) → is_end said ≡ false → Passes v heard (λ t u. Hearing t u what) → Passes heard u (Replied reply)
+    → HeardAndReplied what v u arrival (reply_after said reply)
+turn_answered what arrival Say.End reply v heard u more hears sent = absurd (true≢false more)
+turn_answered what arrival Say.Bid reply v heard u more hears sent = (heard, hears, sent)
+turn_answered what arrival Say.Block reply v heard u more hears sent = (heard, hears, sent)
+turn_answered what arrival Say.Again reply v heard u more hears sent = (heard, hears, sent)
+turn_answered what arrival Say.Delay reply v heard u more hears sent = (heard, hears, sent)
+turn_answered what arrival Say.Ask reply v heard u more hears sent = (heard, hears, sent)
+turn_answered what arrival Say.Nothing reply v heard u more hears sent = (heard, hears, sent)
+
+-- A STATION THAT SENDS AND RECEIVES
+
+spoke_due : (say : Say) (rest : List Block) (t u : Option Talk) → say ≢ Say.Nothing → Passes t u (SpokeDue say rest) → Passes t u (Spoke say rest)
+spoke_due Say.Nothing rest t u due sent = absurd (due refl)
+spoke_due Say.Bid rest t u due sent = sent
+spoke_due Say.Block rest t u due sent = sent
+spoke_due Say.Again rest t u due sent = sent
+spoke_due Say.Delay rest t u due sent = sent
+spoke_due Say.Ask rest t u due sent = sent
+spoke_due Say.End rest t u due sent = sent
+
+pub said_due : (s : Contending) (said : Say) (t u : Option Talk) → said ≡ due_at s → due_at s ≢ Say.Nothing → Passes t u (SpokeDue (due_at s) s.sender.rest) → Passes t u (Spoke said s.sender.rest)
+said_due s said t u is due sent = spoke_as s.sender.rest t u said (due_at s) is (spoke_due (due_at s) s.sender.rest t u due sent)
+
+pub own_passed : (s near : Contending) (said : Say) (heard : Sound) (t asked u : Option Talk) → said ≡ due_at s → due_at s ≢ Say.Nothing → said ≢ Say.End → near ≡ after_own_speaking s
+    → Passes t asked (Spoke said s.sender.rest) → HeardAnswer asked u (due_at near) heard → SpokeAndHeard s.sender.rest t u said heard
+own_passed s near said heard t asked u is due more spoke sent hears =
+    let kept : due_at near ≡ due_at s = ap due_at spoke ∙ due_kept s (due_at s) refl due (λ e. more (is ∙ e)) in
+    turn_passed s.sender.rest t asked u said heard (not_end said more) sent (answer_heard asked u (due_at near) heard (λ e. due (sym kept ∙ e)) hears)
+
+-- where the other's transmission is over after what it heard, it owes no reply
+let_in_owes : (s : Contending) (what : Heard) (refused b : Bool) → lets_in s.contender (sound_heard what) ≡ b → (after_other s what refused Wish.Go).receiver.over ≡ true
+    → (after_other s what refused Wish.Go).receiver.due ≡ None
+let_in_owes s what refused true is over = rw is (ended_owes s.receiver.core (sound_taken what refused) Wish.Go (rw is at over))
+let_in_owes s what refused false is over = rw is refl
+
+pub other_owes : (s mid : Contending) (what : Heard) (refused : Bool) → mid ≡ after_other s what refused Wish.Go → mid.receiver.over ≡ true → mid.receiver.due ≡ None
+other_owes s mid what refused is over =
+    ap (λ (x : Contending). x.receiver.due) is ∙ let_in_owes s what refused _ refl (sym (ap (λ (x : Contending). x.receiver.over) is) ∙ over)
+
+-- ALL TURNS of a sending station
+
+-- it took so many
+abbrev pub SendsSoFar : Sending → Option Talk → ℕ → Sending → Option Talk → Type 0
+SendsSoFar s t n s' u = (h : History) × SenderWatchedAll SpokeAndHeard s t s' u h × (length h ≡ n)
+
+pub so_far_took : (s : Sending) (t : Option Talk) (n : ℕ) (s' : Sending) (u : Option Talk) → SendsSoFar s t n s' u → (h : History) × SenderTook s h s'
+so_far_took s t n s' u (h, took, long) = (h, sender_took SpokeAndHeard s t s' u h took)
+
+-- one more
+pub sends_on : (s near s' : Sending) (t mid u : Option Talk) (n : ℕ) → SendsSoFar s t n near mid → ((x : SpokenTurn) × SenderWatched SpokeAndHeard near mid s' u x) → SendsSoFar s t (n + 1) s' u
+sends_on s near s' t mid u n (h, took, long) (x, watched) = (x ∷ h, (near, mid, took, watched), omega (arith, long))
+
+pub sends_over : (s near s' : Sending) (t mid u : Option Talk) (n : ℕ) → SendsSoFar s t n near mid → near.over ≡ true → s' ≡ near → u ≡ mid → SendsOver s t s' u
+sends_over s near s' t mid u n (h, took, long) over is same = rw (is, same) (h, took, inl over)
+
+pub sends_long : (s s' : Sending) (t u : Option Talk) (n : ℕ) → SendsSoFar s t n s' u → n ≡ 2 ^ 64 - 1 → SendsOver s t s' u
+sends_long s s' t u n (h, took, long) e = (h, took, inr (long ∙ e))
+
+pub sends_fault : (s near s' : Sending) (t mid : Option Talk) (n : ℕ) (fault : StationFault) → SendsSoFar s t n near mid → SenderFails near s' fault → SendsToFault s s' fault
+sends_fault s near s' t mid n fault p fails = let took = so_far_took s t n near mid p in (took.0, near, took.1, fails)
