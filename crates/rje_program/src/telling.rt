@@ -1,5 +1,5 @@
 //! Words that ask for no command, told, and their exit status.
-ghost use Rattle.std.specs.Prelude.{◌≡◌, ◌≢◌, ◌⊎◌};
+ghost use Rattle.std.specs.Prelude.{◌≡◌, ◌⊎◌};
 ghost use Rattle.clap.specs.Words.{kind_of};
 ghost use Rattle.rje_program.specs.Command.{IsHelp, IsHelpError, error_status, words_status};
 
@@ -14,8 +14,8 @@ pub fn tell_words<O: Write, E: Write>(fault: &WordsFault, out: &mut O, err: &mut
     ensures help { result ≡ 0 → IsHelp fault.now }
     ensures status { (result ≡ words_status fault.now) ⊎ ((result ≡ 3) ⊎ (result ≡ 141)) }
     ensures closed { result ≡ 141 → IsHelp fault.now }
-    ensures silent { result ≢ 0 → result ≢ 3 → result ≢ 141 → out.new ≡ out.old }
-    ensures quiet { result ≡ 141 → err.new ≡ err.old }
+    ensures silent { (IsHelp fault.now → ⊥) → out.new ≡ out.old }
+    ensures quiet { (result ≡ 0) ⊎ (result ≡ 141) → err.new ≡ err.old }
 {
     match fault {
         WordsFault::Refused(error) => tell_error(error, out, err),
@@ -37,8 +37,8 @@ fn tell_error<O: Write, E: Write>(error: &Error, out: &mut O, err: &mut E) -> u8
     ensures status { (result ≡ error_status (kind_of error.now))
         ⊎ ((result ≡ 3) ⊎ (result ≡ 141)) }
     ensures closed { result ≡ 141 → IsHelpError error.now }
-    ensures silent { result ≢ 0 → result ≢ 3 → result ≢ 141 → out.new ≡ out.old }
-    ensures quiet { result ≡ 141 → err.new ≡ err.old }
+    ensures silent { (IsHelpError error.now → ⊥) → out.new ≡ out.old }
+    ensures quiet { (result ≡ 0) ⊎ (result ≡ 141) → err.new ≡ err.old }
 {
     if error.kind() == ErrorKind::OutOfMemory {
         return tell(&CommandFault::OutOfMemory, err);
@@ -51,6 +51,6 @@ fn tell_error<O: Write, E: Write>(error: &Error, out: &mut O, err: &mut E) -> u8
     }
     match write!(out, "{error}") {
         Ok(()) => 0,
-        Err(error) => CommandFault::of_output(&error).status(),
+        Err(error) => tell(&CommandFault::of_output(&error), err),
     }
 }

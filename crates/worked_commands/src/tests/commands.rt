@@ -263,16 +263,19 @@ fn an_input_that_fails_or_is_too_long_cannot_be_read(rt: HostRuntime) {
 
 #[test]
 fn an_output_that_fails_ends_with_status_3(rt: HostRuntime) {
-    let mut store = MemoryStore::new(rt.alloc());
-    let mut input: &[u8] = b"A\n";
-    let mut told = Written::new();
-    let ended = command(
-        rt.alloc(),
-        &[],
-        &mut store,
-        &mut input,
-        &mut Full,
-        &mut told,
-    );
-    assert!(rt; ended == 3);
+    for words in [["blocks", "-"].as_slice(), ["--help"].as_slice()] {
+        let mut store = MemoryStore::new(rt.alloc());
+        let mut input: &[u8] = b"A\n";
+        let mut told = Written::new();
+        let ended = command(
+            rt.alloc(),
+            words,
+            &mut store,
+            &mut input,
+            &mut Full,
+            &mut told,
+        );
+        assert!(rt; ended == 3);
+        assert!(rt; !told.is_empty());
+    }
 }
