@@ -1,5 +1,5 @@
 -- Eight bytes at once: each through its own table.
-use Rattle.std.proofs.Common.{◌≡◌, ℕ, zero, suc, ◌+◌, ◌*◌, ◌/◌, ◌%◌, ◌^◌, ◌<◌, List, [], ◌∷◌, ◌++◌, length, take, drop, take-append-drop, get_or, map, refl, ap, sym, ◌∙◌, arith}
+use Rattle.std.proofs.Common.{◌≡◌, ℕ, zero, suc, ◌+◌, ◌*◌, ◌/◌, ◌%◌, ◌^◌, ◌<◌, List, [], ◌∷◌, length, get_or, map, refl, ap, sym, ◌∙◌, arith}
 use Rattle.std.specs.Prelude.{bit_xor}
 use Rattle.std.specs.List.{range_with_len}
 use Rattle.std.specs.Int.Bits.{xor_zero_l}
@@ -94,12 +94,3 @@ register_of_eight c bs n hc ha =
     rw high
     (ap (register_after c) (eight_are bs n)
     ∙ register_by_tables c (get_or bs 0 0) (get_or bs 1 0) (get_or bs 2 0) (get_or bs 3 0) (get_or bs 4 0) (get_or bs 5 0) (get_or bs 6 0) (get_or bs 7 0) ha)
-
--- bytes behind others
-append : (c : ℕ) (xs ys : List ℕ) → register_after c (xs ++ ys) ≡ register_after (register_after c xs) ys
-append c [] ys = refl
-append c (x ∷ xs) ys = append (shifts 8 (bit_xor c x)) xs ys
-
--- eight bytes and the rest
-pub front_and_rest : (c n : ℕ) (bs : List ℕ) → register_after c bs ≡ register_after (register_after c (take n bs)) (drop n bs)
-front_and_rest c n bs = ap (register_after c) (sym (take-append-drop n bs)) ∙ append c (take n bs) (drop n bs)

@@ -41,10 +41,6 @@ pub low_bits_more : (k n : ℕ) → n < 2 ^ k → low_bits (suc k) n ≡ low_bit
 low_bits_more zero n h = let e : n ≡ 0 = omega arith in rw e refl
 low_bits_more (suc k) n h = ap (λ v. eqb (n % 2) 1 ∷ v) (low_bits_more k (n / 2) (omega arith))
 
--- the generator's tail, as a number
-tail_bits : generator_tail ≡ low_bits 16 0xA001
-tail_bits = refl
-
 no_bits : (m : ℕ) → low_bits m 0 ≡ replicate m false
 no_bits zero = refl
 no_bits (suc m) = ap (λ v. false ∷ v) (no_bits m)

@@ -32,9 +32,6 @@ pub record Stands (plan : Plan) (places : List SoundTurn) (h : History) (sender 
   pub receives : receiver ≡ receiver_after h
   pub counted : n ≡ known h
 
-pub stands-first : (plan : Plan) (places : List SoundTurn) → Stands plan places [] (sender_after plan []) (receiver_after []) 0
-stands-first plan places = record { spoken = record { conversation = tt; placed = tt }; sends = refl; receives = refl; counted = refl }
-
 -- what the sender's core is due to say is what the saying rule says
 pub says-is : (plan : Plan) (places : List SoundTurn) (h : History) (s : SenderState) (r : ReceiverState) (n : ℕ) → BeginsWithJob plan → Stands plan places h s r n → say_in s.place ≡ saying plan (gives_up_now h) h
 says-is plan places h s r n begins p = ap (λ x. say_in x.place) p.sends ∙ (sender_core_says plan h begins (conversations_are_spoken plan h p.spoken.conversation)).0

@@ -28,16 +28,6 @@ below-from_enough m n e = elim (leb_tells 7 m) [
   ]
 ]
 
--- where it is enough, one isn't below
-at_limit-from_enough : (m n : ℕ) → is_enough m n ≡ true → (7 ≤ m) ⊎ (300 ≤ n)
-at_limit-from_enough m n e = elim (leb_tells 7 m) [
-  | inl p ↦ inl p.1
-  | inr p ↦ elim (leb_tells 300 n) [
-    | inl q ↦ inr q.1
-    | inr q ↦ absurd (false≢true (sym (rw (p.0, q.0) refl) ∙ e))
-  ]
-]
-
 -- EVERY STATE
 
 record IsBelow (s : SenderState) : Type 0 where

@@ -1,5 +1,5 @@
 -- What is heard of what a line in memory brings after a fate.
-use Rattle.std.proofs.Common.{◌≡◌, inr, ℕ, false, List, [], ◌++◌, Option, Some, None, Result, Ok, Err, IfOk, IfErr, ap, sym, ◌∙◌, subst}
+use Rattle.std.proofs.Common.{◌≡◌, inr, ℕ, false, List, [], ◌++◌, Option, Some, None, Result, Ok, Err, IfOk, ap, sym, ◌∙◌, subst}
 use Rattle.std.specs.List.{flat_map}
 use Rattle.std.proofs.lemmas.List.{append_assoc}
 use Rattle.bsc_frame.specs.declared.heard.Heard.{Heard}
@@ -119,11 +119,6 @@ no_damage (Fate.Damaged bytes) said sent sound what d wrong h is = inr (sound, r
 pub damage_fault : (fate : Fate) (said : Sound) (sent : List ℕ) (sound : Sound) (what : Heard) (fault : TurnFault) → fault ≡ Fault.NotDamage → IsDamaged fate × (is_damage_of said sound ≡ false) → IsHeard (bytes_after fate sent) what → sound ≡ sound_heard what
     → IsFateFault fate said sent fault
 damage_fault fate said sent sound what fault e wrong h is = rw e (no_damage fate said sent sound what wrong.0 wrong.1 h is)
-
--- what holds of the fault of an Err holds of it in other words too
-pub if_err : {A E : Type 0} (r : Result A E) (P Q : E → Type 0) → ((e : E) → P e → Q e) → IfErr r P → IfErr r Q
-if_err (Ok x) P Q h p = tt
-if_err (Err e) P Q h p = h e p
 
 -- and so of the value of an Ok
 pub if_ok : {A E : Type 0} (r : Result A E) (P Q : A → Type 0) → ((x : A) → P x → Q x) → IfOk r P → IfOk r Q

@@ -6,27 +6,9 @@ use Rattle.std.proofs.Math.Seq.{take-append_seam}
 use Rattle.rje_station.specs.declared.came.Came.TheVariants.{Bytes}
 use Rattle.line_world.specs.MemoryLine.{ready, given_to, came_with, pieces_in}
 
-none_left : (n : ℕ) (xs : List ℕ) → length xs ≤ n → drop n xs ≡ []
-none_left zero [] h = refl
-none_left zero (x ∷ xs) h = absurd (omega (arith, h))
-none_left (suc n) [] h = refl
-none_left (suc n) (x ∷ xs) h = none_left n xs (omega (arith, h))
-
 ready_cons : (p : List ℕ) (ps : List (List ℕ)) → 0 < length p → ready (p ∷ ps) ≡ p ∷ ps
 ready_cons [] ps h = absurd (omega (arith, h))
 ready_cons (x ∷ xs) ps h = refl
-
-whole_pieces : {X : Type 0} (bytes : X → List ℕ) (ps : List X) → pieces_in bytes 0 ps ≡ map bytes ps
-whole_pieces bytes [] = refl
-whole_pieces bytes (p ∷ ps) = refl
-
--- a piece of which every byte was given is passed over
-pub passed : {X : Type 0} (bytes : X → List ℕ) (ps : List X) (k given : ℕ) (d : X) → k < length ps → length (bytes (get_or ps k d)) ≤ given
-    → ready (pieces_in bytes given (drop k ps)) ≡ ready (pieces_in bytes 0 (drop (k + 1) ps))
-passed bytes ps k given d h l =
-    ap (λ xs. ready (pieces_in bytes given xs)) (drop_more ps k d h)
-    ∙ ap (λ b. ready (b ∷ map bytes (drop (k + 1) ps))) (none_left given (bytes (get_or ps k d)) l)
-    ∙ ap ready (sym (whole_pieces bytes (drop (k + 1) ps)))
 
 -- a piece that has bytes left is not
 pub in_hand : {X : Type 0} (bytes : X → List ℕ) (ps : List X) (k given : ℕ) (d : X) → k < length ps → given < length (bytes (get_or ps k d))

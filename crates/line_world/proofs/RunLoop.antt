@@ -240,13 +240,6 @@ running_over laws jobs turns n spoken s r p over = whole_if laws jobs turns n sp
 pub running_out : Laws → (jobs : List Job) (turns : List Turn) (n : ℕ) (spoken : List Spoken) (s : Sending) (r : Receiving) → Running jobs turns n spoken s r → n ≡ length turns → IsDrive jobs turns spoken s r
 running_out laws jobs turns n spoken s r p out = whole_if laws jobs turns n spoken s r p (λ stands. inl (p.long ∙ out))
 
--- while the sending station isn't over, neither is the receiving one
-pub running_live : (jobs : List Job) (turns : List Turn) (n : ℕ) (spoken : List Spoken) (s : Sending) (r : Receiving) → Running jobs turns n spoken s r → s.over ≡ false → r.over ≡ false
-running_live jobs turns n spoken s r p live = elim p.stands [
-  | inl idle ↦ absurd (true≢false (sym (idle_over jobs p.history s r idle) ∙ live))
-  | inr (l, stands) ↦ stands.receives.over (goes_on jobs turns p.history s r stands live)
-]
-
 pub running_jobs : (jobs : List Job) (turns : List Turn) (n : ℕ) (spoken : List Spoken) (s : Sending) (r : Receiving) → Running jobs turns n spoken s r → s.jobs ≡ jobs
 running_jobs jobs turns n spoken s r p = elim p.stands [
   | inl idle ↦ ap (λ x. x.jobs) idle.sender ∙ sym idle.none

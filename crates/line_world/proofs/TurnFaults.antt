@@ -1,5 +1,5 @@
 -- Why a turn of two stations came to nothing.
-use Rattle.std.proofs.Common.{◌≡◌, inl, inr, ℕ, Bool, false, List, Option, Some, None, refl}
+use Rattle.std.proofs.Common.{◌≡◌, inr, ℕ, Bool, false, List, Option, Some, None, refl}
 use Rattle.bsc_link.specs.declared.reply.Reply.{Reply}
 use Rattle.bsc_link.specs.declared.sound.Sound.{Sound}
 use Rattle.bsc_link.specs.Sender.{say_in}
@@ -9,15 +9,7 @@ use Rattle.line_world.specs.declared.turn.Turn.{Turn}
 use Rattle.line_world.specs.declared.turn_fault.TurnFault.{TurnFault}
 use Rattle.line_world.specs.declared.turn_fault.TurnFault.TheVariants as Fault
 use Rattle.line_world.specs.Inside.Driving.{GoesUp, IsReplyFault, IsTurnFault}
-use Rattle.line_world.specs.Carrying.{IsFateFault}
 use Rattle.bsc_history.specs.Fate.{sound_of}
-
--- the fate of what was due
-pub fault_up : (turn : Turn) (s : Sending) (r : Receiving) (sent : List ℕ) (fault : TurnFault) → s.over ≡ false → IsWrittenOf (say_in s.core.place) s.rest sent
-    → IsFateFault turn.up (sound_of (say_in s.core.place)) sent fault → IsTurnFault turn s r fault
-fault_up turn s r sent Fault.OutOfMemory live written h = tt
-fault_up turn s r sent Fault.NotDamage live written h = record { live = live; sent = sent; written = written; breaks = inl h }
-fault_up turn s r sent Fault.BadCut live written h = record { live = live; sent = sent; written = written; breaks = inl h }
 
 -- the fate of the reply
 by_reply : (turn : Turn) (s : Sending) (r middle : Receiving) (sent : List ℕ) (arrived : Sound) (refused : Bool) (answer due : Option Reply) (fault : TurnFault) → s.over ≡ false → IsWrittenOf (say_in s.core.place) s.rest sent

@@ -215,10 +215,6 @@ pub own_more : (say : Say) (heard : Sound) (c : ContenderState) → say ≢ Say.
 own_more Say.End heard c n = absurd (n refl)
 own_more _ heard c n = refl
 
-other_more : (say : Say) (arrived : Sound) (c : ContenderState) → say ≢ Say.End → other_turn say arrived c ≡ other_heard arrived c
-other_more Say.End arrived c n = absurd (n refl)
-other_more _ arrived c n = refl
-
 pub kept_jobs : (b : Bool) (r : Receiving) → (if b then r else after_abandon r).jobs ≡ r.jobs
 kept_jobs true r = refl
 kept_jobs false r = refl

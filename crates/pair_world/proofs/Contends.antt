@@ -6,7 +6,7 @@ use Rattle.bsc_link.specs.declared.rank.Rank.{Rank}
 use Rattle.bsc_link.specs.declared.sound.Sound.{Sound}
 use Rattle.bsc_link.specs.Contender.{ContenderState, first_contender_state, takes_enq}
 use Rattle.bsc_history.specs.declared.spoken_turn.SpokenTurn.{SpokenTurn}
-use Rattle.bsc_history.specs.History.{History, Plan, BeginsWithJob, MayBegin, is_over}
+use Rattle.bsc_history.specs.History.{History, Plan, is_over}
 use Rattle.bsc_history.specs.Known.{has_grant}
 use Rattle.bsc_history.specs.ReplyRule.{was_bid}
 use Rattle.bsc_history.specs.Fate.{sound_of, MayBeHeardAs}
@@ -21,10 +21,6 @@ use Rattle.pair_world.proofs.Contenders.{own-step, noted-step, other-step, noted
 pub due-closed : (plan : Plan) (g : Bool) (own other : History) → is_something (due plan g own other) ≡ true → is_open other ≡ false
 due-closed [] g own other e = absurd (false≢true e)
 due-closed (b ∷ plan) g own other e = elim (cases_Bool (is_open other)) [ inl o ↦ absurd (false≢true (rw o at e)) | inr o ↦ o ]
-
-pub due-begins : (plan : Plan) (g : Bool) (own other : History) → MayBegin plan → is_something (due plan g own other) ≡ true → BeginsWithJob plan
-due-begins [] g own other may e = absurd (false≢true e)
-due-begins (b ∷ plan) g own other may e = rw may refl
 
 closed-phase : (own : History) → Phase own → was_bid own ≡ false → has_grant own ≡ false
 closed-phase own (inl early) none = early.ungranted

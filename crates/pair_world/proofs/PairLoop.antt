@@ -1,14 +1,13 @@
 -- The loop of a run of two stations that both have jobs: the turns so far are those of a history, and both stations stand where it left them.
-use Rattle.std.proofs.Common.{Bool, ◌≡◌, ◌≢◌, ◌⊎◌, inl, inr, ℕ, ◌+◌, ◌==◌, true, false, List, [], ◌∷◌, ◌++◌, length, map, reverse, take, drop, slice_get, Option, Some, None, refl, ap, sym, ◌∙◌, subst, arith}
+use Rattle.std.proofs.Common.{Bool, ◌≡◌, ◌⊎◌, inl, inr, ℕ, ◌+◌, ◌==◌, false, List, [], ◌∷◌, ◌++◌, length, map, reverse, take, drop, slice_get, Option, Some, None, refl, ap, sym, ◌∙◌, subst, arith}
 use Rattle.std.proofs.lemmas.List.{take-append-drop, map-append, length-map, length-reverse, reverse-append}
 use Rattle.bsc_link.specs.declared.rank.Rank.{Rank}
-use Rattle.bsc_link.specs.declared.say.Say.{Say}
 use Rattle.rje_jobs.specs.declared.job.Job.{Job}
 use Rattle.rje_jobs.specs.Blocks.{blocks}
 use Rattle.bsc_codes.specs.declared.block.Block.{Block}
 use Rattle.rje_station.specs.Receiving.{Receiving}
 use Rattle.rje_station.specs.Sending.{Sending, outcome_of}
-use Rattle.rje_station.specs.Station.{Contending, first_contending, due_at, is_deaf}
+use Rattle.rje_station.specs.Station.{Contending, first_contending}
 use Rattle.line_world.specs.declared.spoken.Spoken.{Spoken}
 use Rattle.bsc_history.specs.History.{Plan, History}
 use Rattle.bsc_history.specs.Known.{tries, holds, gives_up_now}
@@ -16,7 +15,7 @@ use Rattle.bsc_history.specs.Outcome.{gave_up_before, outcome, outcome_by}
 use Rattle.line_world.specs.Plan.{plan_of}
 use Rattle.pair_world.specs.declared.pair_spoken.PairSpoken.{PairSpoken}
 use Rattle.pair_world.specs.declared.pair_turn.PairTurn.{PairTurn}
-use Rattle.bsc_history.specs.Pair.{SpokenPair, PairHistory, up, down, is_something}
+use Rattle.bsc_history.specs.Pair.{SpokenPair, PairHistory, up, down}
 use Rattle.bsc_history.specs.PairCount.{spent, down_gives_up, down_gave_up}
 use Rattle.bsc_history.specs.PairConversation.{down_outcome}
 use Rattle.pair_world.specs.Inside.PairDriving.{TakesPair}
@@ -25,7 +24,7 @@ use Rattle.pair_world.specs.PairDrive.{SendsAfter, ReceivesAfter, StandPair, IsP
 use Rattle.pair_world.specs.PairRun.{TellsPairs, pair_of, spoken_pairs}
 use Rattle.pair_world.proofs.Alone.{Laws, Listens}
 use Rattle.pair_world.proofs.Contends.{contends_first}
-use Rattle.pair_world.proofs.PairRuns.{StandsPairRun, cases_jobs, due_goes, primary_more, secondary_more, both_more, nothing_due}
+use Rattle.pair_world.proofs.PairRuns.{StandsPairRun, cases_jobs, primary_more, secondary_more, both_more, nothing_due}
 use Rattle.pair_world.proofs.PairTelling.{pairs_append, pairs_any, pairs_length, pairs_longer}
 use Rattle.pair_world.proofs.Sends.{SendsBy, sends_first}
 use Rattle.line_world.proofs.ForPairs.{plan_some, some_jobs}
@@ -189,27 +188,3 @@ pair_out laws ups downs turns n spoken a b p out = whole_pair laws ups downs tur
 
 pub pair_length : (ups downs : List Job) (turns : List PairTurn) (n : ℕ) (spoken : List PairSpoken) (a b : Contending) → PairRunning ups downs turns n spoken a b → length spoken ≡ n
 pair_length ups downs turns n spoken a b p = ap length p.spoken_is ∙ length-map (reverse p.history) pair_of ∙ length-reverse p.history ∙ p.long
-
--- ---- Who hears.
-
-some_due : (say : Say) → say ≢ Say.Nothing → is_something say ≡ true
-some_due Say.Nothing n = absurd (n refl)
-some_due _ n = refl
-
-hears_by : (s : Contending) → s.failed ≡ false → s.receiver.over ≡ false → is_deaf s ≡ false
-hears_by s live over = rw (live, over) refl
-
--- where something is due at one station, the other hears it
-pub secondary_hears : (ups downs : List Job) (turns : List PairTurn) (n : ℕ) (spoken : List PairSpoken) (a b : Contending) → PairRunning ups downs turns n spoken a b → due_at a ≢ Say.Nothing → is_deaf b ≡ false
-secondary_hears ups downs turns n spoken a b p some =
-    let h = p.history in
-    let s = p.stands in
-    let goes = due_goes ups (up h) (down h) (gave_up_before (up h)) (tries (up h)) (holds (up h)) a s.a_live s.contends.p_place s.up_sends (some_due (due_at a) some) in
-    hears_by b s.b_live ((s.up_receives.live goes).over goes)
-
-pub primary_hears : (ups downs : List Job) (turns : List PairTurn) (n : ℕ) (spoken : List PairSpoken) (a b : Contending) → PairRunning ups downs turns n spoken a b → due_at b ≢ Say.Nothing → is_deaf a ≡ false
-primary_hears ups downs turns n spoken a b p some =
-    let h = p.history in
-    let s = p.stands in
-    let goes = due_goes downs (down h) (up h) (down_gave_up h) (spent h).tries (spent h).holds b s.b_live s.contends.q_place s.down_sends (some_due (due_at b) some) in
-    hears_by a s.a_live ((s.down_receives.live goes).over goes)

@@ -1,10 +1,7 @@
 -- What a job file holds, collected from the front.
-use Rattle.std.proofs.Common.{◌≡◌, ℕ, zero, suc, ◌+◌, ◌*◌, ◌/◌, ◌^◌, ◌<◌, ◌≤◌, List, [], ◌∷◌, ◌++◌, length, map, drop, get_or, refl, ap, sym, ◌∙◌, subst, arith}
+use Rattle.std.proofs.Common.{◌≡◌, ℕ, zero, suc, ◌+◌, ◌≤◌, List, [], ◌∷◌, ◌++◌, length, map, drop, get_or, refl, ap, sym, ◌∙◌, subst, arith}
 use Rattle.std.proofs.lemmas.List.{append-nil, append_assoc, length-append}
-use Rattle.std.specs.Int.{bytes_high_first, byte_at}
-use Rattle.std.proofs.Math.Nat.{div-one, mod-add-div}
-use Rattle.byteorder.specs.Endian.{big_from}
-use Rattle.byteorder.specs.Numbers.{big_number-reads_back}
+use Rattle.std.specs.Int.{bytes_high_first}
 use Rattle.rje_jobs.specs.declared.job.Job.{Job}
 use Rattle.std.specs.List.{flat_map, AllByRecursion}
 use Rattle.std.proofs.lemmas.Grind.{flat_map-append}
@@ -13,33 +10,8 @@ use Rattle.rje_files.specs.declared.job_file.version.FileVersion.{FileVersion}
 use Rattle.rje_files.specs.declared.job_file.version.FileVersion.TheVariants.{First, Second}
 use Rattle.rje_files.specs.Entry.{entry_of}
 use Rattle.rje_files.specs.JobFile.{head, version_byte, entry_bytes, file_of, FitsFields}
-use Rattle.rje_files.specs.Inside.Reading.Grammar.{Number, AnyBytes, Records}
-use Rattle.rje_files.specs.Inside.Reading.Collecting.{AnyRest}
+use Rattle.rje_files.specs.Inside.Reading.Grammar.{AnyBytes, Records}
 use Rattle.rje_files.specs.Inside.Reading.Stored.{IsRecordHere}
-use Rattle.rje_files.proofs.Numbers.{number_back, below_all, none_above, byte_is, next_div}
-
-pub number_read : (xs : List ℕ) → Number 8 0 AnyRest xs → (8 ≤ length xs) × (xs ≡ bytes_high_first 8 (big_from 0 8 xs) ++ drop 8 xs)
-number_read xs h =
-    let n = number_back 8 0 AnyRest xs h in
-    let value : big_from 0 8 xs ≡ n.number = ap (big_from 0 8) n.bytes ∙ big_number-reads_back 8 n.number n.rest (below_all n.number n.first) in
-    (rw n.bytes (omega arith), rw value (n.bytes ∙ ap (λ (ys : List ℕ). bytes_high_first 8 n.number ++ ys) (sym (ap (drop 8) n.bytes))))
-
-pub number_any : (n v : ℕ) (Rest : ℕ → List ℕ → Type 0) (xs : List ℕ) → Number n v Rest xs → Number n v AnyRest xs
-number_any zero v Rest xs h = tt
-number_any (suc n) v Rest [] h = h
-number_any (suc n) v Rest (x ∷ xs) h = (h.0, number_any n (v * 256 + x) Rest xs h.1)
-
-number_then : (n x : ℕ) (Rest : ℕ → List ℕ → Type 0) (zs : List ℕ) → Number n (x / 256 ^ n) Rest (bytes_high_first n x ++ zs) → Rest x zs
-number_then zero x Rest zs h = subst (λ (y : ℕ). Rest y zs) (div-one x) h
-number_then (suc n) x Rest zs h =
-    let same : x / 256 ^ suc n * 256 + byte_at n x ≡ x / 256 ^ n =
-    rw (byte_is n x, next_div n x) (omega (arith, mod-add-div (x / 256 ^ n) 256)) in
-    number_then n x Rest zs (subst (λ (v : ℕ). Number n v Rest (bytes_high_first n x ++ zs)) same h.1)
-
--- what follows a number that was read
-pub number_rest : (x : ℕ) (Rest : ℕ → List ℕ → Type 0) (xs zs : List ℕ) → x < 2 ^ 64 → xs ≡ bytes_high_first 8 x ++ zs → Number 8 0 Rest xs → Rest x zs
-number_rest x Rest xs zs l e h =
-    number_then 8 x Rest zs (subst (λ (v : ℕ). Number 8 v Rest (bytes_high_first 8 x ++ zs)) (sym (none_above x l)) (subst (λ (ys : List ℕ). Number 8 0 Rest ys) e h))
 
 any_rest : (n : ℕ) (Rest : List ℕ → Type 0) (xs : List ℕ) → AnyBytes n Rest xs → (n ≤ length xs) × Rest (drop n xs)
 any_rest zero Rest xs h = (omega arith, h)

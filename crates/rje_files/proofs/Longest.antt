@@ -10,7 +10,7 @@ use Rattle.rje_files.specs.declared.job_file.version.FileVersion.TheVariants.{Fi
 use Rattle.rje_files.specs.JobFile.{IsFileUpTo, head}
 use Rattle.rje_files.specs.FileFault.{Begins, IsLongest}
 use Rattle.rje_files.specs.Inside.Reading.Grammar.{TheseBytes, Number, AnyBytes, Records, Name as NameBytes, AfterMode, AfterSelect, FromSelect, FromState, Fields, Counted, Entries, FromVersion, File}
-use Rattle.rje_files.specs.Inside.Reading.Reader.{Expects, Rest, Follows, IsSound, IsStep, IsSkip, HasRead}
+use Rattle.rje_files.specs.Inside.Reading.Reader.{Expects, Rest, Follows, IsSound, IsSkip, HasRead}
 use Rattle.rje_files.proofs.Steps.{at_due, from_due}
 use Rattle.rje_files.proofs.Grammar.{file_there, file_back}
 
@@ -99,13 +99,6 @@ regroup b p xs l = ap (λ (ys : List ℕ). ys ++ xs) (take_more b p 0 l) ∙ app
 
 -- over what a file is
 module _ (IsFile : List ℕ → Type 0) where
-  pub read_more : (b : List ℕ) (p : ℕ) (d e : Reader) → p < length b → HasRead IsFile (take p b) d → IsStep d (get_or b p 0) e → HasRead IsFile (take (p + 1) b) e
-  read_more b p d e l h s = record {
-    sound = s.sound;
-    there = λ xs f. s.there xs (h.there (get_or b p 0 ∷ xs) (subst IsFile (regroup b p xs l) f));
-    back = λ xs f. subst IsFile (sym (regroup b p xs l)) (h.back (get_or b p 0 ∷ xs) (s.back xs f));
-  }
-
   pub read_past : (b : List ℕ) (p n : ℕ) (d e : Reader) → p + n ≤ length b → HasRead IsFile (take p b) d → IsSkip d n e → HasRead IsFile (take (p + n) b) e
   read_past b p n d e l h s =
       let ys = take n (drop p b) in

@@ -1,5 +1,5 @@
 -- The records of a text that is read from the front, record by record.
-use Rattle.std.proofs.Common.{◌≡◌, ◌≢◌, ℕ, zero, suc, ◌+◌, ◌-◌, ◌<◌, ◌≤◌, true, false, List, [], ◌∷◌, ◌++◌, length, take, drop, get_or, Option, Some, None, refl, ap, sym, ◌∙◌, subst, arith, IsSome, is_some, ⊎_elim}
+use Rattle.std.proofs.Common.{◌≡◌, ◌≢◌, ℕ, zero, suc, ◌+◌, ◌-◌, ◌<◌, ◌≤◌, true, List, [], ◌∷◌, ◌++◌, length, take, drop, get_or, Option, Some, None, refl, ap, sym, ◌∙◌, subst, arith, IsSome, is_some, ⊎_elim}
 use Rattle.std.proofs.lemmas.Bool.{cases_lt, cases_eq, false≢true}
 use Rattle.std.specs.Option.{option_map, option_and_then}
 use Rattle.std.proofs.lemmas.List.{append_assoc, append-nil, take_more, get_or-take, get_or-drop, take_all, drop_all, length-take-le, length-drop, take-append-drop, take-take, drop-take, drop-drop}
@@ -58,13 +58,6 @@ records_in-nil = refl
 -- whatever follows, the records of the front come first
 abbrev pub IsFront : List ℕ → List Record → Type 0
 IsFront front rs = (ys : List ℕ) → records_in (front ++ ys) ≡ option_map (λ zs. rs ++ zs) (records_in ys)
-
-no_more : (o : Option (List Record)) → o ≡ option_map (λ zs. [] ++ zs) o
-no_more None = refl
-no_more (Some rs) = refl
-
-pub front_none : IsFront [] []
-front_none ys = no_more (records_in ys)
 
 two_maps : (rs : List Record) (r : Record) (o : Option (List Record)) → option_map (λ zs. rs ++ zs) (option_map (λ zs. r ∷ zs) o) ≡ option_map (λ zs. (rs ++ r ∷ []) ++ zs) o
 two_maps rs r None = refl

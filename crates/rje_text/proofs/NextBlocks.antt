@@ -1,13 +1,13 @@
 -- Packing from a record on.
-use Rattle.std.proofs.Common.{◌≡◌, ◌⊎◌, inl, inr, ℕ, zero, suc, ◌+◌, ◌<◌, ◌≤◌, Bool, true, false, leb, List, [], ◌∷◌, ◌++◌, length, drop, get_or, Some, None, refl, ap, sym, ◌∙◌, subst, arith, ⊎_elim}
+use Rattle.std.proofs.Common.{◌≡◌, ◌⊎◌, inl, inr, ℕ, ◌+◌, ◌<◌, ◌≤◌, Bool, true, false, leb, List, [], ◌∷◌, ◌++◌, length, drop, get_or, Some, None, refl, ap, sym, ◌∙◌, subst, arith}
 use Rattle.std.specs.Prelude.{Contains, ◌==◌}
 use Rattle.std.specs.Bool.{OnFalse}
 use Rattle.std.specs.Cmp.{nat_eq_equiv}
 use Rattle.std.specs.List.{AllByRecursion, list_any}
-use Rattle.std.proofs.lemmas.List.{append_assoc, length-append, drop_more, length-drop}
+use Rattle.std.proofs.lemmas.List.{append_assoc, drop_more}
 use Rattle.std.proofs.lemmas.Map.Views.{list_any-from_Contains}
 use Rattle.std.proofs.lemmas.Bool.Decides.{nat_tests}
-use Rattle.std.proofs.lemmas.Bool.{le-leb, leb-true, leb-false}
+use Rattle.std.proofs.lemmas.Bool.{leb-true}
 use Rattle.bsc_codes.specs.Bytes.{IRS, IGS, ESC, control_bytes}
 use Rattle.bsc_codes.specs.declared.block.Block.{Block}
 use Rattle.bsc_codes.specs.declared.block.Closing.{Closing}
@@ -15,15 +15,14 @@ use Rattle.bsc_codes.specs.declared.block.Closing.TheVariants.{Etb, Etx}
 use Rattle.rje_text.specs.declared.mode.Mode.{Mode}
 use Rattle.rje_text.specs.declared.mode.Mode.TheVariants.{Normal, Transparent}
 use Rattle.rje_text.specs.declared.select.Select.{Select}
-use Rattle.rje_text.specs.declared.select.Select.TheVariants.{Unset, Printer, Punch}
 use Rattle.rje_text.specs.declared.action.Action.{Action}
 use Rattle.rje_text.specs.declared.action.Action.TheVariants.{Plain, Single, Double, Triple, Suppress, Ch1, Ch2, Ch3, Ch4, Ch5, Ch6, Ch7, Ch8, Ch9, Ch10, Ch11, Ch12}
 use Rattle.rje_text.specs.declared.record.Record.{Record}
 use Rattle.rje_text.specs.Action.{code_of}
 use Rattle.rje_text.specs.PackFault.{pack_fault}
 use Rattle.rje_text.specs.Spelling.{spelling, compressed, action_escape}
-use Rattle.rje_text.specs.Cut.{block, is_transparent, cut_behind, cut}
-use Rattle.rje_text.specs.NextBlock.{front_at, cut_from, blocks_after, IsNextBlock, IsSendable, AreBlocksBefore, AreBlocksTo}
+use Rattle.rje_text.specs.Cut.{is_transparent, cut_behind, cut}
+use Rattle.rje_text.specs.NextBlock.{front_at, cut_from, blocks_after, IsNextBlock, AreBlocksBefore, AreBlocksTo}
 use Rattle.rje_text.proofs.ReadBack.{IsQuiet, AreQuiet, compressed_quiet, data_of}
 
 -- ---- Every byte of a spelling in a normal text may stand there.
@@ -84,20 +83,6 @@ spelling_stands : (select : Select) (mode : Mode) (r : Record) (text : List ℕ)
 spelling_stands select Normal r text h t = normal-append text (spelling Normal r) t (spelling_normal select r h)
 spelling_stands select Transparent r text h t = tt
 
-front_stands : (select : Select) (mode : Mode) (from : ℕ) → CanStand mode (front_at select mode from)
-front_stands select Transparent from = tt
-front_stands Unset Normal zero = tt
-front_stands Printer Normal zero = (no_control 0x11 refl, tt)
-front_stands Punch Normal zero = (no_control 0x12 refl, tt)
-front_stands select Normal (suc from) = tt
-
-front_short : (select : Select) (mode : Mode) (from : ℕ) → length (front_at select mode from) ≤ 1
-front_short select mode (suc from) = omega arith
-front_short Unset Normal zero = omega arith
-front_short Printer Normal zero = omega arith
-front_short Punch Normal zero = omega arith
-front_short select Transparent zero = omega arith
-
 -- ---- The loop.
 
 -- a text with room for the spelling of a record in it, or none
@@ -114,33 +99,8 @@ pub record PackedSo (select : Select) (mode : Mode) (text : List ℕ) (records :
   pub stands : CanStand mode text
   pub room : length text ≤ 510
 
--- a record is there to begin with, or there is none at all
-abbrev pub Begins : ℕ → ℕ → Type 0
-Begins from n = (from < n) ⊎ ((from ≡ 0) × (n ≡ 0))
-
-drop_sent : (select : Select) (mode : Mode) (n : ℕ) (rs : List Record) → AllByRecursion (λ r. pack_fault select mode r ≡ None) rs → AllByRecursion (λ r. pack_fault select mode r ≡ None) (drop n rs)
-drop_sent select mode zero rs a = a
-drop_sent select mode (suc n) [] a = tt
-drop_sent select mode (suc n) (r ∷ rs) a = drop_sent select mode n rs a.1
-
-pub packed_none : (select : Select) (mode : Mode) (text : List ℕ) (records : List Record) (from : ℕ) → AllByRecursion (λ r. pack_fault select mode r ≡ None) records → Begins from (length records)
-    → text ≡ front_at select mode from → PackedSo select mode text records from from
-packed_none select mode text records from sent h e =
-    rw e (record {
-      sent = drop_sent select mode from records sent;
-      ahead = omega arith;
-      within = ⊎_elim (λ (l : from < length records). omega arith) (λ (l : (from ≡ 0) × (length records ≡ 0)). omega (arith, l.0)) h;
-      begun = inl refl;
-      so = refl;
-      stands = front_stands select mode from;
-      room = omega (arith, front_short select mode from);
-    })
-
 taken_cut : (mode : Mode) (text : List ℕ) (r : Record) (rs : List Record) → room_for mode text r ≡ true → cut_behind mode text (r ∷ rs) ≡ cut_behind mode (text ++ spelling mode r) rs
 taken_cut mode text r rs h = rw h refl
-
-full_cut : (mode : Mode) (text : List ℕ) (r : Record) (rs : List Record) → room_for mode text r ≡ false → cut_behind mode text (r ∷ rs) ≡ block mode Etb text ∷ cut_behind mode (spelling mode r) rs
-full_cut mode text r rs h = rw h refl
 
 -- the record at a place, and those behind it
 here_on : (records : List Record) (place : ℕ) (r : Record) → place < length records → r ≡ get_or records place r → drop place records ≡ r ∷ drop (place + 1) records
@@ -160,44 +120,6 @@ packed_on select mode text records from place r s l e t =
       stands = spelling_stands select mode r text sent.0 s.stands;
       room = leb-true (length (text ++ spelling mode r)) 510 t;
     }
-
-pub packed_full : (select : Select) (mode : Mode) (text : List ℕ) (records : List Record) (from place : ℕ) (r : Record) → PackedSo select mode text records from place → place < length records → r ≡ get_or records place r
-    → room_for mode text r ≡ false → length (spelling mode r) ≤ 147 → IsNextBlock select mode records from (block mode Etb text) place
-packed_full select mode text records from place r s l e t short =
-    let cut = here_on records place r l e in
-    let big = leb-false (length (text ++ spelling mode r)) 510 t in
-    let moved : from < place = ⊎_elim
-    (λ (n : text ≡ front_at select mode from). absurd (omega (arith, big, short, length-append text (spelling mode r), ap length n, front_short select mode from)))
-    (λ (m : from < place). m) s.begun in
-    let later : front_at select mode place ≡ [] = front_later select mode place (omega (arith, moved)) in
-    let alone : cut_behind mode [] (r ∷ drop (place + 1) records) ≡ cut_behind mode (spelling mode r) (drop (place + 1) records) = taken_cut mode [] r (drop (place + 1) records) (le-leb (length (spelling mode r)) 510 (omega (arith, short))) in
-    let next : cut_from select mode records place ≡ cut_behind mode (spelling mode r) (drop (place + 1) records) = ap (λ f. cut_behind mode f (drop place records)) later ∙ ap (cut_behind mode []) cut ∙ alone in
-    record {
-      first = sym s.so ∙ ap (cut_behind mode text) cut ∙ full_cut mode text r (drop (place + 1) records) t ∙ ap (λ bs. block mode Etb text ∷ bs) (sym next);
-      end = l;
-      forward = inl moved;
-    }
-  where
-    front_later : (select : Select) (mode : Mode) (n : ℕ) → 0 < n → front_at select mode n ≡ []
-    front_later select mode zero h = absurd (omega (arith, h))
-    front_later select mode (suc n) h = refl
-
-pub packed_all : (select : Select) (mode : Mode) (text : List ℕ) (records : List Record) (from place : ℕ) → PackedSo select mode text records from place → length records ≤ place
-    → Begins from (length records) → IsNextBlock select mode records from (block mode Etx text) place
-packed_all select mode text records from place s l h =
-    let none : drop place records ≡ [] = empty (drop place records) (omega (arith, length-drop place records, s.within)) in
-    record {
-      first = sym s.so ∙ ap (cut_behind mode text) none;
-      end = omega (arith, s.within);
-      forward = ⊎_elim (λ (m : from < length records). inl (omega arith)) (λ (m : (from ≡ 0) × (length records ≡ 0)). inr m.1) h;
-    }
-  where
-    empty : (rs : List Record) → length rs ≡ 0 → rs ≡ []
-    empty [] e = refl
-    empty (r ∷ rs) e = absurd (omega (arith, e))
-
-pub packed_sends : (select : Select) (mode : Mode) (text : List ℕ) (records : List Record) (from place : ℕ) (closing : Closing) → PackedSo select mode text records from place → IsSendable (block mode closing text)
-packed_sends select mode text records from place closing s = record { normal = s.stands; room = s.room }
 
 -- ---- The block that begins where whole blocks end is the cut's next one.
 

@@ -7,7 +7,6 @@ use Rattle.clap.specs.declared.builder.arg.Arg.{Arg}
 use Rattle.clap.specs.declared.builder.command.Command.{Command}
 use Rattle.clap.specs.declared.builder.action.ArgAction.TheVariants.{Set, SetTrue}
 use Rattle.clap.specs.declared.builder.value_parser.ValueParser.TheVariants as parser
-use Rattle.rje_orders.specs.declared.device.Device.{Device}
 
 -- the argument has this rule, and is its command's own
 abbrev pub IsArg : Rule → Arg → Type 0
@@ -125,13 +124,6 @@ abbrev pub is_file : Text → Bool
 is_file [] = false
 is_file (c ∷ []) = true
 is_file (c ∷ d ∷ rest) = not (c == 45)
-
--- the words that choose a device
-abbrev pub device_words : Device → List Text
-device_words Device.Default = []
-device_words Device.Printer = codes "--printer" ∷ []
-device_words Device.Punch = codes "--punch" ∷ []
-device_words Device.Transparent = codes "--transparent" ∷ []
 
 -- the names of the commands
 abbrev pub command_names : List Text
