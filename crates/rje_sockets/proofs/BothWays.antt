@@ -12,7 +12,6 @@ use Rattle.bsc_link.specs.declared.wish.Wish.{Wish}
 use Rattle.rje_station.specs.declared.arrival.Arrival.{Arrival}
 use Rattle.rje_station.specs.Hearing.{sound_heard}
 use Rattle.rje_station.specs.JoinedJobs.{begun_in}
-use Rattle.rje_station.specs.Line.{Talk}
 use Rattle.rje_station.specs.Receiving.{MayRefuse}
 use Rattle.rje_station.specs.Station.{Contending, due_at, is_deaf, lets_in, after_other, after_own_reply, after_other_ended, after_other_refusal}
 use Rattle.rje_station.proofs.PassedOver.{passed_enq, passed_unrefused}
@@ -21,7 +20,7 @@ use Rattle.rje_station.specs.declared.station_fault.StationFault.TheVariants as 
 use Rattle.rje_sockets.specs.declared.broken_off.BrokenOff.{BrokenOff}
 use Rattle.rje_sockets.specs.declared.exchange.Left.{Left}
 use Rattle.rje_sockets.specs.BothWays.{AreOver, ExchangesTo, Fails, FailsInOthers, Others, Own, StationTurn, TakesOthers, TakesOwn, Took, Waits, Watched, after_answering_other, has_listened, quiet_in_a_row}
-use Rattle.rje_sockets.specs.OverLine.{HeardAndReplied, SpokeAndHeard}
+use Rattle.rje_sockets.specs.OverLine.{HeardAndReplied, LineTells, SpokeAndHeard}
 use Rattle.rje_sockets.specs.Patience.{was_quiet}
 use Rattle.rje_sockets.specs.Watching.{SawReceiver, SawSender}
 
@@ -158,11 +157,11 @@ module _ {W : Type 0} (Sent : List Block → SawSender W) (Came : Heard → SawR
 
 -- HOW IT ENDS, over a line
 
-module _ (s : Contending) (t : Option Talk) where
-  abbrev pub SoFarOver : (n quiet : ℕ) → Bool → Contending → Option Talk → Type 0
+module _ (s : Contending) (t : LineTells) where
+  abbrev pub SoFarOver : (n quiet : ℕ) → Bool → Contending → LineTells → Type 0
   SoFarOver = SoFar SpokeAndHeard HeardAndReplied s t
 
-  module _ (near s' : Contending) (mid u : Option Talk) (n quiet : ℕ) (listened : Bool) (p : SoFarOver n quiet listened near mid) where
+  module _ (near s' : Contending) (mid u : LineTells) (n quiet : ℕ) (listened : Bool) (p : SoFarOver n quiet listened near mid) where
     pub ends_over : AreOver near → s' ≡ near → u ≡ mid → ExchangesTo Left.Ended s t s' u
     ends_over over is same = (p.turns, near, mid, p.watched, inl (over, is, same))
 
@@ -180,7 +179,7 @@ module _ (s : Contending) (t : Option Talk) where
       inl (others_quiet SpokeAndHeard HeardAndReplied s t near s' mid u n quiet listened p c ∙ sym is ∙ forty, ended),
     )
 
-  pub ends_long : (near : Contending) (mid : Option Talk) (n quiet : ℕ) (listened : Bool) → SoFarOver n quiet listened near mid → n ≡ 1000000000 → ExchangesTo Left.Abandoned s t near mid
+  pub ends_long : (near : Contending) (mid : LineTells) (n quiet : ℕ) (listened : Bool) → SoFarOver n quiet listened near mid → n ≡ 1000000000 → ExchangesTo Left.Abandoned s t near mid
   ends_long near mid n quiet listened p e = (p.turns, near, p.watched, inr (p.long ∙ e, refl))
 
 pub fails_as : {X : Type 0} (r : Result X BrokenOff) (broken : BrokenOff) (P : BrokenOff → Type 0) → IsErrAnd r (λ b. b ≡ broken) → P broken → IfErr r P

@@ -11,7 +11,6 @@ use Rattle.rje_files.specs.Entry.{jobs_in}
 use Rattle.rje_files.specs.JobFile.{HasEntries}
 use Rattle.rje_files.specs.Marks.{AreMarks}
 use Rattle.rje_files.specs.Unsent.{IsLeft, unsent}
-use Rattle.rje_station.specs.Line.{Talk}
 use Rattle.rje_station.specs.Sending.{outcome_of}
 use Rattle.rje_station.specs.Station.{Contending, first_contending}
 use Rattle.rje_commands.specs.declared.command_fault.CommandFault.{CommandFault}
@@ -31,6 +30,7 @@ use Rattle.rje_sockets.specs.Exchanging.{Exchanges, ExchangesLeft, MakesBoth, en
 use Rattle.rje_sockets.specs.Inside.Sending.{IsOutgoing}
 use Rattle.rje_sockets.specs.Keeping.{IsOfFile, KeepsJobs}
 use Rattle.rje_sockets.specs.LeavingBoth.{LeavesBoth, LeavesExchange, MarksAlone}
+use Rattle.rje_sockets.specs.OverLine.{LineTells}
 use Rattle.rje_sockets.proofs.BothFiles.{holds_written}
 use Rattle.rje_sockets.proofs.Growing.{none_kept}
 use Rattle.rje_sockets.proofs.Marked.{nothing_marked}
@@ -52,7 +52,7 @@ makes_both old new counted n before after jobs later f mid g h on sets makes two
     )
 
 -- a transmission each way that nothing ended but itself
-pub all_exchanged : (left : Result Left BrokenOff) (marked kept printed : Result (Unit {0}) CommandFault) (t u : Option Talk) (s station : Contending) (old new : Marker) (before after : Keeper) (f mid g h : Option FileMap)
+pub all_exchanged : (left : Result Left BrokenOff) (marked kept printed : Result (Unit {0}) CommandFault) (t u : LineTells) (s station : Contending) (old new : Marker) (before after : Keeper) (f mid g h : Option FileMap)
     (had has : Option (List ℕ)) (text : List ℕ) → IfOk left (λ l. ExchangesTo l s t station u)
     → OnOk left (GoesOnHolding old new s.sender.counted station.sender.counted before after s.receiver.jobs station.receiver.jobs f mid)
     → OnOk marked (MarksSent new.file.items station.sender.counted new.name.now mid g)
@@ -106,7 +106,7 @@ holds_nothing marker counted keeper jobs f g none zero are kept empty same_files
 made_before : (file : List ℕ) (n : ℕ) (jobs : List Job) (send received : List ℕ) (f g h : Option FileMap) → Discloses f g IsSame → MakesBoth file n jobs send received g h → MakesBoth file n jobs send received f h
 made_before file n jobs send received f g h same (marked, sent, kept) = (marked, marked_after file send n f g marked same sent, kept)
 
-pub exchanges_left : (r : Result Ending CommandFault) (t u : Option Talk) (rank : Rank) (send received : List ℕ) (jobs : List Job) (s : Contending) (marker : Marker) (keeper : Keeper)
+pub exchanges_left : (r : Result Ending CommandFault) (t u : LineTells) (rank : Rank) (send received : List ℕ) (jobs : List Job) (s : Contending) (marker : Marker) (keeper : Keeper)
     (f read looked h : Option FileMap) (before after : Option (List ℕ))
     → IsOutgoing send f jobs marker → Discloses f read IsSame → s ≡ first_contending rank jobs
     → keeper.name.now ≡ received → keeper.kept ≡ 0 → send ≢ received → Discloses read looked IsSame

@@ -3,7 +3,6 @@ use Rattle.std.proofs.Common.{◌≡◌, ◌⊎◌, inl, inr, ℕ, List, [], Opt
 use Rattle.std.specs.Prelude.{◌≢◌}
 use Rattle.std.proofs.lemmas.Result.{on_ok_weaker}
 use Rattle.rje_jobs.specs.declared.job.Job.{Job}
-use Rattle.rje_station.specs.Line.{Talk}
 use Rattle.rje_station.specs.Station.{Contending}
 use Rattle.rje_commands.specs.declared.command_fault.CommandFault.{CommandFault}
 use Rattle.rje_sockets.specs.declared.broken_off.BrokenOff.{BrokenOff}
@@ -18,7 +17,7 @@ use Rattle.rje_sockets.specs.Ending.{MakesJobFile, MarksSent}
 use Rattle.rje_sockets.specs.Keeping.{IsOfFile, KeepsJobs}
 use Rattle.rje_sockets.specs.LeavingBoth.{CameTo, HasCounted, LeavesBoth, MarksAlone}
 use Rattle.rje_sockets.specs.Marking.{AreMarked}
-use Rattle.rje_sockets.specs.OverLine.{HeardAndReplied, SpokeAndHeard}
+use Rattle.rje_sockets.specs.OverLine.{HeardAndReplied, LineTells, SpokeAndHeard}
 use Rattle.rje_sockets.proofs.BothFiles.{holds_written}
 use Rattle.rje_sockets.proofs.BothWays.{took_watched}
 use Rattle.rje_sockets.proofs.Received.{has_kept, has_rest, still_keeps}
@@ -36,10 +35,10 @@ counted_on s near start had has came before (inr new) = inr (near, came, sym new
 
 -- WHEN THEY ENDED
 
-took_over : (s near : Contending) (t u : Option Talk) (turns : List StationTurn) → TookOver s t turns near u → Took s.contender.rank s turns near
+took_over : (s near : Contending) (t u : LineTells) (turns : List StationTurn) → TookOver s t turns near u → Took s.contender.rank s turns near
 took_over s near t u turns took = took_watched SpokeAndHeard HeardAndReplied s.contender.rank s t near u turns took
 
-came_left : (s s' : Contending) (t u : Option Talk) (left : Left) → ExchangesTo left s t s' u → CameTo s s'
+came_left : (s s' : Contending) (t u : LineTells) (left : Left) → ExchangesTo left s t s' u → CameTo s s'
 came_left s s' t u Left.Ended (turns, near, mid, took, inl (over, same, talk)) = (turns, near, took_over s near t mid turns took, inl (inl same))
 came_left s s' t u Left.Ended (turns, near, mid, took, inr (waits, closed)) = (turns, near, took_over s near t mid turns took, inl (inr (inr closed)))
 came_left s s' t u Left.Abandoned (turns, near, took, inl (quiet, ended)) = (turns, near, took_over s near t u turns took, inl (inr (inl ended)))
@@ -54,7 +53,7 @@ record Held (left : Result Left BrokenOff) (s s' : Contending) (old new : Marker
   pub same : IfErr left (λ broken. IsOfFile broken → ⊥) → last ≡ s'
   pub holds : GoesOnHolding old new s.sender.counted counted before after s.receiver.jobs last.receiver.jobs f g
 
-held : (left : Result Left BrokenOff) (t u : Option Talk) (s s' : Contending) (old new : Marker) (before after : Keeper) (f g : Option FileMap) → IfOk left (λ l. ExchangesTo l s t s' u)
+held : (left : Result Left BrokenOff) (t u : LineTells) (s s' : Contending) (old new : Marker) (before after : Keeper) (f g : Option FileMap) → IfOk left (λ l. ExchangesTo l s t s' u)
     → OnOk left (GoesOnHolding old new s.sender.counted s'.sender.counted before after s.receiver.jobs s'.receiver.jobs f g) → IfErr left (BreaksBoth s s' old new before after f g)
     → Held left s s' old new before after f g
 held (Ok l) t u s s' old new before after f g exchanges holds breaks =
@@ -77,7 +76,7 @@ held (Err (BrokenOff.File fault)) t u s s' old new before after f g exchanges ho
 }
 
 -- the file that was read stays the same
-pub file_stays : (left : Result Left BrokenOff) (t u : Option Talk) (s s' : Contending) (old new : Marker) (before after : Keeper) (f g : Option FileMap) → IfOk left (λ l. ExchangesTo l s t s' u)
+pub file_stays : (left : Result Left BrokenOff) (t u : LineTells) (s s' : Contending) (old new : Marker) (before after : Keeper) (f g : Option FileMap) → IfOk left (λ l. ExchangesTo l s t s' u)
     → OnOk left (GoesOnHolding old new s.sender.counted s'.sender.counted before after s.receiver.jobs s'.receiver.jobs f g) → IfErr left (BreaksBoth s s' old new before after f g)
     → new.file ≡ old.file
 file_stays left t u s s' old new before after f g exchanges holds breaks = (held left t u s s' old new before after f g exchanges holds breaks).holds.file
@@ -129,7 +128,7 @@ module _ (kept : Result (Unit {0}) CommandFault) (keeper : Keeper) (last s' : Co
   kept_then (Err (BrokenOff.File e)) same makes refused = has_kept keeper last.receiver.jobs marked made grows (still_keeps keeper last.receiver.jobs marked g made k (refused tt))
 
 -- both
-pub leaves_both : {X : Type 0} (left : Result Left BrokenOff) (written : Result X CommandFault) (kept : Result (Unit {0}) CommandFault) (t u : Option Talk) (s s' : Contending) (old new : Marker) (before after : Keeper)
+pub leaves_both : {X : Type 0} (left : Result Left BrokenOff) (written : Result X CommandFault) (kept : Result (Unit {0}) CommandFault) (t u : LineTells) (s s' : Contending) (old new : Marker) (before after : Keeper)
     (f g h made : Option FileMap) → IfOk left (λ l. ExchangesTo l s t s' u)
     → OnOk left (GoesOnHolding old new s.sender.counted s'.sender.counted before after s.receiver.jobs s'.receiver.jobs f g) → IfErr left (BreaksBoth s s' old new before after f g)
     → (new.marked ≡ old.marked) ⊎ HasCounted s new.marked

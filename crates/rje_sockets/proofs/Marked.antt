@@ -8,7 +8,6 @@ use Rattle.rje_files.specs.Marks.{AreMarks}
 use Rattle.rje_files.specs.Unsent.{IsLeft, IsSentFile}
 use Rattle.rje_station.specs.declared.station_fault.StationFault.{StationFault}
 use Rattle.rje_station.specs.declared.station_fault.StationFault.TheVariants as fault
-use Rattle.rje_station.specs.Line.{Talk}
 use Rattle.rje_station.specs.Sending.{Sending, after_refusal, after_speaking, first_sending}
 use Rattle.line_world.specs.AnyLines.{SenderFails, SenderTook, SendsToFault}
 use Rattle.rje_stores.proofs.Changes.{byte_set, same_after, same_itself, same_twice, set_after, set_over}
@@ -18,7 +17,7 @@ use Rattle.rje_commands.specs.Commands.{OfFile}
 use Rattle.rje_sockets.specs.Ending.{MarksSent}
 use Rattle.rje_sockets.specs.Inside.Sending.{IsOutgoing}
 use Rattle.rje_sockets.specs.Marking.{AreMarked, GoesOnMarking, Marks, MarksCounted, MarksNoMore, WereCounted}
-use Rattle.rje_sockets.specs.OverLine.{SendsOver, SpokeAndHeard}
+use Rattle.rje_sockets.specs.OverLine.{LineTells, SendsOver, SpokeAndHeard}
 use Rattle.rje_stores.specs.Store.{FileMap, Discloses, IsSame, SetsByte}
 use Rattle.rje_commands.proofs.Inputs.{of_file}
 use Rattle.rje_sockets.proofs.Sending.{marked_after}
@@ -124,7 +123,7 @@ failed_count : (near s' : Sending) (f : StationFault) → SenderFails near s' f 
 failed_count near s' f (inl e) = ap (λ x. x.counted) e ∙ refused_count f near
 failed_count near s' f (inr e) = ap (λ x. x.counted) e ∙ refused_count f (after_speaking near)
 
-pub counted_over : (s s' : Sending) (t u : Option Talk) → SendsOver s t s' u → WereCounted s s'.counted
+pub counted_over : (s s' : Sending) (t u : LineTells) → SendsOver s t s' u → WereCounted s s'.counted
 counted_over s s' t u (h, took, through) = (h, s', sender_took SpokeAndHeard s t s' u h took, refl)
 
 ended_count : {X : Type 0} (sent : Result X StationFault) (s s' : Sending) → OnOk sent (WereCounted s s'.counted) → IfErr sent (SendsToFault s s') → WereCounted s s'.counted

@@ -3,7 +3,6 @@ use Rattle.std.proofs.Common.{◌≡◌, ℕ, List, Option, Result, IfOk, OnOk, 
 use Rattle.std.specs.Io.KnownBytes.{Appends}
 use Rattle.rje_jobs.specs.declared.job.Job.{Job}
 use Rattle.rje_station.specs.Sending.{Sending, first_sending, outcome_of}
-use Rattle.rje_station.specs.Line.{Talk}
 use Rattle.rje_commands.specs.declared.command_fault.CommandFault.{CommandFault}
 use Rattle.rje_commands.specs.Commands.{OfFile}
 use Rattle.rje_sockets.specs.declared.marker.Marker.{Marker}
@@ -11,12 +10,12 @@ use Rattle.rje_sockets.specs.declared.socket_commands.ending.Ending.{Ending}
 use Rattle.rje_sockets.specs.Ending.{MarksSent, SendsLeft, ending_of, sent_text}
 use Rattle.rje_sockets.specs.Inside.Sending.{IsOutgoing}
 use Rattle.rje_sockets.specs.Marking.{Marks}
-use Rattle.rje_sockets.specs.OverLine.{SendsOver}
+use Rattle.rje_sockets.specs.OverLine.{LineTells, SendsOver}
 use Rattle.rje_sockets.proofs.Marked.{begun}
 use Rattle.rje_sockets.proofs.Sending.{sends_left}
 use Rattle.rje_stores.specs.Store.{FileMap, IsSame, Discloses}
 
-pub sends_outgoing : (r : Result Ending CommandFault) (t u : Option Talk) (name : List ℕ) (jobs : List Job) (marker : Marker) (s s' : Sending) (f g h : Option FileMap) (before after : Option (List ℕ))
+pub sends_outgoing : (r : Result Ending CommandFault) (t u : LineTells) (name : List ℕ) (jobs : List Job) (marker : Marker) (s s' : Sending) (f g h : Option FileMap) (before after : Option (List ℕ))
     → IsOutgoing name f jobs marker → Discloses f g IsSame → s ≡ first_sending jobs → OnOk r (SendsOver s t s' u) → IfOk r (λ ending. ending ≡ ending_of (outcome_of s'))
     → OnOk r (Appends before after (sent_text s'.counted (length s.jobs) (outcome_of s')))
     → OnOk r ((files : Option FileMap) → Marks marker s.counted files g → MarksSent marker.file.items s'.counted marker.name.now files h)

@@ -1,5 +1,6 @@
 -- What passed over a line that tells its bytes, in a station's turn and in all of them.
-use Rattle.std.proofs.Common.{◌≡◌, ◌≢◌, inl, inr, ℕ, ◌+◌, ◌-◌, ◌^◌, Bool, true, false, List, ◌∷◌, length, Option, Some, None, refl, ap, sym, ◌∙◌, arith}
+use Rattle.std.proofs.Common.{◌≡◌, inl, inr, ℕ, ◌+◌, ◌-◌, ◌^◌, Bool, true, false, List, ◌∷◌, length, Option, Some, None, Result, Ok, Err, IfOk, refl, ap, sym, ◌∙◌, arith}
+use Rattle.std.specs.Prelude.{◌≢◌}
 use Rattle.std.proofs.lemmas.Bool.{true≢false}
 use Rattle.bsc_codes.specs.declared.block.Block.{Block}
 use Rattle.bsc_frame.specs.declared.heard.Heard.{Heard}
@@ -15,12 +16,12 @@ use Rattle.line_world.proofs.Calm.{ended_owes}
 use Rattle.rje_station.specs.declared.arrival.Arrival.{Arrival}
 use Rattle.rje_station.specs.declared.station_fault.StationFault.{StationFault}
 use Rattle.rje_station.specs.Hearing.{Hearing, HearsSound, sound_heard}
-use Rattle.rje_station.specs.Line.{Passes, Talk}
-use Rattle.rje_station.specs.Receiving.{Receiving, Replied, after_receiving, sound_taken}
+use Rattle.rje_station.specs.Line.{Passes, Talk, one_more}
+use Rattle.rje_station.specs.Receiving.{Receiving, Replied, after_receiving, sound_taken, with_reply}
 use Rattle.rje_station.specs.Sending.{Sending, Spoke, after_speaking, is_end}
-use Rattle.rje_station.specs.Station.{Contending, HeardAnswer, SpokeDue, after_other, after_own_speaking, due_at, lets_in}
+use Rattle.rje_station.specs.Station.{Contending, HeardAnswer, SpokeDue, after_other, after_own_speaking, due_at, lets_in, with_said}
 use Rattle.rje_station.proofs.Due.{answer_heard, due_kept, not_end}
-use Rattle.rje_sockets.specs.OverLine.{Answers, HeardAndReplied, SendsOver, SpokeAndHeard, reply_after}
+use Rattle.rje_sockets.specs.OverLine.{Answers, HeardAndReplied, LineTells, OverConnection, SendsOver, SpokeAndHeard, reply_after}
 use Rattle.rje_sockets.specs.Watching.{SenderWatched, SenderWatchedAll}
 use Rattle.rje_sockets.proofs.Watched.{sender_took}
 
@@ -33,8 +34,8 @@ said_more s near said is spoke listens = ap is_end is ∙ sym (ap (λ (x : Sendi
 pub spoke_as : (rest : List Block) (t u : Option Talk) (said due : Say) → said ≡ due → Passes t u (Spoke due rest) → Passes t u (Spoke said rest)
 spoke_as rest t u said due is sent = rw is sent
 
-pub end_passed : (rest : List Block) (t u : Option Talk) (said : Say) (heard : Sound) → said ≡ Say.End → Passes t u (Spoke said rest) → SpokeAndHeard rest t u said heard
-end_passed rest t u said heard is sent = (u, sent, rw is refl)
+pub end_passed : (rest : List Block) (t u : LineTells) (said : Say) (heard : Sound) → said ≡ Say.End → Passes t.0 u.0 (Spoke said rest) → u.1 ≡ one_more t.1 → SpokeAndHeard rest t u said heard
+end_passed rest t u said heard is sent once = (u.0, sent, once, rw is refl)
 
 answers : (said : Say) (heard : Sound) (asked u : Option Talk) → is_end said ≡ false → Passes asked u (λ t u. HearsSound t u heard) → Answers said heard asked u
 answers Say.End heard asked u more hears = absurd (true≢false more)
@@ -45,44 +46,49 @@ answers Say.Delay heard asked u more hears = hears
 answers Say.Ask heard asked u more hears = hears
 answers Say.Nothing heard asked u more hears = hears
 
-pub turn_passed : (rest : List Block) (t asked u : Option Talk) (said : Say) (heard : Sound) → is_end said ≡ false → Passes t asked (Spoke said rest) → Passes asked u (λ t u. HearsSound t u heard)
-    → SpokeAndHeard rest t u said heard
-turn_passed rest t asked u said heard more sent hears = (asked, sent, answers said heard asked u more hears)
+pub turn_passed : (rest : List Block) (t u : LineTells) (asked : Option Talk) (said : Say) (heard : Sound) → is_end said ≡ false → Passes t.0 asked (Spoke said rest) → u.1 ≡ one_more t.1
+    → Passes asked u.0 (λ t u. HearsSound t u heard) → SpokeAndHeard rest t u said heard
+turn_passed rest t u asked said heard more sent once hears = (asked, sent, once, answers said heard asked u.0 more hears)
 
 -- WHAT WAS HEARD AND REPLIED
 
--- nothing was replied
-replied_none : (reply : Option Reply) (t u : Option Talk) → reply ≡ None → u ≡ t → Passes t u (Replied reply)
-replied_none reply None u none is = tt
-replied_none reply (Some t) u none is = rw (none, is) refl
+-- what is due was replied
+pub reply_passed : (what : Heard) (arrival : Arrival) (reply due : Option Reply) (t u : LineTells) (heard : Option Talk) → Passes t.0 heard (λ t u. Hearing t u what) → reply ≡ due
+    → Passes heard u.0 (Replied due) → u.1 ≡ with_reply due t.1 → HeardAndReplied what t u arrival reply
+reply_passed what arrival reply due t u heard hears is sent once = rw is (heard, hears, sent, once)
 
-pub replied_as : (t u : Option Talk) (reply due : Option Reply) → reply ≡ due → Passes t u (Replied due) → Passes t u (Replied reply)
-replied_as t u reply due is sent = rw is sent
+-- nothing was
+replied_none : (t u : Option Talk) → u ≡ t → Passes t u (Replied None)
+replied_none None u is = tt
+replied_none (Some t) u is = rw is refl
 
 -- a receiving station that is over after what it heard owes no reply
 pub over_owes : (r heard : Receiving) (what : Heard) (refused : Bool) → heard ≡ after_receiving r what refused Wish.Go → heard.over ≡ true → heard.due ≡ None
 over_owes r heard what refused is over =
     ap (λ (x : Receiving). x.due) is ∙ ended_owes r.core (sound_taken what refused) Wish.Go (sym (ap (λ (x : Receiving). x.over) is) ∙ over)
 
-pub last_passed : (what : Heard) (arrival : Arrival) (reply : Option Reply) (t heard u : Option Talk) → Passes t heard (λ t u. Hearing t u what) → reply ≡ None → u ≡ heard
+pub last_passed : (what : Heard) (arrival : Arrival) (reply : Option Reply) (t u : LineTells) (heard : Option Talk) → Passes t.0 heard (λ t u. Hearing t u what) → reply ≡ None → u.0 ≡ heard → u.1 ≡ t.1
     → HeardAndReplied what t u arrival reply
-last_passed what arrival reply t heard u hears none is = (heard, hears, replied_none reply heard u none is)
+last_passed what arrival reply t u heard hears none is silent = reply_passed what arrival reply None t u heard hears none (replied_none heard u.0 is) silent
 
 -- where both ends are here
 
-pub end_unanswered : (what : Heard) (arrival : Arrival) (said : Say) (reply : Option Reply) (v heard u : Option Talk) → said ≡ Say.End → Passes v heard (λ t u. Hearing t u what) → u ≡ heard
+pub end_unanswered : (what : Heard) (arrival : Arrival) (said : Say) (reply : Option Reply) (v u : LineTells) (heard : Option Talk) → said ≡ Say.End → Passes v.0 heard (λ t u. Hearing t u what) → u.0 ≡ heard → u.1 ≡ v.1
     → HeardAndReplied what v u arrival (reply_after said reply)
-end_unanswered what arrival said reply v heard u end hears is = rw end (last_passed what arrival None v heard u hears refl is)
+end_unanswered what arrival said reply v u heard end hears is silent = rw end (last_passed what arrival None v u heard hears refl is silent)
 
-pub turn_answered : (what : Heard) (arrival : Arrival) (said : Say) (reply : Option Reply) (v heard u : Option Talk) → is_end said ≡ false → Passes v heard (λ t u. Hearing t u what) → Passes heard u (Replied reply)
-    → HeardAndReplied what v u arrival (reply_after said reply)
-turn_answered what arrival Say.End reply v heard u more hears sent = absurd (true≢false more)
-turn_answered what arrival Say.Bid reply v heard u more hears sent = (heard, hears, sent)
-turn_answered what arrival Say.Block reply v heard u more hears sent = (heard, hears, sent)
-turn_answered what arrival Say.Again reply v heard u more hears sent = (heard, hears, sent)
-turn_answered what arrival Say.Delay reply v heard u more hears sent = (heard, hears, sent)
-turn_answered what arrival Say.Ask reply v heard u more hears sent = (heard, hears, sent)
-turn_answered what arrival Say.Nothing reply v heard u more hears sent = (heard, hears, sent)
+replies_after : (said : Say) (reply : Option Reply) → is_end said ≡ false → reply_after said reply ≡ reply
+replies_after Say.End reply more = absurd (true≢false more)
+replies_after Say.Bid reply more = refl
+replies_after Say.Block reply more = refl
+replies_after Say.Again reply more = refl
+replies_after Say.Delay reply more = refl
+replies_after Say.Ask reply more = refl
+replies_after Say.Nothing reply more = refl
+
+pub turn_answered : (what : Heard) (arrival : Arrival) (said : Say) (reply due : Option Reply) (v u : LineTells) (heard : Option Talk) → is_end said ≡ false → Passes v.0 heard (λ t u. Hearing t u what) → reply ≡ due
+    → Passes heard u.0 (Replied due) → u.1 ≡ with_reply due v.1 → HeardAndReplied what v u arrival (reply_after said reply)
+turn_answered what arrival said reply due v u heard more hears is sent once = reply_passed what arrival (reply_after said reply) due v u heard hears (replies_after said reply more ∙ is) sent once
 
 -- A STATION THAT SENDS AND RECEIVES
 
@@ -95,14 +101,26 @@ spoke_due Say.Delay rest t u due sent = sent
 spoke_due Say.Ask rest t u due sent = sent
 spoke_due Say.End rest t u due sent = sent
 
+one_said : (say : Say) (m : ℕ) → say ≢ Say.Nothing → with_said say m ≡ one_more m
+one_said Say.Nothing m due = absurd (due refl)
+one_said Say.Bid m due = refl
+one_said Say.Block m due = refl
+one_said Say.Again m due = refl
+one_said Say.Delay m due = refl
+one_said Say.Ask m due = refl
+one_said Say.End m due = refl
+
 pub said_due : (s : Contending) (said : Say) (t u : Option Talk) → said ≡ due_at s → due_at s ≢ Say.Nothing → Passes t u (SpokeDue (due_at s) s.sender.rest) → Passes t u (Spoke said s.sender.rest)
 said_due s said t u is due sent = spoke_as s.sender.rest t u said (due_at s) is (spoke_due (due_at s) s.sender.rest t u due sent)
 
-pub own_passed : (s near : Contending) (said : Say) (heard : Sound) (t asked u : Option Talk) → said ≡ due_at s → due_at s ≢ Say.Nothing → said ≢ Say.End → near ≡ after_own_speaking s
-    → Passes t asked (Spoke said s.sender.rest) → HeardAnswer asked u (due_at near) heard → SpokeAndHeard s.sender.rest t u said heard
-own_passed s near said heard t asked u is due more spoke sent hears =
+pub said_once : (s : Contending) (m n : ℕ) → due_at s ≢ Say.Nothing → n ≡ with_said (due_at s) m → n ≡ one_more m
+said_once s m n due once = once ∙ one_said (due_at s) m due
+
+pub own_passed : (s near : Contending) (said : Say) (heard : Sound) (t u : LineTells) (asked : Option Talk) → said ≡ due_at s → due_at s ≢ Say.Nothing → said ≢ Say.End → near ≡ after_own_speaking s
+    → Passes t.0 asked (Spoke said s.sender.rest) → u.1 ≡ one_more t.1 → HeardAnswer asked u.0 (due_at near) heard → SpokeAndHeard s.sender.rest t u said heard
+own_passed s near said heard t u asked is due more spoke sent once hears =
     let kept : due_at near ≡ due_at s = ap due_at spoke ∙ due_kept s (due_at s) refl due (λ e. more (is ∙ e)) in
-    turn_passed s.sender.rest t asked u said heard (not_end said more) sent (answer_heard asked u (due_at near) heard (λ e. due (sym kept ∙ e)) hears)
+    turn_passed s.sender.rest t u asked said heard (not_end said more) sent once (answer_heard asked u.0 (due_at near) heard (λ e. due (sym kept ∙ e)) hears)
 
 -- where the other's transmission is over after what it heard, it owes no reply
 let_in_owes : (s : Contending) (what : Heard) (refused b : Bool) → lets_in s.contender (sound_heard what) ≡ b → (after_other s what refused Wish.Go).receiver.over ≡ true
@@ -117,21 +135,26 @@ other_owes s mid what refused is over =
 -- ALL TURNS of a sending station
 
 -- it took so many
-abbrev pub SendsSoFar : Sending → Option Talk → ℕ → Sending → Option Talk → Type 0
+abbrev pub SendsSoFar : Sending → LineTells → ℕ → Sending → LineTells → Type 0
 SendsSoFar s t n s' u = (h : History) × SenderWatchedAll SpokeAndHeard s t s' u h × (length h ≡ n)
 
-pub so_far_took : (s : Sending) (t : Option Talk) (n : ℕ) (s' : Sending) (u : Option Talk) → SendsSoFar s t n s' u → (h : History) × SenderTook s h s'
+pub so_far_took : (s : Sending) (t : LineTells) (n : ℕ) (s' : Sending) (u : LineTells) → SendsSoFar s t n s' u → (h : History) × SenderTook s h s'
 so_far_took s t n s' u (h, took, long) = (h, sender_took SpokeAndHeard s t s' u h took)
 
 -- one more
-pub sends_on : (s near s' : Sending) (t mid u : Option Talk) (n : ℕ) → SendsSoFar s t n near mid → ((x : SpokenTurn) × SenderWatched SpokeAndHeard near mid s' u x) → SendsSoFar s t (n + 1) s' u
+pub sends_on : (s near s' : Sending) (t mid u : LineTells) (n : ℕ) → SendsSoFar s t n near mid → ((x : SpokenTurn) × SenderWatched SpokeAndHeard near mid s' u x) → SendsSoFar s t (n + 1) s' u
 sends_on s near s' t mid u n (h, took, long) (x, watched) = (x ∷ h, (near, mid, took, watched), omega (arith, long))
 
-pub sends_over : (s near s' : Sending) (t mid u : Option Talk) (n : ℕ) → SendsSoFar s t n near mid → near.over ≡ true → s' ≡ near → u ≡ mid → SendsOver s t s' u
+pub sends_over : (s near s' : Sending) (t mid u : LineTells) (n : ℕ) → SendsSoFar s t n near mid → near.over ≡ true → s' ≡ near → u ≡ mid → SendsOver s t s' u
 sends_over s near s' t mid u n (h, took, long) over is same = rw (is, same) (h, took, inl over)
 
-pub sends_long : (s s' : Sending) (t u : Option Talk) (n : ℕ) → SendsSoFar s t n s' u → n ≡ 2 ^ 64 - 1 → SendsOver s t s' u
+pub sends_long : (s s' : Sending) (t u : LineTells) (n : ℕ) → SendsSoFar s t n s' u → n ≡ 2 ^ 64 - 1 → SendsOver s t s' u
 sends_long s s' t u n (h, took, long) e = (h, took, inr (long ∙ e))
 
-pub sends_fault : (s near s' : Sending) (t mid : Option Talk) (n : ℕ) (fault : StationFault) → SendsSoFar s t n near mid → SenderFails near s' fault → SendsToFault s s' fault
+pub sends_fault : (s near s' : Sending) (t mid : LineTells) (n : ℕ) (fault : StationFault) → SendsSoFar s t n near mid → SenderFails near s' fault → SendsToFault s s' fault
 sends_fault s near s' t mid n fault p fails = let took = so_far_took s t n near mid p in (took.0, near, took.1, fails)
+
+-- over a connection
+pub over_connection : {X E : Type 0} (r : Result X E) (Holds : LineTells → LineTells → X → Type 0) (m n : ℕ) → IfOk r (Holds (None, m) (None, n)) → IfOk r (λ x. OverConnection (λ t u. Holds t u x))
+over_connection (Ok x) Holds m n holds = (m, n, holds)
+over_connection (Err e) Holds m n holds = tt

@@ -1,7 +1,6 @@
 -- A receiving station that goes on as long as its patience lasts.
-use Rattle.std.proofs.Common.{◌≡◌, inl, inr, ℕ, ◌+◌, ◌<◌, Bool, true, false, [], ◌∷◌, length, Option, Some, if◌then◌else◌, refl, ap, sym, ◌∙◌, arith}
+use Rattle.std.proofs.Common.{◌≡◌, inl, inr, ℕ, ◌+◌, ◌<◌, Bool, true, false, [], ◌∷◌, length, Some, if◌then◌else◌, refl, ap, sym, ◌∙◌, arith}
 use Rattle.bsc_link.specs.declared.sound.Sound.{Sound}
-use Rattle.rje_station.specs.Line.{Talk}
 use Rattle.rje_station.specs.Receiving.{Receiving}
 use Rattle.bsc_history.specs.declared.spoken_turn.SpokenTurn.{SpokenTurn}
 use Rattle.bsc_history.specs.History.{History}
@@ -9,7 +8,7 @@ use Rattle.line_world.proofs.TurnsOverLines.{arrival_is}
 use Rattle.rje_sockets.specs.declared.broken_off.BrokenOff.{BrokenOff}
 use Rattle.rje_sockets.specs.declared.exchange.Left.{Left}
 use Rattle.rje_sockets.specs.Keeping.{BreaksOff, BreaksOffNow}
-use Rattle.rje_sockets.specs.OverLine.{HeardAndReplied}
+use Rattle.rje_sockets.specs.OverLine.{HeardAndReplied, LineTells}
 use Rattle.rje_sockets.specs.Patience.{was_quiet, quiet_turns, WentOn, HearsOut}
 use Rattle.rje_sockets.specs.Watching.{ReceiverWatched, ReceiverWatchedAll}
 use Rattle.rje_sockets.proofs.Watched.{receiver_took}
@@ -19,7 +18,7 @@ quiet_on Sound.Quiet n = refl
 quiet_on _ n = refl
 
 -- it took so many turns over a line, so many of the last of them quiet
-pub record HearsSoFar (r : Receiving) (t : Option Talk) (n quiet : ℕ) (r' : Receiving) (u : Option Talk) : Type 0 where
+pub record HearsSoFar (r : Receiving) (t : LineTells) (n quiet : ℕ) (r' : Receiving) (u : LineTells) : Type 0 where
   pub history : History
   pub took : ReceiverWatchedAll HeardAndReplied r t r' u history
   pub long : length history ≡ n
@@ -27,7 +26,7 @@ pub record HearsSoFar (r : Receiving) (t : Option Talk) (n quiet : ℕ) (r' : Re
   pub few : quiet < 40
   pub went_on : WentOn history
 
-pub hears_first : (r : Receiving) (t : Option Talk) → HearsSoFar r t 0 0 r t
+pub hears_first : (r : Receiving) (t : LineTells) → HearsSoFar r t 0 0 r t
 hears_first r t = record { history = []; took = (refl, refl); long = refl; quiet_is = refl; few = omega arith; went_on = tt }
 
 -- fewer than forty and one more, but not forty
@@ -35,15 +34,15 @@ below_forty : (now quiet : ℕ) (b : Bool) → now ≡ (if b then quiet + 1 else
 below_forty now quiet true e l n = omega (arith, e, l, n)
 below_forty now quiet false e l n = omega (arith, e)
 
-pub hears_long : (r : Receiving) (t : Option Talk) (r' : Receiving) (u : Option Talk) (n quiet : ℕ) → HearsSoFar r t n quiet r' u → n ≡ 1000000000 → HearsOut Left.Abandoned r t r' u
+pub hears_long : (r : Receiving) (t : LineTells) (r' : Receiving) (u : LineTells) (n quiet : ℕ) → HearsSoFar r t n quiet r' u → n ≡ 1000000000 → HearsOut Left.Abandoned r t r' u
 hears_long r t r' u n quiet p e = (p.history, p.went_on, inr (p.long ∙ e), p.took)
 
-module _ (r : Receiving) (t : Option Talk) (far : Receiving) (mid : Option Talk) (n quiet : ℕ) (p : HearsSoFar r t n quiet far mid) where
+module _ (r : Receiving) (t : LineTells) (far : Receiving) (mid : LineTells) (n quiet : ℕ) (p : HearsSoFar r t n quiet far mid) where
   pub hears_fault : (r' : Receiving) (broken : BrokenOff) → BreaksOffNow far r' broken → BreaksOff r r' broken
   hears_fault r' broken breaks = (p.history, far, receiver_took HeardAndReplied r t far mid p.history p.took, breaks)
 
   -- one more
-  module _ (r' : Receiving) (u : Option Talk) (x : (turn : SpokenTurn) × ReceiverWatched HeardAndReplied far mid r' u turn) where
+  module _ (r' : Receiving) (u : LineTells) (x : (turn : SpokenTurn) × ReceiverWatched HeardAndReplied far mid r' u turn) where
     abbrev history : History
     history = x.0 ∷ p.history
 

@@ -6,7 +6,6 @@ use Rattle.std.specs.Result.{IsOkAnd, MatchResult, is_ok}
 use Rattle.std.specs.Io.KnownBytes.{Appends}
 use Rattle.std.proofs.lemmas.Result.{on_ok_weaker}
 use Rattle.rje_jobs.specs.declared.job.Job.{Job}
-use Rattle.rje_station.specs.Line.{Talk}
 use Rattle.rje_station.specs.Receiving.{Receiving, first_receiving}
 use Rattle.rje_sockets.specs.declared.broken_off.BrokenOff.{BrokenOff}
 use Rattle.rje_commands.specs.declared.command_fault.CommandFault.{CommandFault}
@@ -18,6 +17,7 @@ use Rattle.rje_sockets.specs.Answering.{HasWhole, KeepsAnswered, KeepsToBreak, K
 use Rattle.rje_sockets.specs.Ending.{MakesJobFile, Receives, ending_of_left, received_text}
 use Rattle.rje_sockets.specs.Keeping.{AreKept, GoesOnKeeping, IsOfFile, KeepsJobs, whole_in_front}
 use Rattle.rje_sockets.specs.Patience.{LeavesSo}
+use Rattle.rje_sockets.specs.OverLine.{LineTells}
 use Rattle.rje_stores.specs.Store.{FileMap, Discloses, IsSame}
 use Rattle.rje_sockets.proofs.Answering.{none_answered}
 use Rattle.rje_sockets.proofs.Growing.{kept_still, none_kept}
@@ -35,7 +35,7 @@ ends_well (Ok ending) (Ok l) (Ok was) (Err e) printed ending_by P well told same
 ends_well (Ok ending) (Ok l) (Ok was) (Ok w) (Err e) ending_by P well told same holds = absurd (true≢false (sym well.2))
 ends_well (Ok ending) (Ok l) (Ok was) (Ok w) (Ok p) ending_by P well told same holds = subst P (ap ending_by well.0 ∙ sym told) holds
 
-pub receives : (left : Result Left BrokenOff) (written printed : Result (Unit {0}) CommandFault) (t u : Option Talk) (name : List ℕ) (files made : Option FileMap) (before after : Option (List ℕ)) (station : Receiving)
+pub receives : (left : Result Left BrokenOff) (written printed : Result (Unit {0}) CommandFault) (t u : LineTells) (name : List ℕ) (files made : Option FileMap) (before after : Option (List ℕ)) (station : Receiving)
     → IfOk left (λ l. LeavesSo l first_receiving t station u) → IfOk left (λ l. OnOk written (MakesJobFile station.jobs name files made)) → OnOk printed (Appends before after (received_text station.jobs))
     → IfOk left (λ l. OnOk written (OnOk printed (Receives (ending_of_left l) t u name files made before after)))
 receives (Err b) written printed t u name files made before after station leaves makes text = tt

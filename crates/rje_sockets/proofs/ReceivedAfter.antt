@@ -3,12 +3,12 @@ use Rattle.std.proofs.Common.{inl, inr, ℕ, List, Option, Some, None, Result, O
 use Rattle.std.specs.Prelude.{IfSome}
 use Rattle.bsc_link.specs.declared.wish.Wish.{Wish}
 use Rattle.rje_jobs.specs.declared.job.Job.{Job}
-use Rattle.rje_station.specs.Line.{Talk}
 use Rattle.rje_station.specs.Receiving.{after_receiving}
 use Rattle.rje_commands.specs.declared.command_fault.CommandFault.{CommandFault}
 use Rattle.rje_sockets.specs.declared.socket_commands.ending.Ending.{Ending}
 use Rattle.rje_sockets.specs.Answering.{HasWhole, KeepsAnswered}
 use Rattle.rje_sockets.specs.Ending.{MakesJobFile, Receives}
+use Rattle.rje_sockets.specs.OverLine.{LineTells}
 use Rattle.rje_sockets.proofs.Received.{nothing_kept}
 use Rattle.rje_stores.proofs.Changes.{same_twice, set_after}
 use Rattle.rje_stores.specs.Store.{FileMap, Discloses, IsSame}
@@ -16,7 +16,7 @@ use Rattle.rje_stores.specs.Store.{FileMap, Discloses, IsSame}
 made_after : (jobs : List Job) (name : List ℕ) (f g h : Option FileMap) → Discloses f g IsSame → MakesJobFile jobs name g h → MakesJobFile jobs name f h
 made_after jobs name f g h same m = (m.0, m.1, m.2, set_after name m.0 f g h same m.3)
 
-pub receives_after : (r : Result Ending CommandFault) (t u : Option Talk) (name : List ℕ) (f g h : Option FileMap) (before after : Option (List ℕ)) → Discloses f g IsSame
+pub receives_after : (r : Result Ending CommandFault) (t u : LineTells) (name : List ℕ) (f g h : Option FileMap) (before after : Option (List ℕ)) → Discloses f g IsSame
     → IfOk r (λ ending. Receives ending t u name g h before after) → IfOk r (λ ending. Receives ending t u name f h before after)
 receives_after (Err e) t u name f g h before after same received = tt
 receives_after (Ok ending) t u name f g h before after same received = record {

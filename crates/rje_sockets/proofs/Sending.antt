@@ -5,13 +5,12 @@ use Rattle.std.proofs.lemmas.List.{length-map}
 use Rattle.rje_jobs.specs.declared.job.Job.{Job}
 use Rattle.rje_files.specs.Unsent.{IsLeft, unsent}
 use Rattle.rje_station.specs.Sending.{Sending, first_sending, outcome_of}
-use Rattle.rje_station.specs.Line.{Talk}
 use Rattle.rje_stores.proofs.Changes.{set_after}
 use Rattle.rje_commands.specs.declared.command_fault.CommandFault.{CommandFault}
 use Rattle.rje_sockets.specs.declared.socket_commands.ending.Ending.{Ending}
 use Rattle.rje_commands.specs.Commands.{OfFile}
 use Rattle.rje_sockets.specs.Ending.{MarksSent, SendsLeft, ending_of, sent_text}
-use Rattle.rje_sockets.specs.OverLine.{SendsOver}
+use Rattle.rje_sockets.specs.OverLine.{LineTells, SendsOver}
 use Rattle.rje_stores.specs.Store.{FileMap, IsSame, Discloses}
 use Rattle.rje_commands.proofs.Inputs.{of_file}
 
@@ -19,7 +18,7 @@ use Rattle.rje_commands.proofs.Inputs.{of_file}
 pub marked_after : (file name : List ℕ) (counted : ℕ) (f g h : Option FileMap) → Discloses f g IsSame → MarksSent file counted name g h → MarksSent file counted name f h
 marked_after file name counted f g h same m = (m.0, m.1, m.2, set_after name m.0 f g h same m.3)
 
-pub sends_left : (r : Result Ending CommandFault) (t u : Option Talk) (name file : List ℕ) (jobs : List Job) (station : Sending)
+pub sends_left : (r : Result Ending CommandFault) (t u : LineTells) (name file : List ℕ) (jobs : List Job) (station : Sending)
     (f g h : Option FileMap) (before after : Option (List ℕ))
     → OfFile name f (λ read. file ≡ read) → Discloses f g IsSame → IsLeft file jobs → OnOk r (SendsOver (first_sending jobs) t station u) → IfOk r (λ ending. ending ≡ ending_of (outcome_of station))
     → OnOk r (Appends before after (sent_text station.counted (length jobs) (outcome_of station))) → OnOk r (MarksSent file station.counted name g h)

@@ -13,7 +13,7 @@ use Rattle.rje_station.specs.Sending.{Sending, Spoke, after_speaking}
 use Rattle.rje_station.specs.Sending.{after_refusal as sender_refused}
 use Rattle.rje_station.specs.Station.{Contending, SpokeDue, after_other_refusal, after_own_refusal, after_own_speaking, due_at}
 use Rattle.rje_sockets.specs.BothWays.{StationTurn, TookOver}
-use Rattle.rje_sockets.specs.OverLine.{BothSpoke, HeardAndReplied, SpokeAndHeard}
+use Rattle.rje_sockets.specs.OverLine.{BothSpoke, HeardAndReplied, LineTells, SpokeAndHeard}
 use Rattle.rje_sockets.specs.Watching.{BothWatchedAll, ReceiverWatchedAll, SenderWatchedAll}
 
 -- IT BABBLED
@@ -39,20 +39,20 @@ BabblesInOthers s t s' u = Passes t u Babbling × (s' ≡ after_other_refusal fa
 
 -- AFTER SOME TURNS
 
-abbrev pub SendsToBabble : Sending → Option Talk → Sending → Option Talk → Type 0
-SendsToBabble s t s' u = (h : History) × (near : Sending) × (mid : Option Talk) × SenderWatchedAll SpokeAndHeard s t near mid h × BabblesToSender near mid s' u
+abbrev pub SendsToBabble : Sending → LineTells → Sending → Option Talk → Type 0
+SendsToBabble s t s' u = (h : History) × (near : Sending) × (mid : LineTells) × SenderWatchedAll SpokeAndHeard s t near mid h × BabblesToSender near mid.0 s' u
 
-abbrev pub ReceivesToBabble : Receiving → Option Talk → Receiving → Option Talk → Type 0
-ReceivesToBabble r t r' u = (h : History) × (far : Receiving) × (mid : Option Talk) × ReceiverWatchedAll HeardAndReplied r t far mid h × BabblesToReceiver far mid r' u
+abbrev pub ReceivesToBabble : Receiving → LineTells → Receiving → Option Talk → Type 0
+ReceivesToBabble r t r' u = (h : History) × (far : Receiving) × (mid : LineTells) × ReceiverWatchedAll HeardAndReplied r t far mid h × BabblesToReceiver far mid.0 r' u
 
-abbrev pub ExchangesToBabble : Contending → Option Talk → Contending → Option Talk → Type 0
+abbrev pub ExchangesToBabble : Contending → LineTells → Contending → Option Talk → Type 0
 ExchangesToBabble s t s' u =
-    (turns : List StationTurn) × (near : Contending) × (mid : Option Talk) × TookOver s t turns near mid
-    × (BabblesInOwn near mid s' u ⊎ BabblesInOthers near mid s' u)
+    (turns : List StationTurn) × (near : Contending) × (mid : LineTells) × TookOver s t turns near mid
+    × (BabblesInOwn near mid.0 s' u ⊎ BabblesInOthers near mid.0 s' u)
 
 -- one of the two lines of a sender and a receiver
-abbrev pub BothToBabble : Sending → Receiving → (t v : Option Talk) → Sending → Receiving → (u w : Option Talk) → Type 0
+abbrev pub BothToBabble : Sending → Receiving → (t v : LineTells) → Sending → Receiving → (u w : Option Talk) → Type 0
 BothToBabble s r t v s' r' u w =
-    (turns : List Spoken) × (near : Sending) × (far : Receiving) × (mids : Option Talk × Option Talk)
+    (turns : List Spoken) × (near : Sending) × (far : Receiving) × (mids : LineTells × LineTells)
     × BothWatchedAll BothSpoke s r (t, v) near far mids turns
-    × (BabblesToSender near mids.0 s' u ⊎ BabblesToReceiver far mids.1 r' w)
+    × (BabblesToSender near mids.0.0 s' u ⊎ BabblesToReceiver far mids.1.0 r' w)

@@ -10,7 +10,6 @@ use Rattle.bsc_link.specs.declared.wish.Wish.{Wish}
 use Rattle.rje_station.specs.declared.arrival.Arrival.{Arrival}
 use Rattle.rje_station.specs.Hearing.{sound_heard}
 use Rattle.rje_station.specs.JoinedJobs.{begun_in}
-use Rattle.rje_station.specs.Line.{Talk}
 use Rattle.rje_station.specs.Receiving.{MayRefuse}
 use Rattle.rje_station.specs.Station.{Contending, due_at, is_deaf, is_receiving, after_own_speaking, after_answer, after_other, after_own_reply, after_other_ended, after_own_refusal, after_other_refusal}
 use Rattle.rje_station.specs.declared.line_fault.LineFault.TheVariants.{Closed}
@@ -18,7 +17,7 @@ use Rattle.rje_station.specs.declared.station_fault.StationFault.{StationFault}
 use Rattle.rje_station.specs.declared.station_fault.StationFault.TheVariants as fault
 use Rattle.rje_sockets.specs.declared.broken_off.BrokenOff.{BrokenOff}
 use Rattle.rje_sockets.specs.declared.exchange.Left.{Left}
-use Rattle.rje_sockets.specs.OverLine.{HeardAndReplied, SpokeAndHeard}
+use Rattle.rje_sockets.specs.OverLine.{HeardAndReplied, LineTells, SpokeAndHeard}
 use Rattle.rje_sockets.specs.Watching.{SawReceiver, SawSender}
 
 -- after its own turn: after EOT it doesn't listen
@@ -103,14 +102,14 @@ Watched {W} SawSent SawCame rank s w s' w' (t ∷ past) =
     × (takes : Takes near s' t) × Saw SawSent SawCame near s' mid w' t takes
 
 -- it took these turns, in each of which the line sent what it said and replied, and gave what it heard
-abbrev pub TookOver : Contending → Option Talk → List StationTurn → Contending → Option Talk → Type 0
+abbrev pub TookOver : Contending → LineTells → List StationTurn → Contending → LineTells → Type 0
 TookOver s t turns s' u = Watched SpokeAndHeard HeardAndReplied s.contender.rank s t s' u turns
 
 -- it took some turns so, until both transmissions were over, or the other hung up for which it waited; or until forty of the other's turns in
 -- a row brought nothing, or so many turns were taken in all
-abbrev pub ExchangesTo : Left → Contending → Option Talk → Contending → Option Talk → Type 0
+abbrev pub ExchangesTo : Left → Contending → LineTells → Contending → LineTells → Type 0
 ExchangesTo Left.Ended s t s' u =
-    (turns : List StationTurn) × (near : Contending) × (mid : Option Talk) × TookOver s t turns near mid
+    (turns : List StationTurn) × (near : Contending) × (mid : LineTells) × TookOver s t turns near mid
     × ((AreOver near × (s' ≡ near) × (u ≡ mid)) ⊎ (Waits near × (s' ≡ after_other_refusal (fault.Line Closed) near)))
 ExchangesTo Left.Abandoned s t s' u =
     (turns : List StationTurn) × (near : Contending) × TookOver s t turns near u

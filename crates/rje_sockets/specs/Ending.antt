@@ -9,7 +9,6 @@ use Rattle.rje_files.specs.Entry.{entry_of, jobs_in}
 use Rattle.rje_files.specs.FileFault.{IsFileFault}
 use Rattle.rje_files.specs.JobFile.{HasEntries, IsEntryFile, IsEntryFileOf}
 use Rattle.rje_files.specs.Unsent.{IsFirstUnsendable, IsSentFile, unsent}
-use Rattle.rje_station.specs.Line.{Talk}
 use Rattle.rje_station.specs.Receiving.{Receiving, first_receiving}
 use Rattle.rje_station.specs.Sending.{Sending, first_sending, outcome_of}
 use Rattle.rje_print.specs.ReportTexts.{counted_line, handed_line, outcome_line, whole_jobs}
@@ -18,7 +17,7 @@ use Rattle.rje_sockets.specs.declared.exchange.Left.{Left}
 use Rattle.rje_commands.specs.declared.command_fault.CommandFault.{CommandFault}
 use Rattle.rje_commands.specs.CommandFault.{status_of}
 use Rattle.rje_commands.specs.Commands.{OfFile}
-use Rattle.rje_sockets.specs.OverLine.{SendsOver}
+use Rattle.rje_sockets.specs.OverLine.{LineTells, SendsOver}
 use Rattle.rje_sockets.specs.Patience.{LeavesSo}
 use Rattle.rje_stores.specs.Store.{FileMap, Discloses, Sets}
 
@@ -60,7 +59,7 @@ ending_of_left Left.Abandoned = Ending.Other
 
 -- one transmission was received over a line: a new station took some turns there and left so, the file of this name became that of its jobs, and
 -- just their line was printed
-pub record Receives (ending : Ending) (t u : Option Talk) (name : List ℕ) (files made : Option FileMap) (before after : Option (List ℕ)) : Type 0 where
+pub record Receives (ending : Ending) (t u : LineTells) (name : List ℕ) (files made : Option FileMap) (before after : Option (List ℕ)) : Type 0 where
   pub left : Left
   pub station : Receiving
   pub leaves : LeavesSo left first_receiving t station u
@@ -68,7 +67,7 @@ pub record Receives (ending : Ending) (t u : Option Talk) (name : List ℕ) (fil
   pub writes : WritesJobs station.jobs name files made before after
 
 -- a command over a line ended with this status, and one transmission was received
-abbrev pub EndsReceiving : (status : ℕ) → (t u : Option Talk) → (name : List ℕ) → (files made : Option FileMap) → (before after : Option (List ℕ)) → Type 0
+abbrev pub EndsReceiving : (status : ℕ) → (t u : LineTells) → (name : List ℕ) → (files made : Option FileMap) → (before after : Option (List ℕ)) → Type 0
 EndsReceiving status t u name files made before after =
     (ending : Ending) × (status ≡ ending_status ending) × Receives ending t u name files made before after
 
@@ -91,7 +90,7 @@ IsRefusedFile file = (fault : CommandFault) × IsUnsentFault file fault × (stat
 
 -- what was left of the job file of this name was sent over a line: a new station for these jobs took some turns there to the end of its
 -- transmission; the jobs that it counted are Sent in the file now, it ended so, and just the lines of it were printed
-pub record SendsLeft (ending : Ending) (t u : Option Talk) (name file : List ℕ) (files made : Option FileMap) (before after : Option (List ℕ)) : Type 0 where
+pub record SendsLeft (ending : Ending) (t u : LineTells) (name file : List ℕ) (files made : Option FileMap) (before after : Option (List ℕ)) : Type 0 where
   pub entries : List Entry
   pub station : Sending
   pub file_is : HasEntries entries file
@@ -101,6 +100,6 @@ pub record SendsLeft (ending : Ending) (t u : Option Talk) (name file : List ℕ
   pub text_is : Appends before after (sent_text station.counted (length (unsent entries)) (outcome_of station))
 
 -- a command over a line ended with this status, and what was left of the job file of this name was sent
-abbrev pub EndsSending : (status : ℕ) → (t u : Option Talk) → (name : List ℕ) → (files made : Option FileMap) → (before after : Option (List ℕ)) → Type 0
+abbrev pub EndsSending : (status : ℕ) → (t u : LineTells) → (name : List ℕ) → (files made : Option FileMap) → (before after : Option (List ℕ)) → Type 0
 EndsSending status t u name files made before after =
     (ending : Ending) × (status ≡ ending_status ending) × OfFile name files (λ file. SendsLeft ending t u name file files made before after)

@@ -8,7 +8,6 @@ use Rattle.rje_files.specs.declared.entry.Entry.{Entry}
 use Rattle.rje_files.specs.Entry.{jobs_in}
 use Rattle.rje_files.specs.JobFile.{HasEntries}
 use Rattle.rje_files.specs.Unsent.{unsent}
-use Rattle.rje_station.specs.Line.{Talk}
 use Rattle.rje_station.specs.Sending.{outcome_of}
 use Rattle.rje_station.specs.Station.{Contending, first_contending}
 use Rattle.rje_orders.specs.declared.order.Meeting.{Meeting}
@@ -22,6 +21,7 @@ use Rattle.rje_sockets.specs.BothFiles.{HoldsBoth}
 use Rattle.rje_sockets.specs.BothWays.{ExchangesTo}
 use Rattle.rje_print.specs.ReportTexts.{counted_line, outcome_line}
 use Rattle.rje_sockets.specs.Ending.{MakesJobFile, MarksSent, ending_status, received_text}
+use Rattle.rje_sockets.specs.OverLine.{LineTells}
 use Rattle.rje_stores.specs.Store.{FileMap}
 
 -- the end that calls is the primary
@@ -46,7 +46,7 @@ MakesBoth file counted jobs send received files made =
 
 -- one transmission was made each way over a line: the station took some turns there and left so; what it counted is marked in the one file, what
 -- came is kept in the other, and just the lines of both were printed
-pub record Exchanges (ending : Ending) (t u : Option Talk) (s : Contending) (marker : Marker) (keeper : Keeper) (f g : Option FileMap) (before after : Option (List ℕ)) : Type 0 where
+pub record Exchanges (ending : Ending) (t u : LineTells) (s : Contending) (marker : Marker) (keeper : Keeper) (f g : Option FileMap) (before after : Option (List ℕ)) : Type 0 where
   pub left : Left
   pub station : Contending
   pub exchanges : ExchangesTo left s t station u
@@ -58,7 +58,7 @@ pub record Exchanges (ending : Ending) (t u : Option Talk) (s : Contending) (mar
 -- what was left of the job file of the one name was exchanged over a line for the jobs of the other station: a new station of this rank took some
 -- turns there and left so; the jobs that it counted are Sent in that file now, the file of the other name is that of the jobs that came, no
 -- other file changed, and just the lines of both were printed
-pub record ExchangesLeft (ending : Ending) (t u : Option Talk) (rank : Rank) (send received file : List ℕ) (files made : Option FileMap) (before after : Option (List ℕ)) : Type 0 where
+pub record ExchangesLeft (ending : Ending) (t u : LineTells) (rank : Rank) (send received file : List ℕ) (files made : Option FileMap) (before after : Option (List ℕ)) : Type 0 where
   pub entries : List Entry
   pub left : Left
   pub station : Contending
@@ -69,6 +69,6 @@ pub record ExchangesLeft (ending : Ending) (t u : Option Talk) (rank : Rank) (se
   pub text_is : Appends before after (exchanged_text station.sender.counted (length (unsent entries)) (outcome_of station.sender) station.receiver.jobs)
 
 -- a command over a line ended with this status, and what was left of the job file of the one name was exchanged so
-abbrev pub EndsExchanging : (status : ℕ) → (t u : Option Talk) → Rank → (send received : List ℕ) → (files made : Option FileMap) → (before after : Option (List ℕ)) → Type 0
+abbrev pub EndsExchanging : (status : ℕ) → (t u : LineTells) → Rank → (send received : List ℕ) → (files made : Option FileMap) → (before after : Option (List ℕ)) → Type 0
 EndsExchanging status t u rank send received files made before after =
     (ending : Ending) × (status ≡ ending_status ending) × OfFile send files (λ file. ExchangesLeft ending t u rank send received file files made before after)

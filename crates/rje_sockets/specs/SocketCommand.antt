@@ -1,5 +1,5 @@
 -- What a command over sockets does, by its order (own profile).
-use Rattle.std.specs.Prelude.{◌≡◌, ◌⊎◌, ℕ, List, Option, None, IfSome}
+use Rattle.std.specs.Prelude.{◌≡◌, ◌⊎◌, ℕ, List, Option, IfSome}
 use Rattle.rje_orders.specs.declared.order.SocketOrder.{SocketOrder}
 use Rattle.rje_commands.specs.declared.command_fault.CommandFault.{CommandFault}
 use Rattle.rje_commands.specs.CommandFault.{IsFailing, status_of}
@@ -11,19 +11,20 @@ use Rattle.rje_sockets.specs.Exchanging.{ExchangesLeft, rank_at}
 use Rattle.rje_sockets.specs.LeavingBoth.{LeavesExchange}
 use Rattle.rje_sockets.specs.Looping.{IsUnloopedFault, Loops}
 use Rattle.rje_sockets.specs.Marking.{MarksNoMore}
+use Rattle.rje_sockets.specs.OverLine.{OverConnection}
 use Rattle.rje_stores.specs.Store.{FileMap, Discloses, IsSame}
 
 -- WHAT A COMMAND DOES
 
 -- what is done where an order over sockets is carried out to this ending: what the files were and are then, and what was printed before
--- and after. A connection tells no bytes.
+-- and after
 abbrev pub Transmits : SocketOrder → Ending → (files made : Option FileMap) → (before after : Option (List ℕ)) → Type 0
 Transmits (SocketOrder.Loop order) ending files made before after = OfFile order.jobs.now files (λ file. Loops ending file before after)
 Transmits (SocketOrder.Send order) ending files made before after =
-    OfFile order.jobs.now files (λ file. SendsLeft ending None None order.jobs.now file files made before after)
-Transmits (SocketOrder.Receive order) ending files made before after = Receives ending None None order.jobs.now files made before after
+    OverConnection (λ t u. OfFile order.jobs.now files (λ file. SendsLeft ending t u order.jobs.now file files made before after))
+Transmits (SocketOrder.Receive order) ending files made before after = OverConnection (λ t u. Receives ending t u order.jobs.now files made before after)
 Transmits (SocketOrder.Exchange order) ending files made before after =
-    OfFile order.send.now files (λ file. ExchangesLeft ending None None (rank_at order.place) order.send.now order.received.now file files made before after)
+    OverConnection (λ t u. OfFile order.send.now files (λ file. ExchangesLeft ending t u (rank_at order.place) order.send.now order.received.now file files made before after))
 
 -- Whatever ends it: `loop` changes no file, `send` marks just what was counted, in its file `receive` has what had come whole, and `exchange`
 -- does both.

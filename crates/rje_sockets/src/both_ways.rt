@@ -40,11 +40,13 @@ pub fn exchange_all<'a, 'b, L: Line, S: Store, W: Watch>(
     store: &mut S,
     watch: &mut W,
 ) -> Result<Left, BrokenOff<'b>>
-    ensures left { IfOk result (λ left. ExchangesTo left station.old (L.talk line.old)
-        station.new (L.talk line.new)) }
+    ensures left { IfOk result (λ left. ExchangesTo left
+        station.old (L.talk line.old, L.transmissions line.old)
+        station.new (L.talk line.new, L.transmissions line.new)) }
     ensures status { IfErr result (λ broken. IsFailing (status_of (of_broken_off broken))) }
     ensures cause { IfErr result (IsBreak (λ f. L.last_fault line.new ≡ Some f)
-        (ExchangesToBabble station.old (L.talk line.old) station.new (L.talk line.new))
+        (ExchangesToBabble station.old (L.talk line.old, L.transmissions line.old)
+        station.new (L.talk line.new))
         (station.old.failed ≡ true)) }
     ensures holds { OnOk result (GoesOnHolding marker.old marker.new station.old.sender.counted
         station.new.sender.counted keeper.old keeper.new station.old.receiver.jobs
@@ -134,8 +136,8 @@ fn take_own_turn<'a, 'b, L: Line, S: Store, W: Watch>(
         (BabblesInOwn station.old (L.talk line.old) station.new (L.talk line.new)) ⊥) }
     ensures gave { OnOk result ((said : Word) × (heard : Tone)
         × TakesOwn station.old station.new said heard
-        × SpokeAndHeard station.old.sender.rest (L.talk line.old) (L.talk line.new)
-        said heard) }
+        × SpokeAndHeard station.old.sender.rest (L.talk line.old, L.transmissions line.old)
+        (L.talk line.new, L.transmissions line.new) said heard) }
     ensures status { IfErr result (λ fault. IsFailing (status_of (of_station fault))) }
     ensures marked { OnOk result (GoesOnMarking marker.old marker.new station.old.sender.counted
         station.new.sender.counted (S.files store.old) (S.files store.new)) }
@@ -176,7 +178,8 @@ fn take_others_turn<'a, 'b, L: Line, S: Store, W: Watch>(
     ensures gave { IfOk result (λ is_turn. is_turn ≡ true → (arrival : Coming)
         × (reply : Option Answer)
         × (takes : TakesOthers station.old station.new arrival reply)
-        × HeardAndReplied takes.what (L.talk line.old) (L.talk line.new) arrival reply
+        × HeardAndReplied takes.what (L.talk line.old, L.transmissions line.old)
+        (L.talk line.new, L.transmissions line.new) arrival reply
         × (station.new.receiver.arrival ≡ Some arrival)) }
     ensures status { IfErr result (λ broken. IsFailing (status_of (of_broken_off broken))) }
     ensures kept { OnOk result (GoesOnKeeping keeper.old keeper.new station.old.receiver.jobs

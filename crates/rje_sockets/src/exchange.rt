@@ -50,12 +50,13 @@ pub fn send_all<'a, L: Line, S: Store, W: Watch>(
     store: &mut S,
     watch: &mut W,
 ) -> Result<(), StationFault>
-    ensures took { OnOk result (SendsOver station.old (L.talk line.old)
-        station.new (L.talk line.new)) }
+    ensures took { OnOk result (SendsOver station.old (L.talk line.old, L.transmissions line.old)
+        station.new (L.talk line.new, L.transmissions line.new)) }
     ensures fault { IfErr result (SendsToFault station.old station.new) }
     ensures status { IfErr result (λ fault. IsFailing (status_of (of_station fault))) }
     ensures cause { IfErr result (IsLineBreak (λ f. L.last_fault line.new ≡ Some f)
-        (SendsToBabble station.old (L.talk line.old) station.new (L.talk line.new)) ⊥) }
+        (SendsToBabble station.old (L.talk line.old, L.transmissions line.old)
+        station.new (L.talk line.new)) ⊥) }
     ensures marked { OnOk result (GoesOnMarking marker.old marker.new station.old.counted
         station.new.counted (S.files store.old) (S.files store.new)) }
     ensures broken { OnErr result ((n : ℕ) × GoesOnMarking marker.old marker.new
@@ -88,9 +89,9 @@ fn speak_hear_and_mark<'a, L: Line, S: Store, W: Watch>(
     ensures cause { IfErr result (IsLineBreak (λ f. L.last_fault line.new ≡ Some f)
         (BabblesToSender station.old (L.talk line.old) station.new (L.talk line.new)) ⊥) }
     ensures gave { IfOk result (λ is_turn. is_turn ≡ true → (t : SpokenTurn) × SenderWatched
-        SpokeAndHeard station.old (L.talk line.old) station.new (L.talk line.new) t) }
-    ensures silent { IfOk result (λ is_turn. is_turn ≡ false
-        → L.talk line.new ≡ L.talk line.old) }
+        SpokeAndHeard station.old (L.talk line.old, L.transmissions line.old)
+        station.new (L.talk line.new, L.transmissions line.new) t) }
+    ensures silent { IfOk result (λ is_turn. is_turn ≡ false → line.new ≡ line.old) }
     ensures marked { OnOk result (GoesOnMarking marker.old marker.new station.old.counted
         station.new.counted (S.files store.old) (S.files store.new)) }
     ensures count { (marker.new.marked ≡ marker.old.marked)
@@ -120,9 +121,9 @@ fn speak_and_hear<L: Line, W: Watch>(
     ensures cause { IfErr result (IsLineBreak (λ f. L.last_fault line.new ≡ Some f)
         (BabblesToSender station.old (L.talk line.old) station.new (L.talk line.new)) ⊥) }
     ensures gave { IfOk result (λ is_turn. is_turn ≡ true → (t : SpokenTurn) × SenderWatched
-        SpokeAndHeard station.old (L.talk line.old) station.new (L.talk line.new) t) }
-    ensures silent { IfOk result (λ is_turn. is_turn ≡ false
-        → L.talk line.new ≡ L.talk line.old) }
+        SpokeAndHeard station.old (L.talk line.old, L.transmissions line.old)
+        station.new (L.talk line.new, L.transmissions line.new) t) }
+    ensures silent { IfOk result (λ is_turn. is_turn ≡ false → line.new ≡ line.old) }
     ensures told { IfOk result (λ is_turn. is_turn ≡ true → (t : SpokenTurn)
         × SenderWatched (λ _. W.saw_sender) station.old watch.old station.new watch.new t) }
     ensures untold { IfOk result (λ is_turn. is_turn ≡ false → watch.new ≡ watch.old) }
@@ -151,11 +152,13 @@ pub fn receive_all<'a, L: Line, S: Store, W: Watch>(
     store: &mut S,
     watch: &mut W,
 ) -> Result<Left, BrokenOff<'a>>
-    ensures left { IfOk result (λ left. LeavesSo left station.old (L.talk line.old)
-        station.new (L.talk line.new)) }
+    ensures left { IfOk result (λ left. LeavesSo left
+        station.old (L.talk line.old, L.transmissions line.old)
+        station.new (L.talk line.new, L.transmissions line.new)) }
     ensures fault { IfErr result (BreaksOff station.old station.new) }
     ensures cause { IfErr result (IsBreak (λ f. L.last_fault line.new ≡ Some f)
-        (ReceivesToBabble station.old (L.talk line.old) station.new (L.talk line.new))
+        (ReceivesToBabble station.old (L.talk line.old, L.transmissions line.old)
+        station.new (L.talk line.new))
         (station.old.over ≡ true)) }
     ensures status { IfErr result (λ broken. IsFailing (status_of (of_broken_off broken))) }
     ensures kept { OnOk result (KeepsToEnd keeper.old keeper.new station.old station.new
@@ -183,11 +186,13 @@ fn hear_out<'a, L: Line, S: Store, W: Watch>(
     store: &mut S,
     watch: &mut W,
 ) -> Result<Left, BrokenOff<'a>>
-    ensures heard { IfOk result (λ left. HearsOut left station.old (L.talk line.old)
-        station.new (L.talk line.new)) }
+    ensures heard { IfOk result (λ left. HearsOut left
+        station.old (L.talk line.old, L.transmissions line.old)
+        station.new (L.talk line.new, L.transmissions line.new)) }
     ensures fault { IfErr result (BreaksOff station.old station.new) }
     ensures cause { IfErr result (IsBreak (λ f. L.last_fault line.new ≡ Some f)
-        (ReceivesToBabble station.old (L.talk line.old) station.new (L.talk line.new))
+        (ReceivesToBabble station.old (L.talk line.old, L.transmissions line.old)
+        station.new (L.talk line.new))
         (station.old.over ≡ true)) }
     ensures status { IfErr result (λ broken. IsFailing (status_of (of_broken_off broken))) }
     ensures kept { OnOk result (KeepsToEnd keeper.old keeper.new station.old station.new
@@ -245,7 +250,8 @@ fn hear_keep_and_speak<'a, L: Line, S: Store, W: Watch>(
         (BabblesToReceiver station.old (L.talk line.old) station.new (L.talk line.new))
         (station.old.over ≡ true)) }
     ensures gave { OnOk result ((t : SpokenTurn) × ReceiverWatched
-        HeardAndReplied station.old (L.talk line.old) station.new (L.talk line.new) t) }
+        HeardAndReplied station.old (L.talk line.old, L.transmissions line.old)
+        station.new (L.talk line.new, L.transmissions line.new) t) }
     ensures goes_on { IfOk result (λ goes_on. goes_on ≡ true → station.new.over ≡ false) }
     ensures kept { OnOk result (GoesOnKeeping keeper.old keeper.new station.old.jobs
         station.new.jobs (S.files store.old) (S.files store.new)) }
@@ -292,8 +298,9 @@ pub fn take_turns<N: Line, F: Line, W: Watch>(
     ensures fault { IfErr result (BothToFault sender.old sender.new receiver.old receiver.new) }
     ensures cause { IfErr result (IsLineBreak (λ f. (N.last_fault near.new ≡ Some f)
         ⊎ (F.last_fault far.new ≡ Some f)) (BothToBabble sender.old receiver.old
-        (N.talk near.old) (F.talk far.old) sender.new receiver.new
-        (N.talk near.new) (F.talk far.new)) (receiver.new.over ≡ true)) }
+        (N.talk near.old, N.transmissions near.old) (F.talk far.old, F.transmissions far.old)
+        sender.new receiver.new (N.talk near.new) (F.talk far.new))
+        (receiver.new.over ≡ true)) }
     ensures told { OnOk result ((turns : List Turn) × BothWatchedAll W.saw_both
         sender.old receiver.old watch.old sender.new receiver.new watch.new turns) }
 {
@@ -322,7 +329,8 @@ fn take_turn<N: Line, F: Line>(
         ⊎ BabblesToReceiver receiver.old (F.talk far.old) receiver.new (F.talk far.new))
         (receiver.new.over ≡ true)) }
     ensures gave { IfOk result (λ spoken. IfSome spoken (BothSpoke
-        (N.talk near.old, F.talk far.old) (N.talk near.new, F.talk far.new))) }
+        ((N.talk near.old, N.transmissions near.old), (F.talk far.old, F.transmissions far.old))
+        ((N.talk near.new, N.transmissions near.new), (F.talk far.new, F.transmissions far.new)))) }
 {
     let said = match sender.speak(near) {
         Ok(said) => said,

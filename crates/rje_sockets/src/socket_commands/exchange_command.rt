@@ -1,5 +1,5 @@
 //! `exchange`: one transmission each way over one connection.
-ghost use Rattle.std.specs.Prelude.{◌≡◌, ◌≢◌, ◌⊎◌, List, Option, None, IfErr, IfOk, IfSome, OnOk};
+ghost use Rattle.std.specs.Prelude.{◌≡◌, ◌≢◌, ◌⊎◌, List, Option, IfErr, IfOk, IfSome, OnOk};
 ghost use Rattle.std.specs.List.{flat_map};
 ghost use Rattle.rje_jobs.specs.declared.job.Job.{Job as Item};
 ghost use Rattle.rje_files.specs.Unsent.{IsLeft};
@@ -10,6 +10,7 @@ ghost use Rattle.rje_sockets.specs.Ending.{IsRefusedFile};
 ghost use Rattle.rje_sockets.specs.Exchanging.{EndsExchanging, Exchanges, ExchangesLeft, ending_of_both, exchanged_text, rank_at};
 ghost use Rattle.rje_sockets.specs.Inside.Sending.{IsSendFault};
 ghost use Rattle.rje_sockets.specs.LeavingBoth.{LeavesBoth, LeavesExchange};
+ghost use Rattle.rje_sockets.specs.OverLine.{OverConnection};
 ghost use Rattle.rje_stores.specs.Store.{FileMap, Discloses, IsSame};
 ghost use Rattle.rje_stores.specs.declared.store.Place.TheVariants.{Growing};
 
@@ -46,10 +47,11 @@ pub fn exchange<'a, R: Net + Clock, S: Store, O: Write, E: Write>(
     out: &mut O,
     err: &mut E,
 ) -> Result<Ending, CommandFault<'a>>
-    ensures exchanged { IfOk result (λ ending. OfFile order.entry.send.now (S.files store.old)
-        (λ file. ExchangesLeft ending None None (rank_at order.entry.place)
+    ensures exchanged { IfOk result (λ ending. OverConnection (λ t u.
+        OfFile order.entry.send.now (S.files store.old) (λ file.
+        ExchangesLeft ending t u (rank_at order.entry.place)
         order.entry.send.now order.entry.received.now file
-        (S.files store.old) (S.files store.new) (O.contents out.old) (O.contents out.new))) }
+        (S.files store.old) (S.files store.new) (O.contents out.old) (O.contents out.new)))) }
     ensures fault { IfErr result (IsSendFault order.entry.send.now (S.files store.old)) }
     ensures files { IfSome (S.files store.old) (λ _. LeavesExchange (rank_at order.entry.place)
         order.entry.send.now order.entry.received.now (S.files store.old) (S.files store.new)) }
@@ -82,7 +84,8 @@ pub fn exchange_over<L: Line, S: Store, O: Write, E: Write>(
     err: &mut E,
 ) -> u8
     ensures exchanged { (result ≡ 0) ⊎ (result ≡ 4) → EndsExchanging result
-        (L.talk line.old) (L.talk line.new) rank
+        (L.talk line.old, L.transmissions line.old)
+        (L.talk line.new, L.transmissions line.new) rank
         send.now received.now (S.files store.old) (S.files store.new)
         (O.contents out.old) (O.contents out.new) }
     ensures status { (result ≡ 0) ⊎ ((result ≡ 4) ⊎ ((result ≡ 1) ⊎ IsFailing result)) }
@@ -108,7 +111,8 @@ fn exchanged<'a, L: Line, S: Store, O: Write>(
     out: &mut O,
 ) -> Result<Ending, CommandFault<'a>>
     ensures exchanged { IfOk result (λ ending. OfFile send.entry.now (S.files store.old) (λ file.
-        ExchangesLeft ending (L.talk line.old) (L.talk line.new) rank
+        ExchangesLeft ending (L.talk line.old, L.transmissions line.old)
+        (L.talk line.new, L.transmissions line.new) rank
         send.entry.now received.entry.now file
         (S.files store.old) (S.files store.new) (O.contents out.old) (O.contents out.new))) }
     ensures fault { IfErr result (IsSendFault send.entry.now (S.files store.old)) }
@@ -156,7 +160,8 @@ fn exchange_files<'a, 'b, L: Line, S: Store, W: Watch, O: Write>(
     out: &mut O,
 ) -> Result<Ending, CommandFault<'a>>
     ensures exchanged { IfOk result (λ ending. Exchanges ending
-        (L.talk line.old) (L.talk line.new) station.entry marker.entry keeper.entry
+        (L.talk line.old, L.transmissions line.old)
+        (L.talk line.new, L.transmissions line.new) station.entry marker.entry keeper.entry
         (S.files store.old) (S.files store.new)
         (O.contents out.old) (O.contents out.new)) }
     ensures status { IfErr result (λ fault. (jobs : List Item)

@@ -1,11 +1,12 @@
 //! `receive`: one transmission from whoever connects, into a job file.
-ghost use Rattle.std.specs.Prelude.{◌≡◌, ◌⊎◌, ℕ, Option, None, IfErr, IfOk, IfSome, IsErrOf, IsOk, OnErr, OnOk};
+ghost use Rattle.std.specs.Prelude.{◌≡◌, ◌⊎◌, ℕ, Option, IfErr, IfOk, IfSome, IsErrOf, IsOk, OnErr, OnOk};
 ghost use Rattle.std.specs.Result.{IsOkAnd};
 ghost use Rattle.rje_sockets.specs.Answering.{KeepsAnswered};
 ghost use Rattle.rje_commands.specs.CommandFault.{IsFailing, status_of};
 ghost use Rattle.rje_sockets.specs.BrokenOff.{of_broken_off};
 ghost use Rattle.rje_sockets.specs.Ending.{MakesJobFile, Receives, EndsReceiving};
 ghost use Rattle.rje_sockets.specs.Keeping.{IsOfFile, KeepsJobs};
+ghost use Rattle.rje_sockets.specs.OverLine.{OverConnection};
 ghost use Rattle.rje_stores.specs.Store.{FileMap, Discloses, IsSame};
 
 use crate::broken_off::BrokenOff;
@@ -36,8 +37,9 @@ pub fn receive<'a, R: Net + Clock, S: Store, O: Write, E: Write>(
     out: &mut O,
     err: &mut E,
 ) -> Result<Ending, CommandFault<'a>>
-    ensures received { IfOk result (λ ending. Receives ending None None order.entry.jobs.now
-        (S.files store.old) (S.files store.new) (O.contents out.old) (O.contents out.new)) }
+    ensures received { IfOk result (λ ending. OverConnection (λ t u.
+        Receives ending t u order.entry.jobs.now
+        (S.files store.old) (S.files store.new) (O.contents out.old) (O.contents out.new))) }
     ensures status { IfErr result (λ fault. IsFailing (status_of fault)) }
     ensures kept { IfSome (S.files store.old) (λ _. (before : ℕ) × (after : ℕ)
         × KeepsAnswered order.entry.jobs.now (S.files store.old) (S.files store.new)
@@ -74,7 +76,8 @@ pub fn receive_over<L: Line, S: Store, O: Write, E: Write>(
     err: &mut E,
 ) -> u8
     ensures received { (result ≡ 0) ⊎ (result ≡ 4) → EndsReceiving result
-        (L.talk line.old) (L.talk line.new) name.now
+        (L.talk line.old, L.transmissions line.old)
+        (L.talk line.new, L.transmissions line.new) name.now
         (S.files store.old) (S.files store.new) (O.contents out.old) (O.contents out.new) }
     ensures status { (result ≡ 0) ⊎ ((result ≡ 4) ⊎ IsFailing result) }
     ensures kept { IfSome (S.files store.old) (λ _. KeepsAnswered name.now
@@ -96,7 +99,8 @@ fn received<'a, L: Line, S: Store, W: Watch, O: Write>(
     out: &mut O,
 ) -> Result<Ending, CommandFault<'a>>
     ensures received { IfOk result (λ ending. Receives ending
-        (L.talk line.old) (L.talk line.new) name.entry.now
+        (L.talk line.old, L.transmissions line.old)
+        (L.talk line.new, L.transmissions line.new) name.entry.now
         (S.files store.old) (S.files store.new) (O.contents out.old) (O.contents out.new)) }
     ensures status { IfErr result (λ fault. IsFailing (status_of fault)) }
     ensures kept { IfSome (S.files store.old) (λ _. KeepsAnswered name.entry.now

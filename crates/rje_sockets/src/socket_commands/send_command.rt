@@ -1,5 +1,5 @@
 //! `send`: one transmission of what is left of a job file to a listening receiver.
-ghost use Rattle.std.specs.Prelude.{◌≡◌, ◌⊎◌, List, Option, None, length, IfErr, IfOk, OnOk, true};
+ghost use Rattle.std.specs.Prelude.{◌≡◌, ◌⊎◌, List, Option, length, IfErr, IfOk, OnOk, true};
 ghost use Rattle.std.specs.Io.KnownBytes.{Appends};
 ghost use Rattle.rje_jobs.specs.declared.job.Job.{Job};
 ghost use Rattle.bsc_history.specs.History.{History};
@@ -12,7 +12,7 @@ ghost use Rattle.rje_sockets.specs.Ending.{ending_of, sent_text, IsRefusedFile, 
 ghost use Rattle.rje_sockets.specs.Inside.Sending.{IsOutgoing, IsSendFault};
 ghost use Rattle.rje_sockets.specs.Marking.{Marks, MarksCounted, MarksNoMore};
 ghost use Rattle.rje_stores.specs.Store.{FileMap, Discloses, IsSame};
-ghost use Rattle.rje_sockets.specs.OverLine.{SendsOver};
+ghost use Rattle.rje_sockets.specs.OverLine.{OverConnection, SendsOver};
 ghost use Rattle.rje_sockets.specs.Watching.{SenderWatchedAll};
 
 use crate::exchange::send_all;
@@ -44,9 +44,10 @@ pub fn send<'a, R: Net + Clock, S: Store, O: Write, E: Write>(
     out: &mut O,
     err: &mut E,
 ) -> Result<Ending, CommandFault<'a>>
-    ensures sent { IfOk result (λ ending. OfFile order.entry.jobs.now (S.files store.old) (λ file.
-        SendsLeft ending None None order.entry.jobs.now file
-        (S.files store.old) (S.files store.new) (O.contents out.old) (O.contents out.new))) }
+    ensures sent { IfOk result (λ ending. OverConnection (λ t u.
+        OfFile order.entry.jobs.now (S.files store.old) (λ file.
+        SendsLeft ending t u order.entry.jobs.now file
+        (S.files store.old) (S.files store.new) (O.contents out.old) (O.contents out.new)))) }
     ensures fault { IfErr result (IsSendFault order.entry.jobs.now (S.files store.old)) }
     ensures marked { MarksNoMore order.entry.jobs.now (S.files store.old) (S.files store.new) }
     ensures files_kept { IfErr result (λ fault. status_of fault ≡ 1
@@ -82,7 +83,8 @@ pub fn send_over<L: Line, S: Store, O: Write, E: Write>(
     err: &mut E,
 ) -> u8
     ensures sent { (result ≡ 0) ⊎ (result ≡ 4) → EndsSending result
-        (L.talk line.old) (L.talk line.new) name.now
+        (L.talk line.old, L.transmissions line.old)
+        (L.talk line.new, L.transmissions line.new) name.now
         (S.files store.old) (S.files store.new) (O.contents out.old) (O.contents out.new) }
     ensures status { (result ≡ 0) ⊎ ((result ≡ 4) ⊎ ((result ≡ 1) ⊎ IsFailing result)) }
     ensures refused { result ≡ 1 → OfFile name.now (S.files store.old) IsRefusedFile }
@@ -104,7 +106,8 @@ fn sent<'a, L: Line, S: Store, O: Write>(
     out: &mut O,
 ) -> Result<Ending, CommandFault<'a>>
     ensures sent { IfOk result (λ ending. OfFile name.entry.now (S.files store.old) (λ file.
-        SendsLeft ending (L.talk line.old) (L.talk line.new) name.entry.now file
+        SendsLeft ending (L.talk line.old, L.transmissions line.old)
+        (L.talk line.new, L.transmissions line.new) name.entry.now file
         (S.files store.old) (S.files store.new) (O.contents out.old) (O.contents out.new))) }
     ensures fault { IfErr result (IsSendFault name.entry.now (S.files store.old)) }
     ensures marked { MarksNoMore name.entry.now (S.files store.old) (S.files store.new) }
@@ -183,8 +186,8 @@ fn transmit<'a, L: Line, S: Store, W: Watch, O: Write>(
     watch: &mut W,
     out: &mut O,
 ) -> Result<Ending, CommandFault<'a>>
-    ensures took { OnOk result (SendsOver station.old (L.talk line.old)
-        station.new (L.talk line.new)) }
+    ensures took { OnOk result (SendsOver station.old (L.talk line.old, L.transmissions line.old)
+        station.new (L.talk line.new, L.transmissions line.new)) }
     ensures ended { IfOk result (λ ending. ending ≡ ending_of (outcome_of station.new)) }
     ensures printed { OnOk result (Appends (O.contents out.old) (O.contents out.new)
         (sent_text station.new.counted (length station.old.jobs) (outcome_of station.new))) }

@@ -17,12 +17,12 @@ loop-init g c = (
   so_first (λ _. g.W.Watch.saw_sender) (λ _. g.W.Watch.saw_receiver) c.args.station.now c.args.watch.now _ c.may_bid_at_once-at_once.ensures,
   holds_first c.args.marker.now c.args.station.now.sender.counted c.args.keeper.now c.args.station.now.receiver.jobs (g.S.Store.files c.args.store.now),
   inl refl,
-  so_first SpokeAndHeard HeardAndReplied c.args.station.now (g.L.Line.talk c.args.line.now) _ c.may_bid_at_once-at_once.ensures,
+  so_first SpokeAndHeard HeardAndReplied c.args.station.now (g.L.Line.talk c.args.line.now, g.L.Line.transmissions c.args.line.now) _ c.may_bid_at_once-at_once.ensures,
 )
 
 pub returns-then-is_over-clause-left : goal.returns-then-is_over-clause-left
 returns-then-is_over-clause-left g c =
-    ends_over c.args.station.now (g.L.Line.talk c.args.line.now) c.loop.station c.loop.station (g.L.Line.talk c.loop.line) _ c.loop.counter c.loop.quiet c.loop.has_listened c.loop.invariant.3 (c.is_over.ensures.over c.if-is_over.true) refl (search rules)
+    ends_over c.args.station.now (g.L.Line.talk c.args.line.now, g.L.Line.transmissions c.args.line.now) c.loop.station c.loop.station (g.L.Line.talk c.loop.line, g.L.Line.transmissions c.loop.line) _ c.loop.counter c.loop.quiet c.loop.has_listened c.loop.invariant.3 (c.is_over.ensures.over c.if-is_over.true) refl (search rules)
 
 pub returns-in_err-take_own_turn-clause-broken : goal.returns-in_err-take_own_turn-clause-broken
 returns-in_err-take_own_turn-clause-broken g c =
@@ -38,20 +38,20 @@ pub returns-in_err-take_own_turn-clause-cause : goal.returns-in_err-take_own_tur
 returns-in_err-take_own_turn-clause-cause g c =
     let fault = c.in_err-take_own_turn.field-0.0 in
     let Failed : LineFault → Type 0 = λ f. g.L.Line.last_fault c.take_own_turn.new.line ≡ Some f in
-    let Babbled = ExchangesToBabble c.args.station.now (g.L.Line.talk c.args.line.now) c.take_own_turn.new.station (g.L.Line.talk c.take_own_turn.new.line) in
+    let Babbled = ExchangesToBabble c.args.station.now (g.L.Line.talk c.args.line.now, g.L.Line.transmissions c.args.line.now) c.take_own_turn.new.station (g.L.Line.talk c.take_own_turn.new.line) in
     let past = c.loop.invariant.3 in
     fails_as c.from_residual.result (BrokenOff.Line fault) (IsBreak Failed Babbled (c.args.station.now.failed ≡ true)) c.from_residual.ensures.1
-    (line_breaks_on fault Failed _ Babbled ⊥ (c.args.station.now.failed ≡ true) (λ babbles. (past.turns, c.loop.station, g.L.Line.talk c.loop.line, past.watched, inl babbles)) (λ never. absurd never)
+    (line_breaks_on fault Failed _ Babbled ⊥ (c.args.station.now.failed ≡ true) (λ babbles. (past.turns, c.loop.station, (g.L.Line.talk c.loop.line, g.L.Line.transmissions c.loop.line), past.watched, inl babbles)) (λ never. absurd never)
     c.in_err-take_own_turn.ensures.cause)
 
 pub returns-in_err-take_others_turn-clause-cause : goal.returns-in_err-take_others_turn-clause-cause
 returns-in_err-take_others_turn-clause-cause g c =
     let broken = c.in_err-take_others_turn.field-0.0 in
     let Failed : LineFault → Type 0 = λ f. g.L.Line.last_fault c.take_others_turn.new.line ≡ Some f in
-    let Babbled = ExchangesToBabble c.args.station.now (g.L.Line.talk c.args.line.now) c.take_others_turn.new.station (g.L.Line.talk c.take_others_turn.new.line) in
+    let Babbled = ExchangesToBabble c.args.station.now (g.L.Line.talk c.args.line.now, g.L.Line.transmissions c.args.line.now) c.take_others_turn.new.station (g.L.Line.talk c.take_others_turn.new.line) in
     let past = c.loop.invariant.3 in
     fails_as c.from_residual-in_err-take_others_turn.result broken (IsBreak Failed Babbled (c.args.station.now.failed ≡ true)) (search rules)
-    (breaks_on broken Failed _ Babbled _ (c.args.station.now.failed ≡ true) (λ babbles. (past.turns, c.loop.station, g.L.Line.talk c.loop.line, past.watched, inr babbles))
+    (breaks_on broken Failed _ Babbled _ (c.args.station.now.failed ≡ true) (λ babbles. (past.turns, c.loop.station, (g.L.Line.talk c.loop.line, g.L.Line.transmissions c.loop.line), past.watched, inr babbles))
     (had_failed c.args.station.now c.loop.station c.loop.invariant.0.turns (took (λ _. g.W.Watch.saw_sender) (λ _. g.W.Watch.saw_receiver) c.args.station.now c.args.watch.now c.loop.station c.loop.station c.loop.watch c.loop.watch c.loop.counter c.loop.quiet c.loop.has_listened c.loop.invariant.0)
     (c.is_over.ensures.goes_on c.if-is_over.false) (c.is_own_turn.ensures.hears c.if-is_own_turn.false)) c.in_err-take_others_turn.ensures.cause)
 
@@ -64,7 +64,7 @@ loop-preserved-then-is_own_turn g c = let takes = c.in_ok-take_own_turn.ensures.
       (came_near c.args.station.now c.take_own_turn.new.station _ (took (λ _. g.W.Watch.saw_sender) (λ _. g.W.Watch.saw_receiver) c.args.station.now c.args.watch.now c.take_own_turn.new.station c.take_own_turn.new.station c.take_own_turn.new.watch c.take_own_turn.new.watch _ _ _
       (so_own (λ _. g.W.Watch.saw_sender) (λ _. g.W.Watch.saw_receiver) c.args.station.now c.args.watch.now c.loop.station c.take_own_turn.new.station c.loop.watch c.take_own_turn.new.watch c.loop.counter c.loop.quiet c.loop.has_listened c.loop.invariant.0 _ c.may_bid_at_once-at_once.ensures (c.is_own_turn.ensures.bids c.if-is_own_turn.true) takes)))
       c.loop.invariant.2 c.in_ok-take_own_turn.ensures.count,
-  so_own SpokeAndHeard HeardAndReplied c.args.station.now (g.L.Line.talk c.args.line.now) c.loop.station c.take_own_turn.new.station (g.L.Line.talk c.loop.line) (g.L.Line.talk c.take_own_turn.new.line) c.loop.counter c.loop.quiet c.loop.has_listened c.loop.invariant.3 _ c.may_bid_at_once-at_once.ensures (c.is_own_turn.ensures.bids c.if-is_own_turn.true) c.in_ok-take_own_turn.ensures.gave,
+  so_own SpokeAndHeard HeardAndReplied c.args.station.now (g.L.Line.talk c.args.line.now, g.L.Line.transmissions c.args.line.now) c.loop.station c.take_own_turn.new.station (g.L.Line.talk c.loop.line, g.L.Line.transmissions c.loop.line) (g.L.Line.talk c.take_own_turn.new.line, g.L.Line.transmissions c.take_own_turn.new.line) c.loop.counter c.loop.quiet c.loop.has_listened c.loop.invariant.3 _ c.may_bid_at_once-at_once.ensures (c.is_own_turn.ensures.bids c.if-is_own_turn.true) c.in_ok-take_own_turn.ensures.gave,
 )
 
 pub returns-in_err-take_others_turn-clause-broken : goal.returns-in_err-take_others_turn-clause-broken
@@ -80,7 +80,7 @@ returns-in_err-take_others_turn-clause-broken g c =
 pub returns-then-not-branch-clause-left : goal.returns-then-not-branch-clause-left
 returns-then-not-branch-clause-left g c =
     let hung_up = c.in_ok-take_others_turn.ensures.hung_up (search rules) in
-    ends_hung_up c.args.station.now (g.L.Line.talk c.args.line.now) c.loop.station c.take_others_turn.new.station (g.L.Line.talk c.loop.line) (g.L.Line.talk c.take_others_turn.new.line) c.loop.counter c.loop.quiet c.loop.has_listened c.loop.invariant.3 hung_up.0 hung_up.1
+    ends_hung_up c.args.station.now (g.L.Line.talk c.args.line.now, g.L.Line.transmissions c.args.line.now) c.loop.station c.take_others_turn.new.station (g.L.Line.talk c.loop.line, g.L.Line.transmissions c.loop.line) (g.L.Line.talk c.take_others_turn.new.line, g.L.Line.transmissions c.take_others_turn.new.line) c.loop.counter c.loop.quiet c.loop.has_listened c.loop.invariant.3 hung_up.0 hung_up.1
 
 pub returns-then-not-branch-clause-holds : goal.returns-then-not-branch-clause-holds
 returns-then-not-branch-clause-holds g c =
@@ -95,7 +95,7 @@ returns-then-not-branch-clause-told g c =
 
 pub returns-then-quiet-eq-MAX_QUIET-clause-left : goal.returns-then-quiet-eq-MAX_QUIET-clause-left
 returns-then-quiet-eq-MAX_QUIET-clause-left g c =
-    forty_quiet c.args.station.now (g.L.Line.talk c.args.line.now) c.loop.station c.take_others_turn.new.station (g.L.Line.talk c.loop.line) (g.L.Line.talk c.take_others_turn.new.line) c.loop.counter c.loop.quiet c.loop.has_listened c.loop.invariant.3 c.quiet_after-quiet.result c.other_ended.new.self (c.is_own_turn.ensures.listens c.if-is_own_turn.false) (c.in_ok-take_others_turn.ensures.gave (search rules)) (search rules) (search rules) c.other_ended.ensures
+    forty_quiet c.args.station.now (g.L.Line.talk c.args.line.now, g.L.Line.transmissions c.args.line.now) c.loop.station c.take_others_turn.new.station (g.L.Line.talk c.loop.line, g.L.Line.transmissions c.loop.line) (g.L.Line.talk c.take_others_turn.new.line, g.L.Line.transmissions c.take_others_turn.new.line) c.loop.counter c.loop.quiet c.loop.has_listened c.loop.invariant.3 c.quiet_after-quiet.result c.other_ended.new.self (c.is_own_turn.ensures.listens c.if-is_own_turn.false) (c.in_ok-take_others_turn.ensures.gave (search rules)) (search rules) (search rules) c.other_ended.ensures
 
 pub returns-then-quiet-eq-MAX_QUIET-clause-holds : goal.returns-then-quiet-eq-MAX_QUIET-clause-holds
 returns-then-quiet-eq-MAX_QUIET-clause-holds g c =
@@ -117,12 +117,12 @@ loop-preserved g c =
       goes_on_kept c.args.marker.now c.loop.marker c.args.station.now.sender.counted c.loop.station.sender.counted c.args.keeper.now c.loop.keeper c.args.station.now.receiver.jobs c.loop.station.receiver.jobs (g.S.Store.files c.args.store.now) (g.S.Store.files c.loop.store) c.loop.invariant.1 c.take_others_turn.new.keeper c.take_others_turn.new.station.sender.counted c.take_others_turn.new.station.receiver.jobs (g.S.Store.files c.take_others_turn.new.store)
           (others_count c.loop.station c.take_others_turn.new.station takes.0 takes.1 takes.2) c.in_ok-take_others_turn.ensures.kept,
       c.loop.invariant.2,
-      so_others SpokeAndHeard HeardAndReplied c.args.station.now (g.L.Line.talk c.args.line.now) c.loop.station c.take_others_turn.new.station (g.L.Line.talk c.loop.line) (g.L.Line.talk c.take_others_turn.new.line) c.loop.counter c.loop.quiet c.loop.has_listened c.loop.invariant.3 c.quiet_after-quiet.result (c.is_own_turn.ensures.listens c.if-is_own_turn.false) (c.in_ok-take_others_turn.ensures.gave (search rules)) (search rules) (search rules),
+      so_others SpokeAndHeard HeardAndReplied c.args.station.now (g.L.Line.talk c.args.line.now, g.L.Line.transmissions c.args.line.now) c.loop.station c.take_others_turn.new.station (g.L.Line.talk c.loop.line, g.L.Line.transmissions c.loop.line) (g.L.Line.talk c.take_others_turn.new.line, g.L.Line.transmissions c.take_others_turn.new.line) c.loop.counter c.loop.quiet c.loop.has_listened c.loop.invariant.3 c.quiet_after-quiet.result (c.is_own_turn.ensures.listens c.if-is_own_turn.false) (c.in_ok-take_others_turn.ensures.gave (search rules)) (search rules) (search rules),
     )
 
 pub returns-clause-left : goal.returns-clause-left
 returns-clause-left g c =
-    ends_long c.args.station.now (g.L.Line.talk c.args.line.now) c.loop.station (g.L.Line.talk c.loop.line) c.loop.counter c.loop.quiet c.loop.has_listened c.loop.invariant.3 (search rules)
+    ends_long c.args.station.now (g.L.Line.talk c.args.line.now, g.L.Line.transmissions c.args.line.now) c.loop.station (g.L.Line.talk c.loop.line, g.L.Line.transmissions c.loop.line) c.loop.counter c.loop.quiet c.loop.has_listened c.loop.invariant.3 (search rules)
 
 pub returns-in_err-take_own_turn-clause-count : goal.returns-in_err-take_own_turn-clause-count
 returns-in_err-take_own_turn-clause-count g c =

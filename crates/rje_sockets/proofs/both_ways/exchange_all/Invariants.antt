@@ -10,4 +10,4 @@ invariant-loop g l =
     × GoesOnHolding l.initial.marker l.marker l.initial.station.sender.counted l.station.sender.counted l.initial.keeper l.keeper l.initial.station.receiver.jobs l.station.receiver.jobs
     (g.S.Store.files l.initial.store) (g.S.Store.files l.store)
     × ((l.marker.marked ≡ l.initial.marker.marked) ⊎ HasCounted l.initial.station l.marker.marked)
-    × SoFarOver l.initial.station (g.L.Line.talk l.initial.line) l.counter l.quiet l.has_listened l.station (g.L.Line.talk l.line)
+    × SoFarOver l.initial.station (g.L.Line.talk l.initial.line, g.L.Line.transmissions l.initial.line) l.counter l.quiet l.has_listened l.station (g.L.Line.talk l.line, g.L.Line.transmissions l.line)

@@ -1,12 +1,12 @@
 use Rattle.std.proofs.Common.{rules, ◌≡◌, ◌∙◌, ap, refl, subst, sym, if◌then◌else◌}
-use Rattle.rje_station.specs.Receiving.{Receiving}
+use Rattle.rje_station.specs.Receiving.{Receiving, with_reply}
 use Rattle.rje_station.specs.Station.{after_other_ended, after_own_reply}
 use Rattle.rje_sockets.specs.declared.broken_off.BrokenOff.{BrokenOff}
 use Rattle.rje_sockets.specs.BothFiles.{kept_of}
 use Rattle.rje_sockets.specs.Keeping.{GoesOnKeeping}
 use Rattle.rje_sockets.proofs.BothFiles.{answer_leaves, other_kept, refusal_leaves}
 use Rattle.rje_sockets.specs.OverLine.{HeardAndReplied}
-use Rattle.rje_sockets.proofs.OverLine.{last_passed, other_owes, replied_as}
+use Rattle.rje_sockets.proofs.OverLine.{last_passed, other_owes, reply_passed}
 use Rattle.rje_sockets.proofs.BothWays.{fails_as, others_taken}
 use Rattle.rje_sockets.proofs.both_ways.take_others_turn.Goals.{then-is_over, else-is_over+in_ok-reply}
 use Rattle.rje_sockets.proofs.both_ways.take_others_turn.Goals as goal
@@ -56,12 +56,13 @@ returns-clause-gave g c is =
       | else-is_over+in_ok-reply w ↦ search rules
     ] in
     let over = c.is_over.ensures ∙ ap (λ (r : Receiving). r.over) c.receiver-3.ensures in
-    let passed : HeardAndReplied heard.what (g.L.Line.talk c.args.line.now) (g.L.Line.talk c.if-is_over.line) c.in-Some.arrival c.in-Ok.reply =
+    let passed : HeardAndReplied heard.what (g.L.Line.talk c.args.line.now, g.L.Line.transmissions c.args.line.now) (g.L.Line.talk c.if-is_over.line, g.L.Line.transmissions c.if-is_over.line) c.in-Some.arrival c.in-Ok.reply =
     elim c.if-is_over.branch [
       | then-is_over w ↦
-          rw w.line-is (last_passed heard.what c.in-Some.arrival c.in-Ok.reply _ (g.L.Line.talk c.hear_other.new.line) _ heard.told
-          (heard.reply_is ∙ other_owes c.args.station.now c.hear_other.new.self heard.what heard.refused heard.state (search rules)) refl)
-      | else-is_over+in_ok-reply w ↦ rw w.line-is (g.L.Line.talk c.hear_other.new.line, heard.told, replied_as _ _ c.in-Ok.reply _ heard.reply_is w.in_ok-reply.ensures.sent)
+          rw w.line-is (last_passed heard.what c.in-Some.arrival c.in-Ok.reply _ _ (g.L.Line.talk c.hear_other.new.line) heard.told
+          (heard.reply_is ∙ other_owes c.args.station.now c.hear_other.new.self heard.what heard.refused heard.state (search rules)) refl c.in-Ok.ensures.none)
+      | else-is_over+in_ok-reply w ↦ rw w.line-is (reply_passed heard.what c.in-Some.arrival c.in-Ok.reply _ _ _ (g.L.Line.talk c.hear_other.new.line) heard.told heard.reply_is w.in_ok-reply.ensures.sent
+          (w.in_ok-reply.ensures.once ∙ ap (with_reply _) c.in-Ok.ensures.none))
     ] in
     let taken =
     others_taken c.args.station.now c.hear_other.new.self c.if-is_over.station heard.what heard.refused c.in-Some.arrival c.in-Ok.reply c.is_over.result c.in-Ok.ensures.live
@@ -69,7 +70,7 @@ returns-clause-gave g c is =
       c.in-Some.arrival,
       c.in-Ok.reply,
       taken.0,
-      subst (λ what. HeardAndReplied what (g.L.Line.talk c.args.line.now) (g.L.Line.talk c.if-is_over.line) c.in-Some.arrival c.in-Ok.reply) (sym taken.1) passed,
+      subst (λ what. HeardAndReplied what (g.L.Line.talk c.args.line.now, g.L.Line.transmissions c.args.line.now) (g.L.Line.talk c.if-is_over.line, g.L.Line.transmissions c.if-is_over.line) c.in-Some.arrival c.in-Ok.reply) (sym taken.1) passed,
       taken.2,
     )
 

@@ -2,12 +2,13 @@ use Rattle.std.proofs.Common.{rules, inr, ap, ◌∙◌}
 use Rattle.rje_sockets.proofs.Answering.{replied_turn, last_turn, line_failed, not_kept, refusal_jobs}
 use Rattle.rje_station.specs.declared.station_fault.StationFault.{StationFault}
 use Rattle.rje_station.specs.Line.{one_more}
+use Rattle.rje_station.specs.Receiving.{with_reply}
 use Rattle.rje_station.specs.Receiving.{Receiving}
 use Rattle.rje_sockets.specs.OverLine.{HeardAndReplied}
 use Rattle.rje_sockets.proofs.Failing.{line_fails}
 use Rattle.rje_sockets.proofs.Keeping.{turn_kept}
 use Rattle.rje_sockets.proofs.LineBreak.{breaks}
-use Rattle.rje_sockets.proofs.OverLine.{last_passed, over_owes, replied_as}
+use Rattle.rje_sockets.proofs.OverLine.{last_passed, over_owes, reply_passed}
 use Rattle.rje_sockets.proofs.Watched.{last_watched, reply_watched}
 use Rattle.rje_sockets.proofs.exchange.hear_keep_and_speak.Goals as goal
 
@@ -50,17 +51,18 @@ returns-in-Err-Over-clause-told g c =
 pub returns-in-Ok-clause-gave : goal.returns-in-Ok-clause-gave
 returns-in-Ok-clause-gave g c =
     let heard = c.in_ok-reply.ensures.heard in
-    reply_watched HeardAndReplied c.args.station.now c.hear.new.self c.speak.new.self (g.L.Line.talk c.args.line.now) (g.L.Line.talk c.speak.new.line) heard.what heard.refused c.in-Some.arrival c.in_ok-reply.reply
+    reply_watched HeardAndReplied c.args.station.now c.hear.new.self c.speak.new.self (g.L.Line.talk c.args.line.now, g.L.Line.transmissions c.args.line.now) (g.L.Line.talk c.speak.new.line, g.L.Line.transmissions c.speak.new.line) heard.what heard.refused c.in-Some.arrival c.in_ok-reply.reply
     heard.may heard.state c.in-Ok.ensures.state (search rules) heard.reply_is
-    (g.L.Line.talk c.hear.new.line, heard.told, replied_as _ _ c.in_ok-reply.reply _ heard.reply_is c.in-Ok.ensures.sent)
+    (reply_passed heard.what c.in-Some.arrival c.in_ok-reply.reply _ _ _ (g.L.Line.talk c.hear.new.line) heard.told heard.reply_is c.in-Ok.ensures.sent
+    (c.in-Ok.ensures.once ∙ ap (with_reply _) c.in_ok-reply.ensures.none))
 
 pub returns-in-Err-Over-clause-gave : goal.returns-in-Err-Over-clause-gave
 returns-in-Err-Over-clause-gave g c =
     let heard = c.in_ok-reply.ensures.heard in
-    last_watched HeardAndReplied c.args.station.now c.hear.new.self c.speak.new.self (g.L.Line.talk c.args.line.now) (g.L.Line.talk c.speak.new.line) heard.what heard.refused c.in-Some.arrival c.in_ok-reply.reply
+    last_watched HeardAndReplied c.args.station.now c.hear.new.self c.speak.new.self (g.L.Line.talk c.args.line.now, g.L.Line.transmissions c.args.line.now) (g.L.Line.talk c.speak.new.line, g.L.Line.transmissions c.speak.new.line) heard.what heard.refused c.in-Some.arrival c.in_ok-reply.reply
     heard.may heard.state (search rules) (search rules) heard.reply_is
-    (last_passed heard.what c.in-Some.arrival c.in_ok-reply.reply _ (g.L.Line.talk c.hear.new.line) _ heard.told
-    (heard.reply_is ∙ over_owes c.args.station.now c.hear.new.self heard.what heard.refused heard.state (search rules)) (search rules))
+    (last_passed heard.what c.in-Some.arrival c.in_ok-reply.reply _ _ (g.L.Line.talk c.hear.new.line) heard.told
+    (heard.reply_is ∙ over_owes c.args.station.now c.hear.new.self heard.what heard.refused heard.state (search rules)) (search rules) (search rules))
 
 pub returns-in-Err-clause-broken : goal.returns-in-Err-clause-broken
 returns-in-Err-clause-broken g c =

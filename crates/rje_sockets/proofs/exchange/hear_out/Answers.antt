@@ -7,7 +7,7 @@ use Rattle.rje_sockets.proofs.exchange.hear_out.Goals as goal
 
 pub loop-init : goal.loop-init
 loop-init g c = (
-  hears_first c.args.station.now (g.L.Line.talk c.args.line.now),
+  hears_first c.args.station.now (g.L.Line.talk c.args.line.now, g.L.Line.transmissions c.args.line.now),
   none_answered c.args.station.now (g.L.Line.transmissions c.args.line.now),
   goes_nowhere c.args.keeper.now c.args.station.now.jobs (g.S.Store.files c.args.store.now),
   ([], (refl, refl)),
@@ -17,7 +17,7 @@ loop-init g c = (
 pub returns-in_err-hear_keep_and_speak-clause-fault : goal.returns-in_err-hear_keep_and_speak-clause-fault
 returns-in_err-hear_keep_and_speak-clause-fault g c =
     let told : c.from_residual.result ≡ Err c.in_err-hear_keep_and_speak.field-0.0 = search rules in
-    rw told (hears_fault c.args.station.now (g.L.Line.talk c.args.line.now) c.loop.station (g.L.Line.talk c.loop.line) c.loop.counter c.loop.quiet c.loop.invariant.0 c.hear_keep_and_speak.new.station _ c.in_err-hear_keep_and_speak.ensures.fault)
+    rw told (hears_fault c.args.station.now (g.L.Line.talk c.args.line.now, g.L.Line.transmissions c.args.line.now) c.loop.station (g.L.Line.talk c.loop.line, g.L.Line.transmissions c.loop.line) c.loop.counter c.loop.quiet c.loop.invariant.0 c.hear_keep_and_speak.new.station _ c.in_err-hear_keep_and_speak.ensures.fault)
 
 pub returns-in_err-hear_keep_and_speak-clause-broken : goal.returns-in_err-hear_keep_and_speak-clause-broken
 returns-in_err-hear_keep_and_speak-clause-broken g c =
@@ -30,13 +30,13 @@ pub returns-in_err-hear_keep_and_speak-clause-cause : goal.returns-in_err-hear_k
 returns-in_err-hear_keep_and_speak-clause-cause g c =
     let told : c.from_residual.result ≡ Err c.in_err-hear_keep_and_speak.field-0.0 = search rules in
     let past = c.loop.invariant.0 in
-    rw told (breaks_on c.in_err-hear_keep_and_speak.field-0.0 _ _ _ _ (c.args.station.now.over ≡ true) (λ babbles. (past.history, c.loop.station, g.L.Line.talk c.loop.line, past.took, babbles)) c.loop.invariant.4
+    rw told (breaks_on c.in_err-hear_keep_and_speak.field-0.0 _ _ _ _ (c.args.station.now.over ≡ true) (λ babbles. (past.history, c.loop.station, (g.L.Line.talk c.loop.line, g.L.Line.transmissions c.loop.line), past.took, babbles)) c.loop.invariant.4
     c.in_err-hear_keep_and_speak.ensures.cause)
 
 pub returns-then-not-branch-clause-heard : goal.returns-then-not-branch-clause-heard
 returns-then-not-branch-clause-heard g c =
-    hears_end c.args.station.now (g.L.Line.talk c.args.line.now) c.loop.station (g.L.Line.talk c.loop.line) c.loop.counter c.loop.quiet c.loop.invariant.0
-    c.hear_keep_and_speak.new.station (g.L.Line.talk c.hear_keep_and_speak.new.line) c.in_ok-hear_keep_and_speak.ensures.gave (search rules)
+    hears_end c.args.station.now (g.L.Line.talk c.args.line.now, g.L.Line.transmissions c.args.line.now) c.loop.station (g.L.Line.talk c.loop.line, g.L.Line.transmissions c.loop.line) c.loop.counter c.loop.quiet c.loop.invariant.0
+    c.hear_keep_and_speak.new.station (g.L.Line.talk c.hear_keep_and_speak.new.line, g.L.Line.transmissions c.hear_keep_and_speak.new.line) c.in_ok-hear_keep_and_speak.ensures.gave (search rules)
 
 pub returns-then-not-branch-clause-kept : goal.returns-then-not-branch-clause-kept
 returns-then-not-branch-clause-kept g c =
@@ -49,8 +49,8 @@ quiet_after-quiet-requires g c = record { few = c.loop.invariant.0.few }
 
 pub returns-then-quiet-eq-MAX_QUIET-clause-heard : goal.returns-then-quiet-eq-MAX_QUIET-clause-heard
 returns-then-quiet-eq-MAX_QUIET-clause-heard g c =
-    hears_quiet c.args.station.now (g.L.Line.talk c.args.line.now) c.loop.station (g.L.Line.talk c.loop.line) c.loop.counter c.loop.quiet c.loop.invariant.0
-    c.hear_keep_and_speak.new.station (g.L.Line.talk c.hear_keep_and_speak.new.line) c.in_ok-hear_keep_and_speak.ensures.gave _ c.quiet_after-quiet.ensures (search rules)
+    hears_quiet c.args.station.now (g.L.Line.talk c.args.line.now, g.L.Line.transmissions c.args.line.now) c.loop.station (g.L.Line.talk c.loop.line, g.L.Line.transmissions c.loop.line) c.loop.counter c.loop.quiet c.loop.invariant.0
+    c.hear_keep_and_speak.new.station (g.L.Line.talk c.hear_keep_and_speak.new.line, g.L.Line.transmissions c.hear_keep_and_speak.new.line) c.in_ok-hear_keep_and_speak.ensures.gave _ c.quiet_after-quiet.ensures (search rules)
 
 pub returns-then-quiet-eq-MAX_QUIET-clause-kept : goal.returns-then-quiet-eq-MAX_QUIET-clause-kept
 returns-then-quiet-eq-MAX_QUIET-clause-kept g c =
@@ -72,8 +72,8 @@ returns-then-quiet-eq-MAX_QUIET-clause-told g c = (
 
 pub loop-preserved : goal.loop-preserved
 loop-preserved g c = (
-  hears_on c.args.station.now (g.L.Line.talk c.args.line.now) c.loop.station (g.L.Line.talk c.loop.line) c.loop.counter c.loop.quiet c.loop.invariant.0
-      c.hear_keep_and_speak.new.station (g.L.Line.talk c.hear_keep_and_speak.new.line) c.in_ok-hear_keep_and_speak.ensures.gave _ c.quiet_after-quiet.ensures (search rules),
+  hears_on c.args.station.now (g.L.Line.talk c.args.line.now, g.L.Line.transmissions c.args.line.now) c.loop.station (g.L.Line.talk c.loop.line, g.L.Line.transmissions c.loop.line) c.loop.counter c.loop.quiet c.loop.invariant.0
+      c.hear_keep_and_speak.new.station (g.L.Line.talk c.hear_keep_and_speak.new.line, g.L.Line.transmissions c.hear_keep_and_speak.new.line) c.in_ok-hear_keep_and_speak.ensures.gave _ c.quiet_after-quiet.ensures (search rules),
   one_answered c.args.station.now c.loop.station c.hear_keep_and_speak.new.station (g.L.Line.transmissions c.args.line.now) (g.L.Line.transmissions c.loop.line)
       (g.L.Line.transmissions c.hear_keep_and_speak.new.line) c.loop.invariant.1 c.in_ok-hear_keep_and_speak.ensures.takes,
   goes_on_twice c.args.keeper.now c.loop.keeper c.hear_keep_and_speak.new.keeper c.args.station.now.jobs c.loop.station.jobs c.hear_keep_and_speak.new.station.jobs
@@ -87,7 +87,7 @@ loop-preserved g c = (
 
 pub returns-clause-heard : goal.returns-clause-heard
 returns-clause-heard g c =
-    hears_long c.args.station.now (g.L.Line.talk c.args.line.now) c.loop.station (g.L.Line.talk c.loop.line) c.loop.counter c.loop.quiet c.loop.invariant.0 (search rules)
+    hears_long c.args.station.now (g.L.Line.talk c.args.line.now, g.L.Line.transmissions c.args.line.now) c.loop.station (g.L.Line.talk c.loop.line, g.L.Line.transmissions c.loop.line) c.loop.counter c.loop.quiet c.loop.invariant.0 (search rules)
 
 pub returns-clause-kept : goal.returns-clause-kept
 returns-clause-kept g c =

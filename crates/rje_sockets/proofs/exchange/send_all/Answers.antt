@@ -1,4 +1,4 @@
-use Rattle.std.proofs.Common.{rules, ◌≡◌, refl, sym, subst, inl, Err, [], ◌∷◌}
+use Rattle.std.proofs.Common.{rules, ◌≡◌, refl, ap, sym, subst, inl, Err, [], ◌∷◌}
 use Rattle.bsc_history.specs.History.{History}
 use Rattle.line_world.specs.AnyLines.{SenderTook}
 use Rattle.rje_sockets.proofs.LineBreak.{line_breaks_on}
@@ -17,13 +17,13 @@ loop-init g c = record {
 pub returns-in_err-speak_hear_and_mark-clause-fault : goal.returns-in_err-speak_hear_and_mark-clause-fault
 returns-in_err-speak_hear_and_mark-clause-fault g c =
     let told : c.from_residual.result ≡ Err c.in_err-speak_hear_and_mark.field-0.0 = search rules in
-    rw told (sends_fault c.args.station.now c.loop.station c.speak_hear_and_mark.new.station (g.L.Line.talk c.args.line.now) (g.L.Line.talk c.loop.line) c.loop.counter _ c.loop.invariant.turns c.in_err-speak_hear_and_mark.ensures.fault)
+    rw told (sends_fault c.args.station.now c.loop.station c.speak_hear_and_mark.new.station (g.L.Line.talk c.args.line.now, g.L.Line.transmissions c.args.line.now) (g.L.Line.talk c.loop.line, g.L.Line.transmissions c.loop.line) c.loop.counter _ c.loop.invariant.turns c.in_err-speak_hear_and_mark.ensures.fault)
 
 pub returns-in_err-speak_hear_and_mark-clause-cause : goal.returns-in_err-speak_hear_and_mark-clause-cause
 returns-in_err-speak_hear_and_mark-clause-cause g c =
     let told : c.from_residual.result ≡ Err c.in_err-speak_hear_and_mark.field-0.0 = search rules in
     let past = c.loop.invariant.turns in
-    rw told (line_breaks_on c.in_err-speak_hear_and_mark.field-0.0 _ _ _ _ _ (λ babbles. (past.0, c.loop.station, g.L.Line.talk c.loop.line, past.1, babbles)) (λ never. never)
+    rw told (line_breaks_on c.in_err-speak_hear_and_mark.field-0.0 _ _ _ _ _ (λ babbles. (past.0, c.loop.station, (g.L.Line.talk c.loop.line, g.L.Line.transmissions c.loop.line), past.1, babbles)) (λ never. never)
     c.in_err-speak_hear_and_mark.ensures.cause)
 
 pub returns-in_err-speak_hear_and_mark-clause-broken : goal.returns-in_err-speak_hear_and_mark-clause-broken
@@ -40,15 +40,15 @@ returns-in_err-speak_hear_and_mark-clause-count g c =
 pub returns-then-not-branch-clause-count : goal.returns-then-not-branch-clause-count
 returns-then-not-branch-clause-count g c =
     let over = c.in_ok-speak_hear_and_mark.ensures.over (search rules) in
-    let took = so_far_took c.args.station.now (g.L.Line.talk c.args.line.now) c.loop.counter c.loop.station (g.L.Line.talk c.loop.line) c.loop.invariant.turns in
+    let took = so_far_took c.args.station.now (g.L.Line.talk c.args.line.now, g.L.Line.transmissions c.args.line.now) c.loop.counter c.loop.station (g.L.Line.talk c.loop.line, g.L.Line.transmissions c.loop.line) c.loop.invariant.turns in
     counts_on c.args.station.now c.speak_hear_and_mark.new.station c.args.marker.now.marked c.loop.marker.marked c.speak_hear_and_mark.new.marker.marked
     (subst (λ s. (h : History) × SenderTook c.args.station.now h s) (sym over.1) took) c.loop.invariant.count c.in_ok-speak_hear_and_mark.ensures.count
 
 pub returns-then-not-branch-clause-took : goal.returns-then-not-branch-clause-took
 returns-then-not-branch-clause-took g c =
     let over = c.in_ok-speak_hear_and_mark.ensures.over (search rules) in
-    sends_over c.args.station.now c.loop.station c.speak_hear_and_mark.new.station (g.L.Line.talk c.args.line.now) (g.L.Line.talk c.loop.line) (g.L.Line.talk c.speak_hear_and_mark.new.line) c.loop.counter c.loop.invariant.turns
-    over.0 over.1 (c.in_ok-speak_hear_and_mark.ensures.silent (search rules))
+    sends_over c.args.station.now c.loop.station c.speak_hear_and_mark.new.station (g.L.Line.talk c.args.line.now, g.L.Line.transmissions c.args.line.now) (g.L.Line.talk c.loop.line, g.L.Line.transmissions c.loop.line) (g.L.Line.talk c.speak_hear_and_mark.new.line, g.L.Line.transmissions c.speak_hear_and_mark.new.line) c.loop.counter c.loop.invariant.turns
+    over.0 over.1 (ap (λ line. (g.L.Line.talk line, g.L.Line.transmissions line)) (c.in_ok-speak_hear_and_mark.ensures.silent (search rules)))
 
 pub returns-then-not-branch-clause-marked : goal.returns-then-not-branch-clause-marked
 returns-then-not-branch-clause-marked g c =
@@ -62,14 +62,14 @@ returns-then-not-branch-clause-told g c =
 
 pub loop-preserved : goal.loop-preserved
 loop-preserved g c =
-    let turns = sends_on c.args.station.now c.loop.station c.speak_hear_and_mark.new.station (g.L.Line.talk c.args.line.now) (g.L.Line.talk c.loop.line) (g.L.Line.talk c.speak_hear_and_mark.new.line) c.loop.counter c.loop.invariant.turns
+    let turns = sends_on c.args.station.now c.loop.station c.speak_hear_and_mark.new.station (g.L.Line.talk c.args.line.now, g.L.Line.transmissions c.args.line.now) (g.L.Line.talk c.loop.line, g.L.Line.transmissions c.loop.line) (g.L.Line.talk c.speak_hear_and_mark.new.line, g.L.Line.transmissions c.speak_hear_and_mark.new.line) c.loop.counter c.loop.invariant.turns
     (c.in_ok-speak_hear_and_mark.ensures.gave (search rules)) in record {
       turns = turns;
       marked = marks_on c.args.marker.now c.loop.marker c.speak_hear_and_mark.new.marker c.args.station.now.counted c.loop.station.counted c.speak_hear_and_mark.new.station.counted
           (g.S.Store.files c.args.store.now) (g.S.Store.files c.loop.store) (g.S.Store.files c.speak_hear_and_mark.new.store) c.loop.invariant.marked c.in_ok-speak_hear_and_mark.ensures.marked;
       count =
           counts_on c.args.station.now c.speak_hear_and_mark.new.station c.args.marker.now.marked c.loop.marker.marked c.speak_hear_and_mark.new.marker.marked
-          (so_far_took c.args.station.now (g.L.Line.talk c.args.line.now) _ c.speak_hear_and_mark.new.station (g.L.Line.talk c.speak_hear_and_mark.new.line) turns)
+          (so_far_took c.args.station.now (g.L.Line.talk c.args.line.now, g.L.Line.transmissions c.args.line.now) _ c.speak_hear_and_mark.new.station (g.L.Line.talk c.speak_hear_and_mark.new.line, g.L.Line.transmissions c.speak_hear_and_mark.new.line) turns)
           c.loop.invariant.count c.in_ok-speak_hear_and_mark.ensures.count;
       told =
           let past = c.loop.invariant.told in
@@ -79,4 +79,4 @@ loop-preserved g c =
 
 pub returns-clause-took : goal.returns-clause-took
 returns-clause-took g c =
-    sends_long c.args.station.now c.loop.station (g.L.Line.talk c.args.line.now) (g.L.Line.talk c.loop.line) c.loop.counter c.loop.invariant.turns (search rules)
+    sends_long c.args.station.now c.loop.station (g.L.Line.talk c.args.line.now, g.L.Line.transmissions c.args.line.now) (g.L.Line.talk c.loop.line, g.L.Line.transmissions c.loop.line) c.loop.counter c.loop.invariant.turns (search rules)

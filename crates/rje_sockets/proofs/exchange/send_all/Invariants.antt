@@ -10,5 +10,5 @@ invariant-loop g l = record {
   marked : GoesOnMarking l.initial.marker l.marker l.initial.station.counted l.station.counted (g.S.Store.files l.initial.store) (g.S.Store.files l.store);
   count : (l.marker.marked ≡ l.initial.marker.marked) ⊎ WereCounted l.initial.station l.marker.marked;
   told : (h : History) × SenderWatchedAll (λ _. g.W.Watch.saw_sender) l.initial.station l.initial.watch l.station l.watch h;
-  turns : SendsSoFar l.initial.station (g.L.Line.talk l.initial.line) l.counter l.station (g.L.Line.talk l.line);
+  turns : SendsSoFar l.initial.station (g.L.Line.talk l.initial.line, g.L.Line.transmissions l.initial.line) l.counter l.station (g.L.Line.talk l.line, g.L.Line.transmissions l.line);
 }

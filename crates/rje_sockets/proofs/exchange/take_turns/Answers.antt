@@ -24,10 +24,10 @@ loop-preserved g c =
         (
           c.loop.sender,
           c.loop.receiver,
-          (g.N.Line.talk c.loop.near, g.F.Line.talk c.loop.far),
+          ((g.N.Line.talk c.loop.near, g.N.Line.transmissions c.loop.near), (g.F.Line.talk c.loop.far, g.F.Line.transmissions c.loop.far)),
           given.1,
           takes,
-          subst (λ o. IfSome o (BothSpoke (g.N.Line.talk c.loop.near, g.F.Line.talk c.loop.far) (g.N.Line.talk c.take_turn.new.near, g.F.Line.talk c.take_turn.new.far))) c.in-Some.is c.in_ok-turn.ensures.gave,
+          subst (λ o. IfSome o (BothSpoke ((g.N.Line.talk c.loop.near, g.N.Line.transmissions c.loop.near), (g.F.Line.talk c.loop.far, g.F.Line.transmissions c.loop.far)) ((g.N.Line.talk c.take_turn.new.near, g.N.Line.transmissions c.take_turn.new.near), (g.F.Line.talk c.take_turn.new.far, g.F.Line.transmissions c.take_turn.new.far)))) c.in-Some.is c.in_ok-turn.ensures.gave,
         ),
       );
     }
@@ -37,4 +37,4 @@ returns-in_err-turn-clause-cause g c =
     let told : c.from_residual.result ≡ Err c.in_err-turn.field-0.0 = search rules in
     let past = c.loop.invariant.gave in
     rw told (line_breaks_on c.in_err-turn.field-0.0 _ _ _ _ _
-    (λ babbles. (past.0, c.loop.sender, c.loop.receiver, (g.N.Line.talk c.loop.near, g.F.Line.talk c.loop.far), past.1, babbles)) (λ over. over) c.in_err-turn.ensures.cause)
+    (λ babbles. (past.0, c.loop.sender, c.loop.receiver, ((g.N.Line.talk c.loop.near, g.N.Line.transmissions c.loop.near), (g.F.Line.talk c.loop.far, g.F.Line.transmissions c.loop.far)), past.1, babbles)) (λ over. over) c.in_err-turn.ensures.cause)

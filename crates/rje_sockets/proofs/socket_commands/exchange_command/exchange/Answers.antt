@@ -2,8 +2,10 @@ use Rattle.std.proofs.Common.{rules, inl, None, Err, ◌≡◌}
 use Rattle.rje_station.specs.Station.{first_contending}
 use Rattle.rje_station.specs.StationFault.{IsNewCause}
 use Rattle.rje_commands.specs.CommandFault.{of_station}
-use Rattle.rje_sockets.specs.Exchanging.{rank_at}
+use Rattle.rje_commands.specs.Commands.{OfFile}
+use Rattle.rje_sockets.specs.Exchanging.{ExchangesLeft, rank_at}
 use Rattle.rje_sockets.proofs.Exchanged.{exchanges_left, leaves_so}
+use Rattle.rje_sockets.proofs.OverLine.{over_connection}
 use Rattle.rje_sockets.proofs.Failing.{left_fails, not_refused, send_fails, station_fails}
 use Rattle.rje_sockets.proofs.socket_commands.exchange_command.exchange.Goals as goal
 
@@ -16,10 +18,12 @@ returns g c =
     let first : c.in_ok-station.station ≡ first_contending (rank_at c.args.order.place) jobs = rw (c.rank_of.ensures, c.as_slice.ensures.slice) at c.in_ok-station.ensures.ready in
     let fails = left_fails c.exchange_files.result marker.file.items jobs out.left c.exchange_files.ensures.status in
     record {
-      exchanged = exchanges_left c.exchange_files.result None None (rank_at c.args.order.place) c.args.order.send.now c.args.order.received.now jobs c.in_ok-station.station marker
+      exchanged = over_connection c.exchange_files.result (λ t u ending. OfFile c.args.order.send.now f (λ file. ExchangesLeft ending t u (rank_at c.args.order.place) c.args.order.send.now
+          c.args.order.received.now file f (g.S.Store.files c.exchange_files.new.store) (g.O.Write.contents c.args.out.now) (g.O.Write.contents c.exchange_files.new.out))) _ _
+          (exchanges_left c.exchange_files.result (None, _) (None, _) (rank_at c.args.order.place) c.args.order.send.now c.args.order.received.now jobs c.in_ok-station.station marker
           c.in_ok-keeper.keeper f (g.S.Store.files c.read_outgoing.new.store) (g.S.Store.files c.keeper_beside.new.store) (g.S.Store.files c.exchange_files.new.store)
           (g.O.Write.contents c.args.out.now) (g.O.Write.contents c.exchange_files.new.out) out c.read_outgoing.ensures.same first
-          c.in_ok-keeper.ensures.name c.in_ok-keeper.ensures.none c.in_ok-keeper.ensures.two c.in_ok-keeper.ensures.same c.exchange_files.ensures.exchanged;
+          c.in_ok-keeper.ensures.name c.in_ok-keeper.ensures.none c.in_ok-keeper.ensures.two c.in_ok-keeper.ensures.same c.exchange_files.ensures.exchanged);
       fault = send_fails c.exchange_files.result c.args.order.send.now f fails;
       files = leaves_so (rank_at c.args.order.place) c.args.order.send.now c.args.order.received.now jobs c.in_ok-station.station marker c.in_ok-keeper.keeper f (g.S.Store.files c.read_outgoing.new.store)
           (g.S.Store.files c.keeper_beside.new.store) (g.S.Store.files c.exchange_files.new.store) out c.read_outgoing.ensures.same first

@@ -12,7 +12,7 @@ pub returns-clause-status : goal.returns-clause-status
 returns-clause-status g c =
     exchange_fails c.map.result c.left_after.result c.exchange_all-left.result c.write-marked.result c.keep_rest-kept.result c.put_lines-printed.result (ending_of_both (outcome_of c.exchange_all-left.new.station.sender))
     c.args.marker c.exchange_all-left.new.marker
-    (file_stays c.exchange_all-left.result (g.L.Line.talk c.args.line.now) (g.L.Line.talk c.exchange_all-left.new.line) c.args.station c.exchange_all-left.new.station c.args.marker c.exchange_all-left.new.marker c.args.keeper c.exchange_all-left.new.keeper
+    (file_stays c.exchange_all-left.result (g.L.Line.talk c.args.line.now, g.L.Line.transmissions c.args.line.now) (g.L.Line.talk c.exchange_all-left.new.line, g.L.Line.transmissions c.exchange_all-left.new.line) c.args.station c.exchange_all-left.new.station c.args.marker c.exchange_all-left.new.marker c.args.keeper c.exchange_all-left.new.keeper
     (g.S.Store.files c.args.store.now) (g.S.Store.files c.exchange_all-left.new.store) c.exchange_all-left.ensures.left c.exchange_all-left.ensures.holds c.exchange_all-left.ensures.broken)
     (search rules) (search rules) c.map.ensures.variant c.exchange_all-left.ensures.status c.write-marked.ensures.status c.keep_rest-kept.ensures.status (search rules)
 
@@ -24,9 +24,9 @@ returns-clause-exchanged g c =
     let written = g.S.Store.files c.write-marked.new.store in
     let sets = marks_as_many c.write-marked.result marker.file.items _ station.sender.counted marker.name.now mid written c.write-marked.ensures.marked (search rules) in
     ends_well c.map.result c.left_after.result c.exchange_all-left.result (result_and c.write-marked.result c.keep_rest-kept.result) c.put_lines-printed.result (ending_of_both (outcome_of station.sender))
-    (λ ending. Exchanges ending (g.L.Line.talk c.args.line.now) (g.L.Line.talk c.exchange_all-left.new.line) c.args.station c.args.marker c.args.keeper (g.S.Store.files c.args.store.now) (g.S.Store.files c.keep_rest-kept.new.store) (g.O.Write.contents c.args.out.now) (g.O.Write.contents c.put_lines-printed.new.out))
+    (λ ending. Exchanges ending (g.L.Line.talk c.args.line.now, g.L.Line.transmissions c.args.line.now) (g.L.Line.talk c.exchange_all-left.new.line, g.L.Line.transmissions c.exchange_all-left.new.line) c.args.station c.args.marker c.args.keeper (g.S.Store.files c.args.store.now) (g.S.Store.files c.keep_rest-kept.new.store) (g.O.Write.contents c.args.out.now) (g.O.Write.contents c.put_lines-printed.new.out))
     (search rules) (search rules) c.map.ensures.variant
-    (all_exchanged c.exchange_all-left.result c.write-marked.result c.keep_rest-kept.result c.put_lines-printed.result (g.L.Line.talk c.args.line.now) (g.L.Line.talk c.exchange_all-left.new.line) c.args.station station c.args.marker c.exchange_all-left.new.marker c.args.keeper
+    (all_exchanged c.exchange_all-left.result c.write-marked.result c.keep_rest-kept.result c.put_lines-printed.result (g.L.Line.talk c.args.line.now, g.L.Line.transmissions c.args.line.now) (g.L.Line.talk c.exchange_all-left.new.line, g.L.Line.transmissions c.exchange_all-left.new.line) c.args.station station c.args.marker c.exchange_all-left.new.marker c.args.keeper
     c.exchange_all-left.new.keeper (g.S.Store.files c.args.store.now) (g.S.Store.files c.exchange_all-left.new.store) (g.S.Store.files c.write-marked.new.store) (g.S.Store.files c.keep_rest-kept.new.store)
     (g.O.Write.contents c.args.out.now) (g.O.Write.contents c.put_lines-printed.new.out)
     (flat_map (λ line. line.items) c.lines_of_both-lines.result) c.exchange_all-left.ensures.left c.exchange_all-left.ensures.holds
@@ -40,7 +40,7 @@ returns-clause-files g c =
     let mid = g.S.Store.files c.exchange_all-left.new.store in
     let written = g.S.Store.files c.write-marked.new.store in
     let sets = marks_as_many c.write-marked.result marker.file.items _ station.sender.counted marker.name.now mid written c.write-marked.ensures.marked (search rules) in
-    leaves_both c.exchange_all-left.result c.write-marked.result c.keep_rest-kept.result (g.L.Line.talk c.args.line.now) (g.L.Line.talk c.exchange_all-left.new.line)
+    leaves_both c.exchange_all-left.result c.write-marked.result c.keep_rest-kept.result (g.L.Line.talk c.args.line.now, g.L.Line.transmissions c.args.line.now) (g.L.Line.talk c.exchange_all-left.new.line, g.L.Line.transmissions c.exchange_all-left.new.line)
     c.args.station c.exchange_all-left.new.station c.args.marker c.exchange_all-left.new.marker c.args.keeper c.exchange_all-left.new.keeper
     (g.S.Store.files c.args.store.now) (g.S.Store.files c.exchange_all-left.new.store) (g.S.Store.files c.write-marked.new.store) (g.S.Store.files c.keep_rest-kept.new.store)
     c.exchange_all-left.ensures.left c.exchange_all-left.ensures.holds c.exchange_all-left.ensures.broken c.exchange_all-left.ensures.count sets c.write-marked.ensures.same

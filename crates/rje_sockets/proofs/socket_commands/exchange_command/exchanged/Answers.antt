@@ -15,7 +15,7 @@ returns g c =
     let first : c.in_ok-station.station ≡ first_contending c.args.rank jobs = rw c.as_slice.ensures.slice at c.in_ok-station.ensures.ready in
     let fails = left_fails c.exchange_files.result marker.file.items jobs out.left c.exchange_files.ensures.status in
     record {
-      exchanged = exchanges_left c.exchange_files.result (g.L.Line.talk c.args.line.now) (g.L.Line.talk c.exchange_files.new.line) c.args.rank c.args.send.now c.args.received.now jobs c.in_ok-station.station marker
+      exchanged = exchanges_left c.exchange_files.result (g.L.Line.talk c.args.line.now, g.L.Line.transmissions c.args.line.now) (g.L.Line.talk c.exchange_files.new.line, g.L.Line.transmissions c.exchange_files.new.line) c.args.rank c.args.send.now c.args.received.now jobs c.in_ok-station.station marker
           c.in_ok-keeper.keeper f (g.S.Store.files c.read_outgoing.new.store) (g.S.Store.files c.keeper_beside.new.store) (g.S.Store.files c.exchange_files.new.store)
           (g.O.Write.contents c.args.out.now) (g.O.Write.contents c.exchange_files.new.out) out c.read_outgoing.ensures.same first
           c.in_ok-keeper.ensures.name c.in_ok-keeper.ensures.none c.in_ok-keeper.ensures.two c.in_ok-keeper.ensures.same c.exchange_files.ensures.exchanged;

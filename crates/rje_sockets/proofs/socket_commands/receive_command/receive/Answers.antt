@@ -1,11 +1,15 @@
 use Rattle.std.proofs.Common.{None, rules}
+use Rattle.rje_sockets.specs.Ending.{Receives}
+use Rattle.rje_sockets.proofs.OverLine.{over_connection}
 use Rattle.rje_sockets.proofs.ReceivedAfter.{keeps_after, keeps_nothing, receives_after}
 use Rattle.rje_sockets.proofs.socket_commands.receive_command.receive.Goals as goal
 
 pub returns-clause-received : goal.returns-clause-received
 returns-clause-received g c =
-    receives_after c.received.result None None c.args.order.jobs.now (g.S.Store.files c.args.store.now) (g.S.Store.files c.look_at_file.new.store) (g.S.Store.files c.received.new.store)
-    (g.O.Write.contents c.args.out.now) (g.O.Write.contents c.received.new.out) (search rules) c.received.ensures.received
+    over_connection c.received.result (λ t u ending. Receives ending t u c.args.order.jobs.now (g.S.Store.files c.args.store.now) (g.S.Store.files c.received.new.store)
+    (g.O.Write.contents c.args.out.now) (g.O.Write.contents c.received.new.out)) _ _
+    (receives_after c.received.result (None, _) (None, _) c.args.order.jobs.now (g.S.Store.files c.args.store.now) (g.S.Store.files c.look_at_file.new.store) (g.S.Store.files c.received.new.store)
+    (g.O.Write.contents c.args.out.now) (g.O.Write.contents c.received.new.out) (search rules) c.received.ensures.received)
 
 pub returns-clause-kept : goal.returns-clause-kept
 returns-clause-kept g c =

@@ -24,9 +24,9 @@ returns-clause-received g c =
     let files = g.S.Store.files c.args.store.now in
     let made = g.S.Store.files c.keep_rest-written.new.store in
     let start = c.in_ok-station.ensures.ready in
-    ends_well c.map.result c.left_after.result left written c.put-printed.result ending_of_left (λ ending. Receives ending (g.L.Line.talk c.args.line.now) (g.L.Line.talk c.receive_all-left.new.line) c.args.name.now files made (g.O.Write.contents c.args.out.now)
+    ends_well c.map.result c.left_after.result left written c.put-printed.result ending_of_left (λ ending. Receives ending (g.L.Line.talk c.args.line.now, g.L.Line.transmissions c.args.line.now) (g.L.Line.talk c.receive_all-left.new.line, g.L.Line.transmissions c.receive_all-left.new.line) c.args.name.now files made (g.O.Write.contents c.args.out.now)
     (g.O.Write.contents c.put-printed.new.out)) c.left_after.ensures.left c.map.ensures.cases c.map.ensures.variant
-    (receives left written c.put-printed.result (g.L.Line.talk c.args.line.now) (g.L.Line.talk c.receive_all-left.new.line) c.args.name.now files made (g.O.Write.contents c.args.out.now) (g.O.Write.contents c.put-printed.new.out) station (search rules)
+    (receives left written c.put-printed.result (g.L.Line.talk c.args.line.now, g.L.Line.transmissions c.args.line.now) (g.L.Line.talk c.receive_all-left.new.line, g.L.Line.transmissions c.receive_all-left.new.line) c.args.name.now files made (g.O.Write.contents c.args.out.now) (g.O.Write.contents c.put-printed.new.out) station (search rules)
     (made_at_end written c.in_ok-keeper.keeper c.receive_all-left.new.keeper station c.args.name.now files (g.S.Store.files c.new-2.new.store)
     (g.S.Store.files c.receive_all-left.new.store) made (g.L.Line.transmissions c.args.line.now) (g.L.Line.transmissions c.receive_all-left.new.line) left
     c.in_ok-keeper.ensures.name c.in_ok-keeper.ensures.none c.in_ok-keeper.ensures.same

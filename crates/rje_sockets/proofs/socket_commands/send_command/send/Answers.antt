@@ -2,9 +2,12 @@ use Rattle.std.proofs.Common.{rules, inl, None, Err, ◌≡◌}
 use Rattle.rje_station.specs.Sending.{first_sending}
 use Rattle.rje_station.specs.StationFault.{IsNewCause}
 use Rattle.rje_commands.specs.CommandFault.{of_station}
+use Rattle.rje_commands.specs.Commands.{OfFile}
+use Rattle.rje_sockets.specs.Ending.{SendsLeft}
 use Rattle.rje_sockets.proofs.Failing.{left_fails, not_refused, send_fails, station_fails}
 use Rattle.rje_sockets.proofs.Marked.{begun_counts}
 use Rattle.rje_sockets.proofs.Outgoing.{sends_outgoing}
+use Rattle.rje_sockets.proofs.OverLine.{over_connection}
 use Rattle.rje_sockets.proofs.socket_commands.send_command.send.Goals as goal
 
 pub returns : goal.returns
@@ -18,9 +21,11 @@ returns g c =
     let first : c.in_ok-station.station ≡ first_sending jobs = rw c.as_slice.ensures.slice at c.in_ok-station.ensures.ready in
     let fails = left_fails c.transmit.result marker.file.items jobs out.left c.transmit.ensures.status in
     record {
-      sent = sends_outgoing c.transmit.result None None c.args.order.jobs.now jobs marker c.in_ok-station.station c.transmit.new.station f read made
+      sent = over_connection c.transmit.result (λ t u ending. OfFile c.args.order.jobs.now f (λ file. SendsLeft ending t u c.args.order.jobs.now file f made
+          (g.O.Write.contents c.args.out.now) (g.O.Write.contents c.transmit.new.out))) _ _
+          (sends_outgoing c.transmit.result (None, _) (None, _) c.args.order.jobs.now jobs marker c.in_ok-station.station c.transmit.new.station f read made
           (g.O.Write.contents c.args.out.now) (g.O.Write.contents c.transmit.new.out) out c.read_outgoing.ensures.same first c.transmit.ensures.took c.transmit.ensures.ended
-          c.transmit.ensures.printed c.transmit.ensures.marked;
+          c.transmit.ensures.printed c.transmit.ensures.marked);
       fault = send_fails c.transmit.result c.args.order.jobs.now f fails;
       marked = begun_counts c.args.order.jobs.now jobs marker c.in_ok-station.station f read made out c.read_outgoing.ensures.same first c.transmit.ensures.count;
       files_kept = not_refused c.transmit.result _ fails;

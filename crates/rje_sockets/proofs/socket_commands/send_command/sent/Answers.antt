@@ -18,7 +18,7 @@ returns g c =
     let first : c.in_ok-station.station ≡ first_sending jobs = rw c.as_slice.ensures.slice at c.in_ok-station.ensures.ready in
     let fails = left_fails c.transmit.result marker.file.items jobs out.left c.transmit.ensures.status in
     record {
-      sent = sends_outgoing c.transmit.result (g.L.Line.talk c.args.line.now) (g.L.Line.talk c.transmit.new.line) c.args.name.now jobs marker c.in_ok-station.station c.transmit.new.station f read made
+      sent = sends_outgoing c.transmit.result (g.L.Line.talk c.args.line.now, g.L.Line.transmissions c.args.line.now) (g.L.Line.talk c.transmit.new.line, g.L.Line.transmissions c.transmit.new.line) c.args.name.now jobs marker c.in_ok-station.station c.transmit.new.station f read made
           (g.O.Write.contents c.args.out.now) (g.O.Write.contents c.transmit.new.out) out c.read_outgoing.ensures.same first c.transmit.ensures.took c.transmit.ensures.ended
           c.transmit.ensures.printed c.transmit.ensures.marked;
       fault = send_fails c.transmit.result c.args.name.now f fails;
