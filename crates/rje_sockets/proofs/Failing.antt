@@ -21,6 +21,8 @@ use Rattle.rje_commands.specs.CommandFault.{IsFailing, of_station, status_of}
 use Rattle.rje_commands.specs.Commands.{OfFile}
 use Rattle.rje_sockets.specs.Ending.{IsRefusedFile, IsUnsentFault}
 use Rattle.rje_sockets.specs.Inside.Sending.{IsSendFault}
+use Rattle.rje_sockets.specs.NamedFiles.{NamesOne}
+use Rattle.rje_sockets.proofs.NamedFiles.{names_more}
 use Rattle.rje_stores.specs.Store.{FileMap}
 use Rattle.rje_commands.proofs.Inputs.{of_file}
 
@@ -51,10 +53,17 @@ pub not_refused : {X : Type 0} (r : Result X CommandFault) (P : Type 0) → IfEr
 not_refused (Ok x) P fails = tt
 not_refused (Err fault) P fails = λ one. absurd (never_1 (status_of fault) fails one)
 
-pub send_fails : {X : Type 0} (r : Result X CommandFault) (name : List ℕ) (files : Option FileMap) → IfErr r (λ fault. IsFailing (status_of fault))
-    → IfErr r (IsSendFault name files)
-send_fails (Ok x) name files fails = tt
-send_fails (Err fault) name files fails = inl fails
+pub send_fails : {X : Type 0} (r : Result X CommandFault) (Written : List ℕ → Type 0) (name : List ℕ) (files : Option FileMap) → IfErr r (λ fault. IsFailing (status_of fault))
+    → IfErr r (NamesOne (λ named. named ≡ name) Written) → IfErr r (IsSendFault Written name files)
+send_fails (Ok x) Written name files fails names = tt
+send_fails (Err fault) Written name files fails names = inl (fails, names)
+
+-- what is told of a file that nothing was written to yet
+pub unwritten_fails : {X : Type 0} (r : Result X CommandFault) (fault : CommandFault) (Written : List ℕ → Type 0) (name : List ℕ) (files : Option FileMap) → r ≡ Err fault
+    → IsSendFault (λ _. ⊥) name files fault → IfErr r (IsSendFault Written name files)
+unwritten_fails r fault Written name files is (inl (fails, names)) =
+    rw is (inl (fails, names_more (λ named. named ≡ name) (λ named. named ≡ name) (λ _. ⊥) Written (λ n e. e) (λ n never. absurd never) fault names))
+unwritten_fails r fault Written name files is (inr refused) = rw is (inr refused)
 
 -- where all that is left can be sent
 pub left_fails : {X : Type 0} (r : Result X CommandFault) (file : List ℕ) (jobs : List Job) → IsLeft file jobs
@@ -88,17 +97,17 @@ unsent_status file (told.File _) is = inl refl
 unsent_status file (told.BadJob number) is = inl refl
 unsent_status file _ is = absurd is
 
-pub send_status : (name : List ℕ) (files : Option FileMap) (f : CommandFault) (status : ℕ) → IsSendFault name files f → (status ≡ 3) ⊎ (status ≡ status_of f)
+pub send_status : (Written : List ℕ → Type 0) (name : List ℕ) (files : Option FileMap) (f : CommandFault) (status : ℕ) → IsSendFault Written name files f → (status ≡ 3) ⊎ (status ≡ status_of f)
     → (status ≡ 0) ⊎ ((status ≡ 4) ⊎ ((status ≡ 1) ⊎ IsFailing status))
-send_status name files f status is (inl three) = inr (inr (inr (inl three)))
-send_status name files f status (inl fails) (inr told) = inr (inr (inr (subst IsFailing (sym told) fails)))
-send_status name files f status (inr (file, is, read)) (inr told) = elim (unsent_status file f is) [
+send_status Written name files f status is (inl three) = inr (inr (inr (inl three)))
+send_status Written name files f status (inl (fails, names)) (inr told) = inr (inr (inr (subst IsFailing (sym told) fails)))
+send_status Written name files f status (inr (file, is, read)) (inr told) = elim (unsent_status file f is) [
   | inl one ↦ inr (inr (inl (told ∙ one)))
   | inr fails ↦ inr (inr (inr (subst IsFailing (sym told) fails)))
 ]
 
-pub send_refuses : (name : List ℕ) (files : Option FileMap) (f : CommandFault) (status : ℕ) → IsSendFault name files f → (status ≡ 3) ⊎ (status ≡ status_of f)
+pub send_refuses : (Written : List ℕ → Type 0) (name : List ℕ) (files : Option FileMap) (f : CommandFault) (status : ℕ) → IsSendFault Written name files f → (status ≡ 3) ⊎ (status ≡ status_of f)
     → status ≡ 1 → OfFile name files IsRefusedFile
-send_refuses name files f status is (inl three) one = absurd (omega (arith, three, one))
-send_refuses name files f status (inl fails) (inr told) one = absurd (never_1 (status_of f) fails (sym told ∙ one))
-send_refuses name files f status (inr (file, is, read)) (inr told) one = of_file IsRefusedFile file (f, is, sym told ∙ one) name files read
+send_refuses Written name files f status is (inl three) one = absurd (omega (arith, three, one))
+send_refuses Written name files f status (inl (fails, names)) (inr told) one = absurd (never_1 (status_of f) fails (sym told ∙ one))
+send_refuses Written name files f status (inr (file, is, read)) (inr told) one = of_file IsRefusedFile file (f, is, sym told ∙ one) name files read

@@ -81,6 +81,13 @@ pub file_stays : (left : Result Left BrokenOff) (t u : LineTells) (s s' : Conten
     → new.file ≡ old.file
 file_stays left t u s s' old new before after f g exchanges holds breaks = (held left t u s s' old new before after f g exchanges holds breaks).holds.file
 
+-- so do both names
+pub names_stay : (left : Result Left BrokenOff) (t u : LineTells) (s s' : Contending) (old new : Marker) (before after : Keeper) (f g : Option FileMap) → IfOk left (λ l. ExchangesTo l s t s' u)
+    → OnOk left (GoesOnHolding old new s.sender.counted s'.sender.counted before after s.receiver.jobs s'.receiver.jobs f g) → IfErr left (BreaksBoth s s' old new before after f g)
+    → (new.name.now ≡ old.name.now) × (after.name.now ≡ before.name.now)
+names_stay left t u s s' old new before after f g exchanges holds breaks =
+    let on = (held left t u s s' old new before after f g exchanges holds breaks).holds in (ap (λ (x : _). x.now) on.name, ap (λ (x : _). x.now) on.own)
+
 -- THE WHOLE FILE OF WHAT IS SENT
 
 -- as many are marked as were counted

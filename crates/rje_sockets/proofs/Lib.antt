@@ -14,6 +14,7 @@ pub mod Growing
 pub mod Answering
 pub mod Received
 pub mod ReceivedAfter
+pub mod NamedFiles
 pub mod Failing
 pub mod Looped
 pub mod Marked

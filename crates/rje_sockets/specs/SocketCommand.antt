@@ -11,6 +11,7 @@ use Rattle.rje_sockets.specs.Exchanging.{ExchangesLeft, rank_at}
 use Rattle.rje_sockets.specs.LeavingBoth.{LeavesExchange}
 use Rattle.rje_sockets.specs.Looping.{IsUnloopedFault, Loops}
 use Rattle.rje_sockets.specs.Marking.{MarksNoMore}
+use Rattle.rje_sockets.specs.NamedFiles.{NamesOne}
 use Rattle.rje_sockets.specs.OverLine.{OverConnection}
 use Rattle.rje_stores.specs.Store.{FileMap, Discloses, IsSame}
 
@@ -44,6 +45,21 @@ Refuses (SocketOrder.Send order) files fault = OfFile order.jobs.now files (λ f
 Refuses (SocketOrder.Receive order) files fault = ⊥
 Refuses (SocketOrder.Exchange order) files fault = OfFile order.send.now files (λ file. IsUnsentFault file fault)
 
--- or a file, a line, an output or memory fails
+-- the order reads the file of this name
+abbrev pub ReadsFile : SocketOrder → List ℕ → Type 0
+ReadsFile (SocketOrder.Loop order) name = name ≡ order.jobs.now
+ReadsFile (SocketOrder.Send order) name = name ≡ order.jobs.now
+ReadsFile (SocketOrder.Receive order) name = ⊥
+ReadsFile (SocketOrder.Exchange order) name = name ≡ order.send.now
+
+-- the order writes it
+abbrev pub WritesFile : SocketOrder → List ℕ → Type 0
+WritesFile (SocketOrder.Loop order) name = ⊥
+WritesFile (SocketOrder.Send order) name = name ≡ order.jobs.now
+WritesFile (SocketOrder.Receive order) name = name ≡ order.jobs.now
+WritesFile (SocketOrder.Exchange order) name = (name ≡ order.send.now) ⊎ (name ≡ order.received.now)
+
+-- or a file that it reads or writes, a line, an output or memory fails
 abbrev pub IsSocketFault : SocketOrder → Option FileMap → CommandFault → Type 0
-IsSocketFault order files fault = IsFailing (status_of fault) ⊎ ((status_of fault ≡ 1) × Refuses order files fault)
+IsSocketFault order files fault =
+    (IsFailing (status_of fault) × NamesOne (ReadsFile order) (WritesFile order) fault) ⊎ ((status_of fault ≡ 1) × Refuses order files fault)

@@ -17,6 +17,7 @@ ghost use Rattle.rje_sockets.specs.Keeping.{GoesOnKeeping};
 ghost use Rattle.rje_sockets.specs.LeavingBoth.{HasCounted};
 ghost use Rattle.rje_sockets.specs.LineBreak.{IsBreak, IsLineBreak};
 ghost use Rattle.rje_sockets.specs.Marking.{GoesOnMarking};
+ghost use Rattle.rje_sockets.specs.NamedFiles.{NamesWritten};
 ghost use Rattle.rje_sockets.specs.OverLine.{HeardAndReplied, SpokeAndHeard};
 
 use crate::broken_off::BrokenOff;
@@ -44,6 +45,8 @@ pub fn exchange_all<'a, 'b, L: Line, S: Store, W: Watch>(
         station.old (L.talk line.old, L.transmissions line.old)
         station.new (L.talk line.new, L.transmissions line.new)) }
     ensures status { IfErr result (λ broken. IsFailing (status_of (of_broken_off broken))) }
+    ensures names { IfErr result (λ broken.
+        NamesWritten keeper.old.name.now (of_broken_off broken)) }
     ensures cause { IfErr result (IsBreak (λ f. L.last_fault line.new ≡ Some f)
         (ExchangesToBabble station.old (L.talk line.old, L.transmissions line.old)
         station.new (L.talk line.new))
@@ -182,6 +185,8 @@ fn take_others_turn<'a, 'b, L: Line, S: Store, W: Watch>(
         (L.talk line.new, L.transmissions line.new) arrival reply
         × (station.new.receiver.arrival ≡ Some arrival)) }
     ensures status { IfErr result (λ broken. IsFailing (status_of (of_broken_off broken))) }
+    ensures names { IfErr result (λ broken.
+        NamesWritten keeper.old.name.now (of_broken_off broken)) }
     ensures kept { OnOk result (GoesOnKeeping keeper.old keeper.new station.old.receiver.jobs
         station.new.receiver.jobs (S.files store.old) (S.files store.new)) }
     ensures broken { IfErr result (λ broken. GoesOnKeeping keeper.old keeper.new

@@ -11,6 +11,7 @@ ghost use Rattle.rje_sockets.specs.BrokenOff.{of_broken_off};
 ghost use Rattle.rje_sockets.specs.Keeping.{BreaksOff, BreaksOffNow, GoesOnKeeping, IsOfFile};
 ghost use Rattle.rje_sockets.specs.LineBreak.{IsBreak, IsLineBreak};
 ghost use Rattle.rje_sockets.specs.Marking.{GoesOnMarking, WereCounted};
+ghost use Rattle.rje_sockets.specs.NamedFiles.{NamesWritten};
 ghost use Rattle.rje_sockets.specs.OverLine.{BothSpoke, HeardAndReplied, SendsOver, SpokeAndHeard};
 ghost use Rattle.rje_sockets.specs.Patience.{LeavesSo, HearsOut, was_quiet};
 ghost use Rattle.rje_stores.specs.Store.{Discloses, IsSame};
@@ -161,6 +162,8 @@ pub fn receive_all<'a, L: Line, S: Store, W: Watch>(
         station.new (L.talk line.new))
         (station.old.over ≡ true)) }
     ensures status { IfErr result (λ broken. IsFailing (status_of (of_broken_off broken))) }
+    ensures names { IfErr result (λ broken.
+        NamesWritten keeper.old.name.now (of_broken_off broken)) }
     ensures kept { OnOk result (KeepsToEnd keeper.old keeper.new station.old station.new
         (L.transmissions line.old) (L.transmissions line.new)
         (S.files store.old) (S.files store.new)) }
@@ -195,6 +198,8 @@ fn hear_out<'a, L: Line, S: Store, W: Watch>(
         station.new (L.talk line.new))
         (station.old.over ≡ true)) }
     ensures status { IfErr result (λ broken. IsFailing (status_of (of_broken_off broken))) }
+    ensures names { IfErr result (λ broken.
+        NamesWritten keeper.old.name.now (of_broken_off broken)) }
     ensures kept { OnOk result (KeepsToEnd keeper.old keeper.new station.old station.new
         (L.transmissions line.old) (L.transmissions line.new)
         (S.files store.old) (S.files store.new)) }
@@ -256,6 +261,8 @@ fn hear_keep_and_speak<'a, L: Line, S: Store, W: Watch>(
     ensures kept { OnOk result (GoesOnKeeping keeper.old keeper.new station.old.jobs
         station.new.jobs (S.files store.old) (S.files store.new)) }
     ensures status { IfErr result (λ broken. IsFailing (status_of (of_broken_off broken))) }
+    ensures names { IfErr result (λ broken.
+        NamesWritten keeper.old.name.now (of_broken_off broken)) }
     ensures silent { IfErr result (λ broken. IsOfFile broken
         → L.transmissions line.new ≡ L.transmissions line.old) }
     ensures broken { IfErr result (BreaksKeeping keeper.old keeper.new station.old station.new

@@ -4,6 +4,7 @@ ghost use Rattle.rje_commands.specs.CommandFault.{IsFailing, status_of};
 ghost use Rattle.rje_sockets.specs.Ending.{MakesJobFile};
 ghost use Rattle.rje_commands.specs.NamedFile.{IsWriteFault};
 ghost use Rattle.rje_sockets.specs.Keeping.{AreKept, KeepsJobs, kept_after};
+ghost use Rattle.rje_sockets.specs.NamedFiles.{NamesWritten};
 ghost use Rattle.rje_stores.specs.Store.{FileMap, Discloses, IsSame, Sets};
 ghost use Rattle.rje_jobs.specs.declared.job.Job.{Job as Item};
 
@@ -85,6 +86,7 @@ impl<'a> Keeper<'a> {
             → KeepsJobs self.old jobs.items files (S.files store.old)
             → MakesJobFile jobs.items self.old.name.now files (S.files store.new)) }
         ensures status { IfErr result (λ fault. IsFailing (status_of fault)) }
+        ensures names { IfErr result (NamesWritten self.old.name.now) }
         ensures same { OnErr result (Discloses (S.files store.old) (S.files store.new) IsSame) }
     {
         if self.place == Place::Once || jobs.is_empty() {
@@ -154,6 +156,7 @@ fn write_job_file<'a, S: Store>(
     ensures file { OnOk result
         (MakesJobFile jobs name.entry.now (S.files store.old) (S.files store.new)) }
     ensures status { IfErr result (λ fault. IsFailing (status_of fault)) }
+    ensures names { IfErr result (NamesWritten name.entry.now) }
     ensures same { OnErr result (Discloses (S.files store.old) (S.files store.new) IsSame) }
 {
     let entries = entries_of(alloc, jobs)?;

@@ -7,6 +7,7 @@ ghost use Rattle.rje_files.specs.Unsent.{IsLeft};
 ghost use Rattle.rje_commands.specs.CommandFault.{IsFailing, status_of};
 ghost use Rattle.rje_sockets.specs.Ending.{MarksSent};
 ghost use Rattle.rje_sockets.specs.Marking.{AreMarked, GoesOnMarking};
+ghost use Rattle.rje_sockets.specs.NamedFiles.{NamesWritten};
 ghost use Rattle.rje_stores.specs.Store.{FileMap, Discloses, IsSame};
 
 use rje_commands::{CommandFault, look_at_file, set_byte_of_file, write_file};
@@ -71,6 +72,7 @@ impl<'a> Marker<'a> {
             (S.files store.old) (S.files store.new)) }
         ensures status { IfErr result (λ fault. (jobs : List Job)
             → IsLeft self.now.file.items jobs → IsFailing (status_of fault)) }
+        ensures names { IfErr result (NamesWritten self.now.name.now) }
         ensures same { OnErr result (Discloses (S.files store.old) (S.files store.new) IsSame) }
     {
         let bytes = sent_file(self.alloc, self.file.as_slice(), counted)?;

@@ -8,6 +8,7 @@ use Rattle.rje_commands.specs.CommandFault.{IsFailing, status_of}
 use Rattle.rje_commands.specs.Commands.{OfFile}
 use Rattle.rje_sockets.specs.declared.marker.Marker.{Marker}
 use Rattle.rje_sockets.specs.Ending.{IsUnsentFault}
+use Rattle.rje_sockets.specs.NamedFiles.{NamesOne}
 use Rattle.rje_stores.specs.Store.{FileMap}
 
 -- these jobs are left to send of the file of this name, and the marker marks them in it; none is marked yet
@@ -18,7 +19,8 @@ pub record IsOutgoing (name : List ℕ) (files : Option FileMap) (jobs : List Jo
   pub named : marker.name.now ≡ name
   pub none : marker.marked ≡ 0
 
--- this is the fault of a file, a line or an output, or of memory; or it is why what is left of the file of this name isn't sent
-abbrev pub IsSendFault : List ℕ → Option FileMap → CommandFault → Type 0
-IsSendFault name files fault =
-    IsFailing (status_of fault) ⊎ ((file : List ℕ) × IsUnsentFault file fault × OfFile name files (λ read. file ≡ read))
+-- this is the fault of a line or an output, or of memory, or of the file of this name or one of those that are written; or it is why what is left
+-- of the file of this name isn't sent
+abbrev pub IsSendFault : (Written : List ℕ → Type 0) → (name : List ℕ) → Option FileMap → CommandFault → Type 0
+IsSendFault Written name files fault =
+    (IsFailing (status_of fault) × NamesOne (λ named. named ≡ name) Written fault) ⊎ ((file : List ℕ) × IsUnsentFault file fault × OfFile name files (λ read. file ≡ read))

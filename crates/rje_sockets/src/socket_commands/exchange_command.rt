@@ -10,6 +10,7 @@ ghost use Rattle.rje_sockets.specs.Ending.{IsRefusedFile};
 ghost use Rattle.rje_sockets.specs.Exchanging.{EndsExchanging, Exchanges, ExchangesLeft, ending_of_both, exchanged_text, rank_at};
 ghost use Rattle.rje_sockets.specs.Inside.Sending.{IsSendFault};
 ghost use Rattle.rje_sockets.specs.LeavingBoth.{LeavesBoth, LeavesExchange};
+ghost use Rattle.rje_sockets.specs.NamedFiles.{NamesOne, NamesWritten};
 ghost use Rattle.rje_sockets.specs.OverLine.{OverConnection};
 ghost use Rattle.rje_stores.specs.Store.{FileMap, Discloses, IsSame};
 ghost use Rattle.rje_stores.specs.declared.store.Place.TheVariants.{Growing};
@@ -52,7 +53,9 @@ pub fn exchange<'a, R: Net + Clock, S: Store, O: Write, E: Write>(
         ExchangesLeft ending t u (rank_at order.entry.place)
         order.entry.send.now order.entry.received.now file
         (S.files store.old) (S.files store.new) (O.contents out.old) (O.contents out.new)))) }
-    ensures fault { IfErr result (IsSendFault order.entry.send.now (S.files store.old)) }
+    ensures fault { IfErr result (IsSendFault
+        (λ name. (name ≡ order.entry.send.now) ⊎ (name ≡ order.entry.received.now))
+        order.entry.send.now (S.files store.old)) }
     ensures files { IfSome (S.files store.old) (λ _. LeavesExchange (rank_at order.entry.place)
         order.entry.send.now order.entry.received.now (S.files store.old) (S.files store.new)) }
     ensures files_kept { IfErr result (λ fault. status_of fault ≡ 1
@@ -115,7 +118,9 @@ fn exchanged<'a, L: Line, S: Store, O: Write>(
         (L.talk line.new, L.transmissions line.new) rank
         send.entry.now received.entry.now file
         (S.files store.old) (S.files store.new) (O.contents out.old) (O.contents out.new))) }
-    ensures fault { IfErr result (IsSendFault send.entry.now (S.files store.old)) }
+    ensures fault { IfErr result (IsSendFault
+        (λ name. (name ≡ send.entry.now) ⊎ (name ≡ received.entry.now))
+        send.entry.now (S.files store.old)) }
     ensures files { IfSome (S.files store.old) (λ _. LeavesExchange rank send.entry.now
         received.entry.now (S.files store.old) (S.files store.new)) }
     ensures files_kept { IfErr result (λ fault. status_of fault ≡ 1
@@ -142,6 +147,7 @@ fn keeper_beside<'a, S: Store>(
     ensures grows { IfSome (S.files store.old) (λ _. IfOk result (λ keeper.
         keeper.place ≡ Growing)) }
     ensures status { IfErr result (λ fault. IsFailing (status_of fault)) }
+    ensures names { IfErr result (NamesWritten name.entry.now) }
     ensures same { Discloses (S.files store.old) (S.files store.new) IsSame }
 {
     look_beside(alloc, other, name, store)?;
@@ -166,6 +172,8 @@ fn exchange_files<'a, 'b, L: Line, S: Store, W: Watch, O: Write>(
         (O.contents out.old) (O.contents out.new)) }
     ensures status { IfErr result (λ fault. (jobs : List Item)
         → IsLeft marker.entry.file.items jobs → IsFailing (status_of fault)) }
+    ensures names { IfErr result (NamesOne (λ _. ⊥)
+        (λ name. (name ≡ marker.entry.name.now) ⊎ (name ≡ keeper.entry.name.now))) }
     ensures files { marker.entry.marked ≡ station.entry.sender.counted
         → keeper.entry.place ≡ Growing → marker.entry.name.now ≢ keeper.entry.name.now
         → (files : Option FileMap) → HoldsBoth marker.entry station.entry.sender.counted

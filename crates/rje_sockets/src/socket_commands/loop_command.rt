@@ -9,6 +9,7 @@ ghost use Rattle.rje_commands.specs.Commands.{OfFile};
 ghost use Rattle.rje_sockets.specs.Ending.{ending_of, loop_text};
 ghost use Rattle.rje_sockets.specs.Looping.{IsUnloopedFault, Loops};
 ghost use Rattle.rje_sockets.specs.Watching.{BothWatchedAll};
+ghost use Rattle.rje_sockets.specs.NamedFiles.{NamesOne};
 ghost use Rattle.rje_stores.specs.Store.{Discloses, IsSame};
 
 use crate::exchange::take_turns;
@@ -40,7 +41,8 @@ pub fn loopback<'a, R: Net + Clock, S: Store, O: Write, E: Write>(
 ) -> Result<Ending, CommandFault<'a>>
     ensures looped { IfOk result (λ ending. OfFile order.entry.jobs.now (S.files store.old)
         (λ file. Loops ending file (O.contents out.old) (O.contents out.new))) }
-    ensures fault { IfErr result (λ fault. IsFailing (status_of fault)
+    ensures fault { IfErr result (λ fault. (IsFailing (status_of fault)
+        × NamesOne (λ name. name ≡ order.entry.jobs.now) (λ _. ⊥) fault)
         ⊎ ((status_of fault ≡ 1) × OfFile order.entry.jobs.now (S.files store.old)
         (λ file. IsUnloopedFault file fault))) }
     ensures same { Discloses (S.files store.old) (S.files store.new) IsSame }
@@ -75,6 +77,7 @@ fn loop_over<'a, N: Line, F: Line, W: Watch, O: Write>(
     out: &mut O,
 ) -> Result<Ending, CommandFault<'a>>
     ensures status { IfErr result (λ fault. IsFailing (status_of fault)) }
+    ensures names { IfErr result (NamesOne (λ _. ⊥) (λ _. ⊥)) }
     ensures took { OnOk result (BothToEnd sender.old sender.new receiver.old receiver.new) }
     ensures ended { IfOk result (λ ending. ending ≡ ending_of (outcome_of sender.new)) }
     ensures printed { OnOk result (Appends (O.contents out.old) (O.contents out.new)

@@ -6,6 +6,7 @@ ghost use Rattle.rje_commands.specs.CommandFault.{IsFailing, status_of};
 ghost use Rattle.rje_sockets.specs.BrokenOff.{of_broken_off};
 ghost use Rattle.rje_sockets.specs.Ending.{MakesJobFile, Receives, EndsReceiving};
 ghost use Rattle.rje_sockets.specs.Keeping.{IsOfFile, KeepsJobs};
+ghost use Rattle.rje_sockets.specs.NamedFiles.{NamesWritten};
 ghost use Rattle.rje_sockets.specs.OverLine.{OverConnection};
 ghost use Rattle.rje_stores.specs.Store.{FileMap, Discloses, IsSame};
 
@@ -41,6 +42,7 @@ pub fn receive<'a, R: Net + Clock, S: Store, O: Write, E: Write>(
         Receives ending t u order.entry.jobs.now
         (S.files store.old) (S.files store.new) (O.contents out.old) (O.contents out.new))) }
     ensures status { IfErr result (λ fault. IsFailing (status_of fault)) }
+    ensures names { IfErr result (NamesWritten order.entry.jobs.now) }
     ensures kept { IfSome (S.files store.old) (λ _. (before : ℕ) × (after : ℕ)
         × KeepsAnswered order.entry.jobs.now (S.files store.old) (S.files store.new)
         before after) }
@@ -103,6 +105,7 @@ fn received<'a, L: Line, S: Store, W: Watch, O: Write>(
         (L.talk line.new, L.transmissions line.new) name.entry.now
         (S.files store.old) (S.files store.new) (O.contents out.old) (O.contents out.new)) }
     ensures status { IfErr result (λ fault. IsFailing (status_of fault)) }
+    ensures names { IfErr result (NamesWritten name.entry.now) }
     ensures kept { IfSome (S.files store.old) (λ _. KeepsAnswered name.entry.now
         (S.files store.old) (S.files store.new)
         (L.transmissions line.old) (L.transmissions line.new)) }
@@ -130,6 +133,7 @@ pub(super) fn keep_rest<'a, S: Store>(
     ensures refused { IfErr left.now (λ broken. IsOfFile broken
         → Discloses (S.files store.old) (S.files store.new) IsSame) }
     ensures status { IfErr result (λ fault. IsFailing (status_of fault)) }
+    ensures names { IfErr result (NamesWritten keeper.old.name.now) }
     ensures same { OnErr result (Discloses (S.files store.old) (S.files store.new) IsSame) }
 {
     let written = match left {

@@ -12,6 +12,7 @@ ghost use Rattle.rje_sockets.specs.Ending.{ending_of, sent_text, IsRefusedFile, 
 ghost use Rattle.rje_sockets.specs.Inside.Sending.{IsOutgoing, IsSendFault};
 ghost use Rattle.rje_sockets.specs.Marking.{Marks, MarksCounted, MarksNoMore};
 ghost use Rattle.rje_stores.specs.Store.{FileMap, Discloses, IsSame};
+ghost use Rattle.rje_sockets.specs.NamedFiles.{NamesOne, NamesWritten};
 ghost use Rattle.rje_sockets.specs.OverLine.{OverConnection, SendsOver};
 ghost use Rattle.rje_sockets.specs.Watching.{SenderWatchedAll};
 
@@ -48,7 +49,8 @@ pub fn send<'a, R: Net + Clock, S: Store, O: Write, E: Write>(
         OfFile order.entry.jobs.now (S.files store.old) (λ file.
         SendsLeft ending t u order.entry.jobs.now file
         (S.files store.old) (S.files store.new) (O.contents out.old) (O.contents out.new)))) }
-    ensures fault { IfErr result (IsSendFault order.entry.jobs.now (S.files store.old)) }
+    ensures fault { IfErr result (IsSendFault (λ name. name ≡ order.entry.jobs.now)
+        order.entry.jobs.now (S.files store.old)) }
     ensures marked { MarksNoMore order.entry.jobs.now (S.files store.old) (S.files store.new) }
     ensures files_kept { IfErr result (λ fault. status_of fault ≡ 1
         → Discloses (S.files store.old) (S.files store.new) IsSame) }
@@ -109,7 +111,8 @@ fn sent<'a, L: Line, S: Store, O: Write>(
         SendsLeft ending (L.talk line.old, L.transmissions line.old)
         (L.talk line.new, L.transmissions line.new) name.entry.now file
         (S.files store.old) (S.files store.new) (O.contents out.old) (O.contents out.new))) }
-    ensures fault { IfErr result (IsSendFault name.entry.now (S.files store.old)) }
+    ensures fault { IfErr result (IsSendFault (λ named. named ≡ name.entry.now)
+        name.entry.now (S.files store.old)) }
     ensures marked { MarksNoMore name.entry.now (S.files store.old) (S.files store.new) }
     ensures files_kept { IfErr result (λ fault. status_of fault ≡ 1
         → Discloses (S.files store.old) (S.files store.new) IsSame) }
@@ -136,7 +139,7 @@ pub(super) fn read_outgoing<'a, S: Store>(
 ) -> Result<Outgoing<'a>, CommandFault<'a>>
     ensures outgoing { IfOk result (λ left.
         IsOutgoing name.entry.now (S.files store.old) left.jobs left.marker) }
-    ensures fault { IfErr result (IsSendFault name.entry.now (S.files store.old)) }
+    ensures fault { IfErr result (IsSendFault (λ _. ⊥) name.entry.now (S.files store.old)) }
     ensures same { Discloses (S.files store.old) (S.files store.new) IsSame }
 {
     let file = read_file(alloc, name, store)?;
@@ -158,6 +161,7 @@ fn unsent_of<'a>(alloc: Global, file: &[u8]) -> Result<Unsent, CommandFault<'a>>
     ensures marks { IfOk result (λ left. AreMarks file.now left.places.items) }
     ensures fault { IfErr result (λ fault. IsFailing (status_of fault)
         ⊎ IsUnsentFault file.now fault) }
+    ensures names { IfErr result (NamesOne (λ _. ⊥) (λ _. ⊥)) }
 {
     let entries = read_entries(alloc, file)?;
     if let Some(number) = first_unsendable(entries.as_slice()) {
@@ -201,6 +205,7 @@ fn transmit<'a, L: Line, S: Store, W: Watch, O: Write>(
         (S.files store.new) }
     ensures status { IfErr result (λ fault. (jobs : List Job)
         → IsLeft marker.old.file.items jobs → IsFailing (status_of fault)) }
+    ensures names { IfErr result (NamesWritten marker.old.name.now) }
     ensures told { OnOk result ((h : History) × SenderWatchedAll (λ _. W.saw_sender)
         station.old watch.old station.new watch.new h) }
 {

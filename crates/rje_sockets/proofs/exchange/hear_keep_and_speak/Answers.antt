@@ -8,6 +8,7 @@ use Rattle.rje_sockets.specs.OverLine.{HeardAndReplied}
 use Rattle.rje_sockets.proofs.Failing.{line_fails}
 use Rattle.rje_sockets.proofs.Keeping.{turn_kept}
 use Rattle.rje_sockets.proofs.LineBreak.{breaks}
+use Rattle.rje_sockets.proofs.NamedFiles.{station_names}
 use Rattle.rje_sockets.proofs.OverLine.{last_passed, over_owes, reply_passed}
 use Rattle.rje_sockets.proofs.Watched.{last_watched, reply_watched}
 use Rattle.rje_sockets.proofs.exchange.hear_keep_and_speak.Goals as goal
@@ -83,6 +84,7 @@ returns-in-Err-speak g c =
       goes_on = tt;
       kept = tt;
       status = line_fails fault _ _ _ c.in-Err-speak.ensures.cause;
+      names = station_names fault _ _;
       silent = λ never. absurd never;
       broken = inr (
         line_failed fault _ _ (g.L.Line.transmissions c.hear.new.line) (g.L.Line.transmissions c.speak.new.line) (search rules) c.in-Err-speak.ensures.cause c.in-Err-speak.ensures.tried ∙ ap one_more c.in_ok-reply.ensures.none,

@@ -26,5 +26,6 @@ returns g c = record {
             rw (w.store-is) (made_of (take kept jobs) jobs c.args.self.now.long name files (g.S.Store.files c.args.store.now) (none_left jobs kept all) some k.file)
       ];
   status = tt;
+  names = tt;
   same = tt;
 }

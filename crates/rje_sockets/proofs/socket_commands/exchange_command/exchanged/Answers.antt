@@ -1,9 +1,10 @@
-use Rattle.std.proofs.Common.{rules, inl, Err, ◌≡◌}
+use Rattle.std.proofs.Common.{rules, inl, Err, ◌≡◌, ◌⊎◌}
 use Rattle.rje_station.specs.Station.{first_contending}
 use Rattle.rje_station.specs.StationFault.{IsNewCause}
 use Rattle.rje_commands.specs.CommandFault.{of_station}
 use Rattle.rje_sockets.proofs.Exchanged.{exchanges_left, leaves_so}
 use Rattle.rje_sockets.proofs.Failing.{left_fails, not_refused, send_fails, station_fails}
+use Rattle.rje_sockets.proofs.NamedFiles.{both_names, station_names}
 use Rattle.rje_sockets.proofs.socket_commands.exchange_command.exchanged.Goals as goal
 
 pub returns : goal.returns
@@ -19,7 +20,8 @@ returns g c =
           c.in_ok-keeper.keeper f (g.S.Store.files c.read_outgoing.new.store) (g.S.Store.files c.keeper_beside.new.store) (g.S.Store.files c.exchange_files.new.store)
           (g.O.Write.contents c.args.out.now) (g.O.Write.contents c.exchange_files.new.out) out c.read_outgoing.ensures.same first
           c.in_ok-keeper.ensures.name c.in_ok-keeper.ensures.none c.in_ok-keeper.ensures.two c.in_ok-keeper.ensures.same c.exchange_files.ensures.exchanged;
-      fault = send_fails c.exchange_files.result c.args.send.now f fails;
+      fault = send_fails c.exchange_files.result (λ n. (n ≡ c.args.send.now) ⊎ (n ≡ c.args.received.now)) c.args.send.now f fails
+          (both_names c.exchange_files.result marker.name.now c.in_ok-keeper.keeper.name.now c.args.send.now c.args.received.now out.named c.in_ok-keeper.ensures.name c.exchange_files.ensures.names);
       files = leaves_so c.args.rank c.args.send.now c.args.received.now jobs c.in_ok-station.station marker c.in_ok-keeper.keeper f (g.S.Store.files c.read_outgoing.new.store)
           (g.S.Store.files c.keeper_beside.new.store) (g.S.Store.files c.exchange_files.new.store) out c.read_outgoing.ensures.same first
           c.in_ok-keeper.ensures.name c.in_ok-keeper.ensures.none c.in_ok-keeper.ensures.grows c.in_ok-keeper.ensures.two c.in_ok-keeper.ensures.same c.exchange_files.ensures.files;
@@ -33,4 +35,4 @@ returns-in_err-station-clause-fault g c =
     let fault = c.in_err-station.field-0.0 in
     let cause : IsNewCause jobs fault = rw c.as_slice.ensures.slice at c.in_err-station.ensures.refused in
     let is : c.from_residual-in_err-station.result ≡ Err (of_station fault) = search rules in
-    rw is (inl (station_fails c.in_ok-jobs.field-0.marker.file.items jobs fault c.in_ok-jobs.ensures.outgoing.left cause))
+    rw is (inl (station_fails c.in_ok-jobs.field-0.marker.file.items jobs fault c.in_ok-jobs.ensures.outgoing.left cause, station_names fault _ _))

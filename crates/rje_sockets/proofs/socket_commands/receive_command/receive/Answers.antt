@@ -22,3 +22,6 @@ returns-in_err-look_at_file-clause-kept g c =
 pub returns-in_default-clause-kept : goal.returns-in_default-clause-kept
 returns-in_default-clause-kept g c =
     keeps_nothing c.args.order.jobs.now (g.S.Store.files c.args.store.now) (g.S.Store.files c.look_at_file.new.store) (search rules)
+
+pub returns-in_default-clause-names : goal.returns-in_default-clause-names
+returns-in_default-clause-names g c = search rules

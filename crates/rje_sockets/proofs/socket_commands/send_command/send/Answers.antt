@@ -6,6 +6,7 @@ use Rattle.rje_commands.specs.Commands.{OfFile}
 use Rattle.rje_sockets.specs.Ending.{SendsLeft}
 use Rattle.rje_sockets.proofs.Failing.{left_fails, not_refused, send_fails, station_fails}
 use Rattle.rje_sockets.proofs.Marked.{begun_counts}
+use Rattle.rje_sockets.proofs.NamedFiles.{station_names, written_names}
 use Rattle.rje_sockets.proofs.Outgoing.{sends_outgoing}
 use Rattle.rje_sockets.proofs.OverLine.{over_connection}
 use Rattle.rje_sockets.proofs.socket_commands.send_command.send.Goals as goal
@@ -26,7 +27,7 @@ returns g c =
           (sends_outgoing c.transmit.result (None, _) (None, _) c.args.order.jobs.now jobs marker c.in_ok-station.station c.transmit.new.station f read made
           (g.O.Write.contents c.args.out.now) (g.O.Write.contents c.transmit.new.out) out c.read_outgoing.ensures.same first c.transmit.ensures.took c.transmit.ensures.ended
           c.transmit.ensures.printed c.transmit.ensures.marked);
-      fault = send_fails c.transmit.result c.args.order.jobs.now f fails;
+      fault = send_fails c.transmit.result (λ n. n ≡ c.args.order.jobs.now) c.args.order.jobs.now f fails (written_names c.transmit.result marker.name.now c.args.order.jobs.now out.named c.transmit.ensures.names);
       marked = begun_counts c.args.order.jobs.now jobs marker c.in_ok-station.station f read made out c.read_outgoing.ensures.same first c.transmit.ensures.count;
       files_kept = not_refused c.transmit.result _ fails;
       silent = not_refused c.transmit.result _ fails;
@@ -38,7 +39,10 @@ returns-in_err-station-clause-fault g c =
     let fault = c.in_err-station.field-0.0 in
     let cause : IsNewCause jobs fault = rw c.as_slice.ensures.slice at c.in_err-station.ensures.refused in
     let is : c.from_residual-in_err-station.result ≡ Err (of_station fault) = search rules in
-    rw is (inl (station_fails c.in_ok-jobs.field-0.marker.file.items jobs fault c.in_ok-jobs.ensures.outgoing.left cause))
+    rw is (inl (station_fails c.in_ok-jobs.field-0.marker.file.items jobs fault c.in_ok-jobs.ensures.outgoing.left cause, station_names fault _ _))
 
 pub returns-in_default-clause-marked : goal.returns-in_default-clause-marked
 returns-in_default-clause-marked g c = search rules
+
+pub returns-in_default-clause-fault : goal.returns-in_default-clause-fault
+returns-in_default-clause-fault g c = search rules
