@@ -61,6 +61,7 @@ fn whole_path<R: Files>(rt: &R, alloc: Global, name: &str) -> io::Result<Option<
 
 /// Looks whether a file can be made beside this one, and leaves none.
 pub(super) fn try_beside<R: Files>(rt: &R, alloc: Global, path: &str) -> io::Result<()> {
+    open_folder(rt, path)?;
     let beside = create_beside(rt, alloc, path)?;
     rt.remove_file(beside.path.as_str())
 }
@@ -73,6 +74,7 @@ pub(super) fn replace<R: Files>(
     mode: Option<Permissions>,
     bytes: &[u8],
 ) -> io::Result<()> {
+    let folder = open_folder(rt, path)?;
     let Beside {
         mut file,
         path: beside,
@@ -82,7 +84,7 @@ pub(super) fn replace<R: Files>(
         Err(error) => Err(error),
     };
     match done {
-        Ok(()) => sync_folder(rt, path),
+        Ok(()) => sync_folder(&folder),
         Err(error) => {
             let _ = rt.remove_file(beside.as_str());
             Err(error)
@@ -138,14 +140,20 @@ fn fill<F: Write + OpenFile>(
     file.sync_all()
 }
 
-/// Has the names in the folder of this file on disk.
-pub(super) fn sync_folder<R: Files>(rt: &R, path: &str) -> io::Result<()> {
+/// The folder of this file. It is opened before anything is written, since a name that was changed in a folder that can't be opened is not
+/// known to be on disk.
+pub(super) fn open_folder<R: Files>(rt: &R, path: &str) -> io::Result<R::File> {
     let folder = match path.rsplit_once('/') {
         Some(("", _)) => "/",
         Some((folder, _)) => folder,
         None => ".",
     };
-    match fs::open(rt, folder)?.sync_all() {
+    fs::open(rt, folder)
+}
+
+/// Has the names in this folder on disk.
+pub(super) fn sync_folder<F: OpenFile>(folder: &F) -> io::Result<()> {
+    match folder.sync_all() {
         // Some file systems keep no names to be put on disk.
         Err(error) if error.kind() == ErrorKind::InvalidInput => Ok(()),
         done => done,

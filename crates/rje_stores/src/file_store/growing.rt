@@ -4,7 +4,7 @@
 //! brought up to date from the first, changed and extended, put on disk, and renamed to the file's name, and the first stays as the older
 //! one, by a second name that it was given before. So a growth costs as much as its bytes and the last one's, whatever the file's length,
 //! and no bytes under the file's name are ever changed.
-use super::beside::{Beside, create_beside, link_beside, resolved, sync_folder};
+use super::beside::{Beside, create_beside, link_beside, open_folder, resolved, sync_folder};
 use std::alloc::Global;
 use std::fs::{self, OpenFile};
 use std::io::{self, ErrorKind, Read, Seek, SeekFrom, Write};
@@ -15,6 +15,7 @@ use std::rt::Files;
 pub(super) struct Growing<F: Drop> {
     name: String,
     path: String,
+    folder: F,
     newest: F,
     len: u64,
     // Made here, so that nobody else has a name for it.
@@ -38,6 +39,7 @@ impl<F: Read + Write + Seek + OpenFile + Drop> Growing<F> {
         name: &str,
     ) -> io::Result<Growing<F>> {
         let path = resolved(rt, alloc, name)?;
+        let folder = open_folder(rt, path.as_str())?;
         let newest = fs::open(rt, path.as_str())?;
         let found = newest.metadata()?;
         if !found.is_file() {
@@ -46,6 +48,7 @@ impl<F: Read + Write + Seek + OpenFile + Drop> Growing<F> {
         Ok(Growing {
             name: String::from_str(alloc, name)?,
             path,
+            folder,
             newest,
             len: found.len(),
             own: false,
@@ -63,6 +66,7 @@ impl<F: Read + Write + Seek + OpenFile + Drop> Growing<F> {
         let Growing {
             name: _,
             path: _,
+            folder: _,
             newest: _,
             len: _,
             own: _,
@@ -91,6 +95,7 @@ impl<F: Read + Write + Seek + OpenFile + Drop> Growing<F> {
         let Growing {
             name,
             path,
+            folder,
             mut newest,
             len,
             own,
@@ -105,13 +110,14 @@ impl<F: Read + Write + Seek + OpenFile + Drop> Growing<F> {
             None => first_copy(rt, alloc, path.as_str())?,
         };
         let second = match grown(&mut newest, len, &mut file, older_len, front, tail) {
-            Ok(()) => put_in_place(rt, alloc, path.as_str(), beside.as_str(), own),
+            Ok(()) => put_in_place(rt, alloc, &folder, path.as_str(), beside.as_str(), own),
             Err(error) => Err(error),
         };
         match second {
             Ok(second) => Ok(Growing {
                 name,
                 path,
+                folder,
                 newest: file,
                 len: len.saturating_add(tail.len() as u64),
                 own: true,
@@ -143,6 +149,7 @@ fn first_copy<R: Files>(rt: &R, alloc: Global, path: &str) -> io::Result<Older<R
 fn put_in_place<R: Files>(
     rt: &R,
     alloc: Global,
+    folder: &R::File,
     path: &str,
     beside: &str,
     own: bool,
@@ -153,7 +160,7 @@ fn put_in_place<R: Files>(
         None
     };
     let turned = match rt.rename(beside, path) {
-        Ok(()) => sync_folder(rt, path),
+        Ok(()) => sync_folder(folder),
         Err(error) => Err(error),
     };
     match turned {
