@@ -1,0 +1,4 @@
+pub mod Own
+pub mod Pieces
+pub mod Numbers
+pub mod Spelled

@@ -1,0 +1,5 @@
+pub mod Awaiting
+pub mod Handover
+pub mod Hearing
+pub mod Law
+pub mod Spelling

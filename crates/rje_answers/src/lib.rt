@@ -1,0 +1,21 @@
+//! Which answer belongs to what was said last over a connection, where nothing is lost and what crosses comes late.
+#![tactic(auto)]
+
+mod answers;
+mod awaiting;
+mod event;
+mod given;
+mod handover;
+mod laws;
+mod rest;
+mod said;
+mod spelling;
+mod taken;
+
+pub use answers::Answers;
+pub use event::Event;
+pub use given::Given;
+pub use handover::{Handed, Handover};
+pub use laws::{answers_are_own, machine_tells_no_answers_apart};
+pub use rest::Rest;
+pub use said::Said;
