@@ -41,9 +41,12 @@ pub enum CommandFault<'a> {
     /// A connection can't be had, or failed.
     #[error("line failed")]
     LineFailed,
-    /// More than 8,192 bytes came in one hearing, and no frame.
+    /// More than 8,192 bytes came in one hearing, and no frame; or more than 64 pieces before an answer.
     #[error("babble")]
     Babble,
+    /// An answer came after EOT was said: it belongs to something said earlier, and so may those before it.
+    #[error("answers out of step")]
+    OutOfStep,
     /// The file of this name can't be read.
     #[error("can't read {0}")]
     CannotRead(&'a str),
@@ -92,6 +95,7 @@ impl CommandFault<'_> {
             CommandFault::NoCommand => 2,
             CommandFault::LineFailed
             | CommandFault::Babble
+            | CommandFault::OutOfStep
             | CommandFault::CannotRead(_)
             | CommandFault::CannotWrite(_)
             | CommandFault::Output => 3,

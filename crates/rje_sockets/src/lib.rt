@@ -3,12 +3,15 @@
 
 mod both_ways;
 mod broken_off;
+mod connection;
 mod exchange;
 mod keeper;
 mod marker;
 mod over_sockets;
+mod parting;
 mod socket_commands;
 mod socket_line;
+mod timed_stream;
 mod tracer;
 mod watch;
 

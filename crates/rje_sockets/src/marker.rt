@@ -1,10 +1,11 @@
 //! Marks the jobs of a transmission in their file while they are counted.
-ghost use Rattle.std.specs.Prelude.{◌≡◌, ◌⊎◌, ◌+◌, ◌<◌, ℕ, List, Option, Some, true, false, IfErr, IfOk, IfSome, OnOk, OnErr};
+ghost use Rattle.std.specs.Prelude.{◌≡◌, ◌⊎◌, ◌+◌, ◌<◌, ℕ, List, Option, Some, Err, true, false, IfErr, IfOk, IfSome, OnOk, OnErr};
 ghost use Rattle.std.specs.List.{slice_get};
 ghost use Rattle.rje_jobs.specs.declared.job.Job.{Job};
 ghost use Rattle.rje_files.specs.Marks.{AreMarks};
 ghost use Rattle.rje_files.specs.Unsent.{IsLeft};
 ghost use Rattle.rje_commands.specs.CommandFault.{IsFailing, status_of};
+ghost use Rattle.rje_commands.specs.declared.command_fault.CommandFault.TheVariants.{OutOfStep};
 ghost use Rattle.rje_sockets.specs.Ending.{MarksSent};
 ghost use Rattle.rje_sockets.specs.Marking.{AreMarked, GoesOnMarking};
 ghost use Rattle.rje_sockets.specs.NamedFiles.{NamesWritten};
@@ -77,6 +78,28 @@ impl<'a> Marker<'a> {
     {
         let bytes = sent_file(self.alloc, self.file.as_slice(), counted)?;
         write_file(self.name, bytes.as_slice(), store)
+    }
+
+    /// Marks so many jobs in the whole file, as `write` does, where the answers were in step; else it is in doubt which were received, and no
+    /// more are marked.
+    pub fn finish<S: Store>(
+        &self,
+        counted: usize,
+        in_step: bool,
+        store: &mut S,
+    ) -> Result<(), CommandFault<'a>>
+        ensures marked { OnOk result (MarksSent self.now.file.items counted self.now.name.now
+            (S.files store.old) (S.files store.new)) }
+        ensures doubt { in_step ≡ false → result ≡ Err OutOfStep }
+        ensures status { IfErr result (λ fault. (jobs : List Job)
+            → IsLeft self.now.file.items jobs → IsFailing (status_of fault)) }
+        ensures names { IfErr result (NamesWritten self.now.name.now) }
+        ensures same { OnErr result (Discloses (S.files store.old) (S.files store.new) IsSame) }
+    {
+        match in_step {
+            true => self.write(counted, store),
+            false => Err(CommandFault::OutOfStep),
+        }
     }
 
     /// Makes another number of jobs marked.

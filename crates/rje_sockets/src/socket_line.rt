@@ -1,17 +1,34 @@
 //! A line over a connection.
-ghost use Rattle.std.specs.Prelude.{◌≡◌, ◌+◌, ◌-◌, ◌^◌, ◌≤◌, min, None, ⊤};
+ghost use Rattle.std.specs.Prelude.{◌≡◌, ◌+◌, ◌-◌, ◌^◌, ◌<◌, ◌≤◌, length, min, IfOk, None, ⊤};
 ghost use Rattle.std.specs.Io.{ReadsAtMost};
+ghost use Rattle.rje_station.specs.Line.{IsWithin};
 
-use bsc_codes::{DLE, STX};
-use rje_station::{Came, Line, LineFault};
+use crate::timed_stream::TimedStream;
+use bsc_codes::PAD;
+use bsc_link::{Rank, Reply};
+use rje_answers::{Answers, Given, Handed, Handover, Said};
+use rje_station::{Came, Line, LineFault, MAX_HEARD};
 use std::io::{self, ErrorKind, Read, Write};
-use std::net::OpenStream;
-use std::time::Duration;
+use std::net::{OpenStream, Shutdown};
+use std::time::{Clock, Duration};
 
 /// So many interruptions of one hearing are passed over.
 const MAX_INTERRUPTIONS: u32 = 1_000_000;
 
-/// A line over a stream whose reads and writes time out. It tells no bytes.
+/// The most bytes that are read at once where an answer is awaited.
+const MAX_PIECE: usize = 160;
+
+/// So many pieces come at most before an answer.
+const MAX_PIECES: u32 = 64;
+
+/// So many pieces, or times that none comes, are heard after the end before the other end has hung up.
+const MAX_LAST_PIECES: u32 = 16;
+
+/// So many milliseconds each of these is waited for.
+const LAST_WAIT: u64 = 250;
+
+/// A line over a stream whose reads and writes time out. It tells no bytes. What it gives where an answer is awaited is that answer, EOT, or
+/// the bid of an end to which it gives way, and else quiet: what crosses or comes late is no answer (crate `rje_answers`).
 #[derive(Drop)]
 pub struct SocketLine<S> {
     stream: S,
@@ -19,16 +36,18 @@ pub struct SocketLine<S> {
     transmissions: u64,
     failures: u64,
     last_fault: Option<LineFault>,
-    // Whether the answer to a text is awaited twice as long.
-    is_patient: bool,
-    // Whether such an answer is awaited now.
-    awaits: bool,
+    // Which answer belongs to what was said last.
+    answers: Answers,
+    // What was heard and waits for the station.
+    handover: Handover,
+    // Whether more came than one hearing takes, and no answer.
+    babbles: bool,
 }
 
 impl<S: OpenStream + Drop> SocketLine<S> {
-    /// A line over this connection, on which a hearing waits so many milliseconds, at least 1, for more bytes, and a transmission for the
-    /// peer to take its bytes.
-    pub fn new(stream: S, milliseconds: u16) -> io::Result<SocketLine<S>> {
+    /// A line over this connection for a station of this rank, on which a hearing waits so many milliseconds, at least 1, for more bytes, and
+    /// a transmission for the peer to take its bytes. A secondary gives way to a bid that crosses its own.
+    pub fn new(stream: S, milliseconds: u16, rank: Rank) -> io::Result<SocketLine<S>> {
         let time = Some(Duration::from_millis(u64::from(milliseconds)));
         stream.set_nodelay(true)?;
         stream.set_read_timeout(time)?;
@@ -38,17 +57,34 @@ impl<S: OpenStream + Drop> SocketLine<S> {
             transmissions: 0,
             failures: 0,
             last_fault: None,
-            is_patient: false,
-            awaits: false,
+            answers: Answers::new(rank == Rank::Secondary),
+            handover: Handover::new(),
+            babbles: false,
         })
     }
+}
 
-    /// The same line, on which the answer to a text is awaited for two hearings. A station answers a text that was spoiled only when its line
-    /// has been quiet for one: an answer to it would come just when a sender that waits no longer speaks again.
-    pub fn patient(self) -> SocketLine<S> {
-        let mut line = self;
-        line.is_patient = true;
-        line
+impl<S: OpenStream + Read> SocketLine<S> {
+    /// Says no more, and hears the other end out until it hangs up, for four seconds at most: whether no answer came after EOT was said, now or
+    /// before. One that came belongs to something said earlier, and what was counted may not have been received.
+    pub fn ends_in_step(&mut self) -> bool
+        ensures none { self.new.transmissions ≡ self.old.transmissions }
+    {
+        if self.answers.has_ended() && !self.answers.strayed() {
+            let _ = self.stream.shutdown(Shutdown::Write);
+            let _ = self
+                .stream
+                .set_read_timeout(Some(Duration::from_millis(LAST_WAIT)));
+            hear_out(&mut self.stream, &mut self.answers);
+        }
+        !self.answers.strayed()
+    }
+}
+
+impl<C: Clock, S> SocketLine<TimedStream<C, S>> {
+    /// How long it took from the first bid or answer to what came then, where something did.
+    pub fn waited(&self) -> Option<Duration> {
+        self.stream.waited()
     }
 }
 
@@ -81,7 +117,9 @@ impl<S: Read + Write> Line for SocketLine<S> {
 
     fn transmit(&mut self, bytes: &[u8]) -> Result<(), LineFault> {
         self.transmissions = self.transmissions.saturating_add(1);
-        self.awaits = self.is_patient && holds_text(bytes);
+        self.answers.say(Said::of(bytes));
+        self.handover.clear();
+        self.babbles = false;
         match self.stream.write_all(bytes) {
             Ok(()) => Ok(()),
             Err(_) => Err(self.failed(LineFault::Failed)),
@@ -89,29 +127,89 @@ impl<S: Read + Write> Line for SocketLine<S> {
     }
 
     fn listen(&mut self, piece: &mut [u8]) -> Result<Came, LineFault> {
-        let awaits = self.awaits;
-        self.awaits = false;
-        match read_twice(&mut self.stream, piece, awaits) {
-            Ok(0) => Err(self.failed(LineFault::Closed)),
-            Ok(count) => Ok(Came::Bytes(count)),
-            Err(error) if is_time_out(error.kind()) => Ok(Came::Quiet),
-            Err(_) => Err(self.failed(LineFault::Failed)),
+        if self.answers.awaits() && !self.babbles {
+            match await_answer(&mut self.stream, &mut self.answers) {
+                Ok(Given::Nothing) => self.babbles = true,
+                Ok(given) => self.handover.begin(given),
+                Err(fault) => return Err(self.failed(fault)),
+            }
+        }
+        if self.babbles {
+            piece.fill(PAD);
+            return Ok(Came::Bytes(piece.len()));
+        }
+        match self.handover.next(piece) {
+            Handed::Quiet => return Ok(Came::Quiet),
+            Handed::Bytes(count) => return Ok(Came::Bytes(count)),
+            Handed::Nothing => {}
+        }
+        match read_through(&mut self.stream, &mut self.answers, piece) {
+            Ok(came) => Ok(came),
+            Err(fault) => Err(self.failed(fault)),
         }
     }
 }
 
-/// Whether a transmission holds a text: whether STX, or DLE and STX, stand behind its two SYN.
-fn holds_text(bytes: &[u8]) -> bool {
-    matches!(bytes, [_, _, STX, ..] | [_, _, DLE, STX, ..])
+/// What is given of what comes where an answer is awaited: nothing, where more comes than one hearing takes.
+fn await_answer<S: Read>(stream: &mut S, answers: &mut Answers) -> Result<Given<Reply>, LineFault> {
+    let mut piece = [0; MAX_PIECE];
+    let mut taken: usize = 0;
+    for _ in 0..MAX_PIECES {
+        let given = match read_on(stream, &mut piece) {
+            Ok(0) => return Err(LineFault::Closed),
+            Ok(count) => {
+                taken = taken.saturating_add(count);
+                answers.hear(&piece[..count])
+            }
+            Err(error) if is_time_out(error.kind()) => answers.quiet(),
+            Err(_) => return Err(LineFault::Failed),
+        };
+        if given != Given::Nothing || taken > MAX_HEARD {
+            return Ok(given);
+        }
+    }
+    Ok(Given::Nothing)
 }
 
-/// Reads, and once more where the first read waited in vain and that is asked for.
-fn read_twice<S: Read>(stream: &mut S, piece: &mut [u8], twice: bool) -> io::Result<usize>
-    ensures { ReadsAtMost result piece.new }
+/// What comes where none is awaited, as it comes.
+fn read_through<S: Read>(
+    stream: &mut S,
+    answers: &mut Answers,
+    piece: &mut [u8],
+) -> Result<Came, LineFault>
+    requires room { 0 < length piece.old }
+    ensures within { IfOk result (λ came. IsWithin came (length piece.new)) }
 {
     match read_on(stream, piece) {
-        Err(error) if twice && is_time_out(error.kind()) => read_on(stream, piece),
-        answer => answer,
+        Ok(0) => Err(LineFault::Closed),
+        Ok(count) => {
+            // Only after EOT is an answer looked for that nobody awaits.
+            if answers.has_ended() {
+                answers.hear(&piece[..count]);
+            }
+            Ok(Came::Bytes(count))
+        }
+        Err(error) if is_time_out(error.kind()) => {
+            answers.quiet();
+            Ok(Came::Quiet)
+        }
+        Err(_) => Err(LineFault::Failed),
+    }
+}
+
+/// Hears what comes until the other end hangs up, or for long.
+fn hear_out<S: Read>(stream: &mut S, answers: &mut Answers) {
+    let mut piece = [0; MAX_PIECE];
+    for _ in 0..MAX_LAST_PIECES {
+        match read_on(stream, &mut piece) {
+            Ok(0) => return,
+            Ok(count) => answers.hear(&piece[..count]),
+            Err(error) if is_time_out(error.kind()) => answers.quiet(),
+            Err(_) => return,
+        };
+        if answers.strayed() {
+            return;
+        }
     }
 }
 

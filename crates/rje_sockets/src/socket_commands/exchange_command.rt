@@ -16,13 +16,14 @@ ghost use Rattle.rje_stores.specs.Store.{FileMap, Discloses, IsSame};
 ghost use Rattle.rje_stores.specs.declared.store.Place.TheVariants.{Growing};
 
 use crate::both_ways::exchange_all;
+use crate::connection::{TimedLine, accepted, connected, tell_if_short};
 use crate::exchange::Left;
 use crate::keeper::Keeper;
 use crate::marker::Marker;
+use crate::parting::{HearsOut, Leaves, Parting, parts_in_step};
 use crate::socket_commands::Ending;
-use crate::socket_commands::receive_command::{accepted, keep_rest, left_after};
-use crate::socket_commands::send_command::{Outgoing, connected, read_outgoing};
-use crate::socket_line::SocketLine;
+use crate::socket_commands::receive_command::{keep_rest, left_after};
+use crate::socket_commands::send_command::{Outgoing, read_outgoing};
 use crate::tracer::Tracer;
 use crate::watch::{Unwatched, Watch};
 use bsc_link::{Outcome, Rank};
@@ -65,12 +66,25 @@ pub fn exchange<'a, R: Net + Clock, S: Store, O: Write, E: Write>(
     let Outgoing { jobs, marker } = read_outgoing(alloc, order.send, store)?;
     let station = Station::new(alloc, rank_of(order.place), jobs.as_slice())?;
     let keeper = keeper_beside(alloc, order.send, order.received, store)?;
-    let Ok((mut line, peer)) = met(rt, order.place, order.timeout) else {
+    let Ok((mut line, peer)) = met(rt, order.place, order.timeout, err) else {
         return Err(CommandFault::LineFailed);
     };
-    let mut tracer = Tracer::new(rt, order.trace, err);
+    let mut tracer = Tracer::new(rt, order.trace, &mut *err);
     tracer.connected(peer);
-    exchange_files(station, marker, keeper, &mut line, store, &mut tracer, out)
+    let ending = exchange_files(
+        station,
+        marker,
+        keeper,
+        &mut line,
+        &HearsOut,
+        store,
+        &mut tracer,
+        out,
+    );
+    if matches!(order.place, Meeting::Listens(_)) {
+        tell_if_short(order.timeout, "the peer", line.waited(), err);
+    }
+    ending
 }
 
 /// Exchanges over a line what is left of the job file of one name for the other station's jobs, which go into the file of another name.
@@ -131,7 +145,16 @@ fn exchanged<'a, L: Line, S: Store, O: Write>(
     let Outgoing { jobs, marker } = read_outgoing(alloc, send, store)?;
     let station = Station::new(alloc, rank, jobs.as_slice())?;
     let keeper = keeper_beside(alloc, send, received, store)?;
-    exchange_files(station, marker, keeper, line, store, &mut Unwatched, out)
+    exchange_files(
+        station,
+        marker,
+        keeper,
+        line,
+        &Leaves,
+        store,
+        &mut Unwatched,
+        out,
+    )
 }
 
 /// Keeps jobs in the file of one name, which is not that of the other.
@@ -155,12 +178,14 @@ fn keeper_beside<'a, S: Store>(
 }
 
 /// Exchanges over a line what the station has for what comes. At the end it marks what was counted in the whole file, keeps what is left of
-/// what came, and prints the lines of both.
-fn exchange_files<'a, 'b, L: Line, S: Store, W: Watch, O: Write>(
+/// what came, and prints the lines of both. Where an answer came after the end of its own transmission, it is in doubt what was received, and
+/// nothing more is marked.
+fn exchange_files<'a, 'b, L: Line, P: Parting<L>, S: Store, W: Watch, O: Write>(
     mut station: Station<'b>,
     mut marker: Marker<'a>,
     mut keeper: Keeper<'a>,
     line: &mut L,
+    parting: &P,
     store: &mut S,
     watch: &mut W,
     out: &mut O,
@@ -186,7 +211,8 @@ fn exchange_files<'a, 'b, L: Line, S: Store, W: Watch, O: Write>(
     let outcome = station.sender().outcome();
     let counted = station.sender().counted();
     let lines = lines_of_both(counted, given, outcome, station.receiver().jobs());
-    let marked = marker.write(counted, store);
+    let in_step = parts_in_step(left.is_ok(), line, parting);
+    let marked = marker.finish(counted, in_step, store);
     let kept = keep_rest(&left, &mut keeper, station.take(), store);
     let printed = put_lines(&lines, out);
     left_after(left, marked.and(kept), printed).map(|left| ending_of_both(outcome, left))
@@ -218,21 +244,16 @@ fn rank_of(place: Meeting) -> Rank
     }
 }
 
-/// A patient line to the other end, and its address.
-fn met<R: Net>(
-    rt: &R,
+/// A line to the other end, and its address.
+fn met<'r, R: Net + Clock, E: Write>(
+    rt: &'r R,
     place: Meeting,
     timeout: u16,
-) -> io::Result<(SocketLine<R::Stream>, SocketAddr)> {
+    err: &mut E,
+) -> io::Result<(TimedLine<'r, R>, SocketAddr)> {
     match place {
-        Meeting::Calls(address) => {
-            let line = connected(rt, address, timeout)?;
-            Ok((line.patient(), address))
-        }
-        Meeting::Listens(address) => {
-            let (line, peer) = accepted(rt, address, timeout)?;
-            Ok((line.patient(), peer))
-        }
+        Meeting::Calls(address) => Ok((connected(rt, address, timeout, err)?, address)),
+        Meeting::Listens(address) => accepted(rt, address, timeout),
     }
 }
 

@@ -17,7 +17,7 @@ use crate::socket_commands::Ending;
 use crate::socket_line::SocketLine;
 use crate::tracer::Tracer;
 use crate::watch::Watch;
-use bsc_link::Outcome;
+use bsc_link::{Outcome, Rank};
 use rje_commands::{CommandFault, put_lines, read_job_file};
 use rje_jobs::Job;
 use rje_orders::LoopOrder;
@@ -123,7 +123,7 @@ fn both_ends<R: Net>(
     let near = TcpStream::connect(rt, listener.local_addr()?)?;
     let (far, _) = listener.accept()?;
     Ok((
-        SocketLine::new(near, timeout)?,
-        SocketLine::new(far, timeout)?,
+        SocketLine::new(near, timeout, Rank::Primary)?,
+        SocketLine::new(far, timeout, Rank::Secondary)?,
     ))
 }

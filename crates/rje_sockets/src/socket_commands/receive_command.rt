@@ -11,10 +11,10 @@ ghost use Rattle.rje_sockets.specs.OverLine.{OverConnection};
 ghost use Rattle.rje_stores.specs.Store.{FileMap, Discloses, IsSame};
 
 use crate::broken_off::BrokenOff;
+use crate::connection::{accepted, tell_if_short};
 use crate::exchange::{Left, receive_all};
 use crate::keeper::Keeper;
 use crate::socket_commands::Ending;
-use crate::socket_line::SocketLine;
 use crate::tracer::Tracer;
 use crate::watch::{Unwatched, Watch};
 use rje_commands::{CommandFault, look_at_file, put, tell};
@@ -24,8 +24,8 @@ use rje_print::handed_text;
 use rje_station::{Line, ReceivingStation};
 use rje_stores::Store;
 use std::alloc::Global;
-use std::io::{self, Write};
-use std::net::{Net, OpenListener, SocketAddr, TcpListener};
+use std::io::Write;
+use std::net::Net;
 use std::time::Clock;
 
 /// Looks whether the job file can be written, takes one connection at this address and one transmission, writes its jobs into the file
@@ -51,20 +51,11 @@ pub fn receive<'a, R: Net + Clock, S: Store, O: Write, E: Write>(
     let Ok((mut line, peer)) = accepted(rt, order.address, order.timeout) else {
         return Err(CommandFault::LineFailed);
     };
-    let mut tracer = Tracer::new(rt, order.trace, err);
+    let mut tracer = Tracer::new(rt, order.trace, &mut *err);
     tracer.connected(peer);
-    received(alloc, &mut line, order.jobs, store, &mut tracer, out)
-}
-
-/// A line to whoever connects first, and the peer's address.
-pub(super) fn accepted<R: Net>(
-    rt: &R,
-    address: SocketAddr,
-    timeout: u16,
-) -> io::Result<(SocketLine<R::Stream>, SocketAddr)> {
-    let listener = TcpListener::bind(rt, address)?;
-    let (stream, peer) = listener.accept()?;
-    Ok((SocketLine::new(stream, timeout)?, peer))
+    let ending = received(alloc, &mut line, order.jobs, store, &mut tracer, out);
+    tell_if_short(order.timeout, "the peer", line.waited(), err);
+    ending
 }
 
 /// Receives one transmission over a line into the job file of this name, also where the line fails, and prints how many jobs there are.

@@ -16,10 +16,11 @@ ghost use Rattle.rje_sockets.specs.NamedFiles.{NamesOne, NamesWritten};
 ghost use Rattle.rje_sockets.specs.OverLine.{OverConnection, SendsOver};
 ghost use Rattle.rje_sockets.specs.Watching.{SenderWatchedAll};
 
+use crate::connection::connected;
 use crate::exchange::send_all;
 use crate::marker::Marker;
+use crate::parting::{HearsOut, Leaves, Parting, parts_in_step};
 use crate::socket_commands::Ending;
-use crate::socket_line::SocketLine;
 use crate::tracer::Tracer;
 use crate::watch::{Unwatched, Watch};
 use bsc_link::Outcome;
@@ -31,9 +32,9 @@ use rje_print::{counted_text, outcome_text};
 use rje_station::{Line, SendingStation};
 use rje_stores::Store;
 use std::alloc::Global;
-use std::io::{self, Write};
-use std::net::{Net, SocketAddr, TcpStream};
-use std::time::{Clock, Duration};
+use std::io::Write;
+use std::net::Net;
+use std::time::Clock;
 
 /// Sends the jobs of a job file that were not sent to this address, marks those that were counted, and prints how many there are and how
 /// it ended. Where that is asked for, who is connected and each turn is told to `err` as it happens.
@@ -58,7 +59,7 @@ pub fn send<'a, R: Net + Clock, S: Store, O: Write, E: Write>(
 {
     let Outgoing { jobs, mut marker } = read_outgoing(alloc, order.jobs, store)?;
     let mut station = SendingStation::new(alloc, jobs.as_slice())?;
-    let Ok(mut line) = connected(rt, order.address, order.timeout) else {
+    let Ok(mut line) = connected(rt, order.address, order.timeout, err) else {
         return Err(CommandFault::LineFailed);
     };
     let mut tracer = Tracer::new(rt, order.trace, err);
@@ -67,6 +68,7 @@ pub fn send<'a, R: Net + Clock, S: Store, O: Write, E: Write>(
         &mut station,
         &mut marker,
         &mut line,
+        &HearsOut,
         store,
         &mut tracer,
         out,
@@ -121,7 +123,15 @@ fn sent<'a, L: Line, S: Store, O: Write>(
 {
     let Outgoing { jobs, mut marker } = read_outgoing(alloc, name, store)?;
     let mut station = SendingStation::new(alloc, jobs.as_slice())?;
-    transmit(&mut station, &mut marker, line, store, &mut Unwatched, out)
+    transmit(
+        &mut station,
+        &mut marker,
+        line,
+        &Leaves,
+        store,
+        &mut Unwatched,
+        out,
+    )
 }
 
 /// What is left to send of a job file, and what marks it there.
@@ -172,20 +182,13 @@ fn unsent_of<'a>(alloc: Global, file: &[u8]) -> Result<Unsent, CommandFault<'a>>
     Ok(Unsent { jobs, places })
 }
 
-pub(super) fn connected<R: Net>(
-    rt: &R,
-    address: SocketAddr,
-    timeout: u16,
-) -> io::Result<SocketLine<R::Stream>> {
-    let time = Duration::from_millis(u64::from(timeout));
-    SocketLine::new(TcpStream::connect_timeout(rt, &address, time)?, timeout)
-}
-
-/// Sends what the station has over a line, marks what is counted, at the end in the whole file, and prints the lines of it.
-fn transmit<'a, L: Line, S: Store, W: Watch, O: Write>(
+/// Sends what the station has over a line, marks what is counted, at the end in the whole file, and prints the lines of it. Where an answer
+/// came after the end, it is in doubt what was received, and nothing more is marked.
+fn transmit<'a, L: Line, P: Parting<L>, S: Store, W: Watch, O: Write>(
     station: &mut SendingStation,
     marker: &mut Marker<'a>,
     line: &mut L,
+    parting: &P,
     store: &mut S,
     watch: &mut W,
     out: &mut O,
@@ -211,8 +214,9 @@ fn transmit<'a, L: Line, S: Store, W: Watch, O: Write>(
 {
     let given = station.jobs().len();
     let sent = send_all(station, line, marker, store, watch);
+    let in_step = parts_in_step(sent.is_ok(), line, parting);
     let counted = station.counted();
-    let marked = marker.write(counted, store);
+    let marked = marker.finish(counted, in_step, store);
     let outcome = station.outcome();
     let printed = print_sent(counted, given, outcome, out);
     sent?;

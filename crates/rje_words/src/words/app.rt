@@ -288,7 +288,9 @@ fn timeout<'a>(alloc: Global) -> Arg<'a>
         .action(ArgAction::Set)
         .value_parser(value_parser!(u16).range(1..=60000))
         .default_value("3000")
-        .help("How long a hearing waits for more bytes, 1 to 60000 milliseconds")
+        .help(
+            "How long a hearing waits for more bytes, 1 to 60000 milliseconds; both ends take the same, longer than a round trip and a sync of the other end's disk",
+        )
 }
 
 fn trace<'a>(alloc: Global) -> Arg<'a>

@@ -98,7 +98,7 @@ fn a_peer_that_leaves_within_a_block_fails_the_line(rt: HostRuntime) -> Result<(
     near.write_all(b"\x32\x32\x2D\xFF")?;
     near.write_all(b"\x32\x32\x02\xC1\x1E")?;
     near.shutdown(Shutdown::Write)?;
-    let mut line = SocketLine::new(far, 200)?;
+    let mut line = SocketLine::new(far, 200, Rank::Secondary)?;
     let mut store = MemoryStore::new(rt.alloc());
     let text = b"handed 0 jobs, 0 whole\n";
     assert_receives(&rt, &mut line, &mut store, 3, text, b"rje: line failed\n");

@@ -9,7 +9,7 @@ pub returns-clause-marked : goal.returns-clause-marked
 returns-clause-marked g c =
     let f = g.S.Store.files c.args.store.now in
     let mid = g.S.Store.files c.send_all-sent.new.store in
-    let made = g.S.Store.files c.write-marked.new.store in
+    let made = g.S.Store.files c.finish-marked.new.store in
     let old = c.args.marker.now in
     let new = c.send_all-sent.new.marker in
     let station = c.send_all-sent.new.station in
@@ -31,48 +31,48 @@ pub returns-in_err-sent-clause-count : goal.returns-in_err-sent-clause-count
 returns-in_err-sent-clause-count g c =
     let f = g.S.Store.files c.args.store.now in
     let mid = g.S.Store.files c.send_all-sent.new.store in
-    let made = g.S.Store.files c.write-marked.new.store in
+    let made = g.S.Store.files c.finish-marked.new.store in
     let old = c.args.marker.now in
     let new = c.send_all-sent.new.marker in
     let station = c.send_all-sent.new.station in
-    let sets : OnOk c.write-marked.result (MarksSent new.file.items station.counted new.name.now mid made) = rw c.counted-counted.ensures at c.write-marked.ensures.marked in
-    counted_alone {X = ℕ} (Err c.in_err-sent.field-0.0) c.write-marked.result old new c.args.station.now station f mid made tt c.in_err-sent.ensures.broken c.in_err-sent.ensures.count
-    tt c.in_err-sent.ensures.fault sets c.write-marked.ensures.same
+    let sets : OnOk c.finish-marked.result (MarksSent new.file.items station.counted new.name.now mid made) = rw c.counted-counted.ensures at c.finish-marked.ensures.marked in
+    counted_alone {X = ℕ} (Err c.in_err-sent.field-0.0) c.finish-marked.result old new c.args.station.now station f mid made tt (rw c.in_err-sent.was at c.send_all-sent.ensures.broken) c.send_all-sent.ensures.count
+    tt (rw c.in_err-sent.was at c.send_all-sent.ensures.fault) sets c.finish-marked.ensures.same
 
 pub returns-in_err-marked-clause-count : goal.returns-in_err-marked-clause-count
 returns-in_err-marked-clause-count g c =
     let f = g.S.Store.files c.args.store.now in
     let mid = g.S.Store.files c.send_all-sent.new.store in
-    let made = g.S.Store.files c.write-marked.new.store in
+    let made = g.S.Store.files c.finish-marked.new.store in
     let old = c.args.marker.now in
     let new = c.send_all-sent.new.marker in
     let station = c.send_all-sent.new.station in
-    counted_alone {Y = ℕ} (Ok c.in_ok-sent.field-0) (Err c.in_err-marked.field-0.0) old new c.args.station.now station f mid made c.in_ok-sent.ensures.marked tt c.in_ok-sent.ensures.count
-    (counted_over _ _ _ _ c.in_ok-sent.ensures.took) tt tt c.in_err-marked.ensures.same
+    counted_alone {Y = ℕ} (Ok c.in_ok-sent.field-0) (Err c.in_err-marked.field-0.0) old new c.args.station.now station f mid made (rw c.in_ok-sent.was at c.send_all-sent.ensures.marked) tt c.send_all-sent.ensures.count
+    (counted_over _ _ _ _ (rw c.in_ok-sent.was at c.send_all-sent.ensures.took)) tt tt c.in_err-marked.ensures.same
 
 pub returns-in_err-printed-clause-count : goal.returns-in_err-printed-clause-count
 returns-in_err-printed-clause-count g c =
     let f = g.S.Store.files c.args.store.now in
     let mid = g.S.Store.files c.send_all-sent.new.store in
-    let made = g.S.Store.files c.write-marked.new.store in
+    let made = g.S.Store.files c.finish-marked.new.store in
     let old = c.args.marker.now in
     let new = c.send_all-sent.new.marker in
     let station = c.send_all-sent.new.station in
     let sets : MarksSent new.file.items station.counted new.name.now mid made = rw c.counted-counted.ensures at c.in_ok-marked.ensures.marked in
-    counted_alone (Ok c.in_ok-sent.field-0) (Ok c.in_ok-marked.field-0) old new c.args.station.now station f mid made c.in_ok-sent.ensures.marked tt c.in_ok-sent.ensures.count
-    (counted_over _ _ _ _ c.in_ok-sent.ensures.took) tt sets tt
+    counted_alone (Ok c.in_ok-sent.field-0) (Ok c.in_ok-marked.field-0) old new c.args.station.now station f mid made (rw c.in_ok-sent.was at c.send_all-sent.ensures.marked) tt c.send_all-sent.ensures.count
+    (counted_over _ _ _ _ (rw c.in_ok-sent.was at c.send_all-sent.ensures.took)) tt sets tt
 
 pub returns-clause-count : goal.returns-clause-count
 returns-clause-count g c =
     let f = g.S.Store.files c.args.store.now in
     let mid = g.S.Store.files c.send_all-sent.new.store in
-    let made = g.S.Store.files c.write-marked.new.store in
+    let made = g.S.Store.files c.finish-marked.new.store in
     let old = c.args.marker.now in
     let new = c.send_all-sent.new.marker in
     let station = c.send_all-sent.new.station in
     let sets : MarksSent new.file.items station.counted new.name.now mid made = rw c.counted-counted.ensures at c.in_ok-marked.ensures.marked in
-    counted_alone (Ok c.in_ok-sent.field-0) (Ok c.in_ok-marked.field-0) old new c.args.station.now station f mid made c.in_ok-sent.ensures.marked tt c.in_ok-sent.ensures.count
-    (counted_over _ _ _ _ c.in_ok-sent.ensures.took) tt sets tt
+    counted_alone (Ok c.in_ok-sent.field-0) (Ok c.in_ok-marked.field-0) old new c.args.station.now station f mid made (rw c.in_ok-sent.was at c.send_all-sent.ensures.marked) tt c.send_all-sent.ensures.count
+    (counted_over _ _ _ _ (rw c.in_ok-sent.was at c.send_all-sent.ensures.took)) tt sets tt
 
 pub returns-clause-printed : goal.returns-clause-printed
 returns-clause-printed g c = search rules

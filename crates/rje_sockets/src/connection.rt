@@ -1,0 +1,60 @@
+//! Connections, and whether the time-out is longer than they take.
+use crate::socket_line::SocketLine;
+use crate::timed_stream::TimedStream;
+use bsc_link::Rank;
+use std::io::{self, Write};
+use std::net::{Net, OpenListener, SocketAddr, TcpListener, TcpStream};
+use std::time::{Clock, Duration, Instant};
+
+/// So many milliseconds a connection is waited for at least.
+const MIN_CONNECTING: u16 = 3000;
+
+/// A line over a connection that notes how long the first answer took.
+pub(crate) type TimedLine<'r, R> = SocketLine<TimedStream<&'r R, <R as Net>::Stream>>;
+
+/// Calls the other end at this address, for a station of this rank. Where that takes as long as a hearing waits or longer, it is told to `err`:
+/// then answers come too late.
+pub(crate) fn connected<'r, R: Net + Clock, E: Write>(
+    rt: &'r R,
+    address: SocketAddr,
+    timeout: u16,
+    err: &mut E,
+) -> io::Result<TimedLine<'r, R>> {
+    let start = Instant::now(rt).ok();
+    let longest = Duration::from_millis(u64::from(timeout.max(MIN_CONNECTING)));
+    let stream = TcpStream::connect_timeout(rt, &address, longest)?;
+    let took = start.and_then(|start| start.elapsed(rt).ok());
+    tell_if_short(timeout, "the connection", took, err);
+    SocketLine::new(TimedStream::new(rt, stream), timeout, Rank::Primary)
+}
+
+/// Waits at this address for whoever connects first, and answers the peer's address too.
+pub(crate) fn accepted<'r, R: Net + Clock>(
+    rt: &'r R,
+    address: SocketAddr,
+    timeout: u16,
+) -> io::Result<(TimedLine<'r, R>, SocketAddr)> {
+    let listener = TcpListener::bind(rt, address)?;
+    let (stream, peer) = listener.accept()?;
+    let line = SocketLine::new(TimedStream::new(rt, stream), timeout, Rank::Secondary)?;
+    Ok((line, peer))
+}
+
+/// Tells in one line where something took as long as a hearing waits, or longer. A line that can't be written is left out.
+pub(crate) fn tell_if_short<E: Write>(
+    timeout: u16,
+    what: &str,
+    took: Option<Duration>,
+    err: &mut E,
+) {
+    let Some(took) = took else {
+        return;
+    };
+    if took >= Duration::from_millis(u64::from(timeout)) {
+        let time = took.as_millis();
+        let _ = writeln!(
+            err,
+            "rje: time-out of {timeout} ms is short: {what} took {time} ms"
+        );
+    }
+}
