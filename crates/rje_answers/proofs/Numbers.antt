@@ -1,11 +1,18 @@
 -- No end is told the numbers of its answers.
-use Rattle.std.proofs.Common.{◌≡◌, refl, true, false, ◌&&◌, not, Option, Some, None, inl, inr}
+use Rattle.std.proofs.Common.{◌≡◌, refl, true, false, ◌&&◌, not, Option, Some, None, inl, inr, ap, ◌+◌, nat_lt}
 use Rattle.std.proofs.lemmas.Bool.{cases_Bool}
 use Rattle.rje_answers.specs.declared.event.Event.{Event}
 use Rattle.rje_answers.specs.declared.given.Given.{Given}
 use Rattle.rje_answers.specs.declared.rest.Rest.{Rest}
-use Rattle.rje_answers.specs.Awaiting.{Kept, kept_after, given_at, has_answer, takes_bid, is_over, settled, louder}
+use Rattle.rje_answers.specs.Awaiting.{Kept, kept_after, given_at, has_answer, takes_bid, hearings, is_over, settled, louder}
 use Rattle.rje_answers.specs.Law.{Answer, TellsNoNumbers, without_number, given_without, held_without, kept_without}
+
+hearings_same : (h : Option Answer) → hearings (held_without h) ≡ hearings h
+hearings_same None = refl
+hearings_same (Some a) = refl
+
+over_same : (k : Kept Answer) → is_over (kept_without k) ≡ is_over k
+over_same k = ap (λ n. not (nat_lt (k.vain + 1) n)) (hearings_same k.held)
 
 two_same : (k : Kept Answer) (h : Option Answer)
     → (elim (held_without h) [ None ↦ record (settled (kept_without k)) { is_late = true } | Some a ↦ record (settled (kept_without k)) { is_late = false } ])
@@ -29,7 +36,7 @@ kept_same Event.Bid k = elim (cases_Bool (takes_bid k)) [ inl e ↦ rw e refl | 
 kept_same Event.End k = elim (cases_Bool (has_answer k.said)) [ inl e ↦ rw e refl | inr e ↦ rw e refl ]
 kept_same Event.Text k = refl
 kept_same (Event.Vain heard) k = elim (cases_Bool (has_answer k.said)) [
-  | inl e ↦ elim (cases_Bool (is_over k)) [ inl o ↦ rw (e, o) (two_same k k.held) | inr o ↦ rw (e, o) refl ]
+  | inl e ↦ elim (cases_Bool (is_over k)) [ inl o ↦ rw (e, over_same k, o) (two_same k k.held) | inr o ↦ rw (e, over_same k, o) refl ]
   | inr e ↦ rw e refl
 ]
 
@@ -40,7 +47,7 @@ given_same Event.Bid k = elim (cases_Bool (takes_bid k)) [ inl e ↦ rw e refl |
 given_same Event.End k = elim (cases_Bool (has_answer k.said)) [ inl e ↦ rw e refl | inr e ↦ rw e refl ]
 given_same Event.Text k = refl
 given_same (Event.Vain heard) k = elim (cases_Bool (has_answer k.said)) [
-  | inl e ↦ elim (cases_Bool (is_over k)) [ inl o ↦ rw (e, o) (given_two_same heard k k.held) | inr o ↦ rw (e, o) refl ]
+  | inl e ↦ elim (cases_Bool (is_over k)) [ inl o ↦ rw (e, over_same k, o) (given_two_same heard k k.held) | inr o ↦ rw (e, over_same k, o) refl ]
   | inr e ↦ rw e refl
 ]
 

@@ -6,7 +6,7 @@ use Rattle.rje_answers.specs.declared.event.Event.{Event}
 use Rattle.rje_answers.specs.declared.given.Given.{Given}
 use Rattle.rje_answers.specs.declared.rest.Rest.{Rest}
 use Rattle.rje_answers.specs.declared.said.Said.{Said}
-use Rattle.rje_answers.specs.Awaiting.{Kept, given_at, has_answer, takes_bid, is_over, settled, after_saying, after_answer, after_end, after_two, after_vain}
+use Rattle.rje_answers.specs.Awaiting.{Kept, given_at, has_answer, takes_bid, is_over, settled, after_saying, after_answer, after_end, after_last, after_vain, hearings}
 use Rattle.rje_answers.specs.Law.{Answer, Events, kept_of, things, vain_since, answered, AllHappen, GivesOwnAnswers, ComesWhereAwaited}
 
 -- What an end keeps that has said n things, of which the first m can't be answered any more, with so many hearings in vain since each: only the
@@ -91,15 +91,16 @@ fits_first heard s n m vains fits = record {
 }
 
 -- a second one: nothing can be answered any more
-over_two : (s : Kept Answer) (n m : ℕ) (vains : ℕ → ℕ) → Fits s n m vains → 2 ≤ s.vain + 1
+over_two : (s : Kept Answer) (n m : ℕ) (vains : ℕ → ℕ) → Fits s n m vains → hearings s.held ≤ s.vain + 1
     → (k : ℕ) → m ≤ k → k < n → vains k + 1 < 2 → ⊥
 over_two s n m vains fits two k from below soon =
     let due = fits.due k from below (omega (arith, soon)) in
     let last : n - 1 ≡ k = omega (arith, due.0) in
     let vain : s.vain ≤ vains k = rw last at fits.vain due.1 due.2 in
-    absurd (omega (arith, vain, soon, two))
+    let over : 2 ≤ s.vain + 1 = rw due.2 at two in
+    absurd (omega (arith, vain, soon, over))
 
-fits_second : (s : Kept Answer) (n m : ℕ) (vains : ℕ → ℕ) → Fits s n m vains → 2 ≤ s.vain + 1 → Fits (after_two s) n m (λ k. vains k + 1)
+fits_second : (s : Kept Answer) (n m : ℕ) (vains : ℕ → ℕ) → Fits s n m vains → hearings s.held ≤ s.vain + 1 → Fits (after_last s) n m (λ k. vains k + 1)
 fits_second s n m vains fits two = elim (s.held) as (λ h. Fits (elim h [ None ↦ record (settled s) { is_late = true } | Some a ↦ record (settled s) { is_late = false } ]) n m (λ k. vains k + 1)) [
   | None ↦ record {
     due = λ k from below soon. absurd (over_two s n m vains fits two k from below soon);
@@ -115,9 +116,9 @@ fits_second s n m vains fits two = elim (s.held) as (λ h. Fits (elim h [ None �
 
 fits_vain : (heard : Rest) (s : Kept Answer) (n m : ℕ) (vains : ℕ → ℕ) → Fits s n m vains → Fits (after_vain heard s) n m (λ k. vains k + 1)
 fits_vain heard s n m vains fits = elim (cases_Bool (has_answer s.said)) [
-  | inl e ↦ elim (cases_lt (s.vain + 1) 2) [
-    | inl less ↦ rw (e, lt-ltb (s.vain + 1) 2 less) (fits_first _ s n m vains fits)
-    | inr two ↦ rw (e, le-ltb (s.vain + 1) 2 two) (fits_second s n m vains fits two)
+  | inl e ↦ elim (cases_lt (s.vain + 1) (hearings s.held)) [
+    | inl less ↦ rw (e, lt-ltb (s.vain + 1) (hearings s.held) less) (fits_first _ s n m vains fits)
+    | inr two ↦ rw (e, le-ltb (s.vain + 1) (hearings s.held) two) (fits_second s n m vains fits two)
   ]
   | inr e ↦ rw e record {
     due = λ k from below soon. absurd (true≢false (sym (fits.due k from below (omega (arith, soon))).1 ∙ e));

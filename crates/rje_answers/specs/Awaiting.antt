@@ -69,9 +69,15 @@ abbrev pub louder : Rest → Rest → Rest
 louder Rest.Quiet before = before
 louder heard before = heard
 
--- nothing more is awaited after a second hearing in vain
+-- For so many hearings in vain an answer is awaited, and where one is held so many are quiet after it: things are said two hearings apart, or
+-- three where a secondary listens before it bids again, and their answers may come as far apart.
+abbrev pub hearings : {A : Type 0} → Option A → ℕ
+hearings None = 2
+hearings (Some a) = 4
+
+-- nothing more is awaited after this hearing in vain
 abbrev pub is_over : {A : Type 0} → Kept A → Bool
-is_over k = not (nat_lt (k.vain + 1) 2)
+is_over k = not (nat_lt (k.vain + 1) (hearings k.held))
 
 -- THE TABLE: what is kept after an event, and what the station is given
 
@@ -100,18 +106,18 @@ after_end k = if has_answer k.said then settled k else k
 abbrev pub given_end : {A : Type 0} → Kept A → Given A
 given_end k = if has_answer k.said then Given.End else Given.Nothing
 
--- a hearing in vain: with the second one the answer that is held counts, or none came, and the next may be late
-abbrev pub after_two : {A : Type 0} → Kept A → Kept A
-after_two k = elim k.held [ None ↦ record (settled k) { is_late = true } | Some a ↦ record (settled k) { is_late = false } ]
+-- a hearing in vain: with the last one the answer that is held counts, or none came, and the next may be late
+abbrev pub after_last : {A : Type 0} → Kept A → Kept A
+after_last k = elim k.held [ None ↦ record (settled k) { is_late = true } | Some a ↦ record (settled k) { is_late = false } ]
 
 abbrev pub after_vain : {A : Type 0} → Rest → Kept A → Kept A
-after_vain heard k = if has_answer k.said then (if is_over k then after_two k else record k { vain = k.vain + 1; rest = louder heard k.rest }) else k
+after_vain heard k = if has_answer k.said then (if is_over k then after_last k else record k { vain = k.vain + 1; rest = louder heard k.rest }) else k
 
-abbrev pub given_two : {A : Type 0} → Rest → Kept A → Given A
-given_two heard k = elim k.held [ None ↦ Given.InVain (louder heard k.rest) | Some a ↦ Given.Answer a ]
+abbrev pub given_last : {A : Type 0} → Rest → Kept A → Given A
+given_last heard k = elim k.held [ None ↦ Given.InVain (louder heard k.rest) | Some a ↦ Given.Answer a ]
 
 abbrev pub given_vain : {A : Type 0} → Rest → Kept A → Given A
-given_vain heard k = if has_answer k.said then (if is_over k then given_two heard k else Given.Nothing) else Given.Nothing
+given_vain heard k = if has_answer k.said then (if is_over k then given_last heard k else Given.Nothing) else Given.Nothing
 
 abbrev pub kept_after : {A : Type 0} → Event A → Kept A → Kept A
 kept_after (Event.Says said) k = after_saying said k

@@ -2,14 +2,18 @@
 ghost use Rattle.std.specs.Prelude.{◌≡◌};
 ghost use Rattle.rje_answers.specs.Awaiting.{first_kept, given_at, has_answer, kept_after};
 ghost use Rattle.rje_answers.specs.Awaiting.{after_saying, after_answer, given_answer, after_bid, given_bid, after_end, given_end};
-ghost use Rattle.rje_answers.specs.Awaiting.{after_two, after_vain, given_two, given_vain, louder, settled, takes_bid};
+ghost use Rattle.rje_answers.specs.Awaiting.{after_last, after_vain, given_last, given_vain, hearings, louder, settled, takes_bid};
 
 use crate::{Event, Given, Rest, Said};
 use bsc_link::Reply;
 use std::marker::Model;
 
-/// For so many hearings an answer is awaited, and after one in vain so many are quiet after an answer that counts.
+/// For so many hearings in vain an answer is awaited.
 const MAX_VAIN: u8 = 2;
+
+/// After a wait in vain so many hearings are quiet after an answer that counts: things are said two hearings apart, or three where a secondary
+/// listens before it bids again, and their answers may come as far apart.
+const MAX_QUIET: u8 = 4;
 
 /// Awaits the answer to what was said last. The event table stands in `specs/Awaiting.antt`.
 #[derive(Drop)]
@@ -42,7 +46,7 @@ impl Model for Awaiting {
       strayed = w.strayed;
     } };
 
-    ghost invariant = { λ w. w.vain < 2 };
+    ghost invariant = { λ w. w.vain < 4 };
 }
 
 impl Awaiting {
@@ -161,7 +165,7 @@ impl Awaiting {
         if !self.awaits() {
             return Given::Nothing;
         }
-        if self.vain + 1 < MAX_VAIN {
+        if self.vain + 1 < self.hearings() {
             self.vain += 1;
             self.rest = louder_of(heard, self.rest);
             return Given::Nothing;
@@ -169,10 +173,10 @@ impl Awaiting {
         self.wait_no_longer(heard)
     }
 
-    /// The second hearing is over in which no more came than this.
+    /// The last hearing is over in which no more came than this.
     fn wait_no_longer(&mut self, heard: Rest) -> Given<Reply>
-        ensures kept { self.new ≡ after_two self.old }
-        ensures given { result ≡ given_two heard self.old }
+        ensures kept { self.new ≡ after_last self.old }
+        ensures given { result ≡ given_last heard self.old }
     {
         let rest = louder_of(heard, self.rest);
         let held = self.held;
@@ -181,6 +185,16 @@ impl Awaiting {
         match held {
             Some(answer) => Given::Answer(answer),
             None => Given::InVain(rest),
+        }
+    }
+
+    /// For so many hearings in vain something more is awaited.
+    fn hearings(&self) -> u8
+        ensures { result ≡ hearings self.now.held }
+    {
+        match self.held {
+            None => MAX_VAIN,
+            Some(_) => MAX_QUIET,
         }
     }
 
