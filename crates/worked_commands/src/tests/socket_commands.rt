@@ -1,6 +1,7 @@
 //! `loop`, `send` and `receive`, by their words and over real connections.
 use super::receiving::assert_receives;
 use super::{FILE, NO_JOBS, Written, assert_file, store_of};
+use bsc_link::Rank;
 use rje_program::{command, is_for_sockets, socket_command};
 use rje_sockets::SocketLine;
 use rje_stores::MemoryStore;
