@@ -28,25 +28,28 @@ fn run(rt: &HostRuntime) -> io::Result<u8> {
         );
     }
     let mut store = FileStore::new(rt, alloc);
-    if is_for_sockets(words.as_slice()) {
+    let status = if is_for_sockets(words.as_slice()) {
         let _held = [held_number(rt), held_number(rt), held_number(rt)];
-        return Ok(socket_command(
+        socket_command(
             rt,
             alloc,
             words.as_slice(),
             &mut store,
             &mut rt.stdout(),
             &mut rt.stderr(),
-        ));
-    }
-    Ok(command(
-        alloc,
-        words.as_slice(),
-        &mut store,
-        &mut rt.stdin(),
-        &mut rt.stdout(),
-        &mut rt.stderr(),
-    ))
+        )
+    } else {
+        command(
+            alloc,
+            words.as_slice(),
+            &mut store,
+            &mut rt.stdin(),
+            &mut rt.stdout(),
+            &mut rt.stderr(),
+        )
+    };
+    store.release();
+    Ok(status)
 }
 
 /// The null device, for reading, under the number of a standard stream that is closed. Else a file or a connection would get the number, and

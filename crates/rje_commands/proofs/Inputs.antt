@@ -6,6 +6,7 @@ use Rattle.std.specs.Result.{IsErrAnd}
 use Rattle.rje_jobs.specs.declared.job.Job.{Job}
 use Rattle.rje_jobs.specs.Deck.{deck_fault}
 use Rattle.rje_files.specs.declared.entry.Entry.{Entry}
+use Rattle.rje_files.specs.declared.entry.State.TheVariants.{Waiting}
 use Rattle.rje_files.specs.FileFault.{IsFileFault}
 use Rattle.rje_files.specs.JobFile.{HasJobs, IsEntryFile}
 use Rattle.line_world.specs.declared.turn.Turn.{Turn}
@@ -19,8 +20,9 @@ use Rattle.rje_orders.specs.declared.order.TryOrder.{TryOrder}
 use Rattle.rje_orders.specs.declared.order.FileOrder.{FileOrder}
 use Rattle.rje_commands.specs.declared.command_fault.CommandFault.{CommandFault}
 use Rattle.rje_commands.specs.declared.command_fault.CommandFault.TheVariants as told
-use Rattle.rje_commands.specs.Commands.{AreEntriesOf, AreInFront, OfFile, OfFiles, OfDeck, IsFault, MakesFile}
-use Rattle.rje_commands.specs.Inside.Commands.{IsCardsFault, IsHeld, IsHeldFault, IsMade, IsThere, IsTryFault, IsTextFault, IsCheckFault}
+use Rattle.rje_commands.specs.Commands.{AreEntriesOf, AreInFront, OfFile, OfFiles, OfDeck, IsFault, MakesFile, deck_job}
+use Rattle.rje_commands.specs.NamedFile.{IsWriteFault}
+use Rattle.rje_commands.specs.Inside.Commands.{IsMadeFault, IsHeld, IsHeldFault, IsMade, IsThere, IsTryFault, IsTextFault, IsCheckFault}
 use Rattle.rje_stores.specs.Store.{FileMap, Discloses, IsSame, Sets}
 
 module _ (P Q : List ℕ → Type 0) (more : (file : List ℕ) → P file → Q file) where
@@ -84,6 +86,15 @@ in_front order f g held front same is h = (
     go None there = tt
     go (Some known) there = subst (λ (file : Option (List ℕ)). AreEntriesOf file front) (sym there) h
 
+-- a file that can't be written is a fault of `cards`
+pub write_fault : (order : CardsOrder) (files : Option FileMap) (input : Option (List ℕ)) (fault : CommandFault) → IsWriteFault order.jobs.now fault
+    → IsFault (FileOrder.Cards order) files input fault
+write_fault order files input told.OutOfMemory h = tt
+write_fault order files input (told.CannotWrite name) h = h
+write_fault order files input (told.InUse name) h = h
+write_fault order files input (told.Unsynced name) h = h
+write_fault order files input _ h = absurd h
+
 -- a job file that can't be read is a fault of `cards`
 pub held_fault : (order : CardsOrder) (files : Option FileMap) (input : Option (List ℕ)) (fault : CommandFault) → IsHeldFault order fault
     → IsFault (FileOrder.Cards order) files input fault
@@ -91,14 +102,11 @@ held_fault order files input told.OutOfMemory h = tt
 held_fault order files input (told.CannotRead name) h = inr (h.0, h.1)
 held_fault order files input _ h = absurd h.1
 
--- the fault of a deck's file is one of `cards`
-pub cards_fault : (order : CardsOrder) (f g : Option FileMap) (input : Option (List ℕ)) (deck : List ℕ) (held : Option (List ℕ)) (fault : CommandFault)
-    → OfDeck order.deck.now f input (λ read. deck ≡ read) → Discloses f g IsSame → IsHeld order g held → IsCardsFault deck held fault
-    → IsFault (FileOrder.Cards order) f input fault
-cards_fault order f g input deck held told.OutOfMemory is same kept h = tt
-cards_fault order f g input deck held (told.Deck fault) is same kept h =
-    of_deck (λ read. IsCardsFault read held (told.Deck fault)) deck h order.deck.now f input is
-cards_fault order f g input deck held (told.File fault) is same kept h = go order.append refl
+-- the fault of a job file to which the job is added is one of `cards`
+pub made_fault : (order : CardsOrder) (f g : Option FileMap) (input : Option (List ℕ)) (held : Option (List ℕ)) (fault : CommandFault)
+    → Discloses f g IsSame → IsHeld order g held → IsMadeFault held fault → IsFault (FileOrder.Cards order) f input fault
+made_fault order f g input held told.OutOfMemory same kept h = tt
+made_fault order f g input held (told.File fault) same kept h = go order.append refl
   where
     some_none : (o : Option (List ℕ)) → o ≡ None → IsSomeAnd o (λ file. IsFileFault IsEntryFile file fault) → ⊥
     some_none None e is = is
@@ -107,7 +115,7 @@ cards_fault order f g input deck held (told.File fault) is same kept h = go orde
     go : (b : Bool) → order.append ≡ b → (order.append ≡ true) × OfFile order.jobs.now f (λ file. IsFileFault IsEntryFile file fault)
     go true on = (on, there_file order.jobs.now f held _ (there_before order.jobs.now f g held same (kept.0 on)) h)
     go false off = absurd (some_none held (kept.1 off) h)
-cards_fault order f g input deck held _ is same kept h = absurd h
+made_fault order f g input held _ same kept h = absurd h
 
 -- the fault of a run of two files is one of `try`
 module _ (order : TryOrder) (f g : Option FileMap) (a b : List ℕ)
@@ -124,16 +132,20 @@ module _ (order : TryOrder) (f g : Option FileMap) (a b : List ℕ)
   try_fault (told.BadCut turn) h = both (λ file script. IsTryFault file script (told.BadCut turn)) h
   try_fault _ h = absurd h
 
-pub made_file : (order : CardsOrder) (deck bytes : List ℕ) (held : Option (List ℕ)) (f g h i : Option FileMap) → deck_fault deck ≡ None
-    → IsMade order deck held bytes → length bytes ≤ 16777216 → Discloses f g IsSame → IsHeld order g held → Discloses g h IsSame
-    → Discloses h i (Sets order.jobs.now bytes) → MakesFile order deck f i
-made_file order deck bytes held f g h i good made few same kept still sets = (
-  made.0,
-  bytes,
-  in_front order f g held made.0 same kept made.1,
-  record { good = good; file = made.2; few = few },
-  set_after order.jobs.now bytes f h i (same_twice f g h same still) sets,
-)
+-- the file that `cards` makes of a deck, after that was read, the file had for itself, and what it held read
+pub made_file : (order : CardsOrder) (deck bytes : List ℕ) (job : Job) (held : Option (List ℕ)) (f g h i j : Option FileMap)
+    → (deck_fault deck ≡ None) × (job ≡ deck_job order.device deck) → IsMade held (record { name = order.name; state = Waiting; job = job }) bytes
+    → length bytes ≤ 16777216 → Discloses f g IsSame → Discloses g h IsSame → IsHeld order h held → Discloses h i IsSame
+    → Discloses i j (Sets order.jobs.now bytes) → MakesFile order deck f j
+made_file order deck bytes job held f g h i j of_deck made few read locked kept still sets =
+    let same = same_twice f g h read locked in
+    let made = subst (λ (job : Job). IsMade held (record { name = order.name; state = Waiting; job = job }) bytes) of_deck.1 made in (
+      made.0,
+      bytes,
+      in_front order f h held made.0 same kept made.1,
+      record { good = of_deck.0; file = made.2; few = few },
+      set_after order.jobs.now bytes f i j (same_twice f h i same still) sets,
+    )
 
 -- two things that were done at once
 pub done_both : {T E : Type 0} (result : Result T E) (P Q : Type 0) → OnOk result P → OnOk result Q → OnOk result (P × Q)

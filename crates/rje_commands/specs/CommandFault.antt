@@ -8,7 +8,7 @@ use Rattle.rje_print.specs.declared.script_fault.ScriptFault.{ScriptFault}
 use Rattle.rje_station.specs.declared.station_fault.StationFault.{StationFault}
 use Rattle.line_world.specs.declared.world_fault.WorldFault.{WorldFault}
 use Rattle.rje_commands.specs.declared.command_fault.CommandFault.{CommandFault}
-use Rattle.rje_commands.specs.declared.command_fault.CommandFault.TheVariants.{OutOfMemory, Deck, File, BadJob, Script, NotDamage, BadCut, NoCommand, LineFailed, Babble, OutOfStep, CannotRead, CannotWrite, Output, Closed}
+use Rattle.rje_commands.specs.declared.command_fault.CommandFault.TheVariants.{OutOfMemory, Deck, File, BadJob, Script, NotDamage, BadCut, NoCommand, LineFailed, Babble, OutOfStep, CannotRead, CannotWrite, InUse, Unsynced, Output, Closed}
 
 -- an input that is refused has status 1, want of memory 5
 abbrev pub deck_status : DeckFault → ℕ
@@ -36,6 +36,8 @@ status_of Babble = 3
 status_of OutOfStep = 3
 status_of (CannotRead name) = 3
 status_of (CannotWrite name) = 3
+status_of (InUse name) = 3
+status_of (Unsynced name) = 3
 status_of Output = 3
 status_of Closed = 141
 

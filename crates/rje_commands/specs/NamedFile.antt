@@ -17,8 +17,15 @@ abbrev pub IsInputFault : List ℕ → Option FileMap → CommandFault → Type 
 IsInputFault name files (CommandFault.File fault) = OfFile name files (λ file. IsFileFault IsEntryFile file fault)
 IsInputFault name files fault = IsReadFault name fault
 
--- there is no memory to write what has this name, or it can't be written
+-- there is no memory to write what has this name, it can't be written, another process has it, or it is written and the disk may not have it
 abbrev pub IsWriteFault : List ℕ → CommandFault → Type 0
 IsWriteFault name CommandFault.OutOfMemory = ⊤
 IsWriteFault name (CommandFault.CannotWrite named) = named.now ≡ name
+IsWriteFault name (CommandFault.InUse named) = named.now ≡ name
+IsWriteFault name (CommandFault.Unsynced named) = named.now ≡ name
 IsWriteFault name _ = ⊥
+
+-- what has this name can't be had for the command alone, or not be read then
+abbrev pub IsHoldFault : List ℕ → CommandFault → Type 0
+IsHoldFault name (CommandFault.CannotRead named) = named.now ≡ name
+IsHoldFault name fault = IsWriteFault name fault

@@ -53,6 +53,12 @@ pub enum CommandFault<'a> {
     /// The file of this name can't be written.
     #[error("can't write {0}")]
     CannotWrite(&'a str),
+    /// It can't be written since another process has it. Two lines.
+    #[error("{0} is in use\nrje: can't write {0}")]
+    InUse(&'a str),
+    /// The file of this name is written, and its folder couldn't be put on disk.
+    #[error("{0} is written, but the disk may not have it")]
+    Unsynced(&'a str),
     /// Standard output can't be written.
     #[error("can't write standard output")]
     Output,
@@ -98,6 +104,8 @@ impl CommandFault<'_> {
             | CommandFault::OutOfStep
             | CommandFault::CannotRead(_)
             | CommandFault::CannotWrite(_)
+            | CommandFault::InUse(_)
+            | CommandFault::Unsynced(_)
             | CommandFault::Output => 3,
             CommandFault::Closed => 141,
         }

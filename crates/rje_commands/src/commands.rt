@@ -2,6 +2,7 @@
 mod blocks_command;
 mod cards_command;
 mod check_command;
+mod holding;
 mod inputs;
 mod output;
 mod print_command;
@@ -11,6 +12,7 @@ mod try_command;
 pub use blocks_command::blocks;
 pub use cards_command::cards;
 pub use check_command::check;
+pub use holding::{HeldFile, lock_file};
 pub use inputs::{read_file, read_job_file};
 pub use output::{
     extend_file, look_at_file, look_beside, put, put_lines, set_byte_of_file, write_file,

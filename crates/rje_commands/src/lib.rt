@@ -8,8 +8,8 @@ mod telling;
 
 pub use command_fault::CommandFault;
 pub use commands::{
-    extend_file, look_at_file, look_beside, put, put_lines, read_file, read_job_file,
-    set_byte_of_file, write_file,
+    HeldFile, extend_file, lock_file, look_at_file, look_beside, put, put_lines, read_file,
+    read_job_file, set_byte_of_file, write_file,
 };
 pub use over_files::carry_out;
 pub use telling::tell;

@@ -25,13 +25,13 @@ use Rattle.rje_sockets.specs.BothFiles.{BreaksBoth, GoesOnHolding, HoldsBoth, ke
 use Rattle.rje_sockets.specs.BothWays.{FailsInOthers, FailsInOwn, StationTurn, TakesOthers, TakesOwn, Took, after_answering_other, after_own_turn}
 use Rattle.rje_sockets.specs.Ending.{MarksSent}
 use Rattle.rje_sockets.specs.Keeping.{AreKept, GoesOnKeeping, KeepsJobs, kept_after}
-use Rattle.rje_sockets.specs.Marking.{AreMarked, GoesOnMarking, Marks}
+use Rattle.rje_sockets.specs.Marking.{GoesOnMarking, Marks}
 use Rattle.rje_sockets.proofs.BothWays.{others_fail}
 use Rattle.rje_sockets.proofs.Keeping.{Comes, goes_on, heard_comes, nothing}
 use Rattle.rje_sockets.proofs.Marked.{stays, written_over}
 use Rattle.rje_sockets.proofs.OwnTurn.{own_speaking, own_turn}
 use Rattle.rje_stores.proofs.Changes.{same_itself}
-use Rattle.rje_stores.specs.Store.{FileMap, IsSame, Sets}
+use Rattle.rje_stores.specs.Store.{FileMap, Sets}
 
 -- TWO NAMES
 
@@ -54,25 +54,14 @@ abbrev as_in : (own : List ℕ) → (f n : FileMap) → FileMap
 as_in own f n = λ other. if bytes_eq other own then f other else n other
 
 -- what is marked in the one file is marked also where the other one had been made before
-marked_behind : (file sent own bytes : List ℕ) (n : ℕ) (f m g : FileMap) → sent ≢ own → Sets own bytes m g → AreMarked file n sent (Some f) (Some m) → AreMarked file n sent (Some (with_bytes own bytes f)) (Some g)
-marked_behind file sent own bytes n f m g two sets (inl (none, same)) =
-    inl (none, λ other. sets other ∙ ap (λ (o : Option (List ℕ)). if bytes_eq other own then Some bytes else o) (same other))
-marked_behind file sent own bytes n f m g two sets (inr (b, is, few, had)) =
-    inr (
-      b,
-      is,
-      few,
-      λ other. sets other ∙ ap (λ (o : Option (List ℕ)). if bytes_eq other own then Some bytes else o) (had other)
-          ∙ swapped (bytes_eq other sent) (bytes_eq other own) (Some b) (Some bytes) (f other) (not_both sent own other two),
-    )
-
-same_front : (r : Bool) (b o h : Option (List ℕ)) → h ≡ (if r then b else o) → (if r then o else h) ≡ o
-same_front true b o h e = refl
-same_front false b o h e = e
-
-same_behind : (r : Bool) (b o h : Option (List ℕ)) → h ≡ (if r then b else o) → h ≡ (if r then b else (if r then o else h))
-same_behind true b o h e = e
-same_behind false b o h e = refl
+marked_behind : (file sent own bytes : List ℕ) (n : ℕ) (f m g : FileMap) → sent ≢ own → Sets own bytes m g → MarksSent file n sent (Some f) (Some m) → MarksSent file n sent (Some (with_bytes own bytes f)) (Some g)
+marked_behind file sent own bytes n f m g two sets (b, is, few, had) = (
+  b,
+  is,
+  few,
+  λ other. sets other ∙ ap (λ (o : Option (List ℕ)). if bytes_eq other own then Some bytes else o) (had other)
+      ∙ swapped (bytes_eq other sent) (bytes_eq other own) (Some b) (Some bytes) (f other) (not_both sent own other two),
+)
 
 set_front : (s r : Bool) (a b o h : Option (List ℕ)) → (s ≡ true → r ≡ true → ⊥) → h ≡ (if s then a else (if r then b else o)) → (if r then o else h) ≡ (if s then a else o)
 set_front true true a b o h not e = absurd (not refl refl)
@@ -87,12 +76,6 @@ set_behind true false a b o h not e = refl
 set_behind false false a b o h not e = refl
 
 -- and then as if it had been made behind the marks
-same_apart : (own bytes : List ℕ) (f h : FileMap) → IsSame (with_bytes own bytes f) h → IsSame f (as_in own f h) × Sets own bytes (as_in own f h) h
-same_apart own bytes f h same = (
-  λ other. same_front (bytes_eq other own) (Some bytes) (f other) (h other) (same other),
-  λ other. same_behind (bytes_eq other own) (Some bytes) (f other) (h other) (same other),
-)
-
 sets_apart : (sent own bytes b : List ℕ) (f h : FileMap) → sent ≢ own → Sets sent b (with_bytes own bytes f) h → Sets sent b f (as_in own f h) × Sets own bytes (as_in own f h) h
 sets_apart sent own bytes b f h two sets = (
   λ other. set_front (bytes_eq other sent) (bytes_eq other own) (Some b) (Some bytes) (f other) (h other) (not_both sent own other two) (sets other),
@@ -112,34 +95,19 @@ sent_apart file sent own n two = record {
   apart = λ bytes f h (b, is, few, sets). let a = sets_apart sent own bytes b f h two sets in ((b, is, few, a.0), a.1);
 }
 
-marked_apart : (file sent own : List ℕ) (n : ℕ) → sent ≢ own → IsApart own (λ f g. AreMarked file n sent f g)
-marked_apart file sent own n two = record { untold = untold; told = told; apart = apart } where
-  untold : (g : Option FileMap) → AreMarked file n sent None g → AreMarked file n sent None None
-  untold g (inl (none, t)) = inl (none, tt)
-  untold g (inr m) = inr ((sent_apart file sent own n two).untold g m)
-
-  told : (f : FileMap) → AreMarked file n sent (Some f) None → ⊥
-  told f (inl (none, t)) = t
-  told f (inr m) = (sent_apart file sent own n two).told f m
-
-  apart : (bytes : List ℕ) (f h : FileMap) → AreMarked file n sent (Some (with_bytes own bytes f)) (Some h) → AreMarked file n sent (Some f) (Some (as_in own f h)) × Sets own bytes (as_in own f h) h
-  apart bytes f h (inl (none, same)) = let a = same_apart own bytes f h same in (inl (none, a.0), a.1)
-  apart bytes f h (inr m) = let a = (sent_apart file sent own n two).apart bytes f h m in (inr a.0, a.1)
-
 marks_apart : (marker : Marker) (own : List ℕ) (n : ℕ) → marker.name.now ≢ own → IsApart own (λ f g. Marks marker n f g)
-marks_apart marker own n two = let are = marked_apart marker.file.items marker.name.now own marker.marked two in record {
+marks_apart marker own n two = let are = sent_apart marker.file.items marker.name.now own marker.marked two in record {
   untold = λ g m. record { places = m.places; all = m.all; file = are.untold g m.file };
   told = λ f m. are.told f m.file;
   apart = λ bytes f h m. let a = are.apart bytes f h m.file in (record { places = m.places; all = m.all; file = a.0 }, a.1);
 }
 
 module _ (old : Marker) (counted : ℕ) (keeper : Keeper) (two : old.name.now ≢ keeper.name.now) (Q : Option FileMap → Option FileMap → Type 0) (can : IsApart keeper.name.now Q) where
-  as_marked : (files made others later : Option FileMap) → Marks old counted files made → AreMarked old.file.items old.marked old.name.now others later → Marks old counted others later
+  as_marked : (files made others later : Option FileMap) → Marks old counted files made → MarksSent old.file.items old.marked old.name.now others later → Marks old counted others later
   as_marked files made others later m file = record { places = m.places; all = m.all; file = file }
 
-  untold_marks : (marked g : Option FileMap) → AreMarked old.file.items old.marked old.name.now None marked → AreMarked old.file.items old.marked old.name.now None g
-  untold_marks marked g (inl (none, t)) = inl (none, tt)
-  untold_marks marked g (inr (b, is, few, t)) = inr (b, is, few, tt)
+  untold_marks : (marked g : Option FileMap) → MarksSent old.file.items old.marked old.name.now None marked → MarksSent old.file.items old.marked old.name.now None g
+  untold_marks marked g (b, is, few, t) = (b, is, few, tt)
 
   -- the one file was changed beside what is kept in the other
   beside : (kept : List Job) (files marked g h : Option FileMap) → ((files : Option FileMap) → Marks old counted files g → Q files h) → Marks old counted files marked

@@ -1,6 +1,7 @@
 -- What a transmission each way made of its two files, from what was read before it.
 use Rattle.std.proofs.Common.{◌≡◌, ℕ, List, [], ◌++◌, ap₂, Option, Some, None, Result, Ok, Err, IfErr, IfOk, OnOk, length, refl, ap, sym, ◌∙◌, subst, inl, inr}
 use Rattle.std.specs.Prelude.{◌≢◌, IfSome}
+use Rattle.std.specs.Option.{IsSomeAnd}
 use Rattle.std.specs.Result.{IsOkAnd, MatchResult, is_ok, result_and}
 use Rattle.std.specs.Io.KnownBytes.{Appends}
 use Rattle.std.proofs.lemmas.List.{append-nil, append_assoc, length-map}
@@ -26,16 +27,16 @@ use Rattle.rje_sockets.specs.BothFiles.{GoesOnHolding, HoldsBoth}
 use Rattle.rje_sockets.specs.BothWays.{ExchangesTo}
 use Rattle.rje_sockets.specs.BrokenOff.{of_broken_off}
 use Rattle.rje_sockets.specs.Ending.{MakesJobFile, MarksSent}
-use Rattle.rje_sockets.specs.Exchanging.{Exchanges, ExchangesLeft, MakesBoth, ending_of_both, exchanged_text}
-use Rattle.rje_sockets.specs.Inside.Sending.{IsOutgoing}
+use Rattle.rje_sockets.specs.Exchanging.{Exchanges, ExchangesLeft, MakesBoth, ending_of_both, exchanged_text, is_idle}
+use Rattle.rje_sockets.specs.Inside.Sending.{IsOutgoing, IsSendFault}
 use Rattle.rje_sockets.specs.Keeping.{IsOfFile, KeepsJobs}
-use Rattle.rje_sockets.specs.LeavingBoth.{LeavesBoth, LeavesExchange, MarksAlone}
+use Rattle.rje_sockets.specs.LeavingBoth.{LeavesBoth, LeavesExchange}
 use Rattle.rje_sockets.specs.OverLine.{LineTells}
 use Rattle.rje_sockets.proofs.BothFiles.{holds_written}
 use Rattle.rje_sockets.proofs.Growing.{none_kept}
 use Rattle.rje_sockets.proofs.Marked.{nothing_marked}
-use Rattle.rje_sockets.proofs.Sending.{marked_after}
-use Rattle.rje_stores.proofs.Changes.{same_twice}
+use Rattle.rje_sockets.proofs.NamedFiles.{names_more}
+use Rattle.rje_stores.proofs.Changes.{same_itself}
 use Rattle.rje_stores.specs.declared.store.Place.TheVariants.{Growing}
 use Rattle.rje_stores.specs.Store.{FileMap, Discloses, IsSame}
 
@@ -58,7 +59,7 @@ pub all_exchanged : (left : Result Left BrokenOff) (marked kept printed : Result
     → OnOk marked (MarksSent new.file.items station.sender.counted new.name.now mid g)
     → OnOk kept ((files : Option FileMap) → IfErr left (λ broken. IsOfFile broken → ⊥) → KeepsJobs after station.receiver.jobs files g → MakesJobFile station.receiver.jobs after.name.now files h)
     → OnOk printed (Appends had has text) → text ≡ exchanged_text station.sender.counted (length s.sender.jobs) (outcome_of station.sender) station.receiver.jobs
-    → IfOk left (λ l. OnOk (result_and marked kept) (OnOk printed (Exchanges (ending_of_both (outcome_of station.sender) l) t u s old before f h had has)))
+    → IfOk left (λ l. OnOk (result_and marked kept) (OnOk printed (Exchanges (ending_of_both (outcome_of station.sender) (is_idle (length s.sender.jobs) station.receiver.jobs) l) t u s old before f h had has)))
 all_exchanged (Err b) marked kept printed t u s station old new before after f mid g h had has text exchanges holds sets keeps prints is = tt
 all_exchanged (Ok l) (Err e) kept printed t u s station old new before after f mid g h had has text exchanges holds sets keeps prints is = tt
 all_exchanged (Ok l) (Ok m) (Err e) printed t u s station old new before after f mid g h had has text exchanges holds sets keeps prints is = tt
@@ -94,57 +95,44 @@ exchange_fails (Err e) (Err x) left marked kept printed ending_by old new file f
 pub three_lines : (a b c one two three : List ℕ) → a ≡ one → b ≡ two → c ≡ three → a ++ (b ++ (c ++ [])) ≡ one ++ two ++ three
 three_lines a b c one two three is also last = ap₂ ◌++◌ is (ap₂ ◌++◌ also (append-nil c ∙ last)) ∙ sym (append_assoc one two three)
 
--- a marker and a keeper that have done nothing yet
+-- a marker whose copy is in place, and a keeper, that have done nothing yet
 holds_nothing : (marker : Marker) (counted : ℕ) (keeper : Keeper) (jobs : List Job) (f g : Option FileMap) → marker.marked ≡ 0 → counted ≡ 0 → AreMarks marker.file.items marker.places.items
-    → keeper.kept ≡ 0 → jobs ≡ [] → Discloses f g IsSame → HoldsBoth marker counted keeper jobs f g
-holds_nothing marker counted keeper jobs f g none zero are kept empty same_files = (
-  f,
-  nothing_marked marker counted f none zero are,
-  subst (λ (js : List Job). KeepsJobs keeper js f g) (sym empty) (none_kept keeper f g kept same_files),
+    → MarksSent marker.file.items 0 marker.name.now f g → keeper.kept ≡ 0 → jobs ≡ [] → HoldsBoth marker counted keeper jobs f g
+holds_nothing marker counted keeper jobs f g none zero are copy kept empty = (
+  g,
+  nothing_marked marker counted f g none zero are copy,
+  subst (λ (js : List Job). KeepsJobs keeper js g g) (sym empty) (none_kept keeper g g kept (same_itself g)),
 )
 
-made_before : (file : List ℕ) (n : ℕ) (jobs : List Job) (send received : List ℕ) (f g h : Option FileMap) → Discloses f g IsSame → MakesBoth file n jobs send received g h → MakesBoth file n jobs send received f h
-made_before file n jobs send received f g h same (marked, sent, kept) = (marked, marked_after file send n f g marked same sent, kept)
-
 pub exchanges_left : (r : Result Ending CommandFault) (t u : LineTells) (rank : Rank) (send received : List ℕ) (jobs : List Job) (s : Contending) (marker : Marker) (keeper : Keeper)
-    (f read looked h : Option FileMap) (before after : Option (List ℕ))
-    → IsOutgoing send f jobs marker → Discloses f read IsSame → s ≡ first_contending rank jobs
-    → keeper.name.now ≡ received → keeper.kept ≡ 0 → send ≢ received → Discloses read looked IsSame
-    → IfOk r (λ ending. Exchanges ending t u s marker keeper looked h before after)
+    (f g h : Option FileMap) (before after : Option (List ℕ))
+    → IsOutgoing send f jobs marker → MarksSent marker.file.items 0 marker.name.now f g → s ≡ first_contending rank jobs
+    → keeper.name.now ≡ received → keeper.kept ≡ 0 → send ≢ received
+    → IfOk r (λ ending. Exchanges ending t u s marker keeper g h before after)
     → IfOk r (λ ending. OfFile send f (λ bytes. ExchangesLeft ending t u rank send received bytes f h before after))
-exchanges_left (Err fault) t u rank send received jobs s marker keeper f read looked h before after out same first called kept two same' done = tt
-exchanges_left (Ok ending) t u rank send received jobs s marker keeper f read looked h before after out same first called kept two same' done =
+exchanges_left (Err fault) t u rank send received jobs s marker keeper f g h before after out copy first called kept two done = tt
+exchanges_left (Ok ending) t u rank send received jobs s marker keeper f g h before after out copy first called kept two done =
     let file = marker.file.items in
     let left = out.left in
     let given : length jobs ≡ length (unsent left.0) = ap length left.3 ∙ length-map (unsent left.0) (λ e. e.job) in
     let all : length s.sender.jobs ≡ length (unsent left.0) = ap (λ (x : Contending). length x.sender.jobs) first ∙ given in
     let apart : marker.name.now ≢ keeper.name.now = λ e. two (sym out.named ∙ e ∙ called) in
-    let had = holds_nothing marker s.sender.counted keeper s.receiver.jobs read looked out.none (ap (λ (x : Contending). x.sender.counted) first) out.marks kept
-    (ap (λ (x : Contending). x.receiver.jobs) first) same' in
-    let makes = done.makes apart read had in
+    let had = holds_nothing marker s.sender.counted keeper s.receiver.jobs f g out.none (ap (λ (x : Contending). x.sender.counted) first) out.marks copy kept
+    (ap (λ (x : Contending). x.receiver.jobs) first) in
+    let makes = done.makes apart f had in
     of_file (λ bytes. ExchangesLeft ending t u rank send received bytes f h before after) file (record {
       entries = left.0;
       left = done.left;
       station = done.station;
       file_is = left.1;
       exchanges = subst (λ (x : Contending). ExchangesTo done.left x t done.station u) (first ∙ ap (first_contending rank) left.3) done.exchanges;
-      makes = made_before file done.station.sender.counted done.station.receiver.jobs send received f read h same
-          (subst (λ (n : List ℕ). MakesBoth file done.station.sender.counted done.station.receiver.jobs n received read h) out.named
-          (subst (λ (n : List ℕ). MakesBoth file done.station.sender.counted done.station.receiver.jobs marker.name.now n read h) called makes));
-      ending_is = done.ending_is;
+      makes = subst (λ (n : List ℕ). MakesBoth file done.station.sender.counted done.station.receiver.jobs n received f h) out.named
+          (subst (λ (n : List ℕ). MakesBoth file done.station.sender.counted done.station.receiver.jobs marker.name.now n f h) called makes);
+      ending_is = subst (λ (n : ℕ). ending ≡ ending_of_both (outcome_of done.station.sender) (is_idle n done.station.receiver.jobs) done.left) all done.ending_is;
       text_is = subst (λ (n : ℕ). Appends before after (exchanged_text done.station.sender.counted n (outcome_of done.station.sender) done.station.receiver.jobs)) all done.text_is;
     }) send f out.read
 
 -- WHATEVER ENDS IT
-
--- a look that left the files as they were
-alone_before : (s : Contending) (file name : List ℕ) (f g h : Option FileMap) → Discloses f g IsSame → MarksAlone s file name g h → MarksAlone s file name f h
-alone_before s file name f g h same (inl stay) = inl (same_twice f g h same stay)
-alone_before s file name f g h same (inr (last, came, sets)) = inr (last, came, marked_after file name last.sender.counted f g h same sets)
-
-both_before : (s : Contending) (file send received : List ℕ) (f g h : Option FileMap) → Discloses f g IsSame → LeavesBoth s file send received g h → LeavesBoth s file send received f h
-both_before s file send received f g h same left =
-    record { marked = left.marked; marks = alone_before s file send f g left.marked same left.marks; last = left.last; came = left.came; kept = left.kept }
 
 known_before : (P : Type 0) (f g : Option FileMap) → Discloses f g IsSame → IfSome g (λ _. P) → IfSome f (λ _. P)
 known_before P None g same known = tt
@@ -155,22 +143,43 @@ so_known : (P Q : Type 0) (f : Option FileMap) → (P → Q) → IfSome f (λ _.
 so_known P Q None then known = tt
 so_known P Q (Some f) then known = then known
 
-pub leaves_so : (rank : Rank) (send received : List ℕ) (jobs : List Job) (s : Contending) (marker : Marker) (keeper : Keeper) (f read looked h : Option FileMap)
-    → IsOutgoing send f jobs marker → Discloses f read IsSame → s ≡ first_contending rank jobs
-    → keeper.name.now ≡ received → keeper.kept ≡ 0 → IfSome read (λ _. keeper.place ≡ Growing) → send ≢ received → Discloses read looked IsSame
+pub leaves_so : (Unsaid : Type 0) (rank : Rank) (send received : List ℕ) (jobs : List Job) (s : Contending) (marker : Marker) (keeper : Keeper) (f looked g h : Option FileMap)
+    → IsOutgoing send f jobs marker → MarksSent marker.file.items 0 marker.name.now f g → s ≡ first_contending rank jobs
+    → keeper.name.now ≡ received → keeper.kept ≡ 0 → IfSome looked (λ _. keeper.place ≡ Growing) → send ≢ received → Discloses f looked IsSame
     → (marker.marked ≡ s.sender.counted → keeper.place ≡ Growing → marker.name.now ≢ keeper.name.now → (files : Option FileMap)
-    → HoldsBoth marker s.sender.counted keeper s.receiver.jobs files looked → LeavesBoth s marker.file.items marker.name.now keeper.name.now files h)
-    → IfSome f (λ _. LeavesExchange rank send received f h)
-leaves_so rank send received jobs s marker keeper f read looked h out same first called kept grows two same' leaves =
+    → HoldsBoth marker s.sender.counted keeper s.receiver.jobs files g → LeavesBoth s marker.file.items marker.name.now keeper.name.now files h)
+    → IfSome f (λ _. LeavesExchange Unsaid rank send received f h)
+leaves_so Unsaid rank send received jobs s marker keeper f looked g h out copy first called kept grows two same leaves =
     let left = out.left in
     let zero : s.sender.counted ≡ 0 = ap (λ (x : Contending). x.sender.counted) first in
     let apart : marker.name.now ≢ keeper.name.now = λ e. two (sym out.named ∙ e ∙ called) in
-    let had = holds_nothing marker s.sender.counted keeper s.receiver.jobs read looked out.none zero out.marks kept (ap (λ (x : Contending). x.receiver.jobs) first) same' in
-    so_known (keeper.place ≡ Growing) (LeavesExchange rank send received f h) f (λ (growing : keeper.place ≡ Growing).
-    let both = both_before s marker.file.items marker.name.now keeper.name.now f read h same (leaves (out.none ∙ sym zero) growing apart read had) in
+    let had = holds_nothing marker s.sender.counted keeper s.receiver.jobs f g out.none zero out.marks copy kept (ap (λ (x : Contending). x.receiver.jobs) first) in
+    so_known (keeper.place ≡ Growing) (LeavesExchange Unsaid rank send received f h) f (λ (growing : keeper.place ≡ Growing).
+    let both = leaves (out.none ∙ sym zero) growing apart f had in
     inr (of_file (λ file. (entries : List Entry) × HasEntries entries file × LeavesBoth (first_contending rank (jobs_in (unsent entries))) file send received f h) marker.file.items (
       left.0,
       left.1,
       subst (λ (x : Contending). LeavesBoth x marker.file.items send received f h) (first ∙ ap (first_contending rank) left.3)
           (subst (λ (n : List ℕ). LeavesBoth s marker.file.items n received f h) out.named (subst (λ (n : List ℕ). LeavesBoth s marker.file.items marker.name.now n f h) called both)),
-    ) send f out.read)) (known_before (keeper.place ≡ Growing) f read same grows)
+    ) send f out.read)) (known_before (keeper.place ≡ Growing) f looked same grows)
+
+-- a file that was read after others were looked at
+file_before : (P : List ℕ → Type 0) (name : List ℕ) (f g : Option FileMap) → Discloses f g IsSame → OfFile name g P → OfFile name f P
+file_before P name None g same read = tt
+file_before P name (Some f) None same read = absurd same
+file_before P name (Some f) (Some g) same read = subst (λ (known : Option (List ℕ)). IsSomeAnd known P) (same name) read
+
+pub outgoing_before : (name : List ℕ) (f g : Option FileMap) (jobs : List Job) (marker : Marker) → Discloses f g IsSame → IsOutgoing name g jobs marker → IsOutgoing name f jobs marker
+outgoing_before name f g jobs marker same out = record {
+  read = file_before (λ read. marker.file.items ≡ read) name f g same out.read;
+  left = out.left;
+  marks = out.marks;
+  named = out.named;
+  none = out.none;
+}
+
+-- why it isn't sent
+pub send_fault_before : (W V : List ℕ → Type 0) (name : List ℕ) (f g : Option FileMap) (fault : CommandFault) → ((n : List ℕ) → W n → V n) → Discloses f g IsSame
+    → IsSendFault W name g fault → IsSendFault V name f fault
+send_fault_before W V name f g fault more same (inl (fails, names)) = inl (fails, names_more (λ n. n ≡ name) (λ n. n ≡ name) W V (λ n e. e) more fault names)
+send_fault_before W V name f g fault more same (inr (file, is, read)) = inr (file, is, file_before (λ read. file ≡ read) name f g same read)

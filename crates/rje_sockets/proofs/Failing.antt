@@ -22,7 +22,6 @@ use Rattle.rje_commands.specs.Commands.{OfFile}
 use Rattle.rje_sockets.specs.Ending.{IsRefusedFile, IsUnsentFault}
 use Rattle.rje_sockets.specs.Inside.Sending.{IsSendFault}
 use Rattle.rje_sockets.specs.NamedFiles.{NamesOne}
-use Rattle.rje_sockets.proofs.NamedFiles.{names_more}
 use Rattle.rje_stores.specs.Store.{FileMap}
 use Rattle.rje_commands.proofs.Inputs.{of_file}
 
@@ -57,13 +56,6 @@ pub send_fails : {X : Type 0} (r : Result X CommandFault) (Written : List ℕ �
     → IfErr r (NamesOne (λ named. named ≡ name) Written) → IfErr r (IsSendFault Written name files)
 send_fails (Ok x) Written name files fails names = tt
 send_fails (Err fault) Written name files fails names = inl (fails, names)
-
--- what is told of a file that nothing was written to yet
-pub unwritten_fails : {X : Type 0} (r : Result X CommandFault) (fault : CommandFault) (Written : List ℕ → Type 0) (name : List ℕ) (files : Option FileMap) → r ≡ Err fault
-    → IsSendFault (λ _. ⊥) name files fault → IfErr r (IsSendFault Written name files)
-unwritten_fails r fault Written name files is (inl (fails, names)) =
-    rw is (inl (fails, names_more (λ named. named ≡ name) (λ named. named ≡ name) (λ _. ⊥) Written (λ n e. e) (λ n never. absurd never) fault names))
-unwritten_fails r fault Written name files is (inr refused) = rw is (inr refused)
 
 -- where all that is left can be sent
 pub left_fails : {X : Type 0} (r : Result X CommandFault) (file : List ℕ) (jobs : List Job) → IsLeft file jobs

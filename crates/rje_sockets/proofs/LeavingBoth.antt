@@ -16,7 +16,6 @@ use Rattle.rje_sockets.specs.BothWays.{ExchangesTo, StationTurn, Took, TookOver}
 use Rattle.rje_sockets.specs.Ending.{MakesJobFile, MarksSent}
 use Rattle.rje_sockets.specs.Keeping.{IsOfFile, KeepsJobs}
 use Rattle.rje_sockets.specs.LeavingBoth.{CameTo, HasCounted, LeavesBoth, MarksAlone}
-use Rattle.rje_sockets.specs.Marking.{AreMarked}
 use Rattle.rje_sockets.specs.OverLine.{HeardAndReplied, LineTells, SpokeAndHeard}
 use Rattle.rje_sockets.proofs.BothFiles.{holds_written}
 use Rattle.rje_sockets.proofs.BothWays.{took_watched}
@@ -96,11 +95,10 @@ pub marks_as_many : {X : Type 0} (written : Result X CommandFault) (file : List 
 marks_as_many written file n counted name f g sets is = subst (λ (n : ℕ). OnOk written (MarksSent file n name f g)) is sets
 
 module _ (s s' : Contending) (old new : Marker) (count : (new.marked ≡ old.marked) ⊎ HasCounted s new.marked) (start : old.marked ≡ s.sender.counted) where
-  alone : (files marked : Option FileMap) → AreMarked new.file.items new.marked new.name.now files marked → MarksAlone s new.file.items new.name.now files marked
-  alone files marked (inl (none, stay)) = inl stay
-  alone files marked (inr sets) = by count where
+  alone : (files marked : Option FileMap) → MarksSent new.file.items new.marked new.name.now files marked → MarksAlone s new.file.items new.name.now files marked
+  alone files marked sets = by count where
     at : (last : Contending) → CameTo s last → last.sender.counted ≡ new.marked → MarksAlone s new.file.items new.name.now files marked
-    at last came is = inr (last, came, subst (λ (n : ℕ). MarksSent new.file.items n new.name.now files marked) (sym is) sets)
+    at last came is = (last, came, subst (λ (n : ℕ). MarksSent new.file.items n new.name.now files marked) (sym is) sets)
 
     by : (new.marked ≡ old.marked) ⊎ HasCounted s new.marked → MarksAlone s new.file.items new.name.now files marked
     by (inl still) = at s (came_near s s [] refl) (sym (still ∙ start))
@@ -112,7 +110,7 @@ module _ (s s' : Contending) (old new : Marker) (count : (new.marked ≡ old.mar
       → (marked : Option FileMap) × MarksAlone s new.file.items new.name.now files marked × KeepsJobs keeper jobs marked h
   marked_then (Ok x) n keeper jobs files g h apart came sets still both =
       let w = holds_written new n s'.sender.counted keeper jobs files g h apart sets both in
-      (w.0, inr (s', came, w.1), w.2)
+      (w.0, (s', came, w.1), w.2)
   marked_then (Err e) n keeper jobs files g h apart came sets still (marked, marks, keeps) = (marked, alone files marked marks.file, still_keeps keeper jobs marked g h keeps still)
 
 -- WHAT IS LEFT OF WHAT CAME

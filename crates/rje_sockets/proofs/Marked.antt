@@ -1,5 +1,5 @@
 -- What stays marked of the jobs of a sender as more are counted.
-use Rattle.std.proofs.Common.{◌≡◌, inl, inr, ℕ, ◌+◌, ◌<◌, List, set, true, Option, Some, Result, Ok, Err, OnOk, OnErr, IfErr, [], ◌⊎◌, refl, ap, sym, ◌∙◌, subst, arith}
+use Rattle.std.proofs.Common.{◌≡◌, inl, inr, ℕ, ◌+◌, List, set, true, Option, Some, Result, Ok, Err, OnOk, OnErr, IfErr, [], ◌⊎◌, refl, ap, sym, ◌∙◌, subst, arith}
 use Rattle.std.proofs.lemmas.List.{length-set}
 use Rattle.std.specs.List.{slice_get}
 use Rattle.bsc_history.specs.History.{History}
@@ -10,52 +10,46 @@ use Rattle.rje_station.specs.declared.station_fault.StationFault.{StationFault}
 use Rattle.rje_station.specs.declared.station_fault.StationFault.TheVariants as fault
 use Rattle.rje_station.specs.Sending.{Sending, after_refusal, after_speaking, first_sending}
 use Rattle.line_world.specs.AnyLines.{SenderFails, SenderTook, SendsToFault}
-use Rattle.rje_stores.proofs.Changes.{byte_set, same_after, same_itself, same_twice, set_after, set_over}
+use Rattle.rje_stores.proofs.Changes.{byte_set, same_after, set_over}
 use Rattle.rje_sockets.specs.declared.marker.Marker.{Marker}
 use Rattle.rje_commands.specs.declared.command_fault.CommandFault.{CommandFault}
 use Rattle.rje_commands.specs.Commands.{OfFile}
 use Rattle.rje_sockets.specs.Ending.{MarksSent}
 use Rattle.rje_sockets.specs.Inside.Sending.{IsOutgoing}
-use Rattle.rje_sockets.specs.Marking.{AreMarked, GoesOnMarking, Marks, MarksCounted, MarksNoMore, WereCounted}
+use Rattle.rje_sockets.specs.Marking.{GoesOnMarking, Marks, MarksCounted, MarksItsCount, MarksNoMore, WereCounted}
 use Rattle.rje_sockets.specs.OverLine.{LineTells, SendsOver, SpokeAndHeard}
 use Rattle.rje_stores.specs.Store.{FileMap, Discloses, IsSame, SetsByte}
 use Rattle.rje_commands.proofs.Inputs.{of_file}
-use Rattle.rje_sockets.proofs.Sending.{marked_after}
 use Rattle.rje_sockets.proofs.Watched.{sender_took}
 
 -- the next mark
-next_mark : (file places name : List ℕ) (n counted place : ℕ) (files g h : Option FileMap) → slice_get places n ≡ Some place → counted ≡ n + 1 → 0 < n
-    → Discloses g h (SetsByte name place 1) → AreMarks file places → AreMarked file n name files g → MarksSent file counted name files h
-next_mark file places name n counted place files g h at one some sets are (inl (none, same)) = absurd (omega (arith, none, some))
-next_mark file places name n counted place files g h at one some sets are (inr (bytes, sent, few, had)) = (
+next_mark : (file places name : List ℕ) (n counted place : ℕ) (files g h : Option FileMap) → slice_get places n ≡ Some place → counted ≡ n + 1
+    → Discloses g h (SetsByte name place 1) → AreMarks file places → MarksSent file n name files g → MarksSent file counted name files h
+next_mark file places name n counted place files g h at one sets are (bytes, sent, few, had) = (
   set bytes place 1,
   subst (λ (k : ℕ). IsSentFile file k (set bytes place 1)) (sym one) (are n place bytes at sent).1,
   omega (arith, few, length-set bytes place 1),
   byte_set name bytes place 1 files g h had sets,
 )
 
-pub next_marked : {X E : Type 0} (r : Result X E) (file places name : List ℕ) (n counted place : ℕ) (g h : Option FileMap) → slice_get places n ≡ Some place → counted ≡ n + 1 → 0 < n
+pub next_marked : {X E : Type 0} (r : Result X E) (file places name : List ℕ) (n counted place : ℕ) (g h : Option FileMap) → slice_get places n ≡ Some place → counted ≡ n + 1
     → OnOk r (Discloses g h (SetsByte name place 1))
-    → OnOk r ((files : Option FileMap) → AreMarks file places → AreMarked file n name files g → MarksSent file counted name files h)
-next_marked (Err e) file places name n counted place g h at one some sets = tt
-next_marked (Ok x) file places name n counted place g h at one some sets = λ files are marked. next_mark file places name n counted place files g h at one some sets are marked
+    → OnOk r ((files : Option FileMap) → AreMarks file places → MarksSent file n name files g → MarksSent file counted name files h)
+next_marked (Err e) file places name n counted place g h at one sets = tt
+next_marked (Ok x) file places name n counted place g h at one sets = λ files are marked. next_mark file places name n counted place files g h at one sets are marked
 
 -- the whole file
-pub written_over : (file name : List ℕ) (n counted : ℕ) (files g h : Option FileMap) → AreMarked file n name files g → MarksSent file counted name g h → MarksSent file counted name files h
-written_over file name n counted files g h (inl (none, same)) (bytes, sent, few, sets) = (bytes, sent, few, set_after name bytes files g h same sets)
-written_over file name n counted files g h (inr had) (bytes, sent, few, sets) = (bytes, sent, few, set_over name had.0 bytes files g h had.3 sets)
+pub written_over : (file name : List ℕ) (n counted : ℕ) (files g h : Option FileMap) → MarksSent file n name files g → MarksSent file counted name g h → MarksSent file counted name files h
+written_over file name n counted files g h had (bytes, sent, few, sets) = (bytes, sent, few, set_over name had.0 bytes files g h had.3 sets)
 
-pub whole_marked : {X E : Type 0} (r : Result X E) (file places name : List ℕ) (n counted : ℕ) (g looked h : Option FileMap) → Discloses g looked IsSame
-    → OnOk r (MarksSent file counted name looked h)
-    → OnOk r ((files : Option FileMap) → AreMarks file places → AreMarked file n name files g → MarksSent file counted name files h)
-whole_marked (Err e) file places name n counted g looked h same sets = tt
-whole_marked (Ok x) file places name n counted g looked h same sets = λ files are marked.
-    written_over file name n counted files g h marked (marked_after file name counted g looked h same sets)
+pub whole_marked : {X E : Type 0} (r : Result X E) (file places name : List ℕ) (n counted : ℕ) (g h : Option FileMap) → OnOk r (MarksSent file counted name g h)
+    → OnOk r ((files : Option FileMap) → AreMarks file places → MarksSent file n name files g → MarksSent file counted name files h)
+whole_marked (Err e) file places name n counted g h sets = tt
+whole_marked (Ok x) file places name n counted g h sets = λ files are marked. written_over file name n counted files g h marked sets
 
 -- a mark that fails
-pub stays : (file name : List ℕ) (n : ℕ) (files g h : Option FileMap) → Discloses g h IsSame → AreMarked file n name files g → AreMarked file n name files h
-stays file name n files g h same (inl (none, before)) = inl (none, same_twice files g h before same)
-stays file name n files g h same (inr (bytes, sent, few, sets)) = inr (bytes, sent, few, same_after name bytes files g h sets same)
+pub stays : (file name : List ℕ) (n : ℕ) (files g h : Option FileMap) → Discloses g h IsSame → MarksSent file n name files g → MarksSent file n name files h
+stays file name n files g h same (bytes, sent, few, sets) = (bytes, sent, few, same_after name bytes files g h sets same)
 
 pub gives_up : (old : Marker) (counted more : ℕ) (g h : Option FileMap) → Discloses g h IsSame → GoesOnMarking old (record old { gave_up = true }) counted more g h
 gives_up old counted more g h same = (
@@ -67,6 +61,12 @@ gives_up old counted more g h same = (
     file = stays old.file.items old.name.now old.marked files g h same m.file;
   },
 )
+
+-- a mark that was made
+pub marks_more : (old : Marker) (counted more : ℕ) (g h : Option FileMap)
+    → ((files : Option FileMap) → AreMarks old.file.items old.places.items → MarksSent old.file.items old.marked old.name.now files g → MarksSent old.file.items more old.name.now files h)
+    → GoesOnMarking old (record old { marked = more }) counted more g h
+marks_more old counted more g h marked = (refl, refl, λ files m. record { places = m.places; all = λ goes_on. refl; file = marked files m.places m.file })
 
 -- ONE AFTER ANOTHER
 
@@ -87,22 +87,23 @@ all_marked old new start counted f g h (name, file, on) sets files m =
     (subst (λ (n : _). MarksSent new.file.items counted n.now files h) name
     (written_over new.file.items new.name.now new.marked counted files g h (on files m).file sets))
 
--- a marker that has marked nothing yet
-pub nothing_marked : (marker : Marker) (counted : ℕ) (f : Option FileMap) → marker.marked ≡ 0 → counted ≡ 0 → AreMarks marker.file.items marker.places.items → Marks marker counted f f
-nothing_marked marker counted f none zero are = record {
+-- a marker whose copy is in place, and that has marked nothing yet
+pub nothing_marked : (marker : Marker) (counted : ℕ) (f g : Option FileMap) → marker.marked ≡ 0 → counted ≡ 0 → AreMarks marker.file.items marker.places.items
+    → MarksSent marker.file.items 0 marker.name.now f g → Marks marker counted f g
+nothing_marked marker counted f g none zero are copy = record {
   places = are;
   all = λ goes_on. none ∙ sym zero;
-  file = inl (none, same_itself f);
+  file = subst (λ (n : ℕ). MarksSent marker.file.items n marker.name.now f g) (sym none) copy;
 }
 
 -- a transmission that it begins
-pub begun : {X E : Type 0} (r : Result X E) (marker : Marker) (name : List ℕ) (start counted : ℕ) (f h : Option FileMap) → marker.name.now ≡ name → marker.marked ≡ 0 → start ≡ 0
-    → AreMarks marker.file.items marker.places.items
-    → OnOk r ((files : Option FileMap) → Marks marker start files f → MarksSent marker.file.items counted marker.name.now files h)
+pub begun : {X E : Type 0} (r : Result X E) (marker : Marker) (name : List ℕ) (start counted : ℕ) (f g h : Option FileMap) → marker.name.now ≡ name → marker.marked ≡ 0 → start ≡ 0
+    → AreMarks marker.file.items marker.places.items → MarksSent marker.file.items 0 marker.name.now f g
+    → OnOk r ((files : Option FileMap) → Marks marker start files g → MarksSent marker.file.items counted marker.name.now files h)
     → OnOk r (MarksSent marker.file.items counted name f h)
-begun (Err e) marker name start counted f h of none zero are on = tt
-begun (Ok x) marker name start counted f h of none zero are on =
-    subst (λ (n : List ℕ). MarksSent marker.file.items counted n f h) of (on f (nothing_marked marker start f none zero are))
+begun (Err e) marker name start counted f g h of none zero are copy on = tt
+begun (Ok x) marker name start counted f g h of none zero are copy on =
+    subst (λ (n : List ℕ). MarksSent marker.file.items counted n f h) of (on f (nothing_marked marker start f g none zero are copy))
 
 -- WHAT IS MARKED WAS COUNTED, whatever ends the transmission
 
@@ -135,19 +136,14 @@ marked_so_far : (s : Sending) (had has : ℕ) → had ≡ s.counted → (has ≡
 marked_so_far s had has new (inl same) = ([], s, refl, sym (same ∙ new))
 marked_so_far s had has new (inr counted) = counted
 
-counted_stay : (s : Sending) (file name : List ℕ) (n : ℕ) (files h : Option FileMap) → WereCounted s n → AreMarked file n name files h → MarksCounted s file name files h
-counted_stay s file name n files h counted (inl (none, same)) = inl same
-counted_stay s file name n files h counted (inr sets) = inr (n, counted, sets)
-
 at_end : {Y : Type 0} (written : Result Y CommandFault) (old new : Marker) (s s' : Sending) (n : ℕ) (f g h : Option FileMap) → GoesOnMarking old new s.counted n f g
     → (new.marked ≡ old.marked) ⊎ WereCounted s new.marked → WereCounted s s'.counted
     → OnOk written (MarksSent new.file.items s'.counted new.name.now g h) → OnErr written (Discloses g h IsSame)
     → (files : Option FileMap) → old.marked ≡ s.counted → Marks old s.counted files f → MarksCounted s new.file.items new.name.now files h
 at_end (Ok y) old new s s' n f g h on count ended sets same files start m =
-    inr (s'.counted, ended, written_over new.file.items new.name.now new.marked s'.counted files g h (on.2 files m).file sets)
+    (s'.counted, ended, written_over new.file.items new.name.now new.marked s'.counted files g h (on.2 files m).file sets)
 at_end (Err e) old new s s' n f g h on count ended sets same files start m =
-    counted_stay s new.file.items new.name.now new.marked files h (marked_so_far s old.marked new.marked start count)
-    (stays new.file.items new.name.now new.marked files g h same (on.2 files m).file)
+    (new.marked, marked_so_far s old.marked new.marked start count, stays new.file.items new.name.now new.marked files g h same (on.2 files m).file)
 
 some_count : {X : Type 0} (sent : Result X StationFault) (old new : Marker) (s s' : Sending) (f g : Option FileMap) → OnOk sent (GoesOnMarking old new s.counted s'.counted f g)
     → OnErr sent ((n : ℕ) × GoesOnMarking old new s.counted n f g) → (n : ℕ) × GoesOnMarking old new s.counted n f g
@@ -167,24 +163,24 @@ counted_alone sent written old new s s' f g h marked broken count ends fails set
     (at_end written old new s s' some.0 f g h on count (ended_count sent s s' ends fails) sets same files start m))
 
 -- a transmission of what was left of a file, that a marker begins that has marked nothing
-counts_of : (name file : List ℕ) (jobs : List Job) (f g h : Option FileMap) → OfFile name f (λ read. file ≡ read) → Discloses f g IsSame → IsLeft file jobs
-    → MarksCounted (first_sending jobs) file name g h → MarksNoMore name f h
-counts_of name file jobs f g h read same left (inl stayed) = inl (same_twice f g h same stayed)
-counts_of name file jobs f g h read same left (inr (n, (history, near, took, is), marks)) = inr (of_file (λ read. _) file (record {
+counts_of : (name file : List ℕ) (jobs : List Job) (f h : Option FileMap) → OfFile name f (λ read. file ≡ read) → IsLeft file jobs
+    → MarksCounted (first_sending jobs) file name f h → OfFile name f (λ file. MarksItsCount name file f h)
+counts_of name file jobs f h read left (n, (history, near, took, is), marks) = of_file (λ read. _) file (record {
   entries = left.0;
   history = history;
   station = near;
   file_is = left.1;
   took = subst (λ js. SenderTook (first_sending js) history near) left.3 took;
-  marks = marked_after file name near.counted f g h same (subst (λ (k : ℕ). MarksSent file k name g h) (sym is) marks);
-}) name f read)
+  marks = subst (λ (k : ℕ). MarksSent file k name f h) (sym is) marks;
+}) name f read
 
-pub begun_counts : (name : List ℕ) (jobs : List Job) (marker : Marker) (s : Sending) (f g h : Option FileMap) → IsOutgoing name f jobs marker → Discloses f g IsSame → s ≡ first_sending jobs
+pub begun_counts : (Unsaid : Type 0) (name : List ℕ) (jobs : List Job) (marker : Marker) (s : Sending) (f g h : Option FileMap) → IsOutgoing name f jobs marker
+    → MarksSent marker.file.items 0 marker.name.now f g → s ≡ first_sending jobs
     → ((files : Option FileMap) → marker.marked ≡ s.counted → Marks marker s.counted files g → MarksCounted s marker.file.items marker.name.now files h)
-    → MarksNoMore name f h
-begun_counts name jobs marker s f g h out same first on =
+    → MarksNoMore Unsaid name f h
+begun_counts Unsaid name jobs marker s f g h out copy first on =
     let zero : s.counted ≡ 0 = ap (λ x. x.counted) first in
-    let counts : MarksCounted s marker.file.items marker.name.now g h = on g (out.none ∙ sym zero) (nothing_marked marker s.counted g out.none zero out.marks) in
-    counts_of name marker.file.items jobs f g h out.read same out.left
-    (subst (λ (x : Sending). MarksCounted x marker.file.items name g h) first
-    (subst (λ (n : List ℕ). MarksCounted s marker.file.items n g h) out.named counts))
+    let counts : MarksCounted s marker.file.items marker.name.now f h = on f (out.none ∙ sym zero) (nothing_marked marker s.counted f g out.none zero out.marks copy) in
+    inr (counts_of name marker.file.items jobs f h out.read out.left
+    (subst (λ (x : Sending). MarksCounted x marker.file.items name f h) first
+    (subst (λ (n : List ℕ). MarksCounted s marker.file.items n f h) out.named counts)))

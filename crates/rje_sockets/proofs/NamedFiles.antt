@@ -8,7 +8,6 @@ use Rattle.rje_station.specs.declared.station_fault.StationFault.TheVariants as 
 use Rattle.rje_commands.specs.declared.command_fault.CommandFault.{CommandFault}
 use Rattle.rje_commands.specs.declared.command_fault.CommandFault.TheVariants as told
 use Rattle.rje_commands.specs.CommandFault.{is_of_output, of_station}
-use Rattle.rje_commands.specs.NamedFile.{IsReadFault, IsWriteFault}
 use Rattle.rje_sockets.specs.declared.broken_off.BrokenOff.{BrokenOff}
 use Rattle.rje_sockets.specs.declared.exchange.Left.{Left}
 use Rattle.rje_sockets.specs.declared.socket_commands.ending.Ending.{Ending}
@@ -18,6 +17,8 @@ use Rattle.rje_sockets.specs.NamedFiles.{NamesOne, NamesWritten}
 pub names_more : (R S V W : List ℕ → Type 0) → ((n : List ℕ) → R n → S n) → ((n : List ℕ) → V n → W n) → (f : CommandFault) → NamesOne R V f → NamesOne S W f
 names_more R S V W reads writes (told.CannotRead name) names = reads name.now names
 names_more R S V W reads writes (told.CannotWrite name) names = writes name.now names
+names_more R S V W reads writes (told.InUse name) names = writes name.now names
+names_more R S V W reads writes (told.Unsynced name) names = writes name.now names
 names_more R S V W reads writes _ names = tt
 
 -- a station's fault names none
@@ -27,16 +28,6 @@ station_names (fault.BadJob n) R W = tt
 station_names fault.Babble R W = tt
 station_names (fault.Line f) R W = tt
 station_names fault.Over R W = tt
-
-pub write_names : (name : List ℕ) (f : CommandFault) → IsWriteFault name f → NamesWritten name f
-write_names name told.OutOfMemory is = tt
-write_names name (told.CannotWrite named) is = is
-write_names name _ is = absurd is
-
-pub read_names : (name : List ℕ) (W : List ℕ → Type 0) (f : CommandFault) → IsReadFault name f → NamesOne (λ named. named ≡ name) W f
-read_names name W told.OutOfMemory is = tt
-read_names name W (told.CannotRead named) is = is
-read_names name W _ is = absurd is
 
 pub err_names : {X : Type 0} (r : Result X CommandFault) (R S V W : List ℕ → Type 0) → ((n : List ℕ) → R n → S n) → ((n : List ℕ) → V n → W n) → IfErr r (NamesOne R V) → IfErr r (NamesOne S W)
 err_names (Ok x) R S V W reads writes names = tt
@@ -76,6 +67,8 @@ left_of_both (Err b) one other names = one_of_both (of_broken_off b) other one o
 pub output_names : (f : CommandFault) (R W : List ℕ → Type 0) → is_of_output f ≡ true → NamesOne R W f
 output_names (told.CannotRead name) R W is = absurd (true≢false (sym is))
 output_names (told.CannotWrite name) R W is = absurd (true≢false (sym is))
+output_names (told.InUse name) R W is = absurd (true≢false (sym is))
+output_names (told.Unsynced name) R W is = absurd (true≢false (sym is))
 output_names _ R W is = tt
 
 pub output_of_none : (r : Result (Unit {0}) CommandFault) (R W : List ℕ → Type 0) → IfErr r (λ f. is_of_output f ≡ true) → IfErr r (NamesOne R W)
@@ -104,6 +97,12 @@ module _ (r : Result Ending CommandFault) (so : Result Left CommandFault) (endin
     by (Ok ending) so told names = tt
     by (Err e) (Ok l) told names = absurd told
     by (Err e) (Err x) told names = subst (λ (z : Result Ending CommandFault). IfErr z P) (sym told) names
+
+  -- the one file of a receiver
+  pub received_names : (left : Result Left BrokenOff) (written printed : Result (Unit {0}) CommandFault) → MatchResult so (λ l. IsOkAnd r (λ ending. ending ≡ ending_by l)) (λ e. r ≡ Err e)
+      → IfErr left (λ broken. IsErrOf so (of_broken_off broken)) → (IsOk left → IfErr written (λ f. IsErrOf so f)) → (IsOk left → IsOk written → IfErr printed (λ f. IsErrOf so f))
+      → (IsOk left → IsOk written → IsOk printed → IsOk so) → IfErr left (λ broken. P (of_broken_off broken)) → IfErr written P → IfErr printed P → IfErr r P
+  received_names left written printed told first second third none one two three = told_of told (first_of_three left written printed first second third none one two three)
 
   -- the two files of an exchange
   pub told_names : (left : Result Left BrokenOff) (marked kept printed : Result (Unit {0}) CommandFault) → MatchResult so (λ l. IsOkAnd r (λ ending. ending ≡ ending_by l)) (λ e. r ≡ Err e)

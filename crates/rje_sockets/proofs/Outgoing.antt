@@ -13,15 +13,16 @@ use Rattle.rje_sockets.specs.Marking.{Marks}
 use Rattle.rje_sockets.specs.OverLine.{LineTells, SendsOver}
 use Rattle.rje_sockets.proofs.Marked.{begun}
 use Rattle.rje_sockets.proofs.Sending.{sends_left}
-use Rattle.rje_stores.specs.Store.{FileMap, IsSame, Discloses}
+use Rattle.rje_stores.proofs.Changes.{same_itself}
+use Rattle.rje_stores.specs.Store.{FileMap}
 
 pub sends_outgoing : (r : Result Ending CommandFault) (t u : LineTells) (name : List ℕ) (jobs : List Job) (marker : Marker) (s s' : Sending) (f g h : Option FileMap) (before after : Option (List ℕ))
-    → IsOutgoing name f jobs marker → Discloses f g IsSame → s ≡ first_sending jobs → OnOk r (SendsOver s t s' u) → IfOk r (λ ending. ending ≡ ending_of (outcome_of s'))
+    → IsOutgoing name f jobs marker → MarksSent marker.file.items 0 marker.name.now f g → s ≡ first_sending jobs → OnOk r (SendsOver s t s' u) → IfOk r (λ ending. ending ≡ ending_of (outcome_of s'))
     → OnOk r (Appends before after (sent_text s'.counted (length s.jobs) (outcome_of s')))
     → OnOk r ((files : Option FileMap) → Marks marker s.counted files g → MarksSent marker.file.items s'.counted marker.name.now files h)
     → IfOk r (λ ending. OfFile name f (λ read. SendsLeft ending t u name read f h before after))
-sends_outgoing r t u name jobs marker s s' f g h before after out same first took ended printed marked =
-    sends_left r t u name marker.file.items jobs s' f g h before after out.read same out.left
+sends_outgoing r t u name jobs marker s s' f g h before after out copy first took ended printed marked =
+    sends_left r t u name marker.file.items jobs s' f f h before after out.read (same_itself f) out.left
     (subst (λ (x : Sending). OnOk r (SendsOver x t s' u)) first took) ended
     (subst (λ (n : ℕ). OnOk r (Appends before after (sent_text s'.counted n (outcome_of s')))) (ap (λ (x : Sending). length x.jobs) first) printed)
-    (begun r marker name s.counted s'.counted g h out.named out.none (ap (λ (x : Sending). x.counted) first) out.marks marked)
+    (begun r marker name s.counted s'.counted f g h out.named out.none (ap (λ (x : Sending). x.counted) first) out.marks copy marked)

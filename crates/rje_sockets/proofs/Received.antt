@@ -9,6 +9,7 @@ use Rattle.rje_jobs.specs.declared.job.Job.{Job}
 use Rattle.rje_station.specs.Receiving.{Receiving, first_receiving}
 use Rattle.rje_sockets.specs.declared.broken_off.BrokenOff.{BrokenOff}
 use Rattle.rje_commands.specs.declared.command_fault.CommandFault.{CommandFault}
+use Rattle.rje_commands.specs.declared.command_fault.CommandFault.TheVariants as told
 use Rattle.rje_sockets.specs.declared.exchange.Left.{Left}
 use Rattle.rje_sockets.specs.declared.keeper.Keeper.{Keeper}
 use Rattle.rje_sockets.specs.declared.socket_commands.ending.Ending.{Ending}
@@ -35,6 +36,15 @@ ends_well (Ok ending) (Ok l) (Ok was) (Err e) printed ending_by P well told same
 ends_well (Ok ending) (Ok l) (Ok was) (Ok w) (Err e) ending_by P well told same holds = absurd (true≢false (sym well.2))
 ends_well (Ok ending) (Ok l) (Ok was) (Ok w) (Ok p) ending_by P well told same holds = subst P (ap ending_by well.0 ∙ sym told) holds
 
+-- or memory was short in the end
+pub ok_unless_short : (r ending : Result Ending CommandFault) (P : Ending → Type 0) → (r ≡ ending) ⊎ (r ≡ Err told.OutOfMemory) → IfOk ending P → IfOk r P
+ok_unless_short r ending P (inl same) holds = rw same holds
+ok_unless_short r ending P (inr short) holds = rw short tt
+
+pub err_unless_short : (r ending : Result Ending CommandFault) (P : CommandFault → Type 0) → (r ≡ ending) ⊎ (r ≡ Err told.OutOfMemory) → IfErr ending P → P told.OutOfMemory → IfErr r P
+err_unless_short r ending P (inl same) holds memory = rw same holds
+err_unless_short r ending P (inr short) holds memory = rw short memory
+
 pub receives : (left : Result Left BrokenOff) (written printed : Result (Unit {0}) CommandFault) (t u : LineTells) (name : List ℕ) (files made : Option FileMap) (before after : Option (List ℕ)) (station : Receiving)
     → IfOk left (λ l. LeavesSo l first_receiving t station u) → IfOk left (λ l. OnOk written (MakesJobFile station.jobs name files made)) → OnOk printed (Appends before after (received_text station.jobs))
     → IfOk left (λ l. OnOk written (OnOk printed (Receives (ending_of_left l) t u name files made before after)))
@@ -54,6 +64,13 @@ made_at_end written first last station name f looked kept made before after (Ok 
     on_ok_weaker written (λ m. subst (λ (n : List ℕ). MakesJobFile station.jobs n f made) (ap (λ (n : _). n.now) one ∙ named) (m f tt now)) makes
 
 -- WHATEVER ENDS IT
+
+-- its keeper keeps the name
+pub keeper_named : (left : Result Left BrokenOff) (k k' : Keeper) (r r' : Receiving) (before after : ℕ) (f g : Option FileMap) → OnOk left (KeepsToEnd k k' r r' before after f g)
+    → IfErr left (KeepsToBreak k k' r r' before after f g) → k'.name ≡ k.name
+keeper_named (Ok l) k k' r r' before after f g (far, answered, jobs, goes) breaks = goes.0
+keeper_named (Err b) k k' r r' before after f g ends (far, near, sent, then, answered, goes, inl (silent, more, why)) = more.0 ∙ goes.0
+keeper_named (Err b) k k' r r' before after f g ends (far, near, sent, then, answered, goes, inr (one, (what, refused, may, jobs, more))) = more.0 ∙ goes.0
 
 -- what a keeper has kept
 of_kept : (kept : List Job) (long : ℕ) (name : List ℕ) (files made : Option FileMap) → AreKept kept long name files made → MakesJobFile kept name files made ⊎ ((kept ≡ []) × Discloses files made IsSame)

@@ -1,5 +1,5 @@
 -- One transmission each way over one line: what it makes of the two files, and what is printed of it (own profile).
-use Rattle.std.specs.Prelude.{◌≡◌, ◌≢◌, ◌++◌, ℕ, List, length, Option, Some}
+use Rattle.std.specs.Prelude.{◌≡◌, ◌≢◌, ◌++◌, ◌==◌, ℕ, Bool, true, false, List, [], ◌∷◌, length, Option, Some}
 use Rattle.std.specs.Io.KnownBytes.{Appends}
 use Rattle.bsc_link.specs.declared.outcome.Outcome.{Outcome}
 use Rattle.bsc_link.specs.declared.rank.Rank.{Rank}
@@ -29,10 +29,16 @@ abbrev pub rank_at : Meeting → Rank
 rank_at (Calls address) = Rank.Primary
 rank_at (Listens address) = Rank.Secondary
 
--- both directions ended as they should, or one ended otherwise
-abbrev pub ending_of_both : Option Outcome → Left → Ending
-ending_of_both (Some Outcome.Done) Left.Ended = Ending.Done
-ending_of_both _ _ = Ending.Other
+-- nothing was given to be sent, and nothing came
+abbrev pub is_idle : (given : ℕ) → List Job → Bool
+is_idle given [] = given == 0
+is_idle given (job ∷ jobs) = false
+
+-- both directions ended as they should, or one ended otherwise; an idle one ended as it should also where the other was quiet for long
+abbrev pub ending_of_both : Option Outcome → (is_idle : Bool) → Left → Ending
+ending_of_both (Some Outcome.Done) idle Left.Ended = Ending.Done
+ending_of_both (Some Outcome.Done) true Left.Abandoned = Ending.Done
+ending_of_both _ _ _ = Ending.Other
 
 -- the lines of both: how many of so many jobs were counted, how that ended, and what came
 abbrev pub exchanged_text : (counted given : ℕ) → Option Outcome → List Job → List ℕ
@@ -52,7 +58,7 @@ pub record Exchanges (ending : Ending) (t u : LineTells) (s : Contending) (marke
   pub exchanges : ExchangesTo left s t station u
   pub makes : marker.name.now ≢ keeper.name.now → (files : Option FileMap) → HoldsBoth marker s.sender.counted keeper s.receiver.jobs files f
       → MakesBoth marker.file.items station.sender.counted station.receiver.jobs marker.name.now keeper.name.now files g
-  pub ending_is : ending ≡ ending_of_both (outcome_of station.sender) left
+  pub ending_is : ending ≡ ending_of_both (outcome_of station.sender) (is_idle (length s.sender.jobs) station.receiver.jobs) left
   pub text_is : Appends before after (exchanged_text station.sender.counted (length s.sender.jobs) (outcome_of station.sender) station.receiver.jobs)
 
 -- what was left of the job file of the one name was exchanged over a line for the jobs of the other station: a new station of this rank took some
@@ -65,7 +71,7 @@ pub record ExchangesLeft (ending : Ending) (t u : LineTells) (rank : Rank) (send
   pub file_is : HasEntries entries file
   pub exchanges : ExchangesTo left (first_contending rank (jobs_in (unsent entries))) t station u
   pub makes : MakesBoth file station.sender.counted station.receiver.jobs send received files made
-  pub ending_is : ending ≡ ending_of_both (outcome_of station.sender) left
+  pub ending_is : ending ≡ ending_of_both (outcome_of station.sender) (is_idle (length (unsent entries)) station.receiver.jobs) left
   pub text_is : Appends before after (exchanged_text station.sender.counted (length (unsent entries)) (outcome_of station.sender) station.receiver.jobs)
 
 -- a command over a line ended with this status, and what was left of the job file of the one name was exchanged so

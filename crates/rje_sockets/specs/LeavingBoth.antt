@@ -23,13 +23,13 @@ CameTo s s' =
 abbrev pub HasCounted : Contending → ℕ → Type 0
 HasCounted s n = (last : Contending) × CameTo s last × (last.sender.counted ≡ n)
 
--- no file changed; or the file of this name became that of the same entries as this file's, in which just so many of those that were not Sent
--- are Sent as it had counted, and no other file changed
+-- the file of this name became that of the same entries as this file's, in which just so many of those that were not Sent are Sent as it had
+-- counted, and no other file changed
 abbrev pub MarksAlone : Contending → (file name : List ℕ) → (files made : Option FileMap) → Type 0
-MarksAlone s file name files made = Discloses files made IsSame ⊎ ((last : Contending) × CameTo s last × MarksSent file last.sender.counted name files made)
+MarksAlone s file name files made = (last : Contending) × CameTo s last × MarksSent file last.sender.counted name files made
 
--- just what it had counted is marked in the file of the one name, or it is as it was; in that of the other name all in front is kept of what
--- had come whole, and there may be more of what had come; and no other file changed
+-- just what it had counted is marked in the file of the one name; in that of the other name all in front is kept of what had come whole, and
+-- there may be more of what had come; and no other file changed
 pub record LeavesBoth (s : Contending) (file send received : List ℕ) (files made : Option FileMap) : Type 0 where
   pub marked : Option FileMap
   pub marks : MarksAlone s file send files marked
@@ -37,9 +37,9 @@ pub record LeavesBoth (s : Contending) (file send received : List ℕ) (files ma
   pub came : CameTo s last
   pub kept : HasWhole last.receiver.jobs received marked made
 
--- no file changed; or a new station of this rank, for what was left of the job file of the one name, left the files so
-abbrev pub LeavesExchange : Rank → (send received : List ℕ) → (files made : Option FileMap) → Type 0
-LeavesExchange rank send received files made =
-    Discloses files made IsSame
+-- nothing was said, and no file changed; or a new station of this rank, for what was left of the job file of the one name, left the files so
+abbrev pub LeavesExchange : (Unsaid : Type 0) → Rank → (send received : List ℕ) → (files made : Option FileMap) → Type 0
+LeavesExchange Unsaid rank send received files made =
+    (Unsaid × Discloses files made IsSame)
     ⊎ OfFile send files (λ file. (entries : List Entry) × HasEntries entries file
     × LeavesBoth (first_contending rank (jobs_in (unsent entries))) file send received files made)

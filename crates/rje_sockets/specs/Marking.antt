@@ -13,17 +13,12 @@ use Rattle.rje_commands.specs.Commands.{OfFile}
 use Rattle.rje_sockets.specs.Ending.{MarksSent}
 use Rattle.rje_stores.specs.Store.{FileMap, Discloses, IsSame}
 
--- none is marked, and no file changed; or the file of this name became that of the same entries as this file's, in which just so many of those
--- that were not Sent are Sent, and no other file changed
-abbrev pub AreMarked : (file : List ℕ) → (marked : ℕ) → (name : List ℕ) → (files made : Option FileMap) → Type 0
-AreMarked file marked name files made = ((marked ≡ 0) × Discloses files made IsSame) ⊎ MarksSent file marked name files made
-
 -- What a marker has marked since the files were these, where so many jobs are counted: just these, unless it gave up; and what it has marked
--- is in the file. Its places are those of the marks.
+-- is in the file, which is its own copy from before anything was said. Its places are those of the marks.
 pub record Marks (marker : Marker) (counted : ℕ) (files made : Option FileMap) : Type 0 where
   pub places : AreMarks marker.file.items marker.places.items
   pub all : marker.gave_up ≡ false → marker.marked ≡ counted
-  pub file : AreMarked marker.file.items marker.marked marker.name.now files made
+  pub file : MarksSent marker.file.items marker.marked marker.name.now files made
 
 -- a marker of the same file went on to mark what is counted
 abbrev pub GoesOnMarking : (old new : Marker) → (counted more : ℕ) → (before after : Option FileMap) → Type 0
@@ -35,10 +30,10 @@ GoesOnMarking old new counted more before after =
 abbrev pub WereCounted : Sending → ℕ → Type 0
 WereCounted s n = (h : History) × (near : Sending) × SenderTook s h near × (near.counted ≡ n)
 
--- no file changed; or the file of this name became that of the same entries as this file's, in which just so many of those that were not Sent
--- are Sent as a sending station counted that took some turns, and no other file changed
+-- the file of this name became that of the same entries as this file's, in which just so many of those that were not Sent are Sent as a sending
+-- station counted that took some turns, and no other file changed
 abbrev pub MarksCounted : Sending → (file name : List ℕ) → (files made : Option FileMap) → Type 0
-MarksCounted s file name files made = Discloses files made IsSame ⊎ ((n : ℕ) × WereCounted s n × MarksSent file n name files made)
+MarksCounted s file name files made = (n : ℕ) × WereCounted s n × MarksSent file n name files made
 
 -- a new station for what was left of this file took some turns, and the jobs that it counted by then are Sent in the file of this name
 pub record MarksItsCount (name file : List ℕ) (files made : Option FileMap) : Type 0 where
@@ -49,6 +44,6 @@ pub record MarksItsCount (name file : List ℕ) (files made : Option FileMap) : 
   pub took : SenderTook (first_sending (jobs_in (unsent entries))) history station
   pub marks : MarksSent file station.counted name files made
 
--- Whatever ended the transmission: no file changed, or just what was counted is marked in the file of this name.
-abbrev pub MarksNoMore : (name : List ℕ) → (files made : Option FileMap) → Type 0
-MarksNoMore name files made = Discloses files made IsSame ⊎ OfFile name files (λ file. MarksItsCount name file files made)
+-- Whatever ended the transmission: nothing was said, and no file changed; or just what was counted is marked in the file of this name.
+abbrev pub MarksNoMore : (Unsaid : Type 0) → (name : List ℕ) → (files made : Option FileMap) → Type 0
+MarksNoMore Unsaid name files made = (Unsaid × Discloses files made IsSame) ⊎ OfFile name files (λ file. MarksItsCount name file files made)

@@ -1,5 +1,5 @@
 -- What a command over sockets does, by its order (own profile).
-use Rattle.std.specs.Prelude.{◌≡◌, ◌⊎◌, ℕ, List, Option, IfSome}
+use Rattle.std.specs.Prelude.{◌≡◌, ◌⊎◌, ℕ, List, Option, IfSome, ⊤}
 use Rattle.rje_orders.specs.declared.order.SocketOrder.{SocketOrder}
 use Rattle.rje_commands.specs.declared.command_fault.CommandFault.{CommandFault}
 use Rattle.rje_commands.specs.CommandFault.{IsFailing, status_of}
@@ -31,10 +31,10 @@ Transmits (SocketOrder.Exchange order) ending files made before after =
 -- does both.
 abbrev pub LeavesFiles : SocketOrder → (files made : Option FileMap) → Type 0
 LeavesFiles (SocketOrder.Loop order) files made = Discloses files made IsSame
-LeavesFiles (SocketOrder.Send order) files made = MarksNoMore order.jobs.now files made
+LeavesFiles (SocketOrder.Send order) files made = MarksNoMore ⊤ order.jobs.now files made
 LeavesFiles (SocketOrder.Receive order) files made = IfSome files (λ _. (before : ℕ) × (after : ℕ) × KeepsAnswered order.jobs.now files made before after)
 LeavesFiles (SocketOrder.Exchange order) files made =
-    IfSome files (λ _. LeavesExchange (rank_at order.place) order.send.now order.received.now files made)
+    IfSome files (λ _. LeavesExchange ⊤ (rank_at order.place) order.send.now order.received.now files made)
 
 -- WHY IT ISN'T CARRIED OUT
 

@@ -202,7 +202,7 @@ fn take_others_turn<'a, 'b, L: Line, S: Store, W: Watch>(
     let Some(arrival) = station.receiver().arrival() else {
         unreachable!()
     };
-    if let Err(fault) = keeper.keep(station.receiver().jobs(), store) {
+    if let Err(fault) = keeper.keep(station.receiver().jobs(), arrival.refused, store) {
         station.other_ended();
         watch.receiver_took(arrival, None);
         return Err(BrokenOff::File(fault));

@@ -275,7 +275,7 @@ fn hear_keep_and_speak<'a, L: Line, S: Store, W: Watch>(
     let Some(arrival) = station.arrival() else {
         unreachable!()
     };
-    if let Err(fault) = keeper.keep(station.jobs(), store) {
+    if let Err(fault) = keeper.keep(station.jobs(), arrival.refused, store) {
         station.abandon();
         watch.receiver_took(arrival, None);
         return Err(BrokenOff::File(fault));

@@ -8,7 +8,8 @@ ghost use Rattle.rje_sockets.specs.NamedFiles.{NamesWritten};
 ghost use Rattle.rje_stores.specs.Store.{FileMap, Discloses, IsSame, Sets};
 ghost use Rattle.rje_jobs.specs.declared.job.Job.{Job as Item};
 
-use rje_commands::{CommandFault, extend_file, look_at_file, write_file};
+use crate::tally::Tally;
+use rje_commands::{CommandFault, extend_file, lock_file, look_at_file, write_file};
 use rje_files::{Growth, entries_of, growth_of, write_entries};
 use rje_jobs::{Job, Jobs};
 use rje_stores::{MAX_INPUT, Place, Store};
@@ -25,10 +26,14 @@ pub struct Keeper<'a> {
     kept: usize,
     /// It has so many bytes, where there are some.
     long: usize,
+    /// How much has come.
+    tally: Tally,
+    /// The last block was refused for want of memory, and hasn't come again.
+    is_short: bool,
 }
 
 impl<'a> Keeper<'a> {
-    /// Keeps jobs in the file of this name, if it can be written. Nothing is written yet.
+    /// Keeps jobs in the file of this name, which it has for itself, if it can be written. Nothing is written yet.
     pub fn new<S: Store>(
         alloc: Global,
         name: &'a str,
@@ -38,21 +43,38 @@ impl<'a> Keeper<'a> {
         ensures none { IfOk result (λ keeper. keeper.kept ≡ 0) }
         ensures grows { IfSome (S.files store.old) (λ _. IfOk result (λ keeper.
             keeper.place ≡ Place.Growing)) }
+        ensures held { OnOk result (S.holds store.new name.entry.now) }
         ensures fault { IfErr result (IsWriteFault name.entry.now) }
         ensures same { Discloses (S.files store.old) (S.files store.new) IsSame }
     {
         let place = look_at_file(name, store)?;
+        lock_file(alloc, name, store)?;
         Ok(Keeper {
             alloc,
             name,
             place,
             kept: 0,
             long: 0,
+            tally: Tally::new(),
+            is_short: false,
         })
     }
 
-    /// Keeps the next of these jobs, where it has come to its end.
-    pub fn keep<S: Store>(&mut self, jobs: &[Job], store: &mut S) -> Result<(), CommandFault<'a>>
+    /// Whether the last block was refused for want of memory, and hasn't come again.
+    pub fn is_short(&self) -> bool
+        ensures { result ≡ self.now.is_short }
+    {
+        self.is_short
+    }
+
+    /// Keeps the next of these jobs, where it has come to its end. The file can't be written where they are more than it has, or than is
+    /// held, also where the last one hasn't come to its end yet.
+    pub fn keep<S: Store>(
+        &mut self,
+        jobs: &[Job],
+        refused: bool,
+        store: &mut S,
+    ) -> Result<(), CommandFault<'a>>
         ensures name { self.new.name ≡ self.old.name }
         ensures place { self.new.place ≡ self.old.place }
         ensures next { OnOk result (self.new.kept
@@ -66,14 +88,16 @@ impl<'a> Keeper<'a> {
         ensures unchanged { OnErr result (self.new ≡ self.old) }
         ensures same { OnErr result (Discloses (S.files store.old) (S.files store.new) IsSame) }
     {
-        if self.place == Place::Once {
-            return Ok(());
+        let tally = self.tally.after(jobs);
+        if tally.is_too_much() {
+            return Err(CommandFault::CannotWrite(self.name));
         }
-        if self.kept < jobs.len() && jobs[self.kept].whole {
-            self.add(&jobs[self.kept], store)
-        } else {
-            Ok(())
+        if self.place == Place::Growing && self.kept < jobs.len() && jobs[self.kept].whole {
+            self.add(&jobs[self.kept], store)?;
         }
+        self.is_short = refused || self.is_short && tally == self.tally;
+        self.tally = tally;
+        Ok(())
     }
 
     /// Keeps what is left of these jobs: one that was cut, or all of them. Where there are none, the file is one of no jobs.

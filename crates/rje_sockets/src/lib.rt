@@ -11,6 +11,7 @@ mod over_sockets;
 mod parting;
 mod socket_commands;
 mod socket_line;
+mod tally;
 mod timed_stream;
 mod tracer;
 mod watch;

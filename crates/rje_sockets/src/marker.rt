@@ -1,5 +1,5 @@
 //! Marks the jobs of a transmission in their file while they are counted.
-ghost use Rattle.std.specs.Prelude.{◌≡◌, ◌⊎◌, ◌+◌, ◌<◌, ℕ, List, Option, Some, Err, true, false, IfErr, IfOk, IfSome, OnOk, OnErr};
+ghost use Rattle.std.specs.Prelude.{◌≡◌, ◌⊎◌, ◌+◌, ℕ, List, Option, Some, Err, true, false, IfErr, IfOk, IfSome, OnOk, OnErr};
 ghost use Rattle.std.specs.List.{slice_get};
 ghost use Rattle.rje_jobs.specs.declared.job.Job.{Job};
 ghost use Rattle.rje_files.specs.Marks.{AreMarks};
@@ -7,16 +7,17 @@ ghost use Rattle.rje_files.specs.Unsent.{IsLeft};
 ghost use Rattle.rje_commands.specs.CommandFault.{IsFailing, status_of};
 ghost use Rattle.rje_commands.specs.declared.command_fault.CommandFault.TheVariants.{OutOfStep};
 ghost use Rattle.rje_sockets.specs.Ending.{MarksSent};
-ghost use Rattle.rje_sockets.specs.Marking.{AreMarked, GoesOnMarking};
+ghost use Rattle.rje_sockets.specs.Marking.{GoesOnMarking};
 ghost use Rattle.rje_sockets.specs.NamedFiles.{NamesWritten};
 ghost use Rattle.rje_stores.specs.Store.{FileMap, Discloses, IsSame};
 
-use rje_commands::{CommandFault, look_at_file, set_byte_of_file, write_file};
+use rje_commands::{CommandFault, HeldFile, look_at_file, set_byte_of_file, write_file};
 use rje_files::{MARK, sent_file};
 use rje_stores::{Place, Store};
 use std::alloc::Global;
 
-/// Marks the jobs of a job file as they are counted: the first by a new file in its place, and each further one by a byte in that.
+/// Marks the jobs of a job file as they are counted: each by a byte in a copy of its own, which it puts in the file's place before anything
+/// is said.
 #[derive(Drop)]
 pub struct Marker<'a> {
     alloc: Global,
@@ -32,21 +33,37 @@ pub struct Marker<'a> {
 }
 
 impl<'a> Marker<'a> {
-    /// Marks the jobs of the file of this name, which has these bytes, at these places. No job is marked yet.
-    pub fn new(alloc: Global, name: &'a str, file: Vec<u8>, places: Vec<usize>) -> Marker<'a>
-        ensures name { result.name.now ≡ name.entry.now }
-        ensures file { result.file ≡ file }
+    /// Marks the jobs of this file, which the command has for itself, at these places. No job is marked yet.
+    pub fn new(alloc: Global, held: HeldFile<'a>, places: Vec<usize>) -> Marker<'a>
+        ensures name { result.name ≡ held.entry.name }
+        ensures file { result.file ≡ held.entry.bytes }
         ensures places { result.places ≡ places }
         ensures none { result.marked ≡ 0 }
         ensures marking { result.gave_up ≡ false }
     {
         Marker {
             alloc,
-            name,
-            file,
+            name: held.name(),
+            file: held.into_bytes(),
             places,
             marked: 0,
             gave_up: false,
+        }
+    }
+
+    /// Puts the copy that marks go into in the place of the file, with no job marked that wasn't: so what is said from then on can be marked.
+    /// A device or a pipe takes no marks, and can't be written so.
+    pub fn begin<S: Store>(&self, store: &mut S) -> Result<(), CommandFault<'a>>
+        ensures begun { OnOk result (MarksSent self.now.file.items 0 self.now.name.now
+            (S.files store.old) (S.files store.new)) }
+        ensures status { IfErr result (λ fault. (jobs : List Job)
+            → IsLeft self.now.file.items jobs → IsFailing (status_of fault)) }
+        ensures names { IfErr result (NamesWritten self.now.name.now) }
+        ensures same { OnErr result (Discloses (S.files store.old) (S.files store.new) IsSame) }
+    {
+        match look_at_file(self.name, store)? {
+            Place::Growing => self.write(0, store),
+            Place::Once => Err(CommandFault::CannotWrite(self.name)),
         }
     }
 
@@ -106,30 +123,26 @@ impl<'a> Marker<'a> {
     fn put<S: Store>(&self, counted: usize, store: &mut S) -> Result<(), CommandFault<'a>>
         ensures marked { OnOk result ((files : Option FileMap)
             → AreMarks self.now.file.items self.now.places.items
-            → AreMarked self.now.file.items self.now.marked self.now.name.now files
+            → MarksSent self.now.file.items self.now.marked self.now.name.now files
             (S.files store.old)
             → MarksSent self.now.file.items counted self.now.name.now files
             (S.files store.new)) }
         ensures same { OnErr result (Discloses (S.files store.old) (S.files store.new) IsSame) }
     {
-        if let Some(place) = self.next_place(counted) {
-            return set_byte_of_file(self.alloc, self.name, place, MARK, store);
-        }
-        match look_at_file(self.name, store)? {
-            Place::Growing => self.write(counted, store),
-            Place::Once => Err(CommandFault::CannotWrite(self.name)),
+        match self.next_place(counted) {
+            Some(place) => set_byte_of_file(self.alloc, self.name, place, MARK, store),
+            None => self.write(counted, store),
         }
     }
 
-    /// Where the next job is marked, where some are and just one more is to be.
+    /// Where the next job is marked, where just one more is to be.
     fn next_place(&self, counted: usize) -> Option<usize>
         ensures place { IfSome result (λ place.
             slice_get self.now.places.items self.now.marked ≡ Some place) }
         ensures one { IfSome result (λ _. counted ≡ self.now.marked + 1) }
-        ensures some { IfSome result (λ _. 0 < self.now.marked) }
     {
         let marked = self.marked;
-        if 0 < marked && marked < counted && counted - marked == 1 && marked < self.places.len() {
+        if marked < counted && counted - marked == 1 && marked < self.places.len() {
             Some(self.places[marked])
         } else {
             None

@@ -3,23 +3,27 @@ ghost use Rattle.std.specs.Prelude.{None};
 
 mod beside;
 mod growing;
+mod locks;
 
 use crate::reading::read_all;
 use crate::store::{Place, Store, StoreFault};
 use beside::{lead_to_one, replace, resolved, try_beside};
 use growing::Growing;
+use locks::FileLock;
 use std::alloc::Global;
-use std::fs::{self, OpenFile, OpenOptions, Permissions};
+use std::fs::{self, File, OpenFile, OpenOptions, Permissions};
 use std::io::{self, ErrorKind, Seek, SeekFrom, Write};
 use std::rt::Files;
 
 /// The system's files. It tells none of them. A file on disk is replaced whole or not at all, by way of a file beside it; a device or a
-/// pipe is written where it is.
+/// pipe is written where it is. A file that it has for itself is locked, by way of another file beside it, until `release` or the end of
+/// the process.
 #[derive(Drop)]
 pub struct FileStore<'a, R: Files> {
     rt: &'a R,
     alloc: Global,
     growing: Option<Growing<R::File>>,
+    locks: Vec<FileLock>,
 }
 
 /// What stands under a name that can be written.
@@ -33,14 +37,23 @@ enum Target {
     Device,
 }
 
-impl<'a, R: Files> FileStore<'a, R> {
+impl<'a, R: Files<File = File>> FileStore<'a, R> {
     /// The files that the runtime reaches.
     pub fn new(rt: &'a R, alloc: Global) -> Self {
         FileStore {
             rt,
             alloc,
             growing: None,
+            locks: Vec::new(alloc),
         }
+    }
+
+    /// Gives up all locks, and leaves nothing of them beside the files.
+    pub fn release(&mut self) {
+        for lock in self.locks.iter() {
+            lock.remove(self.rt);
+        }
+        self.locks.clear();
     }
 
     /// What stands under this path, where it can be written.
@@ -57,10 +70,10 @@ impl<'a, R: Files> FileStore<'a, R> {
         }
     }
 
-    fn put(&self, name: &str, bytes: &[u8]) -> io::Result<()> {
+    fn put(&self, name: &str, bytes: &[u8]) -> Result<(), StoreFault> {
         let path = resolved(self.rt, self.alloc, name)?;
         match self.target(path.as_str())? {
-            Target::Device => fs::write(self.rt, path.as_str(), bytes),
+            Target::Device => Ok(fs::write(self.rt, path.as_str(), bytes)?),
             Target::New => replace(self.rt, self.alloc, path.as_str(), None, bytes),
             Target::File(mode) => replace(self.rt, self.alloc, path.as_str(), Some(mode), bytes),
         }
@@ -90,7 +103,7 @@ impl<'a, R: Files> FileStore<'a, R> {
         }
     }
 
-    fn grow(&mut self, name: &str, front: &[u8], tail: &[u8]) -> io::Result<()> {
+    fn grow(&mut self, name: &str, front: &[u8], tail: &[u8]) -> Result<(), StoreFault> {
         let growing = match self.growing.take() {
             Some(growing) if growing.is_of(name) => growing,
             other => {
@@ -105,31 +118,39 @@ impl<'a, R: Files> FileStore<'a, R> {
     }
 }
 
-impl<'a, R: Files> Store for FileStore<'a, R> {
+impl<'a, R: Files<File = File>> Store for FileStore<'a, R> {
     ghost files = { λ _. None };
 
-    fn read(&mut self, alloc: Global, name: &str) -> Result<Vec<u8>, StoreFault> {
-        match fs::open(self.rt, name) {
-            Ok(mut file) => read_all(alloc, &mut file),
-            Err(error) if error.kind() == ErrorKind::NotFound => Err(StoreFault::Missing),
-            Err(_) => Err(StoreFault::Failed),
+    fn lock(&mut self, alloc: Global, name: &str) -> Result<(), StoreFault> {
+        if self.locks.iter().any(|lock| lock.is_of(name)) {
+            return Ok(());
         }
+        if let Some(lock) = FileLock::take(self.rt, alloc, name)? {
+            if let Err(lock) = self.locks.push(lock) {
+                return Err(StoreFault::OutOfMemory);
+            }
+        }
+        Ok(())
+    }
+
+    fn read(&mut self, alloc: Global, name: &str) -> Result<Vec<u8>, StoreFault> {
+        read_all(alloc, &mut fs::open(self.rt, name)?)
     }
 
     fn write(&mut self, name: &str, bytes: &[u8]) -> Result<(), StoreFault> {
         self.settle();
-        self.put(name, bytes).map_err(|error| fault_of(&error))
+        self.put(name, bytes)
     }
 
     fn look(&mut self, name: &str) -> Result<Place, StoreFault> {
-        self.place(name).map_err(|error| fault_of(&error))
+        Ok(self.place(name)?)
     }
 
     fn is_one_file(&mut self, alloc: Global, one: &str, other: &str) -> Result<bool, StoreFault> {
         if one == other {
             return Ok(true);
         }
-        lead_to_one(self.rt, alloc, one, other).map_err(|error| fault_of(&error))
+        Ok(lead_to_one(self.rt, alloc, one, other)?)
     }
 
     fn extend(
@@ -140,7 +161,6 @@ impl<'a, R: Files> Store for FileStore<'a, R> {
         tail: &[u8],
     ) -> Result<(), StoreFault> {
         self.grow(name, front, tail)
-            .map_err(|error| fault_of(&error))
     }
 
     fn set_byte(
@@ -151,20 +171,12 @@ impl<'a, R: Files> Store for FileStore<'a, R> {
         byte: u8,
     ) -> Result<(), StoreFault> {
         self.settle();
-        self.put_byte(name, place, byte)
-            .map_err(|error| fault_of(&error))
+        Ok(self.put_byte(name, place, byte)?)
     }
 
     fn settle(&mut self) {
         if let Some(growing) = self.growing.take() {
             growing.settle(self.rt);
         }
-    }
-}
-
-fn fault_of(error: &io::Error) -> StoreFault {
-    match error.kind() {
-        ErrorKind::OutOfMemory => StoreFault::OutOfMemory,
-        _ => StoreFault::Failed,
     }
 }

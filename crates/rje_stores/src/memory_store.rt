@@ -1,5 +1,5 @@
 //! Files in memory.
-ghost use Rattle.std.specs.Prelude.{◌≡◌, ◌≢◌, ◌+◌, ◌≤◌, ◌↔◌, ℕ, List, None, Some, Ok, true, false, length, IfOk, OnOk, OnErr, IsErrOf, IsOkUnless};
+ghost use Rattle.std.specs.Prelude.{◌≡◌, ◌≢◌, ◌+◌, ◌≤◌, ◌↔◌, ℕ, List, None, Some, Ok, true, false, length, IfOk, OnOk, OnErr, IsOk, IsErrOf, IsOkUnless};
 ghost use Rattle.rje_stores.specs.Store.{IsSame, Sets, SetsByte, Extends, IsTooLong, HasFewer};
 ghost use Rattle.rje_stores.specs.MemoryStore.{files_of};
 
@@ -29,6 +29,13 @@ impl MemoryStore {
 
 impl Store for MemoryStore {
     ghost files = { λ store. Some (files_of store) };
+
+    fn lock(&mut self, _alloc: Global, _name: &str) -> Result<(), StoreFault>
+        ensures locks { IsOk result }
+        ensures same { IsSame (files_of self.old) (files_of self.new) }
+    {
+        Ok(())
+    }
 
     fn read(&mut self, alloc: Global, name: &str) -> Result<Vec<u8>, StoreFault>
         ensures has { IfOk result (λ bytes. files_of self.old name.now ≡ Some bytes.items) }

@@ -1,10 +1,12 @@
 //! The files that the program reads and writes by name.
 ghost use Rattle.std.specs.Prelude.{◌≡◌, ◌≢◌, ℕ, ◌<◌, ◌≤◌, ◌↔◌, ◌++◌, List, Option, length, IfOk, IfSome, IsErrOf, IsOkUnless, OnOk, OnErr, false};
 ghost use Rattle.rje_files.specs.Growth.{grown};
+ghost use Rattle.rje_stores.specs.declared.store.StoreFault.TheVariants.{OutOfMemory};
 ghost use Rattle.rje_stores.specs.Store.{FileMap, Discloses, IsSame, Sets, SetsByte, Extends, Has, IsMissing};
 
 use crate::reading::MAX_INPUT;
-use std::alloc::Global;
+use std::alloc::{AllocError, Global};
+use std::io::{self, ErrorKind};
 use thiserror::Error;
 
 /// Why a file isn't read or written.
@@ -16,9 +18,35 @@ pub enum StoreFault {
     /// There is no such file to read.
     #[error("there is no such file")]
     Missing,
+    /// Another process has it to change it.
+    #[error("the file is in use")]
+    InUse,
+    /// It is written, but the disk may not have it. Only a store that tells no files fails so.
+    #[error("the file is written, but the disk may not have it")]
+    Unsynced,
     /// It is too long, or the store fails.
     #[error("the file can't be read or written")]
     Failed,
+}
+
+impl From<io::Error> for StoreFault {
+    ghost from_gives = { λ _ _. Unit {0} };
+
+    fn from(error: io::Error) -> StoreFault {
+        match error.kind() {
+            ErrorKind::OutOfMemory => StoreFault::OutOfMemory,
+            ErrorKind::NotFound => StoreFault::Missing,
+            _ => StoreFault::Failed,
+        }
+    }
+}
+
+impl From<AllocError> for StoreFault {
+    ghost from_gives = { λ _ fault. fault ≡ OutOfMemory };
+
+    fn from(_error: AllocError) -> StoreFault {
+        StoreFault::OutOfMemory
+    }
 }
 
 /// How a file can be written.
@@ -34,6 +62,26 @@ pub enum Place {
 pub trait Store {
     /// The files, where the store tells them.
     ghost files: { Self → Option FileMap };
+
+    /// The store has the file of this name for itself: nobody else changes it.
+    ghost holds: { Self → List ℕ → Type 0 } = { λ _ _. Unit {0} };
+
+    /// Has the file of this name, which may be there or not, for this store alone, as long as it lives. In use where another process has it;
+    /// missing where there can't be such a file. A store may fail at any time; one in memory has all its files for itself.
+    fn lock(&mut self, alloc: Global, name: &str) -> Result<(), StoreFault>
+        ensures held { OnOk result (holds self.new name.now) }
+        ensures same { Discloses (files self.old) (files self.new) IsSame };
+
+    /// The bytes of a file that the store has for itself, and which are the file's until the store changes them.
+    fn read_held(&mut self, alloc: Global, name: &str) -> Result<Vec<u8>, StoreFault>
+        requires held { holds self.old name.now }
+        ensures has { IfOk result (λ bytes. Has (files self.old) name.now bytes.items) }
+        ensures limit { IfOk result (λ bytes. length bytes.items ≤ MAX_INPUT) }
+        ensures missing { IsErrOf result StoreFault.Missing → IsMissing (files self.old) name.now }
+        ensures same { Discloses (files self.old) (files self.new) IsSame }
+    {
+        self.read(alloc, name)
+    }
 
     /// The bytes of a file, which has at most 16,777,216. A store may fail at any time.
     fn read(&mut self, alloc: Global, name: &str) -> Result<Vec<u8>, StoreFault>

@@ -1,7 +1,6 @@
 -- Of what the private functions of the commands tell; no promise rests on it.
 use Rattle.std.specs.Prelude.{◌≡◌, ℕ, List, [], ◌∷◌, ◌++◌, Option, None, IfSome, true, false, ⊤}
 use Rattle.std.specs.Option.{IsSomeAnd}
-use Rattle.rje_jobs.specs.Deck.{IsDeckFault}
 use Rattle.rje_files.specs.FileFault.{IsFileFault}
 use Rattle.rje_files.specs.declared.entry.Entry.{Entry}
 use Rattle.rje_files.specs.declared.job_file.version.FileVersion.TheVariants.{Second}
@@ -12,7 +11,7 @@ use Rattle.rje_print.specs.JobTexts.{IsShown}
 use Rattle.rje_print.specs.Script.{IsFirstBadLine}
 use Rattle.rje_commands.specs.declared.command_fault.CommandFault.{CommandFault}
 use Rattle.rje_orders.specs.declared.order.CardsOrder.{CardsOrder}
-use Rattle.rje_commands.specs.Commands.{AreEntriesOf, HasBadJob, IsFaultOfRun, deck_entry}
+use Rattle.rje_commands.specs.Commands.{AreEntriesOf, HasBadJob, IsFaultOfRun}
 use Rattle.rje_commands.specs.NamedFile.{IsReadFault}
 use Rattle.rje_stores.specs.Store.{FileMap}
 
@@ -28,17 +27,15 @@ IsHeld order files held = (order.append ≡ true → IsThere order.jobs.now file
 abbrev pub IsHeldFault : CardsOrder → CommandFault → Type 0
 IsHeldFault order fault = (order.append ≡ true) × IsReadFault order.jobs.now fault
 
--- these are the bytes of the version 2 file of what this file holds and, behind it, of the job of this deck
-abbrev pub IsMade : CardsOrder → (deck : List ℕ) → (held : Option (List ℕ)) → (bytes : List ℕ) → Type 0
-IsMade order deck held bytes =
-    (front : List Entry) × AreEntriesOf held front × IsEntryFileOf Second (front ++ deck_entry order.device order.name deck ∷ []) bytes
+-- these are the bytes of the version 2 file of what this file holds and, behind it, of this entry
+abbrev pub IsMade : (held : Option (List ℕ)) → Entry → (bytes : List ℕ) → Type 0
+IsMade held entry bytes = (front : List Entry) × AreEntriesOf held front × IsEntryFileOf Second (front ++ entry ∷ []) bytes
 
--- there is no memory for the file of this deck, the deck has this fault, or the file to which its job is added is no job file
-abbrev pub IsCardsFault : (deck : List ℕ) → (held : Option (List ℕ)) → CommandFault → Type 0
-IsCardsFault deck held CommandFault.OutOfMemory = ⊤
-IsCardsFault deck held (CommandFault.Deck fault) = IsDeckFault deck fault
-IsCardsFault deck held (CommandFault.File fault) = IsSomeAnd held (λ file. IsFileFault IsEntryFile file fault)
-IsCardsFault deck held _ = ⊥
+-- there is no memory for the file of what this file holds and a job behind it, or that is no job file
+abbrev pub IsMadeFault : (held : Option (List ℕ)) → CommandFault → Type 0
+IsMadeFault held CommandFault.OutOfMemory = ⊤
+IsMadeFault held (CommandFault.File fault) = IsSomeAnd held (λ file. IsFileFault IsEntryFile file fault)
+IsMadeFault held _ = ⊥
 
 -- there is no memory for the run of this file over this script, one of them isn't read, or the run has this fault
 abbrev pub IsTryFault : (file script : List ℕ) → CommandFault → Type 0

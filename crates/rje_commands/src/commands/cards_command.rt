@@ -1,18 +1,18 @@
 //! `cards`: a job file of a deck's job, or one to which the job is added.
-ghost use Rattle.std.specs.Prelude.{◌≡◌, None, length, option_map, IfErr, IfOk, OnOk, true, false};
+ghost use Rattle.std.specs.Prelude.{◌≡◌, option_map, IfErr, IfOk, OnOk, true, false};
 ghost use Rattle.std.specs.Option.{IsSomeAnd};
-ghost use Rattle.rje_jobs.specs.Deck.{deck_fault};
 ghost use Rattle.rje_files.specs.FileFault.{IsFileFault};
 ghost use Rattle.rje_files.specs.JobFile.{IsEntryFile};
 ghost use Rattle.rje_orders.specs.declared.order.FileOrder.{FileOrder};
 ghost use Rattle.rje_commands.specs.Commands.{Does, IsFault, Leaves, OfDeck, MakesFile};
-ghost use Rattle.rje_commands.specs.Commands.{AreEntriesOf, deck_job};
-ghost use Rattle.rje_commands.specs.Inside.Commands.{IsCardsFault, IsHeld, IsHeldFault, IsMade};
+ghost use Rattle.rje_commands.specs.Commands.{AreEntriesOf};
+ghost use Rattle.rje_commands.specs.Inside.Commands.{IsHeld, IsHeldFault, IsMade, IsMadeFault};
 ghost use Rattle.rje_commands.specs.CommandFault.{is_of_output};
 ghost use Rattle.rje_stores.specs.Store.{Discloses, IsSame};
 
 use crate::command_fault::CommandFault;
-use crate::commands::inputs::{read_deck, read_if_there};
+use crate::commands::holding::{lock_file, read_if_there};
+use crate::commands::inputs::read_deck;
 use crate::commands::output::{put, write_file};
 use rje_files::{Entry, State, read_entries, write_entries};
 use rje_jobs::{FileFault, job_of_deck};
@@ -23,8 +23,8 @@ use std::alloc::Global;
 use std::io::{Read, Write};
 
 /// Writes a job file of a deck's job, behind the jobs that the file holds where the order adds to them, and prints how many cards the job
-/// has. Nothing is written before the file is made;
-/// a fault but that of the output, which comes behind the file, leaves all files as they were.
+/// has. It has the file for itself from before it reads it. Nothing is written before the new file is made; a fault but that of the output,
+/// which comes after the file, leaves all files as they were.
 pub fn cards<'a, S: Store, I: Read, O: Write>(
     alloc: Global,
     order: CardsOrder<'a>,
@@ -47,17 +47,19 @@ pub fn cards<'a, S: Store, I: Read, O: Write>(
     ensures silent { IfErr result (λ fault. is_of_output fault ≡ false → out.new ≡ out.old) }
 {
     let deck = read_deck(alloc, order.deck, store, input)?;
+    let device = order.device;
+    let job = job_of_deck(alloc, deck.as_slice(), device.select(), device.mode())?;
+    let count = job.records.len();
+    let entry = Entry {
+        name: order.name,
+        state: State::Waiting,
+        job,
+    };
+    lock_file(alloc, order.jobs, store)?;
     let held = held_file(alloc, order, store)?;
-    let made = card_file(alloc, deck.as_slice(), held, order)?;
-    write_file(order.jobs, made.bytes.as_slice(), store)?;
-    put(cards_text(made.count).as_slice(), out)
-}
-
-/// The job file that is made, and how many cards the deck has.
-#[derive(Drop)]
-struct CardFile {
-    bytes: Vec<u8>,
-    count: usize,
+    let made = longer_file(alloc, held, entry)?;
+    write_file(order.jobs, made.as_slice(), store)?;
+    put(cards_text(count).as_slice(), out)
 }
 
 /// The job file to which the job is added: none where it is to be a new file.
@@ -66,6 +68,7 @@ fn held_file<'a, S: Store>(
     order: CardsOrder<'a>,
     store: &mut S,
 ) -> Result<Option<Vec<u8>>, CommandFault<'a>>
+    requires locked { S.holds store.old order.jobs.now }
     ensures held { IfOk result (λ held.
         IsHeld order.entry (S.files store.old) (option_map (λ bytes. bytes.items) held)) }
     ensures fault { IfErr result (IsHeldFault order.entry) }
@@ -77,34 +80,23 @@ fn held_file<'a, S: Store>(
     read_if_there(alloc, order.jobs, store)
 }
 
-/// The job file of what is held and, behind it, this deck's job, which waits to be sent.
-fn card_file<'a>(
+/// The job file of what is held and, behind it, this entry.
+fn longer_file<'a>(
     alloc: Global,
-    deck: &[u8],
     held: Option<Vec<u8>>,
-    order: CardsOrder<'a>,
-) -> Result<CardFile, CommandFault<'a>>
-    ensures good { IfOk result (λ made. deck_fault deck.now ≡ None) }
+    entry: Entry,
+) -> Result<Vec<u8>, CommandFault<'a>>
     ensures file { IfOk result (λ made.
-        IsMade order.entry deck.now (option_map (λ bytes. bytes.items) held) made.bytes.items) }
-    ensures count { IfOk result (λ made.
-        made.count ≡ length (deck_job order.entry.device deck.now).records) }
-    ensures fault { IfErr result (IsCardsFault deck.now (option_map (λ bytes. bytes.items) held)) }
+        IsMade (option_map (λ bytes. bytes.items) held) entry made.items) }
+    ensures fault { IfErr result (IsMadeFault (option_map (λ bytes. bytes.items) held)) }
 {
-    let job = job_of_deck(alloc, deck, order.device.select(), order.device.mode())?;
-    let count = job.records.len();
     let mut entries = held_entries(alloc, held)?;
-    let entry = Entry {
-        name: order.name,
-        state: State::Waiting,
-        job,
-    };
     if entries.push(entry).is_err() {
         return Err(CommandFault::OutOfMemory);
     }
-    // Only memory can be missing for the file.
+    // Only memory can be missing for the file: the entry has a name, and a state that its job can have.
     match write_entries(alloc, entries.as_slice()) {
-        Ok(bytes) => Ok(CardFile { bytes, count }),
+        Ok(bytes) => Ok(bytes),
         Err(_) => Err(CommandFault::OutOfMemory),
     }
 }

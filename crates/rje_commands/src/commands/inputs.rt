@@ -1,8 +1,7 @@
 //! What a command reads: a deck, or a job file.
-ghost use Rattle.std.specs.Prelude.{◌≡◌, IfOk, IfErr, option_map};
+ghost use Rattle.std.specs.Prelude.{◌≡◌, IfOk, IfErr};
 ghost use Rattle.rje_files.specs.JobFile.{HasEntries, HasJobs};
 ghost use Rattle.rje_commands.specs.Commands.{OfDeck, OfFile};
-ghost use Rattle.rje_commands.specs.Inside.Commands.{IsThere};
 ghost use Rattle.rje_commands.specs.NamedFile.{IsReadFault, IsInputFault};
 ghost use Rattle.rje_stores.specs.Store.{Discloses, IsSame};
 
@@ -55,24 +54,6 @@ pub fn read_file<'a, S: Store>(
     }
 }
 
-/// The bytes of a file, and none where there is no such file.
-pub fn read_if_there<'a, S: Store>(
-    alloc: Global,
-    name: &'a str,
-    store: &mut S,
-) -> Result<Option<Vec<u8>>, CommandFault<'a>>
-    ensures file { IfOk result (λ found.
-        IsThere name.entry.now (S.files store.old) (option_map (λ bytes. bytes.items) found)) }
-    ensures fault { IfErr result (IsReadFault name.entry.now) }
-    ensures same { Discloses (S.files store.old) (S.files store.new) IsSame }
-{
-    match store.read(alloc, name) {
-        Ok(bytes) => Ok(Some(bytes)),
-        Err(StoreFault::Missing) => Ok(None),
-        Err(fault) => Err(not_read(name, fault)),
-    }
-}
-
 /// The entries of a job file, of either version.
 pub fn read_entry_file<'a, S: Store>(
     alloc: Global,
@@ -104,11 +85,12 @@ pub fn read_job_file<'a, S: Store>(
 }
 
 /// Why the input of this name isn't read.
-fn not_read(name: &str, fault: StoreFault) -> CommandFault<'_>
+pub(super) fn not_read(name: &str, fault: StoreFault) -> CommandFault<'_>
     ensures { IsReadFault name.entry.now result }
 {
     match fault {
         StoreFault::OutOfMemory => CommandFault::OutOfMemory,
-        StoreFault::Missing | StoreFault::Failed => CommandFault::CannotRead(name),
+        StoreFault::Missing | StoreFault::InUse | StoreFault::Unsynced | StoreFault::Failed =>
+            CommandFault::CannotRead(name),
     }
 }

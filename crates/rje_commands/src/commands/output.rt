@@ -135,11 +135,13 @@ pub fn set_byte_of_file<'a, S: Store>(
 }
 
 /// Why the file of this name isn't written.
-fn not_written(name: &str, fault: StoreFault) -> CommandFault<'_>
+pub(super) fn not_written(name: &str, fault: StoreFault) -> CommandFault<'_>
     ensures { IsWriteFault name.entry.now result }
 {
     match fault {
         StoreFault::OutOfMemory => CommandFault::OutOfMemory,
+        StoreFault::InUse => CommandFault::InUse(name),
+        StoreFault::Unsynced => CommandFault::Unsynced(name),
         StoreFault::Missing | StoreFault::Failed => CommandFault::CannotWrite(name),
     }
 }

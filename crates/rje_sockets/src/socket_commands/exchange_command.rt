@@ -1,5 +1,5 @@
 //! `exchange`: one transmission each way over one connection.
-ghost use Rattle.std.specs.Prelude.{◌≡◌, ◌≢◌, ◌⊎◌, List, Option, IfErr, IfOk, IfSome, OnOk};
+ghost use Rattle.std.specs.Prelude.{◌≡◌, ◌≢◌, ◌⊎◌, List, Option, IfErr, IfOk, IfSome, OnOk, ⊤};
 ghost use Rattle.std.specs.List.{flat_map};
 ghost use Rattle.rje_jobs.specs.declared.job.Job.{Job as Item};
 ghost use Rattle.rje_files.specs.Unsent.{IsLeft};
@@ -7,7 +7,7 @@ ghost use Rattle.rje_commands.specs.Commands.{OfFile};
 ghost use Rattle.rje_commands.specs.CommandFault.{IsFailing, status_of};
 ghost use Rattle.rje_sockets.specs.BothFiles.{HoldsBoth};
 ghost use Rattle.rje_sockets.specs.Ending.{IsRefusedFile};
-ghost use Rattle.rje_sockets.specs.Exchanging.{EndsExchanging, Exchanges, ExchangesLeft, ending_of_both, exchanged_text, rank_at};
+ghost use Rattle.rje_sockets.specs.Exchanging.{EndsExchanging, Exchanges, ExchangesLeft, ending_of_both, exchanged_text, is_idle, rank_at};
 ghost use Rattle.rje_sockets.specs.Inside.Sending.{IsSendFault};
 ghost use Rattle.rje_sockets.specs.LeavingBoth.{LeavesBoth, LeavesExchange};
 ghost use Rattle.rje_sockets.specs.NamedFiles.{NamesOne, NamesWritten};
@@ -22,12 +22,12 @@ use crate::keeper::Keeper;
 use crate::marker::Marker;
 use crate::parting::{HearsOut, Leaves, Parting, parts_in_step};
 use crate::socket_commands::Ending;
-use crate::socket_commands::receive_command::{keep_rest, left_after};
-use crate::socket_commands::send_command::{Outgoing, read_outgoing};
+use crate::socket_commands::receive_command::{keep_rest, left_after, unless_short};
+use crate::socket_commands::send_command::{Outgoing, look_at_outgoing, read_outgoing};
 use crate::tracer::Tracer;
 use crate::watch::{Unwatched, Watch};
 use bsc_link::{Outcome, Rank};
-use rje_commands::{CommandFault, look_beside, put_lines, tell};
+use rje_commands::{CommandFault, lock_file, look_beside, put_lines, tell};
 use rje_jobs::Job;
 use rje_orders::{ExchangeOrder, Meeting};
 use rje_print::{PrintedLine, counted_text, handed_text, outcome_text};
@@ -38,8 +38,9 @@ use std::io::{self, Write};
 use std::net::{Net, SocketAddr};
 use std::time::Clock;
 
-/// Sends the jobs of a job file that were not sent, and receives those of the other end into another one, over one connection. The end
-/// that calls is the primary. Marks those that were counted, and prints how many there are, how it ended, and how many came. Where that is
+/// Sends the jobs of a job file that were not sent, and receives those of the other end into another one, over one connection. It has both
+/// files for itself, but while it waits for a call that which is received alone: what is added meanwhile to the other is sent. The end that
+/// calls is the primary. Marks those that were counted, and prints how many there are, how it ended, and how many came. Where that is
 /// asked for, who is connected and each turn is told to `err` as it happens.
 pub fn exchange<'a, R: Net + Clock, S: Store, O: Write, E: Write>(
     rt: &R,
@@ -57,18 +58,20 @@ pub fn exchange<'a, R: Net + Clock, S: Store, O: Write, E: Write>(
     ensures fault { IfErr result (IsSendFault
         (λ name. (name ≡ order.entry.send.now) ⊎ (name ≡ order.entry.received.now))
         order.entry.send.now (S.files store.old)) }
-    ensures files { IfSome (S.files store.old) (λ _. LeavesExchange (rank_at order.entry.place)
+    ensures files { IfSome (S.files store.old) (λ _. LeavesExchange ⊤ (rank_at order.entry.place)
         order.entry.send.now order.entry.received.now (S.files store.old) (S.files store.new)) }
     ensures files_kept { IfErr result (λ fault. status_of fault ≡ 1
         → Discloses (S.files store.old) (S.files store.new) IsSame) }
     ensures silent { IfErr result (λ fault. status_of fault ≡ 1 → out.new ≡ out.old) }
 {
-    let Outgoing { jobs, marker } = read_outgoing(alloc, order.send, store)?;
-    let station = Station::new(alloc, rank_of(order.place), jobs.as_slice())?;
+    look_before_meeting(alloc, order.send, order.place, store)?;
     let keeper = keeper_beside(alloc, order.send, order.received, store)?;
     let Ok((mut line, peer)) = met(rt, order.place, order.timeout, err) else {
         return Err(CommandFault::LineFailed);
     };
+    let Outgoing { jobs, marker } = read_outgoing(alloc, order.send, store)?;
+    let station = Station::new(alloc, rank_of(order.place), jobs.as_slice())?;
+    marker.begin(store)?;
     let mut tracer = Tracer::new(rt, order.trace, &mut *err);
     tracer.connected(peer);
     let ending = exchange_files(
@@ -107,8 +110,8 @@ pub fn exchange_over<L: Line, S: Store, O: Write, E: Write>(
         (O.contents out.old) (O.contents out.new) }
     ensures status { (result ≡ 0) ⊎ ((result ≡ 4) ⊎ ((result ≡ 1) ⊎ IsFailing result)) }
     ensures refused { result ≡ 1 → OfFile send.now (S.files store.old) IsRefusedFile }
-    ensures files { IfSome (S.files store.old) (λ _. LeavesExchange rank send.now received.now
-        (S.files store.old) (S.files store.new)) }
+    ensures files { IfSome (S.files store.old) (λ _. LeavesExchange (line.new ≡ line.old) rank
+        send.now received.now (S.files store.old) (S.files store.new)) }
     ensures files_kept { result ≡ 1 → Discloses (S.files store.old) (S.files store.new) IsSame }
     ensures silent { result ≡ 1 → (line.new ≡ line.old) × (out.new ≡ out.old) }
 {
@@ -135,8 +138,8 @@ fn exchanged<'a, L: Line, S: Store, O: Write>(
     ensures fault { IfErr result (IsSendFault
         (λ name. (name ≡ send.entry.now) ⊎ (name ≡ received.entry.now))
         send.entry.now (S.files store.old)) }
-    ensures files { IfSome (S.files store.old) (λ _. LeavesExchange rank send.entry.now
-        received.entry.now (S.files store.old) (S.files store.new)) }
+    ensures files { IfSome (S.files store.old) (λ _. LeavesExchange (line.new ≡ line.old) rank
+        send.entry.now received.entry.now (S.files store.old) (S.files store.new)) }
     ensures files_kept { IfErr result (λ fault. status_of fault ≡ 1
         → Discloses (S.files store.old) (S.files store.new) IsSame) }
     ensures silent { IfErr result (λ fault. status_of fault ≡ 1
@@ -145,6 +148,7 @@ fn exchanged<'a, L: Line, S: Store, O: Write>(
     let Outgoing { jobs, marker } = read_outgoing(alloc, send, store)?;
     let station = Station::new(alloc, rank, jobs.as_slice())?;
     let keeper = keeper_beside(alloc, send, received, store)?;
+    marker.begin(store)?;
     exchange_files(
         station,
         marker,
@@ -155,6 +159,25 @@ fn exchanged<'a, L: Line, S: Store, O: Write>(
         &mut Unwatched,
         out,
     )
+}
+
+/// Looks whether what is left of the job file of this name can be sent. An end that calls has the file for itself from then on; one that
+/// listens leaves it free until it is called.
+fn look_before_meeting<'a, S: Store>(
+    alloc: Global,
+    name: &'a str,
+    place: Meeting,
+    store: &mut S,
+) -> Result<(), CommandFault<'a>>
+    ensures fault { IfErr result (IsSendFault (λ named. named ≡ name.entry.now)
+        name.entry.now (S.files store.old)) }
+    ensures same { Discloses (S.files store.old) (S.files store.new) IsSame }
+{
+    look_at_outgoing(alloc, name, store)?;
+    match place {
+        Meeting::Calls(_) => lock_file(alloc, name, store),
+        Meeting::Listens(_) => Ok(()),
+    }
 }
 
 /// Keeps jobs in the file of one name, which is not that of the other.
@@ -211,11 +234,15 @@ fn exchange_files<'a, 'b, L: Line, P: Parting<L>, S: Store, W: Watch, O: Write>(
     let outcome = station.sender().outcome();
     let counted = station.sender().counted();
     let lines = lines_of_both(counted, given, outcome, station.receiver().jobs());
+    let idle = is_idle(given, station.receiver().jobs());
     let in_step = parts_in_step(left.is_ok(), line, parting);
     let marked = marker.finish(counted, in_step, store);
     let kept = keep_rest(&left, &mut keeper, station.take(), store);
     let printed = put_lines(&lines, out);
-    left_after(left, marked.and(kept), printed).map(|left| ending_of_both(outcome, left))
+    let ending = left_after(left, marked.and(kept), printed).map(|left| ending_of_both(
+        outcome, idle, left,
+    ));
+    unless_short(ending, keeper.is_short())
 }
 
 /// How many of so many jobs were counted, how that ended, and how many jobs came.
@@ -257,12 +284,21 @@ fn met<'r, R: Net + Clock, E: Write>(
     }
 }
 
-/// Both directions ended as they should, or one ended otherwise.
-fn ending_of_both(outcome: Option<Outcome>, left: Left) -> Ending
-    ensures { result ≡ ending_of_both outcome left }
+/// Whether nothing was given to be sent, and nothing came.
+fn is_idle(given: usize, jobs: &[Job]) -> bool
+    ensures { result ≡ is_idle given jobs.now }
+{
+    given == 0 && jobs.is_empty()
+}
+
+/// Both directions ended as they should, or one ended otherwise. Where there was nothing to send either way, the other's ended so however it
+/// was left.
+fn ending_of_both(outcome: Option<Outcome>, is_idle: bool, left: Left) -> Ending
+    ensures { result ≡ ending_of_both outcome is_idle left }
 {
     match (Ending::from(outcome), left) {
         (Ending::Done, Left::Ended) => Ending::Done,
+        (Ending::Done, Left::Abandoned) if is_idle => Ending::Done,
         _ => Ending::Other,
     }
 }

@@ -1,8 +1,9 @@
 //! `receive`: one transmission from whoever connects, into a job file.
-ghost use Rattle.std.specs.Prelude.{◌≡◌, ◌⊎◌, ℕ, Option, IfErr, IfOk, IfSome, IsErrOf, IsOk, OnErr, OnOk};
+ghost use Rattle.std.specs.Prelude.{◌≡◌, ◌⊎◌, ℕ, Option, Err, IfErr, IfOk, IfSome, IsErr, IsErrOf, IsOk, OnErr, OnOk, true, false};
 ghost use Rattle.std.specs.Result.{IsOkAnd};
 ghost use Rattle.rje_sockets.specs.Answering.{KeepsAnswered};
 ghost use Rattle.rje_commands.specs.CommandFault.{IsFailing, status_of};
+ghost use Rattle.rje_commands.specs.declared.command_fault.CommandFault.TheVariants.{OutOfMemory};
 ghost use Rattle.rje_sockets.specs.BrokenOff.{of_broken_off};
 ghost use Rattle.rje_sockets.specs.Ending.{MakesJobFile, Receives, EndsReceiving};
 ghost use Rattle.rje_sockets.specs.Keeping.{IsOfFile, KeepsJobs};
@@ -17,7 +18,7 @@ use crate::keeper::Keeper;
 use crate::socket_commands::Ending;
 use crate::tracer::Tracer;
 use crate::watch::{Unwatched, Watch};
-use rje_commands::{CommandFault, look_at_file, put, tell};
+use rje_commands::{CommandFault, lock_file, look_at_file, put, tell};
 use rje_jobs::Job;
 use rje_orders::PeerOrder;
 use rje_print::handed_text;
@@ -28,8 +29,8 @@ use std::io::Write;
 use std::net::Net;
 use std::time::Clock;
 
-/// Looks whether the job file can be written, takes one connection at this address and one transmission, writes its jobs into the file
-/// and prints how many there are. Where that is asked for, who is connected and each turn is told to `err` as it happens.
+/// Looks whether the job file can be written, has it for itself, takes one connection at this address and one transmission, writes its
+/// jobs into the file and prints how many there are. Where that is asked for, who is connected and each turn is told to `err` as it happens.
 pub fn receive<'a, R: Net + Clock, S: Store, O: Write, E: Write>(
     rt: &R,
     alloc: Global,
@@ -48,6 +49,7 @@ pub fn receive<'a, R: Net + Clock, S: Store, O: Write, E: Write>(
         before after) }
 {
     look_at_file(order.jobs, store)?;
+    lock_file(alloc, order.jobs, store)?;
     let Ok((mut line, peer)) = accepted(rt, order.address, order.timeout) else {
         return Err(CommandFault::LineFailed);
     };
@@ -107,7 +109,23 @@ fn received<'a, L: Line, S: Store, W: Watch, O: Write>(
     let handed = handed_text(station.jobs());
     let written = keep_rest(&left, &mut keeper, station.take(), store);
     let printed = put(handed.as_slice(), out);
-    left_after(left, written, printed).map(Ending::from)
+    let ending = left_after(left, written, printed).map(Ending::from);
+    unless_short(ending, keeper.is_short())
+}
+
+/// How it ended, or out of memory where a block was refused for want of it and didn't come again.
+pub(super) fn unless_short<'a>(
+    ending: Result<Ending, CommandFault<'a>>,
+    is_short: bool,
+) -> Result<Ending, CommandFault<'a>>
+    ensures ending { (result ≡ ending.entry) ⊎ (result ≡ Err OutOfMemory) }
+    ensures short { is_short ≡ true → IsErr result }
+    ensures enough { is_short ≡ false → result ≡ ending.entry }
+{
+    match ending {
+        Ok(_) if is_short => Err(CommandFault::OutOfMemory),
+        ending => ending,
+    }
 }
 
 /// Keeps what is left of the jobs, where none of them was refused by the file before.

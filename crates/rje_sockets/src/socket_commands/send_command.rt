@@ -1,5 +1,5 @@
 //! `send`: one transmission of what is left of a job file to a listening receiver.
-ghost use Rattle.std.specs.Prelude.{◌≡◌, ◌⊎◌, List, Option, length, IfErr, IfOk, OnOk, true};
+ghost use Rattle.std.specs.Prelude.{◌≡◌, ◌⊎◌, List, Option, length, IfErr, IfOk, OnOk, true, ⊤};
 ghost use Rattle.std.specs.Io.KnownBytes.{Appends};
 ghost use Rattle.rje_jobs.specs.declared.job.Job.{Job};
 ghost use Rattle.bsc_history.specs.History.{History};
@@ -24,7 +24,7 @@ use crate::socket_commands::Ending;
 use crate::tracer::Tracer;
 use crate::watch::{Unwatched, Watch};
 use bsc_link::Outcome;
-use rje_commands::{CommandFault, put_lines, read_file, tell};
+use rje_commands::{CommandFault, HeldFile, put_lines, read_file, tell};
 use rje_files::{first_unsendable, mark_places, read_entries, unsent_jobs};
 use rje_jobs::Jobs;
 use rje_orders::PeerOrder;
@@ -37,7 +37,7 @@ use std::net::Net;
 use std::time::Clock;
 
 /// Sends the jobs of a job file that were not sent to this address, marks those that were counted, and prints how many there are and how
-/// it ended. Where that is asked for, who is connected and each turn is told to `err` as it happens.
+/// it ended. It has the file for itself from before it reads it, and nothing is said before the copy is in place that marks go into. Where that is asked for, who is connected and each turn is told to `err` as it happens.
 pub fn send<'a, R: Net + Clock, S: Store, O: Write, E: Write>(
     rt: &R,
     alloc: Global,
@@ -52,7 +52,7 @@ pub fn send<'a, R: Net + Clock, S: Store, O: Write, E: Write>(
         (S.files store.old) (S.files store.new) (O.contents out.old) (O.contents out.new)))) }
     ensures fault { IfErr result (IsSendFault (λ name. name ≡ order.entry.jobs.now)
         order.entry.jobs.now (S.files store.old)) }
-    ensures marked { MarksNoMore order.entry.jobs.now (S.files store.old) (S.files store.new) }
+    ensures marked { MarksNoMore ⊤ order.entry.jobs.now (S.files store.old) (S.files store.new) }
     ensures files_kept { IfErr result (λ fault. status_of fault ≡ 1
         → Discloses (S.files store.old) (S.files store.new) IsSame) }
     ensures silent { IfErr result (λ fault. status_of fault ≡ 1 → out.new ≡ out.old) }
@@ -64,6 +64,7 @@ pub fn send<'a, R: Net + Clock, S: Store, O: Write, E: Write>(
     };
     let mut tracer = Tracer::new(rt, order.trace, err);
     tracer.connected(order.address);
+    marker.begin(store)?;
     transmit(
         &mut station,
         &mut marker,
@@ -92,7 +93,8 @@ pub fn send_over<L: Line, S: Store, O: Write, E: Write>(
         (S.files store.old) (S.files store.new) (O.contents out.old) (O.contents out.new) }
     ensures status { (result ≡ 0) ⊎ ((result ≡ 4) ⊎ ((result ≡ 1) ⊎ IsFailing result)) }
     ensures refused { result ≡ 1 → OfFile name.now (S.files store.old) IsRefusedFile }
-    ensures marked { MarksNoMore name.now (S.files store.old) (S.files store.new) }
+    ensures marked { MarksNoMore (line.new ≡ line.old) name.now
+        (S.files store.old) (S.files store.new) }
     ensures files_kept { result ≡ 1 → Discloses (S.files store.old) (S.files store.new) IsSame }
     ensures silent { result ≡ 1 → (line.new ≡ line.old) × (out.new ≡ out.old) }
 {
@@ -115,7 +117,8 @@ fn sent<'a, L: Line, S: Store, O: Write>(
         (S.files store.old) (S.files store.new) (O.contents out.old) (O.contents out.new))) }
     ensures fault { IfErr result (IsSendFault (λ named. named ≡ name.entry.now)
         name.entry.now (S.files store.old)) }
-    ensures marked { MarksNoMore name.entry.now (S.files store.old) (S.files store.new) }
+    ensures marked { MarksNoMore (line.new ≡ line.old) name.entry.now
+        (S.files store.old) (S.files store.new) }
     ensures files_kept { IfErr result (λ fault. status_of fault ≡ 1
         → Discloses (S.files store.old) (S.files store.new) IsSame) }
     ensures silent { IfErr result (λ fault. status_of fault ≡ 1
@@ -123,6 +126,7 @@ fn sent<'a, L: Line, S: Store, O: Write>(
 {
     let Outgoing { jobs, mut marker } = read_outgoing(alloc, name, store)?;
     let mut station = SendingStation::new(alloc, jobs.as_slice())?;
+    marker.begin(store)?;
     transmit(
         &mut station,
         &mut marker,
@@ -141,7 +145,7 @@ pub(super) struct Outgoing<'a> {
     pub(super) marker: Marker<'a>,
 }
 
-/// What is left to send of the job file of this name, where all of it can be sent. Nothing is marked yet.
+/// What is left to send of the job file of this name, which the command has for itself, where all of it can be sent. Nothing is marked yet.
 pub(super) fn read_outgoing<'a, S: Store>(
     alloc: Global,
     name: &'a str,
@@ -149,13 +153,28 @@ pub(super) fn read_outgoing<'a, S: Store>(
 ) -> Result<Outgoing<'a>, CommandFault<'a>>
     ensures outgoing { IfOk result (λ left.
         IsOutgoing name.entry.now (S.files store.old) left.jobs left.marker) }
+    ensures fault { IfErr result (IsSendFault (λ named. named ≡ name.entry.now)
+        name.entry.now (S.files store.old)) }
+    ensures same { Discloses (S.files store.old) (S.files store.new) IsSame }
+{
+    let held = HeldFile::take(alloc, name, store)?;
+    let Unsent { jobs, places } = unsent_of(alloc, held.bytes())?;
+    let marker = Marker::new(alloc, held, places);
+    Ok(Outgoing { jobs, marker })
+}
+
+/// Looks whether what is left of the job file of this name can be sent, and changes none.
+pub(super) fn look_at_outgoing<'a, S: Store>(
+    alloc: Global,
+    name: &'a str,
+    store: &mut S,
+) -> Result<(), CommandFault<'a>>
     ensures fault { IfErr result (IsSendFault (λ _. ⊥) name.entry.now (S.files store.old)) }
     ensures same { Discloses (S.files store.old) (S.files store.new) IsSame }
 {
     let file = read_file(alloc, name, store)?;
-    let Unsent { jobs, places } = unsent_of(alloc, file.as_slice())?;
-    let marker = Marker::new(alloc, name, file, places);
-    Ok(Outgoing { jobs, marker })
+    unsent_of(alloc, file.as_slice())?;
+    Ok(())
 }
 
 /// What is left to send of a job file: its jobs that were not sent, and where they are marked.

@@ -1,7 +1,9 @@
 //! Files beside a file, by way of which it is replaced whole or not at all.
+use crate::store::StoreFault;
 use std::alloc::Global;
 use std::fs::{self, OpenFile, OpenOptions, Permissions};
 use std::io::{self, ErrorKind, Write};
+use std::os::unix::fs::MetadataExt;
 use std::rt::Files;
 
 /// So many names are tried for a file beside another.
@@ -34,7 +36,7 @@ fn is_link_to_file<R: Files>(rt: &R, name: &str) -> bool {
     }
 }
 
-/// Whether both names lead to one file that is there.
+/// Whether both names lead to one file that is there, by links and dots or as two names of it.
 pub(super) fn lead_to_one<R: Files>(
     rt: &R,
     alloc: Global,
@@ -44,10 +46,12 @@ pub(super) fn lead_to_one<R: Files>(
     let Some(one) = whole_path(rt, alloc, one)? else {
         return Ok(false);
     };
-    match whole_path(rt, alloc, other)? {
-        Some(other) => Ok(one.as_str() == other.as_str()),
-        None => Ok(false),
-    }
+    let Some(other) = whole_path(rt, alloc, other)? else {
+        return Ok(false);
+    };
+    let found = rt.metadata(one.as_str())?;
+    let also = rt.metadata(other.as_str())?;
+    Ok(one.as_str() == other.as_str() || found.dev() == also.dev() && found.ino() == also.ino())
 }
 
 /// The path of the file that a name leads to, without links and dots, where there is one.
@@ -66,14 +70,15 @@ pub(super) fn try_beside<R: Files>(rt: &R, alloc: Global, path: &str) -> io::Res
     rt.remove_file(beside.path.as_str())
 }
 
-/// Puts a file of these bytes in the place of this one, with this mode, on disk: whole, or nothing changes.
+/// Puts a file of these bytes in the place of this one, with this mode, on disk: whole, or nothing changes. Unsynced where the new file is in
+/// its place and only its name may not be on disk.
 pub(super) fn replace<R: Files>(
     rt: &R,
     alloc: Global,
     path: &str,
     mode: Option<Permissions>,
     bytes: &[u8],
-) -> io::Result<()> {
+) -> Result<(), StoreFault> {
     let folder = open_folder(rt, path)?;
     let Beside {
         mut file,
@@ -87,7 +92,7 @@ pub(super) fn replace<R: Files>(
         Ok(()) => sync_folder(&folder),
         Err(error) => {
             let _ = rt.remove_file(beside.as_str());
-            Err(error)
+            Err(StoreFault::from(error))
         }
     }
 }
@@ -151,11 +156,12 @@ pub(super) fn open_folder<R: Files>(rt: &R, path: &str) -> io::Result<R::File> {
     fs::open(rt, folder)
 }
 
-/// Has the names in this folder on disk.
-pub(super) fn sync_folder<F: OpenFile>(folder: &F) -> io::Result<()> {
+/// Has the names in this folder on disk, of which one has just been given to another file.
+pub(super) fn sync_folder<F: OpenFile>(folder: &F) -> Result<(), StoreFault> {
     match folder.sync_all() {
+        Ok(()) => Ok(()),
         // Some file systems keep no names to be put on disk.
         Err(error) if error.kind() == ErrorKind::InvalidInput => Ok(()),
-        done => done,
+        Err(_) => Err(StoreFault::Unsynced),
     }
 }

@@ -5,6 +5,7 @@
 //! one, by a second name that it was given before. So a growth costs as much as its bytes and the last one's, whatever the file's length,
 //! and no bytes under the file's name are ever changed.
 use super::beside::{Beside, create_beside, link_beside, open_folder, resolved, sync_folder};
+use crate::store::StoreFault;
 use std::alloc::Global;
 use std::fs::{self, OpenFile};
 use std::io::{self, ErrorKind, Read, Seek, SeekFrom, Write};
@@ -84,14 +85,15 @@ impl<F: Read + Write + Seek + OpenFile + Drop> Growing<F> {
         }
     }
 
-    /// The file with one piece in front, in place of as many bytes, and another behind. Where that fails, the file is as it was.
+    /// The file with one piece in front, in place of as many bytes, and another behind. Where that fails, the file is as it was; but where it is
+    /// unsynced it has them, and the disk may not.
     pub(super) fn extended<R: Files<File = F>>(
         self,
         rt: &R,
         alloc: Global,
         front: &[u8],
         tail: &[u8],
-    ) -> io::Result<Growing<F>> {
+    ) -> Result<Growing<F>, StoreFault> {
         let Growing {
             name,
             path,
@@ -111,7 +113,7 @@ impl<F: Read + Write + Seek + OpenFile + Drop> Growing<F> {
         };
         let second = match grown(&mut newest, len, &mut file, older_len, front, tail) {
             Ok(()) => put_in_place(rt, alloc, &folder, path.as_str(), beside.as_str(), own),
-            Err(error) => Err(error),
+            Err(error) => Err(StoreFault::from(error)),
         };
         match second {
             Ok(second) => Ok(Growing {
@@ -130,9 +132,9 @@ impl<F: Read + Write + Seek + OpenFile + Drop> Growing<F> {
                     None => None,
                 },
             }),
-            Err(error) => {
+            Err(fault) => {
                 let _ = rt.remove_file(beside.as_str());
-                Err(error)
+                Err(fault)
             }
         }
     }
@@ -153,7 +155,7 @@ fn put_in_place<R: Files>(
     path: &str,
     beside: &str,
     own: bool,
-) -> io::Result<Option<String>> {
+) -> Result<Option<String>, StoreFault> {
     let second = if own {
         link_beside(rt, alloc, path).ok()
     } else {
@@ -161,15 +163,15 @@ fn put_in_place<R: Files>(
     };
     let turned = match rt.rename(beside, path) {
         Ok(()) => sync_folder(folder),
-        Err(error) => Err(error),
+        Err(error) => Err(StoreFault::from(error)),
     };
     match turned {
         Ok(()) => Ok(second),
-        Err(error) => {
+        Err(fault) => {
             if let Some(second) = second {
                 let _ = rt.remove_file(second.as_str());
             }
-            Err(error)
+            Err(fault)
         }
     }
 }

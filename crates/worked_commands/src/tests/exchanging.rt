@@ -133,15 +133,30 @@ fn a_secondary_listens_before_each_bid_and_gives_way(rt: HostRuntime) -> Result<
 }
 
 #[test]
-fn an_end_with_no_jobs_leaves_after_40_quiet_hearings(rt: HostRuntime) -> Result<(), Fail> {
+fn an_exchange_of_nothing_is_well_after_40_quiet_hearings(rt: HostRuntime) -> Result<(), Fail> {
     let text = b"counted 0 of 0 jobs\noutcome done\nhanded 0 jobs, 0 whole\n";
     for rank in [Rank::Primary, Rank::Secondary] {
         let mut store = store_of(rt.alloc(), "out", NO_JOBS)?;
         let mut line = ToldLine::new(&[]);
-        assert_ends(&rt, rank, &mut line, "got", &mut store, 4, text, b"");
+        assert_ends(&rt, rank, &mut line, "got", &mut store, 0, text, b"");
         assert!(rt; line.sent.is_empty());
         assert_file(&rt, &mut store, "got", NO_JOBS);
     }
+
+    // Where it had something to send, the other end may have had too.
+    let text = b"counted 1 of 1 jobs\noutcome done\nhanded 0 jobs, 0 whole\n";
+    let mut store = store_of(rt.alloc(), "out", one_job(&rt, 0, 0xC1).as_slice())?;
+    let mut line = ToldLine::new(&[ACK0, ACK1]);
+    assert_ends(
+        &rt,
+        Rank::Primary,
+        &mut line,
+        "got",
+        &mut store,
+        4,
+        text,
+        b"",
+    );
     Ok(())
 }
 
@@ -191,7 +206,7 @@ fn of_two_files_that_cannot_be_written_the_sent_one_is_told(rt: HostRuntime) {
         file: one_job(&rt, 0, 0xC1),
     };
     let mut line = ToldLine::new(&[ACK0, ACK1]);
-    let text = b"counted 1 of 1 jobs\noutcome done\nhanded 0 jobs, 0 whole\n";
+    let text = b"";
     let told = b"rje: can't write out\n";
     assert_ends(
         &rt,

@@ -316,6 +316,10 @@ struct ReadOnly;
 impl Store for ReadOnly {
     ghost files = { λ _. None };
 
+    fn lock(&mut self, _alloc: Global, _name: &str) -> Result<(), StoreFault> {
+        Ok(())
+    }
+
     fn read(&mut self, alloc: Global, _name: &str) -> Result<Vec<u8>, StoreFault> {
         Vec::from_slice(alloc, b"A\n").map_err(|_| StoreFault::OutOfMemory)
     }

@@ -137,6 +137,10 @@ struct NoFiles;
 impl Store for NoFiles {
     ghost files = { λ _. None };
 
+    fn lock(&mut self, _alloc: Global, _name: &str) -> Result<(), StoreFault> {
+        Ok(())
+    }
+
     fn read(&mut self, _alloc: Global, _name: &str) -> Result<Vec<u8>, StoreFault> {
         Err(StoreFault::Failed)
     }
@@ -167,13 +171,24 @@ const TWO_JOBS: [&[u8]; 4] = [
 
 /// Files in memory of which some can be written, and then no more.
 #[derive(Drop)]
-struct FillingStore {
+pub(super) struct FillingStore {
     files: MemoryStore,
     room: u32,
 }
 
+impl FillingStore {
+    /// These files, of which one more can be written.
+    pub(super) fn new(files: MemoryStore) -> FillingStore {
+        FillingStore { files, room: 1 }
+    }
+}
+
 impl Store for FillingStore {
     ghost files = { λ _. None };
+
+    fn lock(&mut self, _alloc: Global, _name: &str) -> Result<(), StoreFault> {
+        Ok(())
+    }
 
     fn read(&mut self, alloc: Global, name: &str) -> Result<Vec<u8>, StoreFault> {
         self.files.read(alloc, name)

@@ -1,6 +1,7 @@
 //! What `send` sends of a job file, and what it writes back.
 ghost use Rattle.std.specs.Prelude.{None};
 
+use super::receiving::FillingStore;
 use super::{FILE, Written, assert_file, joined, line_of, store_of};
 use line_world::MemoryLine;
 use rje_program::command;
@@ -17,6 +18,8 @@ const ACK1: &[u8] = b"\x32\x32\x10\x61\xFF";
 const EOT: &[u8] = b"\x32\x32\x37\xFF";
 
 const RVI: &[u8] = b"\x32\x32\x10\x7C\xFF";
+
+const NOT_WRITTEN: &[u8] = b"rje: can't write jobs\n";
 
 /// The version 2 file of three jobs in these states (0 waiting, 1 sent), of one record `A` each.
 fn three_jobs(rt: &impl Abort, states: [u8; 3]) -> Written {
@@ -180,6 +183,10 @@ pub(super) struct ReadOnly {
 impl Store for ReadOnly {
     ghost files = { λ _. None };
 
+    fn lock(&mut self, _alloc: Global, _name: &str) -> Result<(), StoreFault> {
+        Ok(())
+    }
+
     fn read(&mut self, alloc: Global, _name: &str) -> Result<Vec<u8>, StoreFault> {
         match Vec::from_slice(alloc, self.file.as_slice()) {
             Ok(bytes) => Ok(bytes),
@@ -193,22 +200,41 @@ impl Store for ReadOnly {
 }
 
 #[test]
-fn a_file_that_cannot_be_written_back_is_told_behind_the_lines(
-    rt: HostRuntime,
-) -> Result<(), Fail> {
+fn nothing_is_sent_that_cannot_be_marked(rt: HostRuntime) -> Result<(), Fail> {
     let mut store = ReadOnly {
         file: three_jobs(&rt, [0, 1, 1]),
     };
     let mut line = line_of(rt.alloc(), &[ACK0, ACK1])?;
+    assert_sends(&rt, &mut line, &mut store, 3, b"", NOT_WRITTEN);
+    assert!(rt; line.sent().is_empty());
+
+    // Nor of a device or a pipe.
+    let mut store = Watched::new(three_jobs(&rt, [0, 0, 0]));
+    store.place = Place::Once;
+    let mut line = line_of(rt.alloc(), &[ACK0, ACK1])?;
+    assert_sends(&rt, &mut line, &mut store, 3, b"", NOT_WRITTEN);
+    assert!(rt; line.sent().is_empty());
+    assert!(rt; store.written == 0);
+    Ok(())
+}
+
+#[test]
+fn a_file_that_cannot_be_written_back_is_told_behind_the_lines(
+    rt: HostRuntime,
+) -> Result<(), Fail> {
     let text = b"counted 1 of 1 jobs\noutcome done\n";
-    assert_sends(
-        &rt,
-        &mut line,
-        &mut store,
-        3,
-        text,
-        b"rje: can't write jobs\n",
-    );
+    let mut store = FillingStore::new(store_of(
+        rt.alloc(),
+        "jobs",
+        three_jobs(&rt, [0, 1, 1]).as_slice(),
+    )?);
+    let mut line = line_of(rt.alloc(), &[ACK0, ACK1])?;
+    assert_sends(&rt, &mut line, &mut store, 3, text, NOT_WRITTEN);
+    let mut store = FillingStore::new(store_of(
+        rt.alloc(),
+        "jobs",
+        three_jobs(&rt, [0, 1, 1]).as_slice(),
+    )?);
     let mut line = line_of(rt.alloc(), &[ACK0, ACK1])?;
     line.fail_at(3);
     let text = b"counted 0 of 1 jobs\noutcome open\n";
@@ -244,6 +270,10 @@ impl Watched {
 
 impl Store for Watched {
     ghost files = { λ _. None };
+
+    fn lock(&mut self, _alloc: Global, _name: &str) -> Result<(), StoreFault> {
+        Ok(())
+    }
 
     fn read(&mut self, alloc: Global, _name: &str) -> Result<Vec<u8>, StoreFault> {
         match Vec::from_slice(alloc, self.file.as_slice()) {
@@ -296,19 +326,19 @@ fn sent_in(
 
 #[test]
 fn each_job_is_marked_as_it_is_counted(rt: HostRuntime) -> Result<(), Fail> {
-    // The first by a whole file, the second and the third by a byte, and at the end the whole file again.
+    // The copy before anything is said, then each by a byte in it, and at the end the whole file again.
     let store = Watched::new(three_jobs(&rt, [0, 0, 0]));
     let text = b"counted 3 of 3 jobs\noutcome done\n";
     let store = sent_in(&rt, store, &[ACK0, ACK1, ACK0, ACK1], 0, text)?;
     assert!(rt; store.written == 2);
-    assert!(rt; store.set == 2);
+    assert!(rt; store.set == 3);
     assert!(rt; store.file.as_slice() == three_jobs(&rt, [1, 1, 1]).as_slice());
 
-    // Where nothing is counted, the whole file is written at the end alone.
+    // Where nothing is counted, no byte is set.
     let store = Watched::new(three_jobs(&rt, [0, 0, 0]));
     let text = b"counted 0 of 3 jobs\noutcome gave up\n";
     let store = sent_in(&rt, store, &[], 4, text)?;
-    assert!(rt; store.written == 1);
+    assert!(rt; store.written == 2);
     assert!(rt; store.set == 0);
     Ok(())
 }
@@ -321,14 +351,6 @@ fn marks_that_fail_are_made_at_the_end(rt: HostRuntime) -> Result<(), Fail> {
     let store = sent_in(&rt, store, &[ACK0, ACK1, ACK0, ACK1], 0, text)?;
     assert!(rt; store.written == 2);
     assert!(rt; store.set == 1);
-    assert!(rt; store.file.as_slice() == three_jobs(&rt, [1, 1, 1]).as_slice());
-
-    // A device is written once.
-    let mut store = Watched::new(three_jobs(&rt, [0, 0, 0]));
-    store.place = Place::Once;
-    let store = sent_in(&rt, store, &[ACK0, ACK1, ACK0, ACK1], 0, text)?;
-    assert!(rt; store.written == 1);
-    assert!(rt; store.set == 0);
     assert!(rt; store.file.as_slice() == three_jobs(&rt, [1, 1, 1]).as_slice());
     Ok(())
 }

@@ -8,6 +8,7 @@ use Rattle.rje_sockets.proofs.BothFiles.{answer_leaves, other_kept, refusal_leav
 use Rattle.rje_sockets.specs.OverLine.{HeardAndReplied}
 use Rattle.rje_sockets.proofs.OverLine.{last_passed, other_owes, reply_passed}
 use Rattle.rje_sockets.proofs.BothWays.{fails_as, others_taken}
+use Rattle.rje_sockets.proofs.Received.{still_keeps}
 use Rattle.rje_sockets.proofs.both_ways.take_others_turn.Goals.{then-is_over, else-is_over+in_ok-reply}
 use Rattle.rje_sockets.proofs.both_ways.take_others_turn.Goals as goal
 
@@ -82,3 +83,12 @@ returns-in-Err-Line-Closed-clause-hung_up g c = search rules
 
 pub returns-in-Err-keep-clause-takes : goal.returns-in-Err-keep-clause-takes
 returns-in-Err-keep-clause-takes g c = search rules
+
+pub returns-in-Err-keep-clause-broken : goal.returns-in-Err-keep-clause-broken
+returns-in-Err-keep-clause-broken g c =
+    let same : c.keep.new.self ≡ c.args.keeper.now = c.in-Err-keep.ensures.unchanged in
+    rw same (
+      refl,
+      refl,
+      λ files k. still_keeps c.args.keeper.now c.args.station.now.receiver.jobs files (g.S.Store.files c.args.store.now) (g.S.Store.files c.keep.new.store) k c.in-Err-keep.ensures.same,
+    )

@@ -6,10 +6,10 @@ returns-in-Some-clause-marked g c =
     let marker = c.args.self.now in
     let place = c.in-Some.ensures in
     next_marked c.set_byte_of_file.result marker.file.items marker.places.items marker.name.now marker.marked c.args.counted c.in-Some.place
-    (g.S.Store.files c.args.store.now) (g.S.Store.files c.set_byte_of_file.new.store) place.place place.one place.some c.set_byte_of_file.ensures.sets
+    (g.S.Store.files c.args.store.now) (g.S.Store.files c.set_byte_of_file.new.store) place.place place.one c.set_byte_of_file.ensures.sets
 
-pub returns-in-Growing-clause-marked : goal.returns-in-Growing-clause-marked
-returns-in-Growing-clause-marked g c =
+pub returns-in-None-clause-marked : goal.returns-in-None-clause-marked
+returns-in-None-clause-marked g c =
     let marker = c.args.self.now in
     whole_marked c.write.result marker.file.items marker.places.items marker.name.now marker.marked c.args.counted
-    (g.S.Store.files c.args.store.now) (g.S.Store.files c.look_at_file.new.store) (g.S.Store.files c.write.new.store) c.look_at_file.ensures.same c.write.ensures.marked
+    (g.S.Store.files c.args.store.now) (g.S.Store.files c.write.new.store) c.write.ensures.marked

@@ -1,9 +1,16 @@
-use Rattle.std.proofs.Common.{rules, OnOk, IfErr, refl, subst}
+use Rattle.std.proofs.Common.{rules, ◌≡◌, ◌∙◌, OnOk, IfErr, inl, inr, refl, ap, subst}
 use Rattle.rje_station.specs.Receiving.{Receiving}
 use Rattle.rje_stores.proofs.Changes.{same_itself}
 use Rattle.rje_sockets.specs.Answering.{KeepsToBreak, KeepsToEnd}
+use Rattle.rje_commands.specs.declared.command_fault.CommandFault.{CommandFault}
+use Rattle.rje_commands.specs.CommandFault.{IsFailing, status_of}
+use Rattle.rje_sockets.specs.declared.socket_commands.ending.Ending.{Ending}
+use Rattle.rje_sockets.specs.BrokenOff.{of_broken_off}
 use Rattle.rje_sockets.specs.Ending.{Receives, ending_of_left}
-use Rattle.rje_sockets.proofs.Received.{ends_well, made_at_end, nothing_kept, received_kept, receives}
+use Rattle.rje_sockets.specs.NamedFiles.{NamesWritten}
+use Rattle.rje_sockets.specs.OverLine.{LineTells}
+use Rattle.rje_sockets.proofs.NamedFiles.{output_of_none, received_names}
+use Rattle.rje_sockets.proofs.Received.{ends_well, err_unless_short, keeper_named, ok_unless_short, made_at_end, nothing_kept, received_kept, receives}
 use Rattle.rje_sockets.proofs.socket_commands.receive_command.received.Goals as goal
 
 pub returns-in_err-station-clause-kept : goal.returns-in_err-station-clause-kept
@@ -24,15 +31,38 @@ returns-clause-received g c =
     let files = g.S.Store.files c.args.store.now in
     let made = g.S.Store.files c.keep_rest-written.new.store in
     let start = c.in_ok-station.ensures.ready in
-    ends_well c.map.result c.left_after.result left written c.put-printed.result ending_of_left (λ ending. Receives ending (g.L.Line.talk c.args.line.now, g.L.Line.transmissions c.args.line.now) (g.L.Line.talk c.receive_all-left.new.line, g.L.Line.transmissions c.receive_all-left.new.line) c.args.name.now files made (g.O.Write.contents c.args.out.now)
-    (g.O.Write.contents c.put-printed.new.out)) c.left_after.ensures.left c.map.ensures.cases c.map.ensures.variant
-    (receives left written c.put-printed.result (g.L.Line.talk c.args.line.now, g.L.Line.transmissions c.args.line.now) (g.L.Line.talk c.receive_all-left.new.line, g.L.Line.transmissions c.receive_all-left.new.line) c.args.name.now files made (g.O.Write.contents c.args.out.now) (g.O.Write.contents c.put-printed.new.out) station (search rules)
+    let was : LineTells = (g.L.Line.talk c.args.line.now, g.L.Line.transmissions c.args.line.now) in
+    let is : LineTells = (g.L.Line.talk c.receive_all-left.new.line, g.L.Line.transmissions c.receive_all-left.new.line) in
+    let P : Ending → Type 0 = λ ending. Receives ending was is c.args.name.now files made (g.O.Write.contents c.args.out.now) (g.O.Write.contents c.put-printed.new.out) in
+    ok_unless_short c.unless_short.result c.map-ending.result P c.unless_short.ensures.ending
+    (ends_well c.map-ending.result c.left_after.result left written c.put-printed.result ending_of_left P c.left_after.ensures.left c.map-ending.ensures.cases c.map-ending.ensures.variant
+    (receives left written c.put-printed.result was is c.args.name.now files made (g.O.Write.contents c.args.out.now) (g.O.Write.contents c.put-printed.new.out) station (search rules)
     (made_at_end written c.in_ok-keeper.keeper c.receive_all-left.new.keeper station c.args.name.now files (g.S.Store.files c.new-2.new.store)
     (g.S.Store.files c.receive_all-left.new.store) made (g.L.Line.transmissions c.args.line.now) (g.L.Line.transmissions c.receive_all-left.new.line) left
     c.in_ok-keeper.ensures.name c.in_ok-keeper.ensures.none c.in_ok-keeper.ensures.same
     (subst (λ (s : Receiving). OnOk left (KeepsToEnd c.in_ok-keeper.keeper c.receive_all-left.new.keeper s station (g.L.Line.transmissions c.args.line.now)
     (g.L.Line.transmissions c.receive_all-left.new.line) (g.S.Store.files c.new-2.new.store) (g.S.Store.files c.receive_all-left.new.store))) start c.receive_all-left.ensures.kept) (rw c.take.ensures at c.keep_rest-written.ensures.file))
-    (search rules))
+    (search rules)))
+
+pub returns-clause-status : goal.returns-clause-status
+returns-clause-status g c =
+    let Fails : CommandFault → Type 0 = λ fault. IsFailing (status_of fault) in
+    let status : IfErr c.map-ending.result Fails = search rules in
+    err_unless_short c.unless_short.result c.map-ending.result Fails c.unless_short.ensures.ending status (inr (inl refl))
+
+pub returns-clause-names : goal.returns-clause-names
+returns-clause-names g c =
+    let name = c.args.name.now in
+    let left = c.receive_all-left.result in
+    let stays = keeper_named left c.in_ok-keeper.keeper c.receive_all-left.new.keeper c.in_ok-station.station c.receive_all-left.new.station (g.L.Line.transmissions c.args.line.now)
+    (g.L.Line.transmissions c.receive_all-left.new.line) (g.S.Store.files c.new-2.new.store) (g.S.Store.files c.receive_all-left.new.store) c.receive_all-left.ensures.kept c.receive_all-left.ensures.broken in
+    let named : c.receive_all-left.new.keeper.name.now ≡ name = ap (λ n. n.now) stays ∙ c.in_ok-keeper.ensures.name in
+    err_unless_short c.unless_short.result c.map-ending.result (NamesWritten name) c.unless_short.ensures.ending
+    (received_names c.map-ending.result c.left_after.result ending_of_left (NamesWritten name) left c.keep_rest-written.result c.put-printed.result c.map-ending.ensures.cases
+    c.left_after.ensures.first c.left_after.ensures.second c.left_after.ensures.third c.left_after.ensures.none
+    (subst (λ n. IfErr left (λ broken. NamesWritten n (of_broken_off broken))) c.in_ok-keeper.ensures.name c.receive_all-left.ensures.names)
+    (subst (λ n. IfErr c.keep_rest-written.result (NamesWritten n)) named c.keep_rest-written.ensures.names)
+    (output_of_none c.put-printed.result (λ _. ⊥) (λ named. named ≡ name) c.put-printed.ensures.fault)) tt
 
 pub returns-clause-kept : goal.returns-clause-kept
 returns-clause-kept g c =
