@@ -1,0 +1,5 @@
+pub mod Awaited
+pub mod Numbers
+pub mod Stations
+pub mod Faithful
+pub mod Headline

@@ -1,0 +1,26 @@
+//! What holds of every transmission over a connection.
+ghost use Rattle.connection_world.specs.Headline.{OverConnections, TakeFaithfulTurns};
+ghost use Rattle.line_world.specs.Headline.{AreHandedInOrder, AreHandedWhole, HandsFirstJobs};
+
+use line_world::faithful_lines_keep_order;
+use rje_answers::answers_are_own;
+
+/// Whatever comes late over a connection, and whatever it loses or damages: where each thing is answered with fewer than two hearings in
+/// vain since it was said, or not at all, there are turns that both stations take, in each of which the line is faithful, and that leave
+/// them where they stand.
+pub fn connections_are_faithful()
+    ensures { TakeFaithfulTurns }
+{
+    answers_are_own();
+}
+
+/// The headline, over a connection. What the receiving station hands out is a prefix of the jobs that the sending one was given, and
+/// every job that it counts was handed out whole.
+pub fn connections_keep_order()
+    ensures in_order { OverConnections (λ counted given handed. AreHandedInOrder given handed) }
+    ensures counted_whole { OverConnections AreHandedWhole }
+    ensures first_jobs { OverConnections HandsFirstJobs }
+{
+    connections_are_faithful();
+    faithful_lines_keep_order();
+}

@@ -1,0 +1,6 @@
+//! One transmission over a connection, on which what is said comes later or not at all.
+#![tactic(auto)]
+
+mod laws;
+
+pub use laws::{connections_are_faithful, connections_keep_order};
