@@ -7,6 +7,7 @@ use Rattle.rje_jobs.specs.declared.job.Job.{Job}
 use Rattle.rje_station.specs.Receiving.{Receiving}
 use Rattle.rje_station.specs.Sending.{Sending}
 use Rattle.line_world.specs.AnyLines.{OverFaithfulLines}
+use Rattle.line_world.specs.Headline.{AreHandedInOrder, AreHandedWhole, HandsFirstJobs}
 use Rattle.connection_world.specs.Connection.{AtReceiver, AtSender}
 use Rattle.connection_world.specs.Headline.{FaithfulTurns, OverConnections, TakeFaithfulTurns}
 use Rattle.connection_world.proofs.Faithful.{Stand, stand}
@@ -50,7 +51,18 @@ pub take_faithful_turns : GivesOwnAnswers → TakeFaithfulTurns
 take_faithful_turns own jobs gives_way near s far r c =
     turns_of jobs _ near s far r (stand own jobs gives_way near s far r c.sends c.receives c.up c.down c.in_time)
 
-pub over_connections : (Holds : ℕ → List Job → List Job → Type 0) → TakeFaithfulTurns → OverFaithfulLines Holds → OverConnections Holds
+over_connections : (Holds : ℕ → List Job → List Job → Type 0) → TakeFaithfulTurns → OverFaithfulLines Holds → OverConnections Holds
 over_connections Holds faithful law jobs gives_way near s far r fit c =
     let t = faithful jobs gives_way near s far r c in
     subst (λ n. Holds n jobs r.jobs) t.counted (subst (Holds t.near.counted jobs) t.jobs_are (law jobs t.near t.far t.turns t.sent t.received fit t.faithful))
+
+pub in_order : TakeFaithfulTurns → OverFaithfulLines (λ counted given handed. AreHandedInOrder given handed) → OverConnections (λ counted given handed. AreHandedInOrder given handed)
+in_order = over_connections (λ counted given handed. AreHandedInOrder given handed)
+
+pub counted_whole : TakeFaithfulTurns → OverFaithfulLines AreHandedWhole → OverConnections AreHandedWhole
+counted_whole = over_connections AreHandedWhole
+
+pub first_jobs : TakeFaithfulTurns → OverFaithfulLines HandsFirstJobs → OverConnections HandsFirstJobs
+first_jobs = over_connections HandsFirstJobs
+
+pub ruleset headlines = (in_order, counted_whole, first_jobs)

@@ -8,6 +8,7 @@ use rje_answers::answers_are_own;
 /// Whatever comes late over a connection, and whatever it loses or damages: where each thing is answered with fewer than two hearings in
 /// vain since it was said, or not at all, there are turns that both stations take, in each of which the line is faithful, and that leave
 /// them where they stand.
+#[tactic(auto, using(crate::proofs::Headline::take_faithful_turns))]
 pub fn connections_are_faithful()
     ensures { TakeFaithfulTurns }
 {
@@ -16,6 +17,7 @@ pub fn connections_are_faithful()
 
 /// The headline, over a connection. What the receiving station hands out is a prefix of the jobs that the sending one was given, and
 /// every job that it counts was handed out whole.
+#[tactic(auto, using(crate::proofs::Headline::headlines))]
 pub fn connections_keep_order()
     ensures in_order { OverConnections (λ counted given handed. AreHandedInOrder given handed) }
     ensures counted_whole { OverConnections AreHandedWhole }
