@@ -1,25 +1,24 @@
--- What the sending end gives its station, and when it awaits nothing any more.
-use Rattle.std.proofs.Common.{◌≡◌, refl, ap, Bool, true, false, ◌&&◌, not, Option, Some, None, List, [], ◌∷◌, ◌⊎◌, inl, inr}
+-- What an end that awaits answers gives its station, and when it awaits none any more.
+use Rattle.std.proofs.Common.{◌≡◌, refl, ap, ◌∙◌, subst, Bool, true, false, ◌&&◌, not, Option, Some, None, List, [], ◌∷◌, ◌⊎◌, inl, inr, arith}
 use Rattle.std.proofs.lemmas.Bool.{cases_Bool}
 use Rattle.std.proofs.lemmas.Option.{none-some}
 use Rattle.rje_answers.specs.declared.event.Event.{Event}
 use Rattle.rje_answers.specs.declared.given.Given.{Given}
 use Rattle.rje_answers.specs.declared.rest.Rest.{Rest}
-use Rattle.rje_answers.specs.Awaiting.{Kept, given_at, kept_after, has_answer, is_over, settled, after_vain, after_answer}
-use Rattle.rje_answers.specs.Law.{Answer, kept_of}
-use Rattle.connection_world.specs.Connection.{AtSender, AtReceiver, Says, Comes, InVain, ComeDown, IsReplied, told}
+use Rattle.rje_answers.specs.Awaiting.{Kept, after_answer, after_vain, given_at, has_answer, is_over, kept_after, settled, takes_bid}
+use Rattle.rje_answers.specs.Law.{Answer, Events, kept_of}
+
+-- the station is given nothing, and awaits an answer as before; or it awaited one, is given something, and awaits none any more
+abbrev pub Settles : Event Answer → Kept Answer → (Given Answer → Type 0) → Type 0
+Settles e k Ends =
+    ((given_at e k ≡ Given.Nothing) × (has_answer (kept_after e k).said ≡ has_answer k.said))
+    ⊎ ((has_answer k.said ≡ true) × (has_answer (kept_after e k).said ≡ false) × Ends (given_at e k))
 
 -- an answer, or none after all
 abbrev pub EndsWith : Given Answer → Type 0
 EndsWith given = ((a : Answer) × (given ≡ Given.Answer a)) ⊎ ((rest : Rest) × (given ≡ Given.InVain rest))
 
--- the station is given nothing, and awaits an answer as before; or it awaited one, is given something, and awaits none any more
-abbrev pub Settles : Event Answer → Kept Answer → Type 0
-Settles e k =
-    ((given_at e k ≡ Given.Nothing) × (has_answer (kept_after e k).said ≡ has_answer k.said))
-    ⊎ ((has_answer k.said ≡ true) × (has_answer (kept_after e k).said ≡ false) × EndsWith (given_at e k))
-
-pub answer_settles : (a : Answer) (k : Kept Answer) → Settles (Event.Answer a) k
+pub answer_settles : (a : Answer) (k : Kept Answer) → Settles (Event.Answer a) k EndsWith
 answer_settles a k = elim (cases_Bool (has_answer k.said)) [
   | inl e ↦ elim (cases_Bool k.is_late) [
     | inl late ↦ inl (rw (e, late) refl, rw (e, late) e)
@@ -40,7 +39,7 @@ last_gives : (rest : Rest) (h : Option Answer) → EndsWith (elim h [ None ↦ G
 last_gives rest None = inr (rest, refl)
 last_gives rest (Some a) = inl (a, refl)
 
-pub vain_settles : (rest : Rest) (k : Kept Answer) → Settles (Event.Vain rest) k
+pub vain_settles : (rest : Rest) (k : Kept Answer) → Settles (Event.Vain rest) k EndsWith
 vain_settles rest k = elim (cases_Bool (has_answer k.said)) [
   | inl e ↦ elim (cases_Bool (is_over k)) [
     | inl over ↦ inr (e, rw (e, over) (last_settles k k.held), rw (e, over) (last_gives _ k.held))
@@ -49,7 +48,29 @@ vain_settles rest k = elim (cases_Bool (has_answer k.said)) [
   | inr e ↦ inl (rw e refl, rw e e)
 ]
 
--- ---- What is given came, so it was replied.
+-- a bid that it takes, and EOT
+takes_awaiting : (k : Kept Answer) → takes_bid k ≡ true → has_answer k.said ≡ true
+takes_awaiting k takes = grind (arith, takes)
+
+pub bid_settles : (k : Kept Answer) → Settles Event.Bid k (λ given. given ≡ Given.Bid)
+bid_settles k = elim (cases_Bool (takes_bid k)) [
+  | inl e ↦ inr (takes_awaiting k e, rw e refl, rw e refl)
+  | inr e ↦ inl (rw e refl, rw e refl)
+]
+
+pub end_settles : (k : Kept Answer) → Settles Event.End k (λ given. given ≡ Given.End)
+end_settles k = elim (cases_Bool (has_answer k.said)) [
+  | inl e ↦ inr (e, rw e refl, rw e refl)
+  | inr e ↦ inl (rw e refl, rw e e)
+]
+
+-- ---- What is given came.
+
+-- each answer that came is one of these
+abbrev pub AllCame : (Answer → Type 0) → Events → Type 0
+AllCame P [] = Unit {0}
+AllCame P (Event.Answer a ∷ past) = P a × AllCame P past
+AllCame P (_ ∷ past) = AllCame P past
 
 abbrev answer_in : Given Answer → Option Answer
 answer_in (Given.Answer a) = Some a
@@ -58,42 +79,50 @@ answer_in _ = None
 some_is : (a b : Answer) → Some a ≡ Some b → a ≡ b
 some_is a b e = ap (λ o. elim o [ None ↦ a | Some x ↦ x ]) e
 
-module _ (gives_way : Bool) (far : List AtReceiver) where
-  held_after_answer : (a : Answer) (k : Kept Answer) (b : Answer) → (after_answer a k).held ≡ Some b → (a ≡ b) ⊎ (k.held ≡ Some b)
-  held_after_answer a k b is = elim (cases_Bool (has_answer k.said)) [
-    | inl e ↦ elim (cases_Bool k.is_late) [
-      | inl late ↦ inl (some_is a b (rw (e, late) at is))
-      | inr late ↦ absurd (none-some b (rw (e, late) at is))
-    ]
-    | inr e ↦ inr (rw e at is)
+held_after_answer : (a : Answer) (k : Kept Answer) (b : Answer) → (after_answer a k).held ≡ Some b → (a ≡ b) ⊎ (k.held ≡ Some b)
+held_after_answer a k b is = elim (cases_Bool (has_answer k.said)) [
+  | inl e ↦ elim (cases_Bool k.is_late) [
+    | inl late ↦ inl (some_is a b (rw (e, late) at is))
+    | inr late ↦ absurd (none-some b (rw (e, late) at is))
   ]
+  | inr e ↦ inr (rw e at is)
+]
 
-  held_after_last : (k : Kept Answer) (h : Option Answer) (b : Answer) → (last_kept k h).held ≡ Some b → ⊥
-  held_after_last k None b is = none-some b is
-  held_after_last k (Some a) b is = none-some b is
+held_after_last : (k : Kept Answer) (h : Option Answer) (b : Answer) → (last_kept k h).held ≡ Some b → ⊥
+held_after_last k None b is = none-some b is
+held_after_last k (Some a) b is = none-some b is
 
-  held_after_vain : (rest : Rest) (k : Kept Answer) (b : Answer) → (after_vain rest k).held ≡ Some b → k.held ≡ Some b
-  held_after_vain rest k b is = elim (cases_Bool (has_answer k.said)) [
-    | inl e ↦ elim (cases_Bool (is_over k)) [
-      | inl over ↦ absurd (held_after_last k k.held b (rw (e, over) at is))
-      | inr over ↦ rw (e, over) at is
-    ]
-    | inr e ↦ rw e at is
+held_after_vain : (rest : Rest) (k : Kept Answer) (b : Answer) → (after_vain rest k).held ≡ Some b → k.held ≡ Some b
+held_after_vain rest k b is = elim (cases_Bool (has_answer k.said)) [
+  | inl e ↦ elim (cases_Bool (is_over k)) [
+    | inl over ↦ absurd (held_after_last k k.held b (rw (e, over) at is))
+    | inr over ↦ rw (e, over) at is
   ]
+  | inr e ↦ rw e at is
+]
 
-  held_was_replied : (past : List AtSender) (b : Answer) → (kept_of gives_way (told past)).held ≡ Some b → ComeDown past far → IsReplied b far
-  held_was_replied [] b is down = absurd (none-some b is)
-  held_was_replied (Says f ∷ past) b is down = absurd (none-some b is)
-  held_was_replied (Comes a ∷ past) b is down = elim (held_after_answer a (kept_of gives_way (told past)) b is) [
-    | inl same ↦ rw (← same) (down.0)
-    | inr held ↦ held_was_replied past b held down.1
+module _ (P : Answer → Type 0) (gives_way : Bool) where
+  held_came : (past : Events) (b : Answer) → (kept_of gives_way past).held ≡ Some b → AllCame P past → P b
+  held_came [] b is came = absurd (none-some b is)
+  held_came (Event.Says said ∷ past) b is came = absurd (none-some b is)
+  held_came (Event.Answer a ∷ past) b is came = elim (held_after_answer a (kept_of gives_way past) b is) [
+    | inl same ↦ subst P same came.0
+    | inr held ↦ held_came past b held came.1
   ]
-  held_was_replied (InVain rest ∷ past) b is down = held_was_replied past b (held_after_vain rest (kept_of gives_way (told past)) b is) down
+  held_came (Event.Bid ∷ past) b is came = elim (cases_Bool (takes_bid (kept_of gives_way past))) [
+    | inl e ↦ absurd (none-some b (rw e at is))
+    | inr e ↦ held_came past b (rw e at is) came
+  ]
+  held_came (Event.End ∷ past) b is came = elim (cases_Bool (has_answer (kept_of gives_way past).said)) [
+    | inl e ↦ absurd (none-some b (rw e at is))
+    | inr e ↦ held_came past b (rw e at is) came
+  ]
+  held_came (Event.Text ∷ past) b is came = held_came past b is came
+  held_came (Event.Vain rest ∷ past) b is came = held_came past b (held_after_vain rest (kept_of gives_way past) b is) came
 
-  pub answer_was_replied : (past : List AtSender) (a b : Answer) → given_at (Event.Answer a) (kept_of gives_way (told past)) ≡ Given.Answer b → ComeDown (Comes a ∷ past) far
-      → IsReplied b far
-  answer_was_replied past a b is down = elim (cases_Bool (has_answer (kept_of gives_way (told past)).said && not (kept_of gives_way (told past)).is_late)) [
-    | inl e ↦ rw (← some_is a b (ap answer_in (rw e at is))) (down.0)
+  pub answer_came : (past : Events) (a b : Answer) → given_at (Event.Answer a) (kept_of gives_way past) ≡ Given.Answer b → P a → P b
+  answer_came past a b is came = elim (cases_Bool (has_answer (kept_of gives_way past).said && not (kept_of gives_way past).is_late)) [
+    | inl e ↦ subst P (some_is a b (ap answer_in (rw e at is))) came
     | inr e ↦ absurd (none-some b (ap answer_in (rw e at is)))
   ]
 
@@ -101,11 +130,10 @@ module _ (gives_way : Bool) (far : List AtReceiver) where
   given_last_held rest None b is = absurd (none-some b (ap answer_in is))
   given_last_held rest (Some a) b is = ap answer_in is
 
-  pub held_was_given : (past : List AtSender) (rest : Rest) (b : Answer) → given_at (Event.Vain rest) (kept_of gives_way (told past)) ≡ Given.Answer b
-      → ComeDown past far → IsReplied b far
-  held_was_given past rest b is down = elim (cases_Bool (has_answer (kept_of gives_way (told past)).said)) [
-    | inl e ↦ elim (cases_Bool (is_over (kept_of gives_way (told past)))) [
-      | inl over ↦ held_was_replied past b (given_last_held _ _ b (rw (e, over) at is)) down
+  pub vain_came : (past : Events) (rest : Rest) (b : Answer) → given_at (Event.Vain rest) (kept_of gives_way past) ≡ Given.Answer b → AllCame P past → P b
+  vain_came past rest b is came = elim (cases_Bool (has_answer (kept_of gives_way past).said)) [
+    | inl e ↦ elim (cases_Bool (is_over (kept_of gives_way past))) [
+      | inl over ↦ held_came past b (given_last_held _ _ b (rw (e, over) at is)) came
       | inr over ↦ absurd (none-some b (ap answer_in (rw (e, over) at is)))
     ]
     | inr e ↦ absurd (none-some b (ap answer_in (rw e at is)))

@@ -10,13 +10,14 @@ use Rattle.line_world.specs.AnyLines.{OverFaithfulLines}
 use Rattle.line_world.specs.Headline.{AreHandedInOrder, AreHandedWhole, HandsFirstJobs}
 use Rattle.connection_world.specs.Connection.{AtReceiver, AtSender}
 use Rattle.connection_world.specs.Headline.{FaithfulTurns, OverConnections, TakeFaithfulTurns}
-use Rattle.connection_world.proofs.Faithful.{Stand, stand}
+use Rattle.connection_world.proofs.Faithful.{Taken, stand}
+use Rattle.connection_world.proofs.SideBySide.{Stand}
 use Rattle.connection_world.proofs.Stations.{quiet_counts_none}
 
 -- as long as an answer is awaited, the turn stands as one in which nothing was heard
-turns_of : (jobs : List Job) (awaits : Bool) (near : List AtSender) (s : Sending) (far : List AtReceiver) (r : Receiving) → Stand jobs awaits near s far r
+turns_of : (jobs : List Job) (awaits : Bool) (n : ℕ) (s : Sending) (far : List AtReceiver) (r : Receiving) → Stand (Taken jobs) awaits n s far r
     → FaithfulTurns jobs awaits s r
-turns_of jobs awaits near s far r p = elim (cases_Bool awaits) [
+turns_of jobs awaits n s far r p = elim (cases_Bool awaits) [
   | inl e ↦
       let t = p.awaiting e Sound.Quiet false (inl refl) in
       record {
@@ -49,7 +50,7 @@ turns_of jobs awaits near s far r p = elim (cases_Bool awaits) [
 
 pub take_faithful_turns : GivesOwnAnswers → TakeFaithfulTurns
 take_faithful_turns own jobs gives_way near s far r c =
-    turns_of jobs _ near s far r (stand own jobs gives_way near s far r c.sends c.receives c.up c.down c.in_time)
+    turns_of jobs _ _ s far r (stand own jobs gives_way near s far r c.sends c.receives c.up c.down c.in_time)
 
 over_connections : (Holds : ℕ → List Job → List Job → Type 0) → TakeFaithfulTurns → OverFaithfulLines Holds → OverConnections Holds
 over_connections Holds faithful law jobs gives_way near s far r fit c =

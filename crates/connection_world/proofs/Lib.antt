@@ -1,5 +1,6 @@
 pub mod Awaited
 pub mod Numbers
 pub mod Stations
+pub mod SideBySide
 pub mod Faithful
 pub mod Headline

@@ -1,10 +1,10 @@
 -- The numbers of the things that are said, arrive and are answered.
-use Rattle.std.proofs.Common.{◌≡◌, ℕ, ◌<◌, ◌≤◌, Bool, true, List, [], ◌∷◌, inl, inr, arith}
+use Rattle.std.proofs.Common.{◌≡◌, ℕ, ◌+◌, ◌<◌, ◌≤◌, true, List, [], ◌∷◌, inl, inr, arith}
 use Rattle.std.proofs.lemmas.Bool.{cases_Bool}
 use Rattle.bsc_frame.specs.declared.frame.Frame.{Frame}
 use Rattle.rje_answers.specs.declared.rest.Rest.{Rest}
 use Rattle.rje_answers.specs.Awaiting.{has_answer, said_in}
-use Rattle.rje_answers.specs.Law.{AllHappen, Answer, things}
+use Rattle.rje_answers.specs.Law.{Answer, things}
 use Rattle.connection_world.specs.Connection.{AtReceiver, AtSender, Says, Comes, InVain, Arrives, NothingArrives, OneHearing, ComeDown, ComeUp, IsReplied, IsThing, come_by, told}
 
 -- each thing has an answer: EOT wasn't said
@@ -13,6 +13,12 @@ AllAnswered [] = Unit {0}
 AllAnswered (Says f ∷ past) = (has_answer (said_in f) ≡ true) × AllAnswered past
 AllAnswered (_ ∷ past) = AllAnswered past
 
+-- what is answered was said before
+abbrev pub AllSaid : List AtSender → Type 0
+AllSaid [] = Unit {0}
+AllSaid (Comes a ∷ past) = (a.thing < things (told past)) × AllSaid past
+AllSaid (_ ∷ past) = AllSaid past
+
 pub thing_below : (k : ℕ) (f : Frame) (past : List AtSender) → AllAnswered past → IsThing k f past → k < things (told past)
 thing_below k f [] all is = absurd is
 thing_below k f (Says said ∷ past) all (inl is) = rw all.0 (omega (arith, is.0))
@@ -20,7 +26,7 @@ thing_below k f (Says said ∷ past) all (inr is) = let less = thing_below k f p
 thing_below k f (Comes a ∷ past) all is = thing_below k f past all is
 thing_below k f (InVain rest ∷ past) all is = thing_below k f past all is
 
-pub things_grow : (f : Frame) (past : List AtSender) → things (told past) ≤ things (told (Says f ∷ past))
+things_grow : (f : Frame) (past : List AtSender) → things (told past) ≤ things (told (Says f ∷ past))
 things_grow f past = elim (cases_Bool (has_answer (said_in f))) [ inl e ↦ rw e (omega arith) | inr e ↦ rw e (omega arith) ]
 
 -- ---- What arrived.
@@ -29,10 +35,8 @@ things_grow f past = elim (cases_Bool (has_answer (said_in f))) [ inl e ↦ rw e
 pub up_before_saying : (f : Frame) (past : List AtSender) (far : List AtReceiver) → come_by far ≤ things (told past) → ComeUp (Says f ∷ past) far → ComeUp past far
 up_before_saying f past [] below up = tt
 up_before_saying f past (Arrives k h ∷ far) below up =
-    let in_order = up.0.0 in (
-      (in_order, (up.0.1.0, earlier up.0.1.1, up.0.1.2)),
-      up_before_saying f past far (omega (arith, in_order, below)) up.1,
-    )
+    let in_order = up.0.0 in
+    ((in_order, (up.0.1.0, earlier up.0.1.1, up.0.1.2)), up_before_saying f past far (omega (arith, in_order, below)) up.1)
   where
     earlier : {g : Frame} → IsThing k g (Says f ∷ past) → IsThing k g past
     earlier (inl is) = absurd (omega (arith, is.0, below))
@@ -52,18 +56,18 @@ up_before_vain rest past (NothingArrives h ∷ far) up = (up.0, up_before_vain r
 -- ---- What was replied.
 
 -- to a thing that hadn't been said before this nothing was
-pub down_before_arrival : (gives_way : Bool) (k : ℕ) (h : OneHearing) (past : List AtSender) (far : List AtReceiver) → AllHappen gives_way (told past)
-    → things (told past) ≤ k → ComeDown past (Arrives k h ∷ far) → ComeDown past far
-down_before_arrival gives_way k h [] far all above down = tt
-down_before_arrival gives_way k h (Says f ∷ past) far all above down =
+pub down_before_arrival : (k : ℕ) (h : OneHearing) (past : List AtSender) (far : List AtReceiver) → AllSaid past → things (told past) ≤ k
+    → ComeDown past (Arrives k h ∷ far) → ComeDown past far
+down_before_arrival k h [] far all above down = tt
+down_before_arrival k h (Says f ∷ past) far all above down =
     let grow = things_grow f past in
-    down_before_arrival gives_way k h past far all.1 (omega (arith, grow, above)) down
-down_before_arrival gives_way k h (Comes a ∷ past) far all above down = (earlier down.0, down_before_arrival gives_way k h past far all.1 above down.1)
+    down_before_arrival k h past far all (omega (arith, grow, above)) down
+down_before_arrival k h (Comes a ∷ past) far all above down = (earlier down.0, down_before_arrival k h past far all.1 above down.1)
   where
     earlier : IsReplied a (Arrives k h ∷ far) → IsReplied a far
-    earlier (inl is) = absurd (omega (arith, is.0, above, all.0.1))
+    earlier (inl is) = absurd (omega (arith, is.0, above, all.0))
     earlier (inr is) = is
-down_before_arrival gives_way k h (InVain rest ∷ past) far all above down = down_before_arrival gives_way k h past far all.1 above down
+down_before_arrival k h (InVain rest ∷ past) far all above down = down_before_arrival k h past far all above down
 
 pub down_before_nothing : (h : OneHearing) (past : List AtSender) (far : List AtReceiver) → ComeDown past (NothingArrives h ∷ far) → ComeDown past far
 down_before_nothing h [] far down = tt

@@ -13,16 +13,18 @@ use Rattle.bsc_link.specs.declared.sender_place.SenderPlace.{SenderPlace}
 use Rattle.bsc_link.specs.declared.sound.Sound.{Sound}
 use Rattle.bsc_link.specs.declared.table_line.TableLine.{TableLine}
 use Rattle.bsc_link.specs.declared.wish.Wish.{Wish}
-use Rattle.bsc_link.specs.Receiver.{receiver_hears, receiver_news}
+use Rattle.bsc_link.specs.Receiver.{ReceiverState, receiver_hears, receiver_news}
 use Rattle.bsc_link.specs.Sender.{counts_block, follow, line_for, say_in}
 use Rattle.bsc_history.specs.declared.sound_fate.SoundFate.{SoundFate}
-use Rattle.bsc_history.specs.Fate.{MayBeHeardAs, is_noise_or_quiet, sound_of}
+use Rattle.bsc_history.specs.Fate.{MayBeHeardAs, sound_of}
 use Rattle.rje_answers.specs.declared.rest.Rest.{Rest}
 use Rattle.rje_answers.specs.Awaiting.{has_answer, said_in}
+use Rattle.rje_jobs.specs.declared.job.Job.{Job}
 use Rattle.rje_station.specs.Hearing.{sound_heard, sound_of_frame}
-use Rattle.rje_station.specs.Receiving.{Receiving, after_receiving, after_replying}
+use Rattle.rje_station.specs.JoinedJobs.{begun_in}
+use Rattle.rje_station.specs.Receiving.{Receiving, MayRefuse, after_receiving, after_replying, jobs_after, sound_taken}
 use Rattle.rje_station.specs.Sending.{Sending, after_hearing, after_speaking, counted_after, is_done, next_for, rest_after}
-use Rattle.connection_world.specs.Connection.{IsFrameOf, sound_of_rest}
+use Rattle.connection_world.specs.Connection.{IsFrameOf, is_passed_over, sound_of_rest}
 
 -- ---- What is said.
 
@@ -169,31 +171,44 @@ answering_same Say.Delay r = refl
 answering_same Say.Ask r = refl
 answering_same Say.Nothing r = refl
 
--- a core that hears nothing, or noise, stays as it is
-core_idles : (place : ReceiverPlace) (odd : Bool) (last : Option Reply) (rvi : Bool) (wish : Wish)
-    → (receiver_hears (record { place = place; odd_accepted = odd; last_reply = last; rvi_made = rvi }) Sound.Quiet wish
-    ≡ record { place = place; odd_accepted = odd; last_reply = last; rvi_made = rvi })
-    × (receiver_hears (record { place = place; odd_accepted = odd; last_reply = last; rvi_made = rvi }) Sound.Noise wish
-    ≡ record { place = place; odd_accepted = odd; last_reply = last; rvi_made = rvi })
-    × ((receiver_news (record { place = place; odd_accepted = odd; last_reply = last; rvi_made = rvi }) Sound.Quiet wish).reply ≡ None)
-core_idles ReceiverPlace.Idle odd last rvi wish = (refl, refl, refl)
-core_idles ReceiverPlace.InTransmission odd last rvi wish = (refl, refl, refl)
-core_idles ReceiverPlace.Ended odd last rvi wish = (refl, refl, refl)
+-- a core that hears what it passes over stays as it is, and answers nothing
+abbrev Idles : ReceiverState → Sound → Wish → Type 0
+Idles core sound wish = (receiver_hears core sound wish ≡ core) × ((receiver_news core sound wish).reply ≡ None)
 
--- a station that hears nothing, or noise, holds what it held
-pub noise_is_nothing : (r : Receiving) (what : Heard) (refused : Bool) (wish : Wish) → is_noise_or_quiet (sound_heard what) ≡ true
+core_idles : (place : ReceiverPlace) (odd : Bool) (last : Option Reply) (rvi : Bool) (sound : Sound) (wish : Wish) → is_passed_over sound ≡ true
+    → Idles (record { place = place; odd_accepted = odd; last_reply = last; rvi_made = rvi }) sound wish
+core_idles place odd last rvi Sound.Enq wish e = absurd (true≢false (sym e))
+core_idles place odd last rvi Sound.Ttd wish e = absurd (true≢false (sym e))
+core_idles place odd last rvi Sound.Abort wish e = absurd (true≢false (sym e))
+core_idles place odd last rvi Sound.Eot wish e = absurd (true≢false (sym e))
+core_idles place odd last rvi Sound.Block wish e = absurd (true≢false (sym e))
+core_idles place odd last rvi Sound.Bad wish e = absurd (true≢false (sym e))
+core_idles ReceiverPlace.Idle odd last rvi _ wish e = (refl, refl)
+core_idles ReceiverPlace.InTransmission odd last rvi _ wish e = (refl, refl)
+core_idles ReceiverPlace.Ended odd last rvi _ wish e = (refl, refl)
+
+pub idles : (r : Receiving) (sound : Sound) (wish : Wish) → is_passed_over sound ≡ true → Idles r.core sound wish
+idles r sound wish e = core_idles r.core.place r.core.odd_accepted r.core.last_reply r.core.rvi_made sound wish e
+
+-- nothing but a block is taken otherwise than it is heard, and what is passed over is no block
+taken_so : (what : Heard) (begun : Option Job) (refused : Bool) → MayRefuse what begun refused → is_passed_over (sound_heard what) ≡ true
+    → (sound_taken what refused ≡ sound_heard what) × ((accepted : Bool) (jobs : List Job) → jobs_after what accepted jobs ≡ jobs)
+taken_so heard.Quiet begun refused may e = (refl, λ accepted jobs. refl)
+taken_so heard.Noise begun refused may e = (refl, λ accepted jobs. refl)
+taken_so heard.Bad begun refused may e = absurd (true≢false (sym e))
+taken_so (heard.Frame (frame.Block b)) begun refused may e = absurd (true≢false (sym e))
+taken_so (heard.Frame frame.Enq) begun refused may e = absurd (true≢false (sym e))
+taken_so (heard.Frame f) begun refused may e = (rw may refl, λ accepted jobs. refl)
+
+-- a station that hears what it passes over holds what it held
+pub passed_is_nothing : (r : Receiving) (what : Heard) (refused : Bool) (wish : Wish) → MayRefuse what (begun_in r.jobs) refused → is_passed_over (sound_heard what) ≡ true
     → wordless (after_receiving r what refused wish) ≡ wordless r
-noise_is_nothing r heard.Quiet refused wish e =
-    ap (λ core. record (wordless r) { core = core }) (core_idles r.core.place r.core.odd_accepted r.core.last_reply r.core.rvi_made wish).0
-noise_is_nothing r heard.Noise refused wish e =
-    ap (λ core. record (wordless r) { core = core }) (core_idles r.core.place r.core.odd_accepted r.core.last_reply r.core.rvi_made wish).1
-noise_is_nothing r heard.Bad refused wish e = absurd (true≢false (sym e))
-noise_is_nothing r (heard.Frame f) refused wish e = absurd (no_frame f e)
-  where
-    no_frame : (f : Frame) → is_noise_or_quiet (sound_of_frame f) ≡ true → ⊥
-    no_frame frame.Enq e = true≢false (sym e)
-    no_frame _ e = true≢false (sym e)
+passed_is_nothing r what refused wish may e =
+    let so = taken_so what (begun_in r.jobs) refused may e in
+    ap (λ sound. record (wordless r) { core = receiver_hears r.core sound wish; jobs = jobs_after what (receiver_news r.core sound wish).accepted r.jobs }) so.0
+    ∙ ap (λ jobs. record (wordless r) { core = receiver_hears r.core (sound_heard what) wish; jobs = jobs }) (so.1 (receiver_news r.core (sound_heard what) wish).accepted r.jobs)
+    ∙ ap (λ core. record (wordless r) { core = core }) (idles r (sound_heard what) wish e).0
 
 -- and a quiet one isn't answered
 pub quiet_is_silent : (r : Receiving) (wish : Wish) → None ≡ (after_receiving r heard.Quiet false wish).due
-quiet_is_silent r wish = sym (core_idles r.core.place r.core.odd_accepted r.core.last_reply r.core.rvi_made wish).2
+quiet_is_silent r wish = sym (idles r Sound.Quiet wish refl).1

@@ -11,7 +11,7 @@ use Rattle.bsc_link.specs.declared.say.Say.{Say}
 use Rattle.bsc_link.specs.declared.sound.Sound.{Sound}
 use Rattle.bsc_link.specs.declared.wish.Wish.{Wish}
 use Rattle.bsc_link.specs.Sender.{say_in}
-use Rattle.bsc_history.specs.Fate.{MayBeHeardAs, is_noise_or_quiet, sound_of_reply}
+use Rattle.bsc_history.specs.Fate.{MayBeHeardAs, sound_of_reply}
 use Rattle.rje_answers.specs.declared.event.Event.{Event}
 use Rattle.rje_answers.specs.declared.given.Given.{Given}
 use Rattle.rje_answers.specs.declared.rest.Rest.{Rest}
@@ -145,10 +145,20 @@ come_by [] = 0
 come_by (Arrives k h ∷ past) = k + 1
 come_by (NothingArrives h ∷ past) = come_by past
 
--- what arrives is a thing that was said, after those before it; where none does, nothing is heard but noise
+-- what a receiving station passes over: answers, noise and quiet
+abbrev pub is_passed_over : Sound → Bool
+is_passed_over Sound.Enq = false
+is_passed_over Sound.Ttd = false
+is_passed_over Sound.Abort = false
+is_passed_over Sound.Eot = false
+is_passed_over Sound.Block = false
+is_passed_over Sound.Bad = false
+is_passed_over _ = true
+
+-- what arrives is a thing that was said, after those before it; where none does, nothing is heard that the station heeds
 abbrev pub MayArrive : List AtSender → List AtReceiver → AtReceiver → Type 0
 MayArrive near past (Arrives k h) = (come_by past ≤ k) × ((f : Frame) × IsThing k f near × MayComeAs f h.what)
-MayArrive near past (NothingArrives h) = is_noise_or_quiet (sound_heard h.what) ≡ true
+MayArrive near past (NothingArrives h) = is_passed_over (sound_heard h.what) ≡ true
 
 -- UP: each thing comes at most once, and in order
 abbrev pub ComeUp : List AtSender → List AtReceiver → Type 0
