@@ -18,7 +18,7 @@ use Rattle.rje_station.specs.Receiving.{Receiving, MayRefuse, after_receiving, f
 use Rattle.rje_station.specs.Sending.{Sending, first_sending, is_end}
 use Rattle.line_world.specs.AnyLines.{AreFaithful, ReceiverTook, SenderTook, after_answering}
 use Rattle.line_world.specs.Turns.{after_turn}
-use Rattle.connection_world.specs.Connection.{AtReceiver, AtSender, Says, Comes, InVain, OneHearing, ComeDown, ComeUp, IsFrameOf, IsReplied, Listens, MayComeAs, ReceiverWent, SenderWent, Speaks, told}
+use Rattle.connection_world.specs.Connection.{AtReceiver, AtSender, Says, Comes, InVain, OneHearing, ComeDown, ComeUp, IsFrameOf, IsReplied, Listens, MayComeAs, ReceiverWent, SenderWent, told}
 use Rattle.connection_world.proofs.Awaited.{AllCame, EndsWith, Settles, answer_came, answer_settles, vain_came, vain_settles}
 use Rattle.connection_world.proofs.Numbers.{AllAnswered, AllSaid, up_before_answer, up_before_vain}
 use Rattle.connection_world.proofs.SideBySide.{FarWent, Grows, MayHear, Stand, after_event, after_saying, begin, given_none}

@@ -3,4 +3,6 @@ pub mod Numbers
 pub mod Stations
 pub mod SideBySide
 pub mod Faithful
+pub mod Standing
+pub mod OneWay
 pub mod Headline

@@ -1,5 +1,5 @@
 -- The numbers of the things that are said, arrive and are answered.
-use Rattle.std.proofs.Common.{◌≡◌, ℕ, ◌+◌, ◌<◌, ◌≤◌, true, List, [], ◌∷◌, inl, inr, arith}
+use Rattle.std.proofs.Common.{◌≡◌, ℕ, ◌<◌, ◌≤◌, true, List, [], ◌∷◌, inl, inr, arith}
 use Rattle.std.proofs.lemmas.Bool.{cases_Bool}
 use Rattle.bsc_frame.specs.declared.frame.Frame.{Frame}
 use Rattle.rje_answers.specs.declared.rest.Rest.{Rest}

@@ -73,6 +73,7 @@ module _ (T : Sending → Receiving → Type 0) (grows : Grows T) where
       is_quiet : Heard → Bool
       is_quiet heard.Quiet = true
       is_quiet _ = false
+
       no_block : (b : Block) → heard.Quiet ≡ heard.Frame (frame.Block b) → f ≡ frame.Block b
       no_block b is = absurd (true≢false (ap is_quiet is))
 
@@ -113,18 +114,22 @@ module _ (T : Sending → Receiving → Type 0) (grows : Grows T) (f : Frame) (p
           let less = replied_below a (Says f ∷ past) far up.1 is in
           let in_order = up.0.0 in
           absurd (omega (arith, less, in_order, own, same))
+
       t : T s r
       t =
           let in_order = up.0.0 in
           before far r went (up_before_saying f past far (omega (arith, in_order, same)) up.1) (down_before_arrival k h past far said (omega (arith, same)) down)
+
       fate : MayBeGiven (n + 1) (Arrives k h ∷ far) sound → MayBeHeardAs (sound_of_reply h.reply) sound
       fate (inl quiet) = subst (MayBeHeardAs (sound_of_reply h.reply)) (sym quiet) (all_lost (sound_of_reply h.reply))
       fate (inr (a, own, inl is, heard)) = subst (MayBeHeardAs (sound_of_reply h.reply)) (ap sound_of_reply is.1 ∙ sym heard) (all_arrives (sound_of_reply h.reply))
       fate (inr (a, own, inr is, heard)) = absurd (older a own is)
+
       silent : h.reply ≡ None → MayBeGiven (n + 1) (Arrives k h ∷ far) sound → sound ≡ Sound.Quiet
       silent none (inl quiet) = quiet
       silent none (inr (a, own, inl is, heard)) = heard ∙ ap sound_of_reply (sym is.1 ∙ none)
       silent none (inr (a, own, inr is, heard)) = absurd (older a own is)
+
       which : FarGoes h r r' → After r'
       which (inl (may, reply, state)) =
           grows.same _ _ (after_receiving r h.what h.refused h.wish) r' refl (sym state)

@@ -141,20 +141,29 @@ pub heard_in_vain : (s : Sending) (rest : Rest) (pause : Bool) → noteless (aft
 heard_in_vain s rest pause =
     ap (λ line. by_line s pause line) (line_in_vain s.core.place s.core.odd_counted s.core.rvi_noted s.core.tries s.core.holds rest pause)
 
--- and no block counts
+-- and no block counts, nor where it heard EOT
 none_counted : (place : SenderPlace) (odd noted : Bool) (tries holds : ℕ) (pause : Bool)
-    → counts_block (line_for (record { place = place; odd_counted = odd; rvi_noted = noted; tries = tries; holds = holds }) Sound.Quiet pause) ≡ false
-none_counted SenderPlace.Bid odd noted tries holds pause = refl
-none_counted SenderPlace.Block odd noted tries holds pause = refl
-none_counted SenderPlace.Again odd noted tries holds pause = refl
-none_counted SenderPlace.Ask odd noted tries holds pause = refl
-none_counted SenderPlace.Delay odd noted tries holds pause = refl
-none_counted (SenderPlace.End outcome) odd noted tries holds pause = refl
-none_counted (SenderPlace.Over outcome) odd noted tries holds pause = refl
+    → (counts_block (line_for (record { place = place; odd_counted = odd; rvi_noted = noted; tries = tries; holds = holds }) Sound.Quiet pause) ≡ false)
+    × (counts_block (line_for (record { place = place; odd_counted = odd; rvi_noted = noted; tries = tries; holds = holds }) Sound.Eot pause) ≡ false)
+none_counted SenderPlace.Bid odd noted tries holds pause = (refl, refl)
+none_counted SenderPlace.Block odd noted tries holds pause = (refl, refl)
+none_counted SenderPlace.Again odd noted tries holds pause = (refl, refl)
+none_counted SenderPlace.Ask odd noted tries holds pause = (refl, refl)
+none_counted SenderPlace.Delay odd noted tries holds pause = (refl, refl)
+none_counted (SenderPlace.End outcome) odd noted tries holds pause = (refl, refl)
+none_counted (SenderPlace.Over outcome) odd noted tries holds pause = (refl, refl)
 
-pub quiet_counts_none : (s : Sending) (pause : Bool) → (after_hearing s Sound.Quiet pause).counted ≡ s.counted
-quiet_counts_none s pause =
-    ap (λ counts. counted_after counts s.rest s.counted) (none_counted s.core.place s.core.odd_counted s.core.rvi_noted s.core.tries s.core.holds pause)
+abbrev CountsNone : Sending → Sending → Type 0
+CountsNone s s' = (s'.rest ≡ s.rest) × (s'.counted ≡ s.counted)
+
+uncounted : (s : Sending) (sound : Sound) (pause : Bool) → counts_block (line_for s.core sound pause) ≡ false → CountsNone s (after_hearing s sound pause)
+uncounted s sound pause e = (ap (λ counts. rest_after counts s.rest) e, ap (λ counts. counted_after counts s.rest s.counted) e)
+
+pub quiet_counts_none : (s : Sending) (pause : Bool) → CountsNone s (after_hearing s Sound.Quiet pause)
+quiet_counts_none s pause = uncounted s Sound.Quiet pause (none_counted s.core.place s.core.odd_counted s.core.rvi_noted s.core.tries s.core.holds pause).0
+
+pub end_counts_none : (s : Sending) (pause : Bool) → CountsNone s (after_hearing s Sound.Eot pause)
+end_counts_none s pause = uncounted s Sound.Eot pause (none_counted s.core.place s.core.odd_counted s.core.rvi_noted s.core.tries s.core.holds pause).1
 
 -- ---- The receiving station, but for what it notes and says.
 

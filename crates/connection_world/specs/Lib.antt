@@ -1,2 +1,3 @@
 pub mod Connection
 pub mod Headline
+pub mod BothWays

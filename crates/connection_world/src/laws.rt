@@ -1,9 +1,11 @@
 //! What holds of every transmission over a connection.
+ghost use Rattle.connection_world.specs.BothWays.{OverExchanges};
 ghost use Rattle.connection_world.specs.Headline.{OverConnections, TakeFaithfulTurns};
 ghost use Rattle.line_world.specs.Headline.{AreHandedInOrder, AreHandedWhole, HandsFirstJobs};
 
-use line_world::faithful_lines_keep_order;
+use line_world::{faithful_lines_keep_order, histories_keep_order, stations_keep_history};
 use rje_answers::answers_are_own;
+use rje_station::counted_blocks_end_counted_jobs;
 
 /// Whatever comes late over a connection, and whatever it loses or damages: where each thing is answered with fewer than two hearings in
 /// vain since it was said, or not at all, there are turns that both stations take, in each of which the line is faithful, and that leave
@@ -25,4 +27,18 @@ pub fn connections_keep_order()
 {
     connections_are_faithful();
     faithful_lines_keep_order();
+}
+
+/// The headline over a connection, each way of two stations that both have jobs. Whatever comes late, crosses, is lost or damaged: what
+/// each station hands out is a prefix of the jobs that the other one was given, and every job that this one counts was handed out whole.
+#[tactic(auto, using(crate::proofs::Headline::both_headlines))]
+pub fn exchanges_keep_order()
+    ensures in_order { OverExchanges (λ counted given handed. AreHandedInOrder given handed) }
+    ensures counted_whole { OverExchanges AreHandedWhole }
+    ensures first_jobs { OverExchanges HandsFirstJobs }
+{
+    answers_are_own();
+    counted_blocks_end_counted_jobs();
+    stations_keep_history();
+    histories_keep_order();
 }

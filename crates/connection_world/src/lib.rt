@@ -3,4 +3,4 @@
 
 mod laws;
 
-pub use laws::{connections_are_faithful, connections_keep_order};
+pub use laws::{connections_are_faithful, connections_keep_order, exchanges_keep_order};
