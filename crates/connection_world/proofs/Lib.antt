@@ -6,3 +6,4 @@ pub mod Faithful
 pub mod Standing
 pub mod OneWay
 pub mod Headline
+pub mod LateBid

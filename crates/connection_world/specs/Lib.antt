@@ -1,3 +1,4 @@
 pub mod Connection
 pub mod Headline
 pub mod BothWays
+pub mod LateBid

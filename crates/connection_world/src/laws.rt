@@ -1,6 +1,7 @@
 //! What holds of every transmission over a connection.
 ghost use Rattle.connection_world.specs.BothWays.{OverExchanges};
 ghost use Rattle.connection_world.specs.Headline.{OverConnections, TakeFaithfulTurns};
+ghost use Rattle.connection_world.specs.LateBid.{LateBidComesThrough};
 ghost use Rattle.line_world.specs.Headline.{AreHandedInOrder, AreHandedWhole, HandsFirstJobs};
 
 use line_world::{faithful_lines_keep_order, histories_keep_order, stations_keep_history};
@@ -42,3 +43,10 @@ pub fn exchanges_keep_order()
     stations_keep_history();
     histories_keep_order();
 }
+
+/// There are such connections, a worked example: the first bid comes only after its sender has given it up, and the answer to it is lost;
+/// a job of one block comes all the same, and is counted.
+#[tactic(auto, using(crate::proofs::LateBid::late_bid_comes_through))]
+pub fn late_bid_comes_through()
+    ensures { LateBidComesThrough }
+{}

@@ -3,4 +3,6 @@
 
 mod laws;
 
-pub use laws::{connections_are_faithful, connections_keep_order, exchanges_keep_order};
+pub use laws::{
+    connections_are_faithful, connections_keep_order, exchanges_keep_order, late_bid_comes_through,
+};
