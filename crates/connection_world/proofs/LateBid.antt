@@ -1,26 +1,23 @@
 -- The worked example, step by step.
-use Rattle.std.proofs.Common.{◌≡◌, refl, sym, ap, ◌∙◌, subst, ℕ, ◌+◌, ◌<◌, ◌≤◌, Bool, true, false, Option, Some, None, List, [], ◌∷◌, inl, inr, arith}
+use Rattle.std.proofs.Common.{◌≡◌, refl, sym, ap, ◌∙◌, subst, ◌<◌, ◌≤◌, Bool, true, false, Some, None, List, [], ◌∷◌, inl, inr, arith}
 use Rattle.bsc_codes.specs.declared.block.Block.{Block}
 use Rattle.bsc_codes.specs.declared.block.Closing.TheVariants.{Etx}
 use Rattle.bsc_frame.specs.declared.frame.Frame.{Frame}
 use Rattle.bsc_frame.specs.declared.frame.Frame.TheVariants as frame
 use Rattle.bsc_frame.specs.declared.heard.Heard.{Heard}
 use Rattle.bsc_frame.specs.declared.heard.Heard.TheVariants as heard
-use Rattle.bsc_link.specs.declared.outcome.Outcome.{Outcome}
 use Rattle.bsc_link.specs.declared.sound.Sound.{Sound}
 use Rattle.bsc_link.specs.declared.wish.Wish.{Wish}
-use Rattle.bsc_link.specs.Sender.{say_in}
 use Rattle.rje_text.specs.declared.unpacked.Unpacked.{Unpacked}
-use Rattle.rje_text.specs.Reading.{IsRead, reading}
+use Rattle.rje_text.specs.Reading.{IsRead}
 use Rattle.rje_jobs.specs.declared.job.Job.{Job}
-use Rattle.rje_jobs.specs.Blocks.{blocks}
 use Rattle.rje_jobs.specs.Joined.{ends_job, with_records}
 use Rattle.rje_station.specs.Hearing.{sound_of_frame}
 use Rattle.rje_station.specs.JoinedJobs.{with_read}
 use Rattle.rje_station.specs.Receiving.{Receiving, after_receiving, after_replying, first_receiving}
 use Rattle.rje_station.specs.Sending.{Sending, after_hearing, after_speaking, counted_by, first_sending}
 use Rattle.rje_answers.specs.Law.{AllHappen}
-use Rattle.connection_world.specs.Connection.{ComeDown, ComeUp, IsFrameOf, IsOverConnection, MayComeAs, ReceiverWent, SenderWent, told}
+use Rattle.connection_world.specs.Connection.{ComeDown, ComeUp, MayComeAs, ReceiverWent, SenderWent, told}
 use Rattle.connection_world.specs.LateBid.{LateBidComesThrough, at_receiver, at_sender}
 use Rattle.connection_world.proofs.Stations.{all_arrives}
 
@@ -46,8 +43,7 @@ sender_went job b gives_way =
     let s0 = with_blocks job (b ∷ []) in
     let s1 = bids s0 in
     let s2 = granted s1 in
-    let s3 = acknowledged s2 in
-    (
+    let s3 = acknowledged s2 in (
       s3,
       (
         after_speaking s2,
@@ -103,8 +99,7 @@ receiver_went b u is_read =
     let r1 = hears first_receiving heard.Quiet in
     let r2 = hears r1 (heard.Frame frame.Enq) in
     let r3 = hears r2 (heard.Frame frame.Enq) in
-    let r4 = hears r3 (heard.Frame (frame.Block b)) in
-    (
+    let r4 = hears r3 (heard.Frame (frame.Block b)) in (
       r4,
       (
         r3,
@@ -128,7 +123,7 @@ abbrev frame_in : Heard → Frame → Frame
 frame_in (heard.Frame f) other = f
 frame_in _ other = other
 
-comes_whole : (f : Frame) → MayComeAs f (heard.Frame f)
+pub comes_whole : (f : Frame) → MayComeAs f (heard.Frame f)
 comes_whole f = record { sound = all_arrives (sound_of_frame f); block = λ b is. ap (λ x. frame_in x f) is }
 
 come_up : (b : Block) → ComeUp (at_sender b) (at_receiver b)
@@ -151,6 +146,7 @@ in_time gives_way b = (refl, (two, (refl, (tt, (tt, (tt, (tt, (one, (refl, (tt, 
   where
     one : (0 ≤ 1) × (1 < 2) × (0 < 2)
     one = (omega arith, omega arith, omega arith)
+
     two : (2 ≤ 2) × (2 < 3) × (0 < 2)
     two = (omega arith, omega arith, omega arith)
 

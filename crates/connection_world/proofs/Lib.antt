@@ -7,3 +7,4 @@ pub mod Standing
 pub mod OneWay
 pub mod Headline
 pub mod LateBid
+pub mod CrossingBids

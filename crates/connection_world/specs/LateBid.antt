@@ -1,6 +1,6 @@
 -- A worked example, oldest first from below: the first bid comes only after its sender has given it up, and the answer to it is lost. Own
 -- profile.
-use Rattle.std.specs.Prelude.{◌≡◌, ℕ, Bool, true, false, List, [], ◌∷◌, Option, Some, None}
+use Rattle.std.specs.Prelude.{◌≡◌, Bool, true, false, List, [], ◌∷◌, Option, Some, None}
 use Rattle.bsc_codes.specs.declared.block.Block.{Block}
 use Rattle.bsc_codes.specs.declared.block.Closing.TheVariants.{Etx}
 use Rattle.bsc_frame.specs.declared.frame.Frame.{Frame}

@@ -2,3 +2,4 @@ pub mod Connection
 pub mod Headline
 pub mod BothWays
 pub mod LateBid
+pub mod CrossingBids

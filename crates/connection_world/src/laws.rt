@@ -1,5 +1,6 @@
 //! What holds of every transmission over a connection.
 ghost use Rattle.connection_world.specs.BothWays.{OverExchanges};
+ghost use Rattle.connection_world.specs.CrossingBids.{CrossingBidsComeThrough};
 ghost use Rattle.connection_world.specs.Headline.{OverConnections, TakeFaithfulTurns};
 ghost use Rattle.connection_world.specs.LateBid.{LateBidComesThrough};
 ghost use Rattle.line_world.specs.Headline.{AreHandedInOrder, AreHandedWhole, HandsFirstJobs};
@@ -49,4 +50,11 @@ pub fn exchanges_keep_order()
 #[tactic(auto, using(crate::proofs::LateBid::late_bid_comes_through))]
 pub fn late_bid_comes_through()
     ensures { LateBidComesThrough }
+{}
+
+/// And both ways: both ends bid at once, the primary passes over the other's bid, and the secondary gives way; the primary's job of one
+/// block comes, and the secondary is to bid again.
+#[tactic(auto, using(crate::proofs::CrossingBids::crossing_bids_come_through))]
+pub fn crossing_bids_come_through()
+    ensures { CrossingBidsComeThrough }
 {}

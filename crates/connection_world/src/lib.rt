@@ -4,5 +4,6 @@
 mod laws;
 
 pub use laws::{
-    connections_are_faithful, connections_keep_order, exchanges_keep_order, late_bid_comes_through,
+    connections_are_faithful, connections_keep_order, crossing_bids_come_through,
+    exchanges_keep_order, late_bid_comes_through,
 };
