@@ -22,7 +22,8 @@ use Rattle.connection_world.specs.Connection.{AtReceiver, AtSender, Says, Comes,
 use Rattle.connection_world.proofs.Awaited.{AllCame, EndsWith, Settles, answer_came, answer_settles, vain_came, vain_settles}
 use Rattle.connection_world.proofs.Numbers.{AllAnswered, AllSaid, up_before_answer, up_before_vain}
 use Rattle.connection_world.proofs.SideBySide.{FarWent, Grows, MayHear, Stand, after_event, after_saying, begin, given_none}
-use Rattle.connection_world.proofs.Stations.{answering_same, ends_or_asks, noteless, said_block, said_sound, turned, turned_same, wordless}
+use Rattle.connection_world.specs.Headline.{but_for_notes}
+use Rattle.connection_world.proofs.Stations.{answering_same, ends_or_asks, said_block, said_sound, turned, turned_same, wordless}
 
 -- faithful turns that both stations took, and that leave them there, but for what they note
 pub record Taken (jobs : List Job) (s : Sending) (r : Receiving) : Type 0 where
@@ -32,7 +33,7 @@ pub record Taken (jobs : List Job) (s : Sending) (r : Receiving) : Type 0 where
   pub sent : SenderTook (first_sending jobs) turns near
   pub received : ReceiverTook first_receiving turns far
   pub faithful : AreFaithful (first_sending jobs) near first_receiving far turns sent received
-  pub sending : noteless near ≡ noteless s
+  pub sending : but_for_notes near ≡ but_for_notes s
   pub receiving : wordless far ≡ wordless r
 
 first_taken : (jobs : List Job) → Taken jobs (first_sending jobs) first_receiving

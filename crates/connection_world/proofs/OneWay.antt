@@ -4,6 +4,7 @@ use Rattle.std.specs.List.{AllByRecursion}
 use Rattle.std.proofs.lemmas.Bool.{cases_Bool, true≢false}
 use Rattle.bsc_codes.specs.declared.block.Block.{Block}
 use Rattle.bsc_frame.specs.declared.frame.Frame.{Frame}
+use Rattle.bsc_frame.specs.declared.frame.Frame.TheVariants as frame
 use Rattle.bsc_link.specs.declared.rank.Rank.{Rank}
 use Rattle.bsc_link.specs.declared.reply.Reply.{Reply}
 use Rattle.bsc_link.specs.declared.say.Say.{Say}
@@ -22,7 +23,7 @@ use Rattle.rje_jobs.specs.Fitting.{JobFits}
 use Rattle.rje_station.specs.Hearing.{sound_heard}
 use Rattle.rje_station.specs.Laws.{CountsBlocks}
 use Rattle.rje_station.specs.Receiving.{Receiving, after_receiving}
-use Rattle.rje_station.specs.Sending.{Sending, after_hearing, ended_by, first_sending}
+use Rattle.rje_station.specs.Sending.{Sending, after_hearing, ended_by, first_sending, is_end}
 use Rattle.rje_station.specs.Station.{Contending, after_other, after_other_ended, after_own_reply, after_passing, contender_hears, due_at, gives_way, lets_in}
 use Rattle.rje_station.proofs.Due.{answered_of_due, due_kept, going_at, says_at, spoken_of_due}
 use Rattle.line_world.specs.Headline.{OfHistories}
@@ -259,7 +260,7 @@ stays_open rank jobs (Own (Says f) ∷ past) s (mid, went, speaks) =
       }
     ]
   where
-    ended : f ≡ Rattle.bsc_frame.specs.declared.frame.Frame.TheVariants.Eot → has_answer (said_in f) ≡ true → ⊥
+    ended : f ≡ frame.Eot → has_answer (said_in f) ≡ true → ⊥
     ended is asks = true≢false (sym asks ∙ ap (λ x. has_answer (said_in x)) is)
 
     not_end : has_answer (said_in f) ≡ true → due_at mid ≢ Say.End
@@ -267,7 +268,7 @@ stays_open rank jobs (Own (Says f) ∷ past) s (mid, went, speaks) =
 
     over : Speaks f mid.sender s.sender → due_at mid ≡ Say.End → due_at mid ≢ Say.Nothing → s.sender.over ≡ false → ⊥
     over own ends some live =
-        true≢false (sym (ap Rattle.rje_station.specs.Sending.is_end (says_at mid (due_at mid) refl some ∙ ends)) ∙ sym (ap (λ x. x.over) own.state) ∙ live)
+        true≢false (sym (ap is_end (says_at mid (due_at mid) refl some ∙ ends)) ∙ sym (ap (λ x. x.over) own.state) ∙ live)
 stays_open rank jobs (Own (Comes a) ∷ past) s (mid, went, listens) =
     let p = open_event rank past (Event.Answer a) mid s (stays_open rank jobs past mid went) listens (any_settles (Event.Answer a) (kept_by rank past) EndsWith (answer_settles a (kept_by rank past))) in
     record { due = p.due; live = p.live; awaiting = p.awaiting }

@@ -17,14 +17,15 @@ use Rattle.rje_answers.specs.declared.given.Given.{Given}
 use Rattle.rje_answers.specs.declared.rest.Rest.{Rest}
 use Rattle.rje_answers.specs.Awaiting.{Kept, given_at, has_answer, kept_after, said_in}
 use Rattle.rje_answers.specs.Law.{Answer, things}
-use Rattle.rje_station.specs.Hearing.{sound_of_frame}
+use Rattle.rje_station.specs.Hearing.{sound_heard, sound_of_frame}
 use Rattle.rje_station.specs.JoinedJobs.{begun_in}
 use Rattle.rje_station.specs.Receiving.{Receiving, MayRefuse, after_receiving, first_receiving}
 use Rattle.rje_station.specs.Sending.{Sending, after_hearing}
 use Rattle.connection_world.specs.Connection.{AtReceiver, AtSender, Says, Arrives, NothingArrives, OneHearing, ComeDown, ComeUp, IsFrameOf, IsReplied, IsThing, Listens, MayComeAs, Speaks, come_by, hearing_of, is_passed_over, sound_given, told}
 use Rattle.connection_world.proofs.Awaited.{EndsWith, Settles}
 use Rattle.connection_world.proofs.Numbers.{AllAnswered, AllSaid, down_before_arrival, down_before_nothing, replied_below, thing_below, up_before_saying}
-use Rattle.connection_world.proofs.Stations.{all_arrives, all_lost, ends_or_asks, heard_in_vain, noteless, passed_is_nothing, quiet_is_silent, turned, wordless}
+use Rattle.connection_world.specs.Headline.{but_for_notes}
+use Rattle.connection_world.proofs.Stations.{all_arrives, all_lost, ends_or_asks, heard_in_vain, passed_is_nothing, quiet_is_silent, turned, wordless}
 
 -- what may be heard of a reply; and nothing after EOT
 pub record MayHear (say : Say) (reply : Option Reply) (sound : Sound) : Type 0 where
@@ -33,7 +34,7 @@ pub record MayHear (say : Say) (reply : Option Reply) (sound : Sound) : Type 0 w
 
 -- What holds of two stations that take turns, whatever it is: it asks nothing of what they note, and each turn keeps it.
 pub record Grows (T : Sending → Receiving → Type 0) : Type 0 where
-  pub same : (s s' : Sending) (r r' : Receiving) → noteless s ≡ noteless s' → wordless r ≡ wordless r' → T s r → T s' r'
+  pub same : (s s' : Sending) (r r' : Receiving) → but_for_notes s ≡ but_for_notes s' → wordless r ≡ wordless r' → T s r → T s' r'
   pub more : (s : Sending) (r : Receiving) (f : Frame) (h : OneHearing) (sound : Sound) (pause : Bool) → s.over ≡ false → IsFrameOf (say_in s.core.place) s.rest f
       → MayComeAs f h.what → MayRefuse h.what (begun_in r.jobs) h.refused → h.reply ≡ (after_receiving r h.what h.refused h.wish).due
       → MayHear (say_in s.core.place) h.reply sound → T s r → T (turned s (say_in s.core.place) sound pause) (after_receiving r h.what h.refused h.wish)
@@ -50,7 +51,7 @@ abbrev pub FarWent : List AtReceiver → Receiving → Type 0
 FarWent [] r = r ≡ first_receiving
 FarWent (e ∷ past) r = (mid : Receiving) × FarWent past mid × FarGoes (hearing_of e) mid r
 
-passed : (h : OneHearing) (r r' : Receiving) → is_passed_over (Rattle.rje_station.specs.Hearing.sound_heard h.what) ≡ true → FarGoes h r r' → wordless r ≡ wordless r'
+passed : (h : OneHearing) (r r' : Receiving) → is_passed_over (sound_heard h.what) ≡ true → FarGoes h r r' → wordless r ≡ wordless r'
 passed h r r' over (inl (may, reply, state)) = sym (state ∙ passed_is_nothing r h.what h.refused h.wish may over)
 passed h r r' over (inr (none, state)) = sym state
 
@@ -177,7 +178,7 @@ module _ (T : Sending → Receiving → Type 0) (grows : Grows T) (e : Event Ans
         awaiting = λ awaited sound pause may. subst (λ x. T (after_hearing x sound pause) r) still (before.awaiting (sym same ∙ awaited) sound pause may);
       }
 
-  pub hears_sound : has_answer k.said ≡ true → (pause : Bool) (sound : Sound) → noteless (after_hearing s sound pause) ≡ noteless s' → MayBeGiven n far sound → T s' r
+  pub hears_sound : has_answer k.said ≡ true → (pause : Bool) (sound : Sound) → but_for_notes (after_hearing s sound pause) ≡ but_for_notes s' → MayBeGiven n far sound → T s' r
   hears_sound awaited pause sound same may = grows.same (after_hearing s sound pause) s' r r same refl (before.awaiting awaited sound pause may)
 
   given_answer : (g : Given Answer) (a : Answer) → g ≡ Given.Answer a → g ≡ Given.Nothing → ⊥
@@ -190,11 +191,11 @@ module _ (T : Sending → Receiving → Type 0) (grows : Grows T) (e : Event Ans
     ends_with : has_answer k.said ≡ true → EndsWith (given_at e k) → T s' r
     ends_with awaited (inl (a, is)) =
         let heard = given_some (given_at e k) s s' listens (given_answer (given_at e k) a is) in
-        hears_sound awaited heard.0 (sound_of_reply (Some a.reply)) (ap noteless (ap (λ g. after_hearing s (sound_given g) heard.0) (sym is) ∙ sym heard.1))
+        hears_sound awaited heard.0 (sound_of_reply (Some a.reply)) (ap but_for_notes (ap (λ g. after_hearing s (sound_given g) heard.0) (sym is) ∙ sym heard.1))
         (inr (a, own a is, replied a is, refl))
     ends_with awaited (inr (rest, is)) =
         let heard = given_some (given_at e k) s s' listens (given_vain (given_at e k) rest is) in
-        hears_sound awaited heard.0 Sound.Quiet (sym (heard_in_vain s rest heard.0) ∙ ap noteless (ap (λ g. after_hearing s (sound_given g) heard.0) (sym is) ∙ sym heard.1))
+        hears_sound awaited heard.0 Sound.Quiet (sym (heard_in_vain s rest heard.0) ∙ ap but_for_notes (ap (λ g. after_hearing s (sound_given g) heard.0) (sym is) ∙ sym heard.1))
         (inl refl)
 
     pub after_event : Settles e k EndsWith → Stand T (has_answer (kept_after e k).said) n s' far r
@@ -224,7 +225,7 @@ module _ (T : Sending → Receiving → Type 0) (grows : Grows T) (f : Frame) (p
   after_saying = elim (ends_or_asks (say_in s.core.place) s.rest f speaks.due) [
     | inl ends ↦ record {
       settled = λ _.
-          grows.same (turned s (say_in s.core.place) Sound.Quiet false) s' r r (ap noteless (ap (λ x. turned s x Sound.Quiet false) ends.0 ∙ sym speaks.state)) refl
+          grows.same (turned s (say_in s.core.place) Sound.Quiet false) s' r r (ap but_for_notes (ap (λ x. turned s x Sound.Quiet false) ends.0 ∙ sym speaks.state)) refl
           (with_turn Sound.Quiet false (λ _. refl) (inl refl));
       awaiting = λ asked. absurd (true≢false (sym asked ∙ ap (λ x. has_answer (said_in x)) ends.1));
     }
@@ -232,7 +233,7 @@ module _ (T : Sending → Receiving → Type 0) (grows : Grows T) (f : Frame) (p
       settled = λ over. absurd (true≢false (sym asks.0 ∙ over));
       awaiting = λ _ sound pause may.
           grows.same (turned s (say_in s.core.place) sound pause) (after_hearing s' sound pause) r r
-          (ap noteless (asks.1 s sound pause ∙ ap (λ x. after_hearing x sound pause) (sym speaks.state))) refl
+          (ap but_for_notes (asks.1 s sound pause ∙ ap (λ x. after_hearing x sound pause) (sym speaks.state))) refl
           (with_turn sound pause (λ ends. absurd (not_end asks.0 ends)) (last_heard asks.0 sound may));
     }
   ]

@@ -31,7 +31,8 @@ use Rattle.line_world.proofs.ForPairs.{first_left, refused_block, taken_is}
 use Rattle.pair_world.proofs.Sends.{SendsBy, again, none_not, sends_first, sends_turn, sends_yielded}
 use Rattle.connection_world.specs.Connection.{IsFrameOf, MayComeAs, OneHearing}
 use Rattle.connection_world.proofs.SideBySide.{Grows, MayHear}
-use Rattle.connection_world.proofs.Stations.{end_counts_none, noteless, quiet_counts_none, said_block, said_sound, turned}
+use Rattle.connection_world.specs.Headline.{but_for_notes}
+use Rattle.connection_world.proofs.Stations.{end_counts_none, quiet_counts_none, said_block, said_sound, turned}
 
 -- as long as it isn't over, the sending one stands where these turns left it, whatever counts for giving up
 abbrev pub Going : List Job → History → Sending → Type 0
@@ -58,14 +59,14 @@ first_stood jobs = record {
 
 -- ---- What is noted is nothing.
 
-counted_noteless : (jobs : List Job) (k : ℕ) (s s' : Sending) → noteless s ≡ noteless s' → HasCounted jobs k s → HasCounted jobs k s'
-counted_noteless jobs k s s' same p = record { rest = ap (λ x. x.rest) (sym same) ∙ p.rest; counted = ap (λ x. x.counted) (sym same) ∙ p.counted }
+counted_same : (jobs : List Job) (k : ℕ) (s s' : Sending) → but_for_notes s ≡ but_for_notes s' → HasCounted jobs k s → HasCounted jobs k s'
+counted_same jobs k s s' same p = record { rest = ap (λ x. x.rest) (sym same) ∙ p.rest; counted = ap (λ x. x.counted) (sym same) ∙ p.counted }
 
-sends_noteless : (jobs : List Job) (h : History) (b : Bool) (m n : ℕ) (s s' : Sending) → noteless s ≡ noteless s' → SendsBy jobs h b m n s → SendsBy jobs h b m n s'
-sends_noteless jobs h b m n s s' same p = record {
+sends_same : (jobs : List Job) (h : History) (b : Bool) (m n : ℕ) (s s' : Sending) → but_for_notes s ≡ but_for_notes s' → SendsBy jobs h b m n s → SendsBy jobs h b m n s'
+sends_same jobs h b m n s s' same p = record {
   jobs_are = ap (λ x. x.jobs) (sym same) ∙ p.jobs_are;
   core = subst (λ x. Matches (plan_of (blocks jobs)) h b m n x.core) same p.core;
-  counted = counted_noteless jobs (known h) s s' same p.counted;
+  counted = counted_same jobs (known h) s s' same p.counted;
   over = ap (λ x. x.over) (sym same) ∙ p.over;
 }
 
@@ -141,10 +142,10 @@ stood_grows counts receiving jobs = record {
   same = λ s s' r r' sending receives p. record {
     h = p.h;
     spoken = p.spoken;
-    counted = counted_noteless jobs (known p.h) s s' sending p.counted;
+    counted = counted_same jobs (known p.h) s s' sending p.counted;
     live = λ live.
         let going = p.live (ap (λ x. x.over) sending ∙ live) in
-        (going.0, going.1, going.2, sends_noteless jobs p.h going.0 going.1 going.2 s s' sending going.3);
+        (going.0, going.1, going.2, sends_same jobs p.h going.0 going.1 going.2 s s' sending going.3);
     core = ap (λ x. x.core) (sym receives) ∙ p.core;
     jobs_are = ap (λ x. x.jobs) (sym receives) ∙ p.jobs_are;
   };

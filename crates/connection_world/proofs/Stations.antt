@@ -25,6 +25,7 @@ use Rattle.rje_station.specs.JoinedJobs.{begun_in}
 use Rattle.rje_station.specs.Receiving.{Receiving, MayRefuse, after_receiving, after_replying, jobs_after, sound_taken}
 use Rattle.rje_station.specs.Sending.{Sending, after_hearing, after_speaking, counted_after, is_done, next_for, rest_after}
 use Rattle.connection_world.specs.Connection.{IsFrameOf, is_passed_over, sound_of_rest}
+use Rattle.connection_world.specs.Headline.{but_for_notes}
 
 -- ---- What is said.
 
@@ -92,39 +93,19 @@ all_arrives _ = (SoundFate.Arrives, refl)
 
 -- ---- The sending station, but for what it notes.
 
-abbrev pub noteless : Sending → Sending
-noteless s = record s { trace = [] }
-
-pub turned_same : (say : Say) (s t : Sending) (sound : Sound) (pause : Bool) → noteless s ≡ noteless t → noteless (turned s say sound pause) ≡ noteless (turned t say sound pause)
-turned_same Say.End s t sound pause same = ap (λ x. noteless (after_speaking x)) same
-turned_same Say.Bid s t sound pause same = ap (λ x. noteless (after_hearing (after_speaking x) sound pause)) same
-turned_same Say.Block s t sound pause same = ap (λ x. noteless (after_hearing (after_speaking x) sound pause)) same
-turned_same Say.Again s t sound pause same = ap (λ x. noteless (after_hearing (after_speaking x) sound pause)) same
-turned_same Say.Delay s t sound pause same = ap (λ x. noteless (after_hearing (after_speaking x) sound pause)) same
-turned_same Say.Ask s t sound pause same = ap (λ x. noteless (after_hearing (after_speaking x) sound pause)) same
-turned_same Say.Nothing s t sound pause same = ap (λ x. noteless (after_hearing (after_speaking x) sound pause)) same
+pub turned_same : (say : Say) (s t : Sending) (sound : Sound) (pause : Bool) → but_for_notes s ≡ but_for_notes t → but_for_notes (turned s say sound pause) ≡ but_for_notes (turned t say sound pause)
+turned_same Say.End s t sound pause same = ap (λ x. but_for_notes (after_speaking x)) same
+turned_same _ s t sound pause same = ap (λ x. but_for_notes (after_hearing (after_speaking x) sound pause)) same
 
 -- where no answer came it is all one to a sending station what was heard
-line_in_vain : (place : SenderPlace) (odd noted : Bool) (tries holds : ℕ) (rest : Rest) (pause : Bool)
+line_in_vain : (rest : Rest) (place : SenderPlace) (odd noted : Bool) (tries holds : ℕ) (pause : Bool)
     → line_for (record { place = place; odd_counted = odd; rvi_noted = noted; tries = tries; holds = holds }) (sound_of_rest rest) pause
     ≡ line_for (record { place = place; odd_counted = odd; rvi_noted = noted; tries = tries; holds = holds }) Sound.Quiet pause
-line_in_vain SenderPlace.Bid odd noted tries holds Rest.Quiet pause = refl
-line_in_vain SenderPlace.Bid odd noted tries holds Rest.Noise pause = refl
-line_in_vain SenderPlace.Bid odd noted tries holds Rest.Bad pause = refl
-line_in_vain SenderPlace.Block odd noted tries holds Rest.Quiet pause = refl
-line_in_vain SenderPlace.Block odd noted tries holds Rest.Noise pause = refl
-line_in_vain SenderPlace.Block odd noted tries holds Rest.Bad pause = refl
-line_in_vain SenderPlace.Again odd noted tries holds Rest.Quiet pause = refl
-line_in_vain SenderPlace.Again odd noted tries holds Rest.Noise pause = refl
-line_in_vain SenderPlace.Again odd noted tries holds Rest.Bad pause = refl
-line_in_vain SenderPlace.Ask odd noted tries holds Rest.Quiet pause = refl
-line_in_vain SenderPlace.Ask odd noted tries holds Rest.Noise pause = refl
-line_in_vain SenderPlace.Ask odd noted tries holds Rest.Bad pause = refl
-line_in_vain SenderPlace.Delay odd noted tries holds Rest.Quiet pause = refl
-line_in_vain SenderPlace.Delay odd noted tries holds Rest.Noise pause = refl
-line_in_vain SenderPlace.Delay odd noted tries holds Rest.Bad pause = refl
-line_in_vain (SenderPlace.End outcome) odd noted tries holds rest pause = refl
-line_in_vain (SenderPlace.Over outcome) odd noted tries holds rest pause = refl
+line_in_vain Rest.Quiet place odd noted tries holds pause = refl
+line_in_vain Rest.Noise SenderPlace.Bid odd noted tries holds pause = refl
+line_in_vain Rest.Noise _ odd noted tries holds pause = refl
+line_in_vain Rest.Bad SenderPlace.Bid odd noted tries holds pause = refl
+line_in_vain Rest.Bad _ odd noted tries holds pause = refl
 
 -- what a line of the table makes of the station
 abbrev by_line : Sending → Bool → TableLine → Sending
@@ -137,21 +118,16 @@ by_line s pause line = record {
   trace = [];
 }
 
-pub heard_in_vain : (s : Sending) (rest : Rest) (pause : Bool) → noteless (after_hearing s (sound_of_rest rest) pause) ≡ noteless (after_hearing s Sound.Quiet pause)
+pub heard_in_vain : (s : Sending) (rest : Rest) (pause : Bool) → but_for_notes (after_hearing s (sound_of_rest rest) pause) ≡ but_for_notes (after_hearing s Sound.Quiet pause)
 heard_in_vain s rest pause =
-    ap (λ line. by_line s pause line) (line_in_vain s.core.place s.core.odd_counted s.core.rvi_noted s.core.tries s.core.holds rest pause)
+    ap (λ line. by_line s pause line) (line_in_vain rest s.core.place s.core.odd_counted s.core.rvi_noted s.core.tries s.core.holds pause)
 
 -- and no block counts, nor where it heard EOT
 none_counted : (place : SenderPlace) (odd noted : Bool) (tries holds : ℕ) (pause : Bool)
     → (counts_block (line_for (record { place = place; odd_counted = odd; rvi_noted = noted; tries = tries; holds = holds }) Sound.Quiet pause) ≡ false)
     × (counts_block (line_for (record { place = place; odd_counted = odd; rvi_noted = noted; tries = tries; holds = holds }) Sound.Eot pause) ≡ false)
 none_counted SenderPlace.Bid odd noted tries holds pause = (refl, refl)
-none_counted SenderPlace.Block odd noted tries holds pause = (refl, refl)
-none_counted SenderPlace.Again odd noted tries holds pause = (refl, refl)
-none_counted SenderPlace.Ask odd noted tries holds pause = (refl, refl)
-none_counted SenderPlace.Delay odd noted tries holds pause = (refl, refl)
-none_counted (SenderPlace.End outcome) odd noted tries holds pause = (refl, refl)
-none_counted (SenderPlace.Over outcome) odd noted tries holds pause = (refl, refl)
+none_counted _ odd noted tries holds pause = (refl, refl)
 
 abbrev CountsNone : Sending → Sending → Type 0
 CountsNone s s' = (s'.rest ≡ s.rest) × (s'.counted ≡ s.counted)
@@ -173,12 +149,7 @@ wordless r = record r { due = None; over = false; arrival = None; trace = [] }
 -- whether it replies or not
 pub answering_same : (say : Say) (r : Receiving) → wordless (elim say [ Say.End ↦ r | _ ↦ after_replying r ]) ≡ wordless r
 answering_same Say.End r = refl
-answering_same Say.Bid r = refl
-answering_same Say.Block r = refl
-answering_same Say.Again r = refl
-answering_same Say.Delay r = refl
-answering_same Say.Ask r = refl
-answering_same Say.Nothing r = refl
+answering_same _ r = refl
 
 -- a core that hears what it passes over stays as it is, and answers nothing
 abbrev Idles : ReceiverState → Sound → Wish → Type 0
