@@ -1,4 +1,4 @@
--- A worked example, oldest first from below: the first bid comes only after its sender has given it up, and the answer to it is lost. Own
+-- A worked example, oldest first from below: the first bid comes late, when its sender has given it up, and the answer to it is lost. Own
 -- profile.
 use Rattle.std.specs.Prelude.{◌≡◌, Bool, true, false, List, [], ◌∷◌, Option, Some, None}
 use Rattle.bsc_codes.specs.declared.block.Block.{Block}
