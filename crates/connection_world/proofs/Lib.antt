@@ -8,3 +8,4 @@ pub mod OneWay
 pub mod Headline
 pub mod LateBid
 pub mod CrossingBids
+pub mod Possible

@@ -72,7 +72,7 @@ sends_same jobs h b m n s s' same p = record {
 
 -- ---- One more turn.
 
-more_blocks : (jobs : List Job) (h : History) (b : Bool) (m n : ℕ) (s : Sending) → SendsBy jobs h b m n s → s.over ≡ false → (0 < length jobs) × (is_over h ≡ false)
+pub more_blocks : (jobs : List Job) (h : History) (b : Bool) (m n : ℕ) (s : Sending) → SendsBy jobs h b m n s → s.over ≡ false → (0 < length jobs) × (is_over h ≡ false)
 more_blocks [] h b m n s p live = absurd (true≢false (sym p.over ∙ live))
 more_blocks (j ∷ jobs) h b m n s p live = (omega arith, sym (p.over ∙ rw (none_not j jobs) refl) ∙ live)
 

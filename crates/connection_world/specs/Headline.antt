@@ -35,6 +35,18 @@ TakeFaithfulTurns =
     (jobs : List Job) (gives_way : Bool) (near : List AtSender) (s : Sending) (far : List AtReceiver) (r : Receiving)
     → IsOverConnection jobs gives_way near s far r → FaithfulTurns jobs (has_answer (kept_of gives_way (told near)).said) s r
 
+-- a connection over which two new stations come to stand so
+pub record OneConnection (jobs : List Job) (gives_way : Bool) (s : Sending) (r : Receiving) : Type 0 where
+  pub near : List AtSender
+  pub far : List AtReceiver
+  pub connected : IsOverConnection jobs gives_way near s far r
+
+-- and whatever faithful turns do, a connection may do too
+abbrev pub MayBeConnections : Type 0
+MayBeConnections =
+    (jobs : List Job) (gives_way : Bool) (h : History) (s : Sending) (r : Receiving) (sent : SenderTook (first_sending jobs) h s) (received : ReceiverTook first_receiving h r)
+    → AreFaithful (first_sending jobs) s first_receiving r h sent received → OneConnection jobs gives_way s r
+
 -- the headline over a connection: of jobs that can be sent the sending station counts so many, and these the receiving one hands out
 abbrev pub OverConnections : (ℕ → List Job → List Job → Type 0) → Type 0
 OverConnections Holds =

@@ -1,7 +1,7 @@
 //! What holds of every transmission over a connection.
 ghost use Rattle.connection_world.specs.BothWays.{OverExchanges};
 ghost use Rattle.connection_world.specs.CrossingBids.{CrossingBidsComeThrough};
-ghost use Rattle.connection_world.specs.Headline.{OverConnections, TakeFaithfulTurns};
+ghost use Rattle.connection_world.specs.Headline.{MayBeConnections, OverConnections, TakeFaithfulTurns};
 ghost use Rattle.connection_world.specs.LateBid.{LateBidComesThrough};
 ghost use Rattle.line_world.specs.Headline.{AreHandedInOrder, AreHandedWhole, HandsFirstJobs};
 
@@ -17,6 +17,15 @@ pub fn connections_are_faithful()
     ensures { TakeFaithfulTurns }
 {
     answers_are_own();
+}
+
+/// And the other way round: whatever faithful turns do, a connection may do too, and it leaves both stations where they stand.
+#[tactic(auto, using(crate::proofs::Possible::may_be_connections))]
+pub fn faithful_turns_may_be_connections()
+    ensures { MayBeConnections }
+{
+    counted_blocks_end_counted_jobs();
+    stations_keep_history();
 }
 
 /// The headline, over a connection. What the receiving station hands out is a prefix of the jobs that the sending one was given, and
@@ -45,14 +54,14 @@ pub fn exchanges_keep_order()
     histories_keep_order();
 }
 
-/// There are such connections, a worked example: the first bid comes only after its sender has given it up, and the answer to it is lost;
-/// a job of one block comes all the same, and is counted.
+/// A worked example: the first bid comes late, when its sender has given it up, and the answer to it is lost; a job of one block comes all
+/// the same, and is counted.
 #[tactic(auto, using(crate::proofs::LateBid::late_bid_comes_through))]
 pub fn late_bid_comes_through()
     ensures { LateBidComesThrough }
 {}
 
-/// And both ways: both ends bid at once, the primary passes over the other's bid, and the secondary gives way; the primary's job of one
+/// A worked example of both ways: both ends bid at once, the primary passes over the other's bid, and the secondary gives way; the primary's job of one
 /// block comes, and the secondary is to bid again.
 #[tactic(auto, using(crate::proofs::CrossingBids::crossing_bids_come_through))]
 pub fn crossing_bids_come_through()

@@ -5,5 +5,5 @@ mod laws;
 
 pub use laws::{
     connections_are_faithful, connections_keep_order, crossing_bids_come_through,
-    exchanges_keep_order, late_bid_comes_through,
+    exchanges_keep_order, faithful_turns_may_be_connections, late_bid_comes_through,
 };
