@@ -28,8 +28,8 @@ pub fn faithful_turns_may_be_connections()
     stations_keep_history();
 }
 
-/// The headline, over a connection. What the receiving station hands out is a prefix of the jobs that the sending one was given, and
-/// every job that it counts was handed out whole.
+/// The headline, over a connection on which each answer that comes does so in time. What the receiving station hands out is a prefix of
+/// the jobs that the sending one was given, and every job that it counts was handed out whole.
 #[tactic(auto, using(crate::proofs::Headline::headlines))]
 pub fn connections_keep_order()
     ensures in_order { OverConnections (λ counted given handed. AreHandedInOrder given handed) }
@@ -40,8 +40,9 @@ pub fn connections_keep_order()
     faithful_lines_keep_order();
 }
 
-/// The headline over a connection, each way of two stations that both have jobs. Whatever comes late, crosses, is lost or damaged: what
-/// each station hands out is a prefix of the jobs that the other one was given, and every job that this one counts was handed out whole.
+/// The headline over such a connection, each way of two stations that both have jobs. Whatever comes late, crosses, is lost or damaged:
+/// what each station hands out is a prefix of the jobs that the other one was given, and every job that this one counts was handed out
+/// whole.
 #[tactic(auto, using(crate::proofs::Headline::both_headlines))]
 pub fn exchanges_keep_order()
     ensures in_order { OverExchanges (λ counted given handed. AreHandedInOrder given handed) }
@@ -61,8 +62,8 @@ pub fn late_bid_comes_through()
     ensures { LateBidComesThrough }
 {}
 
-/// A worked example of both ways: both ends bid at once, the primary passes over the other's bid, and the secondary gives way; the primary's job of one
-/// block comes, and the secondary is to bid again.
+/// A worked example of both ways: both ends bid at once, the primary passes over the other's bid, and the secondary gives way; the
+/// primary's job of one block comes, and the secondary is to bid again.
 #[tactic(auto, using(crate::proofs::CrossingBids::crossing_bids_come_through))]
 pub fn crossing_bids_come_through()
     ensures { CrossingBidsComeThrough }
