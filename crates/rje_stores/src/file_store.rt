@@ -56,6 +56,15 @@ impl<'a, R: Files<File = File>> FileStore<'a, R> {
         self.locks.clear();
     }
 
+    /// The file of this name was replaced.
+    fn let_go_of_replaced(&mut self, name: &str) {
+        for lock in self.locks.iter_mut() {
+            if lock.is_of(name) {
+                lock.let_go_of_replaced();
+            }
+        }
+    }
+
     /// What stands under this path, where it can be written.
     fn target(&self, path: &str) -> io::Result<Target> {
         match self.rt.metadata(path) {
@@ -139,7 +148,9 @@ impl<'a, R: Files<File = File>> Store for FileStore<'a, R> {
 
     fn write(&mut self, name: &str, bytes: &[u8]) -> Result<(), StoreFault> {
         self.settle();
-        self.put(name, bytes)
+        self.put(name, bytes)?;
+        self.let_go_of_replaced(name);
+        Ok(())
     }
 
     fn look(&mut self, name: &str) -> Result<Place, StoreFault> {
@@ -160,7 +171,9 @@ impl<'a, R: Files<File = File>> Store for FileStore<'a, R> {
         front: &[u8],
         tail: &[u8],
     ) -> Result<(), StoreFault> {
-        self.grow(name, front, tail)
+        self.grow(name, front, tail)?;
+        self.let_go_of_replaced(name);
+        Ok(())
     }
 
     fn set_byte(

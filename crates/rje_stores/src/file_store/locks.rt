@@ -20,8 +20,8 @@ pub(super) struct FileLock {
     name: String,
     beside: String,
     // Locked as long as they are open.
-    _lock: File,
-    _own: Option<File>,
+    lock: File,
+    own: Option<File>,
 }
 
 impl FileLock {
@@ -48,8 +48,8 @@ impl FileLock {
             Ok(()) => Ok(Some(FileLock {
                 name,
                 beside,
-                _lock: lock,
-                _own: own,
+                lock,
+                own,
             })),
             Err(fault) => {
                 let _ = rt.remove_file(beside.as_str());
@@ -58,14 +58,22 @@ impl FileLock {
         }
     }
 
+    /// Lets go of the file as it was found, which another one has replaced: else the disk would keep it until the end.
+    pub(super) fn let_go_of_replaced(&mut self) {
+        self.own = None;
+    }
+
     /// Whether this is the lock of the file of this name.
     pub(super) fn is_of(&self, name: &str) -> bool {
         self.name.as_str() == name
     }
 
-    /// Removes the file beside. It is locked until this value is let go, so whoever opened it before finds that it has no name any more.
+    /// Removes the file beside, unless somebody has done so, and the name may be another one's. It is locked until this value is let go, so
+    /// whoever opened it before finds that it has no name any more.
     pub(super) fn remove<R: Files>(&self, rt: &R) {
-        let _ = rt.remove_file(self.beside.as_str());
+        if is_there(&self.lock) {
+            let _ = rt.remove_file(self.beside.as_str());
+        }
     }
 }
 
@@ -91,11 +99,19 @@ fn lock_of<R: Files<File = File>>(rt: &R, path: &str) -> Result<File, StoreFault
     for _ in 0..MAX_TRIES {
         let file = open_lock(rt, path)?;
         locked(&file)?;
-        if file.metadata()?.nlink() != 0 {
+        if is_there(&file) {
             return Ok(file);
         }
     }
     Err(StoreFault::Failed)
+}
+
+/// Whether an open file has a name.
+fn is_there(file: &File) -> bool {
+    match file.metadata() {
+        Ok(found) => found.nlink() != 0,
+        Err(_) => false,
+    }
 }
 
 /// A lock's file. One that somebody else left can perhaps only be read.
