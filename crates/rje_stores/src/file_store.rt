@@ -56,11 +56,12 @@ impl<'a, R: Files<File = File>> FileStore<'a, R> {
         self.locks.clear();
     }
 
-    /// The file of this name was replaced.
-    fn let_go_of_replaced(&mut self, name: &str) {
+    /// The file of this name was replaced: the lock of it is that of the file which stands there now.
+    fn follow(&mut self, name: &str) {
+        let rt = self.rt;
         for lock in self.locks.iter_mut() {
             if lock.is_of(name) {
-                lock.let_go_of_replaced();
+                lock.follow(rt);
             }
         }
     }
@@ -149,7 +150,7 @@ impl<'a, R: Files<File = File>> Store for FileStore<'a, R> {
     fn write(&mut self, name: &str, bytes: &[u8]) -> Result<(), StoreFault> {
         self.settle();
         self.put(name, bytes)?;
-        self.let_go_of_replaced(name);
+        self.follow(name);
         Ok(())
     }
 
@@ -172,7 +173,7 @@ impl<'a, R: Files<File = File>> Store for FileStore<'a, R> {
         tail: &[u8],
     ) -> Result<(), StoreFault> {
         self.grow(name, front, tail)?;
-        self.let_go_of_replaced(name);
+        self.follow(name);
         Ok(())
     }
 

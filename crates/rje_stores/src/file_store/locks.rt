@@ -6,9 +6,9 @@
 use super::beside::resolved;
 use crate::store::StoreFault;
 use std::alloc::Global;
-use std::fs::{File, OpenOptions, TryLockError};
+use std::fs::{File, OpenFile, OpenOptions, Permissions, TryLockError};
 use std::io::{self, ErrorKind};
-use std::os::unix::fs::MetadataExt;
+use std::os::unix::fs::{MetadataExt, PermissionsExt};
 use std::rt::Files;
 
 /// So many times a file beside another is locked that somebody removes.
@@ -18,6 +18,7 @@ const MAX_TRIES: u32 = 1000;
 #[derive(Drop)]
 pub(super) struct FileLock {
     name: String,
+    path: String,
     beside: String,
     // Locked as long as they are open.
     lock: File,
@@ -47,6 +48,7 @@ impl FileLock {
         match own.as_ref().map_or(Ok(()), locked) {
             Ok(()) => Ok(Some(FileLock {
                 name,
+                path,
                 beside,
                 lock,
                 own,
@@ -58,9 +60,13 @@ impl FileLock {
         }
     }
 
-    /// Lets go of the file as it was found, which another one has replaced: else the disk would keep it until the end.
-    pub(super) fn let_go_of_replaced(&mut self) {
-        self.own = None;
+    /// Locks the file that stands there now in place of the one that it has replaced, which the disk would keep until the end. Where it can't
+    /// be locked, the file beside still is.
+    pub(super) fn follow<R: Files<File = File>>(&mut self, rt: &R) {
+        self.own = match open_to_lock(rt, self.path.as_str()) {
+            Some(file) if locked(&file).is_ok() => Some(file),
+            _ => None,
+        };
     }
 
     /// Whether this is the lock of the file of this name.
@@ -114,19 +120,24 @@ fn is_there(file: &File) -> bool {
     }
 }
 
-/// A lock's file. One that somebody else left can perhaps only be read.
+/// A lock's file, which is empty, and which anybody may read: so one that was left refuses nobody. Somebody else's can perhaps only be read.
 fn open_lock<R: Files<File = File>>(rt: &R, path: &str) -> io::Result<File> {
-    match OpenOptions::new()
+    let opened = OpenOptions::new()
         .read(true)
         .write(true)
         .create(true)
-        .open(rt, path)
-    {
+        .open(rt, path);
+    let file = match opened {
         Err(error) if error.kind() == ErrorKind::PermissionDenied => {
-            OpenOptions::new().read(true).open(rt, path).or(Err(error))
+            OpenOptions::new().read(true).open(rt, path).or(Err(error))?
         }
-        opened => opened,
+        opened => opened?,
+    };
+    if file.metadata()?.len() != 0 {
+        return Err(io::Error::from(ErrorKind::AlreadyExists));
     }
+    let _ = file.set_permissions(Permissions::from_mode(0o644));
+    Ok(file)
 }
 
 /// Locks an open file: in use where another process has it.
