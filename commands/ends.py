@@ -1,0 +1,221 @@
+"""Commands that run beside each other in a folder, and ends of a connection that are this script: for locked.py and injected.py."""
+import os
+import shutil
+import socket
+import subprocess
+import sys
+import tempfile
+import threading
+import time
+
+sys.path.insert(0, os.path.dirname(os.path.abspath(__file__)))
+from connected import ACK0, ENQ, EOT, FOLDER, LIMIT, Receiver, Sender, job_of, jobs_in, length_of, write_jobs  # noqa: E402
+from relayed import SENT, WAITING, WHOLE, free_port, is_listening, jobs_of  # noqa: E402
+
+JOBS = [job_of("ONE"), job_of("TWO", 6), job_of("THREE")]
+OLD = [job_of("OLD")]
+OTHERS = [job_of("FOUR"), job_of("FIVE")]
+
+
+def received(jobs):
+    """These jobs, as a receiver keeps them."""
+    return [job.as_received() for job in jobs]
+
+
+def in_state(jobs, states):
+    """These jobs, as a sender's file has them."""
+    return [(state, *job.as_received()[1:]) for job, state in zip(jobs, states)]
+
+
+class Folder:
+    """A folder of its own, in which commands run."""
+
+    def __init__(self, program):
+        self.program, self.path = program, tempfile.mkdtemp(dir=FOLDER)
+
+    def __enter__(self):
+        return self
+
+    def __exit__(self, *_):
+        shutil.rmtree(self.path)
+
+    def at(self, name):
+        return os.path.join(self.path, name)
+
+    def write(self, name, jobs):
+        write_jobs(self.at(name), jobs)
+
+    def bytes(self, name):
+        """What the file has; None where there is none."""
+        try:
+            with open(self.at(name), "rb") as file:
+                return file.read()
+        except FileNotFoundError:
+            return None
+
+    def names(self):
+        return sorted(os.listdir(self.path))
+
+    def start(self, *words, environment=None, **further):
+        outputs = {"stdin": subprocess.DEVNULL, "stdout": subprocess.PIPE, "stderr": subprocess.PIPE, "text": True}
+        return subprocess.Popen([self.program, *words], cwd=self.path, env={**os.environ, **(environment or {})}, **outputs, **further)
+
+    def run(self, *words, **further):
+        return ended(self.start(*words, **further))
+
+    def listening(self, *words, **further):
+        """A command of these words that listens, and the port; None for the port where it ended before."""
+        for _ in range(20):
+            port = free_port()
+            process = self.start(*words, "--listen", f"127.0.0.1:{port}", **further)
+            if waits_for(lambda: process.poll() is not None or is_listening(port)) and process.poll() is None:
+                return process, port
+            if process.returncode != 3 or "line failed" not in peeked(process):
+                break
+        return process, None
+
+
+def peeked(process):
+    """What an ended process told, which `ended` gives too."""
+    process.told = process.stderr.read()
+    return process.told
+
+
+def waits_for(is_so):
+    """Whether this is so within a minute."""
+    until = time.monotonic() + LIMIT
+    while not is_so():
+        if time.monotonic() > until:
+            return False
+        time.sleep(0.002)
+    return True
+
+
+def ended(process):
+    """The status of a process, and what it printed and told, but for a time-out that is short."""
+    try:
+        printed, told = process.communicate(timeout=LIMIT)
+    except subprocess.TimeoutExpired:
+        process.kill()
+        process.communicate()
+        return "comes to no end", "", ""
+    told = getattr(process, "told", "") + told
+    return process.returncode, printed, "".join(line for line in told.splitlines(True) if " is short: " not in line)
+
+
+def refusal(name):
+    """How a command ends whose file another one has."""
+    return 3, "", f"rje: {name} is in use\nrje: can't write {name}\n"
+
+
+class Talk:
+    """What a script says and hears over a connection."""
+
+    def __init__(self, connection):
+        self.connection, self.heard, self.texts = connection, b"", []
+        connection.settimeout(LIMIT)
+        connection.setsockopt(socket.IPPROTO_TCP, socket.TCP_NODELAY, 1)
+
+    def say(self, message):
+        try:
+            self.connection.sendall(message)
+        except OSError:
+            pass
+
+    def hear(self):
+        """The next message; None where the other end has hung up."""
+        while not (length := length_of(self.heard)):
+            try:
+                came = self.connection.recv(65536)
+            except OSError:
+                came = b""
+            if not came:
+                return None
+            self.heard += came
+        message, self.heard = self.heard[:length], self.heard[length:]
+        return message
+
+    def give(self, jobs):
+        """Sends these jobs, and gives the number of those that were counted."""
+        sender = Sender([text for job in jobs for text in job.messages()])
+        message = sender.says(None)
+        while message is not None:
+            self.say(message)
+            heard = None if sender.is_over else self.hear()
+            message = None if heard is None else sender.says(heard)
+        return sender.counted()
+
+    def take(self):
+        """Takes texts up to the other's EOT, or until it hangs up."""
+        receiver = Receiver(lambda number: False)
+        while not receiver.is_over and (message := self.hear()):
+            if answer := receiver.answer(message):
+                self.say(answer)
+        self.texts += receiver.texts
+
+    def close(self):
+        try:
+            self.connection.shutdown(socket.SHUT_WR)
+            while self.connection.recv(65536):
+                pass
+        except OSError:
+            pass
+        self.connection.close()
+
+
+class Called(threading.Thread):
+    """An end that is called: once it is let, it takes what the caller sends, and then sends these jobs, if any."""
+
+    def __init__(self, jobs=(), is_let=True):
+        super().__init__(daemon=True)
+        self.listener = socket.create_server(("127.0.0.1", 0))
+        self.address = "127.0.0.1:%d" % self.listener.getsockname()[1]
+        self.jobs, self.is_called, self.is_let = list(jobs), threading.Event(), threading.Event()
+        # What was sent to it: whether anything, and its jobs; and how many of its own were counted.
+        self.has_heard, self.came, self.counted = False, [], 0
+        if is_let:
+            self.is_let.set()
+        self.start()
+
+    def run(self):
+        try:
+            connection, _ = self.listener.accept()
+        except OSError:
+            return
+        talk = Talk(connection)
+        self.is_called.set()
+        self.is_let.wait(LIMIT)
+        talk.take()
+        if self.jobs:
+            self.counted = talk.give(self.jobs)
+        talk.close()
+        self.came, self.has_heard = jobs_in(talk.texts), bool(talk.texts)
+
+    def over(self):
+        """Waits for its end; where nobody has called, nobody does any more."""
+        self.is_let.set()
+        if not self.is_called.is_set():
+            self.listener.shutdown(socket.SHUT_RDWR)
+        self.join(LIMIT)
+        self.listener.close()
+        return self
+
+
+class Calls:
+    """An end that calls this port."""
+
+    def __init__(self, port):
+        self.talk = Talk(socket.create_connection(("127.0.0.1", port), timeout=LIMIT))
+
+    def bid(self):
+        """Bids, and gives what is answered."""
+        self.talk.say(ENQ)
+        return self.talk.hear()
+
+    def go_on(self, jobs, takes=False):
+        """Sends these jobs, and takes what the other sends then: how many were counted, and what came."""
+        counted = self.talk.give(jobs)
+        if takes:
+            self.talk.take()
+        self.talk.close()
+        return counted, jobs_in(self.talk.texts)
