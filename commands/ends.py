@@ -9,9 +9,11 @@ import threading
 import time
 
 sys.path.insert(0, os.path.dirname(os.path.abspath(__file__)))
-from connected import ACK0, ENQ, EOT, FOLDER, LIMIT, Receiver, Sender, job_of, jobs_in, length_of, write_jobs  # noqa: E402
+from connected import ACK0, ENQ, EOT, FOLDER, Receiver, Sender, job_of, jobs_in, length_of, write_jobs  # noqa: E402
 from relayed import SENT, WAITING, WHOLE, free_port, is_listening, jobs_of  # noqa: E402
 
+# So many seconds a command may take.
+PATIENCE = 20.0
 JOBS = [job_of("ONE"), job_of("TWO", 6), job_of("THREE")]
 OLD = [job_of("OLD")]
 OTHERS = [job_of("FOUR"), job_of("FIVE")]
@@ -82,8 +84,8 @@ def peeked(process):
 
 
 def waits_for(is_so):
-    """Whether this is so within a minute."""
-    until = time.monotonic() + LIMIT
+    """Whether this is so in time."""
+    until = time.monotonic() + PATIENCE
     while not is_so():
         if time.monotonic() > until:
             return False
@@ -94,7 +96,7 @@ def waits_for(is_so):
 def ended(process):
     """The status of a process, and what it printed and told, but for a time-out that is short."""
     try:
-        printed, told = process.communicate(timeout=LIMIT)
+        printed, told = process.communicate(timeout=PATIENCE)
     except subprocess.TimeoutExpired:
         process.kill()
         process.communicate()
@@ -108,12 +110,23 @@ def refusal(name):
     return 3, "", f"rje: {name} is in use\nrje: can't write {name}\n"
 
 
+class Faults(list):
+    """What is wrong."""
+
+    def differs(self, what, found, wanted):
+        if found != wanted:
+            self.append(f"{what}: {str(found)[:300]} in place of {str(wanted)[:300]}")
+
+    def told(self, label):
+        return f"{label}: {'; '.join(self)}" if self else None
+
+
 class Talk:
     """What a script says and hears over a connection."""
 
     def __init__(self, connection):
         self.connection, self.heard, self.texts = connection, b"", []
-        connection.settimeout(LIMIT)
+        connection.settimeout(PATIENCE)
         connection.setsockopt(socket.IPPROTO_TCP, socket.TCP_NODELAY, 1)
 
     def say(self, message):
@@ -164,13 +177,13 @@ class Talk:
 
 
 class Called(threading.Thread):
-    """An end that is called: once it is let, it takes what the caller sends, and then sends these jobs, if any."""
+    """An end that is called: once it is let, it takes what the caller sends, unless that is nothing, and then sends these jobs, if any."""
 
-    def __init__(self, jobs=(), is_let=True):
+    def __init__(self, jobs=(), is_let=True, takes=True):
         super().__init__(daemon=True)
         self.listener = socket.create_server(("127.0.0.1", 0))
         self.address = "127.0.0.1:%d" % self.listener.getsockname()[1]
-        self.jobs, self.is_called, self.is_let = list(jobs), threading.Event(), threading.Event()
+        self.jobs, self.takes, self.is_called, self.is_let = list(jobs), takes, threading.Event(), threading.Event()
         # What was sent to it: whether anything, and its jobs; and how many of its own were counted.
         self.has_heard, self.came, self.counted = False, [], 0
         if is_let:
@@ -184,8 +197,9 @@ class Called(threading.Thread):
             return
         talk = Talk(connection)
         self.is_called.set()
-        self.is_let.wait(LIMIT)
-        talk.take()
+        self.is_let.wait(PATIENCE)
+        if self.takes:
+            talk.take()
         if self.jobs:
             self.counted = talk.give(self.jobs)
         talk.close()
@@ -196,7 +210,7 @@ class Called(threading.Thread):
         self.is_let.set()
         if not self.is_called.is_set():
             self.listener.shutdown(socket.SHUT_RDWR)
-        self.join(LIMIT)
+        self.join(PATIENCE)
         self.listener.close()
         return self
 
@@ -205,7 +219,7 @@ class Calls:
     """An end that calls this port."""
 
     def __init__(self, port):
-        self.talk = Talk(socket.create_connection(("127.0.0.1", port), timeout=LIMIT))
+        self.talk = Talk(socket.create_connection(("127.0.0.1", port), timeout=PATIENCE))
 
     def bid(self):
         """Bids, and gives what is answered."""

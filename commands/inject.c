@@ -1,6 +1,6 @@
 /* Loaded before the C library (LD_PRELOAD): counts the calls of the process on files, and at the one whose number INJECT_AT names, counted from
-   1, does what INJECT says: KILL ends the process; STOP stops it; EIO fails the call; FULL fails it and all behind it for want of room, and
-   counts just the calls that take some. Where INJECT_CALL is set, the calls of that name alone count. The call that was met, and its file, are
+   1, does what INJECT says: KILL ends the process, and counts just the calls that change something; STOP stops it; EIO fails the call; FULL
+   fails it and all behind it for want of room, and counts just the calls that take some. Where INJECT_CALL is set, the calls of that name alone count. The call that was met, and its file, are
    written into the file that INJECTED names. The system's own files and connections don't count. */
 #define _GNU_SOURCE
 #include <asm/fcntl.h>
@@ -45,13 +45,16 @@ static void note(const char *name, const char *path)
     fclose(file);
 }
 
+/* What a call does. */
+enum { LOOKS, CHANGES, TAKES_ROOM };
+
 /* Whether the call of this name on the file of this path (NULL: none that counts) fails; errno says how. */
-static int fails(const char *name, const char *path, int takes_room)
+static int fails(const char *name, const char *path, int does)
 {
     static long count;
-    int is_full = is_word("INJECT", "FULL");
+    int is_full = is_word("INJECT", "FULL"), least = is_full ? TAKES_ROOM : is_word("INJECT", "KILL") ? CHANGES : LOOKS;
     long at = getenv("INJECT_AT") ? atol(getenv("INJECT_AT")) : 0;
-    if (!path || (is_full && !takes_room) || (getenv("INJECT_CALL") && !is_word("INJECT_CALL", name)))
+    if (!path || does < least || (getenv("INJECT_CALL") && !is_word("INJECT_CALL", name)))
         return 0;
     count++;
     if (at == 0 || count < at || (count > at && !is_full))
@@ -68,14 +71,14 @@ static int fails(const char *name, const char *path, int takes_room)
     return 1;
 }
 
-#define CALL(type, name, takes, gives, path, takes_room, then)       \
+#define CALL(type, name, takes, gives, path, does, then)             \
     type name takes                                                  \
     {                                                                \
         static type(*real) takes;                                    \
         type done;                                                   \
         if (!real)                                                   \
             real = (type(*) takes)dlsym(RTLD_NEXT, #name);           \
-        if (fails(#name, path, takes_room))                          \
+        if (fails(#name, path, does))                                \
             return -1;                                               \
         done = real gives;                                           \
         then;                                                        \
@@ -89,19 +92,20 @@ static void keep(int file, const char *path)
         snprintf(paths[file], MOST_LETTERS, "%s", path ? path : "");
 }
 
-CALL(int, open, (const char *path, int flags, mode_t mode), (path, flags, mode), named(path), flags & O_CREAT, keep(done, named(path)))
-CALL(ssize_t, read, (int file, void *bytes, size_t length), (file, bytes, length), of(file), 0, )
-CALL(ssize_t, write, (int file, const void *bytes, size_t length), (file, bytes, length), of(file), 1, )
-CALL(int, fchmod, (int file, mode_t mode), (file, mode), of(file), 0, )
-CALL(int, fsync, (int file), (file), of(file), 1, )
-CALL(int, fdatasync, (int file), (file), of(file), 1, )
-CALL(int, ftruncate, (int file, off_t length), (file, length), of(file), 1, )
-CALL(off_t, lseek, (int file, off_t offset, int whence), (file, offset, whence), of(file), 0, )
-CALL(int, flock, (int file, int operation), (file, operation), of(file), 0, )
-CALL(int, link, (const char *from, const char *to), (from, to), named(from), 1, )
-CALL(int, rename, (const char *from, const char *to), (from, to), named(from), 1, )
-CALL(int, unlink, (const char *path), (path), named(path), 0, )
-CALL(int, statx, (int folder, const char *path, int flags, unsigned mask, struct statx *found), (folder, path, flags, mask, found), named(path) ? path : of(folder), 0, )
+CALL(int, open, (const char *path, int flags, mode_t mode), (path, flags, mode), named(path), flags & O_CREAT ? TAKES_ROOM : LOOKS, keep(done, named(path)))
+CALL(ssize_t, read, (int file, void *bytes, size_t length), (file, bytes, length), of(file), LOOKS, )
+CALL(ssize_t, write, (int file, const void *bytes, size_t length), (file, bytes, length), of(file), TAKES_ROOM, )
+CALL(int, fchmod, (int file, mode_t mode), (file, mode), of(file), CHANGES, )
+CALL(int, fsync, (int file), (file), of(file), TAKES_ROOM, )
+CALL(int, fdatasync, (int file), (file), of(file), TAKES_ROOM, )
+CALL(int, ftruncate, (int file, off_t length), (file, length), of(file), TAKES_ROOM, )
+CALL(off_t, lseek, (int file, off_t offset, int whence), (file, offset, whence), of(file), LOOKS, )
+CALL(int, flock, (int file, int operation), (file, operation), of(file), CHANGES, )
+CALL(int, link, (const char *from, const char *to), (from, to), named(from), TAKES_ROOM, )
+CALL(int, rename, (const char *from, const char *to), (from, to), named(from), TAKES_ROOM, )
+CALL(int, unlink, (const char *path), (path), named(path), CHANGES, )
+CALL(int, statx, (int folder, const char *path, int flags, unsigned mask, struct statx *found), (folder, path, flags, mask, found),
+     path[0] ? named(path) : of(folder), LOOKS, )
 
 /* A file that can't be closed is closed all the same. */
 int close(int file)
@@ -115,7 +119,7 @@ int close(int file)
         strcpy(path, paths[file]);
         keep(file, NULL);
     }
-    if (fails("close", counts ? path : NULL, 0)) {
+    if (fails("close", counts ? path : NULL, LOOKS)) {
         real(file);
         errno = EIO;
         return -1;

@@ -6,7 +6,7 @@ locked.py PROGRAM INJECT [ROUNDS]   INJECT: inject.c as a library; ROUNDS: how m
 Prints a line for each fault, lines that begin with 'figures: ', and at last how many checks went well.
 """
 import concurrent.futures
-import itertools
+import functools
 import os
 import signal
 import sys
@@ -15,24 +15,13 @@ import time
 sys.path.insert(0, os.path.dirname(os.path.abspath(__file__)))
 from connected import Checks, figures, job_of  # noqa: E402
 from ends import (  # noqa: E402
-    ACK0, ENQ, EOT, JOBS, OLD, OTHERS, SENT, WAITING, WHOLE, Called, Calls, Folder, ended, free_port, in_state, is_listening, jobs_of, received,
+    ACK0, ENQ, EOT, JOBS, OLD, OTHERS, SENT, WAITING, Called, Calls, Faults, Folder, ended, free_port, in_state, is_listening, jobs_of, received,
     refusal, waits_for,
 )
 
 WORKERS = 3
 SENT_ALL = f"counted {len(JOBS)} of {len(JOBS)} jobs\noutcome done\n"
 HANDED_ALL = f"handed {len(JOBS)} jobs, {len(JOBS)} whole\n"
-
-
-class Faults(list):
-    """What is wrong."""
-
-    def differs(self, what, found, wanted):
-        if found != wanted:
-            self.append(f"{what}: {found} in place of {wanted}")
-
-    def told(self, label):
-        return f"{label}: {'; '.join(self)}" if self else None
 
 
 def pair_of_receivers(program, number):
@@ -289,7 +278,8 @@ def beside_a_holder(program, kind):
         before, names, caller = folder.bytes("held"), folder.names(), Called(is_let=False)
         for name in [*NAMES, folder.at("held")]:
             for words in attempts_at(name, caller.address):
-                faults.differs(f"rje {' '.join(words)}", folder.run(*words), refusal(name))
+                if not faults:
+                    faults.differs(f"rje {' '.join(words)}", folder.run(*words), refusal(name))
         elsewhere_name = os.path.join("..", os.path.basename(folder.path), "held")
         faults.differs("another folder's name", elsewhere.run("send", elsewhere_name, "--to", caller.address), refusal(elsewhere_name))
         faults.differs("whether it was called", caller.is_called.is_set(), False)
@@ -433,12 +423,15 @@ def main(program, library, rounds=200):
             checks.check(it.result())
         figures(f"beside another: {time.monotonic() - began:.0f} s")
         for kind in (pair_of_receivers, pair_of_senders):
-            told = [it for it in pool.map(lambda number: kind(program, number), range(rounds)) if it]
-            checks.check(f"{len(told)} of {rounds}: {' | '.join(told[:3])}" if told else None)
+            told = []
+            for first in range(0, rounds, 10):
+                if not told:
+                    told = [it for it in pool.map(functools.partial(kind, program), range(first, min(first + 10, rounds))) if it]
+            checks.check(" | ".join(told[:3]))
             figures(f"{kind.__name__}: {time.monotonic() - began:.0f} s")
     appends = [round_of_appends(program, number) for number in range(rounds // 4)]
     told = [it for it, _ in appends if it]
-    checks.check(f"{len(told)} of {len(appends)}: {' | '.join(told[:3])}" if told else None)
+    checks.check(" | ".join(told[:3]))
     refused = sum(count for _, count in appends)
     checks.check(None if refused else "of eight that add to one file none is refused")
     figures(f"{refused} of {8 * len(appends)} that add were refused; {time.monotonic() - began:.0f} s in all")

@@ -1,0 +1,385 @@
+"""Commands on disks without room, in folders that can't be read or written, with calls on files that fail, and ended at one of them.
+
+injected.py PROGRAM INJECT   INJECT: inject.c as a library
+
+Each command over its files is run with each of its calls in turn met by KILL (those that change something), by EIO, or by a disk that is full
+from then on (those that take room); and then once more, with nothing in its way. Looked at of the first run: no file is torn; what was counted is received, and what was received is counted or,
+after KILL and where it is told that nothing can be written, at most one job more; a failure is told, by status 3 and a line, unless all went
+well; and where a command tells that a file can't be written, nothing is new in it. Of the second: it isn't refused by what the first one left,
+and does what is left.
+
+Prints a line for each fault, lines that begin with 'figures: ', and at last how many checks went well.
+"""
+import collections
+import concurrent.futures
+import functools
+import os
+import resource
+import shutil
+import subprocess
+import sys
+import tempfile
+import time
+
+sys.path.insert(0, os.path.dirname(os.path.abspath(__file__)))
+from connected import Checks, figures, job_of  # noqa: E402
+from ends import JOBS, OLD, OTHERS, SENT, WAITING, WHOLE, Called, Calls, Faults, Folder, ended, in_state, jobs_of, received  # noqa: E402
+from relayed import counted_in  # noqa: E402
+
+WORKERS, MOST_CALLS, KILLED = 3, 1000, -9
+NOBODY = 65534
+DECK = OLD
+
+
+class Case:
+    """A command over files of a folder: SEND of `given`, RECEIVED of `comes`, or a deck that goes into `held`."""
+
+    def __init__(self, label, words, sends=None, receives=None, listens=False, version=2, given=JOBS):
+        self.label, self.words, self.sends, self.receives, self.listens, self.version = label, words, sends, receives, listens, version
+        # The jobs of version 1 have no state: they are read as whole.
+        self.state = WAITING if version == 2 else WHOLE
+        self.given, self.comes = given, OTHERS if receives else []
+
+    def prepare(self, folder):
+        with open(folder.at("a.deck"), "w") as file:
+            file.write("OLD\n")
+        for name in (self.sends, self.receives):
+            if name:
+                folder.write(name, self.given if name == self.sends else OLD)
+        if not (self.sends or self.receives):
+            folder.write("held", JOBS)
+        if self.version == 1:
+            with open(folder.at(self.sends), "wb") as file:
+                file.write(b"RJ37\0\1" + len(self.given).to_bytes(8, "big"))
+                file.write(b"".join(job.entry()[9:11] + b"\1" + job.entry()[11:] for job in self.given))
+
+    def run(self, folder, left=JOBS, **further):
+        """How it ended, what came of what it sends, of which these jobs are left, and how many were counted of what it receives."""
+        if self.listens:
+            process, port = folder.listening(*self.words, "--timeout", "5000", **further)
+            counted, came = 0, []
+            try:
+                if port:
+                    counted, came = Calls(port).go_on(self.comes, takes=bool(self.sends and left))
+            except OSError:
+                pass
+            return ended(process), came, counted
+        if not self.sends:
+            return folder.run(*self.words, **further), [], 0
+        other = Called(self.comes, takes=bool(left or not self.comes))
+        end = folder.run(*self.words, "--timeout", "5000", "--to", other.address, **further)
+        other.over()
+        return end, other.came, other.counted
+
+
+CASES = [
+    Case("cards", ["cards", "a.deck", "held"]),
+    Case("cards --append", ["cards", "a.deck", "held", "--append"]),
+    Case("send", ["send", "pay.job"], sends="pay.job"),
+    Case("send of version 1", ["send", "pay.job"], sends="pay.job", version=1),
+    Case("receive", ["receive", "got"], receives="got", listens=True),
+    Case("exchange --to", ["exchange", "pay.job", "got"], sends="pay.job", receives="got"),
+    Case("exchange --listen", ["exchange", "pay.job", "got"], sends="pay.job", receives="got", listens=True),
+]
+
+
+def told_lines(case):
+    """What may be told of its files."""
+    names = [name for name in (case.sends, case.receives) if name] or ["held"]
+    lines = [line for name in names for line in (f"can't write {name}", f"can't read {name}", f"{name} is written, but the disk may not have it")]
+    return {f"rje: {line}\n" for line in [*lines, "can't read a.deck"]}
+
+
+class Sent:
+    """What became of a sender's file: how many of its jobs are marked."""
+
+    def __init__(self, folder, case, before):
+        self.is_as_it_was = folder.bytes(case.sends) == before
+        if self.is_as_it_was:
+            self.marked = 0
+            return
+        jobs = jobs_of(folder.at(case.sends))
+        self.marked = sum(job[0] == SENT for job in jobs)
+        states = [SENT] * self.marked + [case.state] * (len(JOBS) - self.marked)
+        assert jobs == in_state(JOBS, states), f"{case.sends} has other jobs, or marks {[job[0] for job in jobs]}"
+
+
+def sender_faults(case, folder, before, end, came, word):
+    """What is wrong with what was sent; and how many jobs are marked."""
+    faults, sent = Faults(), Sent(folder, case, before)
+    status, printed, told = end
+    counted, whole = counted_in(printed), [job for job in came if job[0] == WHOLE]
+    faults.differs("what came", whole, received(JOBS)[: len(whole)])
+    if status == KILLED:
+        faults.differs("at most one more came than is marked", sent.marked <= len(whole) <= sent.marked + 1, True)
+        return faults, sent.marked
+    faults.differs("counted, of those that came", counted, len(whole))
+    is_told = told.startswith("rje: can't write ")
+    if word == "FULL" and is_told:
+        faults.differs("no more is marked than counted", sent.marked <= counted, True)
+    else:
+        faults.differs("marked, of those counted", sent.marked, counted)
+    if status == 0:
+        faults.differs("counted", counted, len(JOBS))
+    if told == f"rje: can't write {case.sends}\n" and not printed:
+        faults.differs("the file of which nothing was sent is as it was", sent.is_as_it_was, True)
+    return faults, sent.marked
+
+
+def receiver_faults(case, folder, before, end, counted):
+    """What is wrong with what was received."""
+    faults, (status, _, told) = Faults(), end
+    if folder.bytes(case.receives) == before:
+        faults.differs("counted of what isn't there", counted, 0)
+        faults.differs("a file as it was, with status 0", status == 0, False)
+        return faults
+    jobs = jobs_of(folder.at(case.receives))
+    whole = [job for job in jobs if job[0] == WHOLE]
+    faults.differs("what was received", whole, received(case.comes)[: len(whole)])
+    more = 0 if told == f"rje: can't write {case.receives}\n" else 1
+    faults.differs("whole, of those counted", counted <= len(whole) <= counted + more, True)
+    if status == 0:
+        faults.differs("all is received", (counted, len(jobs)), (len(case.comes), len(case.comes)))
+    return faults
+
+
+def deck_faults(case, folder, before, end):
+    """What is wrong with a file that a deck goes into."""
+    faults, (status, _, told) = Faults(), end
+    new = in_state([*JOBS, *DECK] if "--append" in case.words else DECK, [WAITING] * 9)
+    is_old, is_new = folder.bytes("held") == before, jobs_of(folder.at("held")) == new
+    faults.differs("the old file or the new one", is_old or is_new, True)
+    if status == 0 or told.endswith("may not have it\n"):
+        faults.differs("the new file", is_new, True)
+    elif status != KILLED:
+        faults.differs("the old file", is_old, True)
+    return faults
+
+
+def second_faults(case, folder, marked):
+    """What is wrong with a further run: it isn't refused, and sends what is left."""
+    if not (case.sends or case.receives):
+        there = jobs_of(folder.at("held")) if "--append" in case.words else []
+    faults, left = Faults(), JOBS[marked:]
+    end, came, counted = case.run(folder, left)
+    printed = ""
+    if case.sends:
+        printed += f"counted {len(left)} of {len(left)} jobs\noutcome done\n"
+        faults.differs("then came", came, received(left))
+        faults.differs("then marked", jobs_of(folder.at(case.sends)), in_state(JOBS, [SENT] * len(JOBS)))
+    if case.receives:
+        printed += f"handed {len(case.comes)} jobs, {len(case.comes)} whole\n"
+        faults.differs("then received", (counted, jobs_of(folder.at(case.receives))), (len(case.comes), received(case.comes)))
+    if not printed:
+        printed = "1 cards\n"
+        faults.differs("then made", jobs_of(folder.at("held")), [*there, *in_state(DECK, [WAITING])])
+    faults.differs("a further run", end, (0, printed, ""))
+    faults.differs("a lock left behind", [name for name in folder.names() if name.endswith("lock")], [])
+    return faults
+
+
+def faults_at(program, case, word, number):
+    """What is wrong where this call is met so; the call (None where there is none), and how it ended."""
+    with Folder(program) as folder, tempfile.TemporaryDirectory() as aside:
+        case.prepare(folder)
+        names = folder.names()
+        before = {name: folder.bytes(name) for name in names}
+        injected = os.path.join(aside, "injected")
+        environment = {"LD_PRELOAD": LIBRARY, "INJECT": word, "INJECT_AT": str(number), "INJECTED": injected}
+        end, came, counted = case.run(folder, environment=environment)
+        if not os.path.exists(injected):
+            return None, end, None
+        call = open(injected).readline().strip()
+        faults, marked = Faults(), 0
+        status, printed, told = end
+        if word == "KILL":
+            faults.differs("how it ended", end, (KILLED, printed, ""))
+        elif status == 0:
+            faults.differs("told", told, "")
+        else:
+            faults.differs("the status, with a line of its files", (status, told in told_lines(case)), (3, True))
+        try:
+            if case.sends:
+                faults_of_sent, marked = sender_faults(case, folder, before[case.sends], end, came, word)
+                faults += faults_of_sent
+            if case.receives:
+                faults += receiver_faults(case, folder, before[case.receives], end, counted)
+            if not (case.sends or case.receives):
+                faults += deck_faults(case, folder, before["held"], end)
+            if word == "EIO" and call.split()[0] == "fsync" and call.endswith(" ."):
+                faults.differs("what is told where a folder isn't synced", told.endswith(" is written, but the disk may not have it\n"), True)
+            if word != "KILL" and not call.startswith("unlink") and not call.endswith("-lock"):
+                faults.differs("files", folder.names(), names)
+            if not faults:
+                faults += second_faults(case, folder, marked)
+        except AssertionError as fault:
+            faults.append(f"torn: {fault}")
+        return call, end, faults.told(f"{case.label}, {word} at call {number}, {call} ({status}, {printed!r}, {told!r})")
+
+
+def all_faults(program, case, word):
+    """What is wrong at any of its calls (the first three), how many calls there are, and how often it ended so."""
+    found, ways = [], collections.Counter()
+    for number in range(1, MOST_CALLS):
+        call, end, told = faults_at(program, case, word, number)
+        if call is None:
+            return found, number - 1, ways, end
+        ways[f"{end[0]} {end[2].strip().removeprefix('rje: ')}".strip()] += 1
+        if told:
+            found.append(told)
+        if len(found) == 3:
+            return found, number, ways, end
+    return [*found, f"{case.label} has more than {MOST_CALLS} calls"], MOST_CALLS, ways, (0, "", "")
+
+
+def check_calls(checks, pool, program):
+    pairs = [(case, word) for case in CASES for word in ("KILL", "EIO", "FULL") if word != "EIO" or case.version == 2]
+    runs = {(case.label, word): pool.submit(all_faults, program, case, word) for case, word in pairs}
+    for (label, word), it in runs.items():
+        found, calls, ways, last = it.result()
+        checks.check(" | ".join(found))
+        checks.check(None if last[0] == 0 or found else f"{label} without a fault ends with {last}")
+        figures(f"{label}, {word} at {calls} calls: " + ", ".join(f"{count} with {way}" for way, count in sorted(ways.items())))
+
+
+def sends_all_or_nothing(folder, name, label, given, words, room=None, **further):
+    """What is wrong with a sender on a disk that may be too small: it sends all and marks it, or nothing and its file is as it was; and where `room`
+    has made room, another one sends what is left. Whether it sent, and its status, too."""
+    faults, before, other = Faults(), folder.bytes(name), Called()
+    end = folder.run(*words, "--to", other.address, **further)
+    came, printed, told = other.over().came, f"counted {len(given)} of {len(given)} jobs\noutcome done\n", f"rje: can't write {name}\n"
+    is_sent = end[1] != ""
+    # The last writing of the file takes room again, which may be missing; all is marked by then.
+    faults.differs("how it ended", end in ((0, printed, ""), (3, printed, told), (3, "", told)), True)
+    faults.differs("what came", came, received(given) if is_sent else [])
+    if is_sent:
+        faults.differs("what is marked", jobs_of(folder.at(name)), in_state(given, [SENT] * len(given)))
+    else:
+        faults.differs("the file is as it was", folder.bytes(name) == before, True)
+    if room:
+        room()
+    other, left = Called(), [] if is_sent else given
+    again = folder.run(*words, "--to", other.address)
+    faults.differs("a further one", again, (0, f"counted {len(left)} of {len(left)} jobs\noutcome done\n", ""))
+    faults.differs("what came then", other.over().came, received(left))
+    faults.differs("stray files", [name for name in os.listdir(os.path.dirname(folder.at(name))) if ".rje-" in name], [])
+    return faults.told(f"{label} {end}"), is_sent, end[0]
+
+
+def within_size(program, version, size):
+    """A sender whose files may have so many bytes."""
+    with Folder(program) as folder:
+        case = Case("", [], sends="pay.job", version=version, given=OTHERS)
+        case.prepare(folder)
+        # Python leaves XFSZ ignored in what it starts so: a write beyond the limit fails.
+        limit = functools.partial(resource.setrlimit, resource.RLIMIT_FSIZE, (size, resource.RLIM_INFINITY))
+        label = f"a sender of version {version} whose files may have {size} bytes"
+        return sends_all_or_nothing(folder, "pay.job", label, OTHERS, ["send", "pay.job"], preexec_fn=limit, restore_signals=False)
+
+
+def on_disk(program, options):
+    """A sender on a disk of these options: of so many bytes or files. None where none can be mounted."""
+    with Folder(program) as folder:
+        os.mkdir(folder.at("disk"))
+        mount = ["mount", "-t", "tmpfs", "-o", options, "tmpfs", folder.at("disk")]
+        if subprocess.run(mount, stderr=subprocess.DEVNULL).returncode != 0:
+            return None
+        try:
+            given = [job_of("BIG", 60), job_of("SMALL")]
+            folder.write("disk/pay.job", given)
+            roomy = functools.partial(subprocess.run, ["mount", "-o", "remount,size=1m,nr_inodes=100", folder.at("disk")], check=True)
+            return sends_all_or_nothing(folder, "disk/pay.job", f"a sender on a disk of {options}", given, ["send", "disk/pay.job"], room=roomy)
+        finally:
+            subprocess.run(["umount", folder.at("disk")], check=True)
+
+
+def check_sizes(checks, pool, program):
+    """Of disks of each size, from none to ample, some are too small, and some aren't."""
+    # A file of two jobs of one record of four letters and five.
+    ample = 14 + 2 * (19 + 2) + 8
+    for version in (2, 1):
+        found = list(pool.map(functools.partial(within_size, program, version), range(ample + 2)))
+        checks.check(" | ".join([it[0] for it in found if it[0]][:3]))
+        sizes = [size for size, it in enumerate(found) if it[1:] == (True, 0)]
+        checks.check(None if sizes == [ample, ample + 1] else f"a file of {ample} bytes is sent where files may have {sizes}")
+    options = [f"size={pages * 4}k" for pages in range(2, 10)] + [f"size=1m,nr_inodes={files}" for files in range(2, 7)]
+    found = [it for it in pool.map(functools.partial(on_disk, program), options)]
+    if None in found:
+        figures("no disk can be mounted here")
+        return
+    checks.check(" | ".join([it[0] for it in found if it[0]][:3]))
+    figures("disks: " + ", ".join(f"{it} {'sends' if is_sent else 'sends nothing'}, {status}" for it, (_, is_sent, status) in zip(options, found)))
+    checks.check(None if {it[1:] for it in found} >= {(True, 0), (False, 3)} else "all disks are too small, or none")
+
+
+# What each command says, as nobody, whose folder has this mode: of one that can't be searched, that the file can't be read where it is read first.
+MODES = [0o755, 0o333, 0o555, 0o111, 0o000]
+
+
+def in_mode(program, mode):
+    """Commands in a folder of this mode, which is theirs, and where they are not root."""
+    faults, is_root = Faults(), os.getuid() == 0
+    user = {"user": NOBODY, "group": NOBODY, "extra_groups": []} if is_root else {}
+    with Folder(program) as folder:
+        os.chmod(folder.path, 0o755)
+        folder.program = shutil.copy(program, folder.at("anyone.rje"))
+        os.chmod(folder.program, 0o755)
+        with open(folder.at("a.deck"), "w") as file:
+            file.write("OLD\n")
+        os.chmod(folder.at("a.deck"), 0o644)
+        for name in ("sealed", "free"):
+            os.mkdir(folder.at(name))
+        files = {"sealed/cards.job": OLD, "sealed/more.job": OLD, "sealed/pay.job": JOBS, "sealed/pay2.job": JOBS, "sealed/got": OLD, "free/pay.job": JOBS,
+                 "sealed/got2": OLD}
+        for name, jobs in files.items():
+            folder.write(name, jobs)
+        for path, _, names in os.walk(folder.path):
+            for name in [path] + [os.path.join(path, name) for name in names if not name.startswith(("a.deck", "anyone"))]:
+                if is_root and name != folder.path:
+                    os.chown(name, NOBODY, NOBODY)
+        before = {name: folder.bytes(name) for name in files}
+        os.chmod(folder.at("sealed"), mode)
+        called, told = [Called() for _ in range(3)], "rje: can't {} sealed/{}\n".format
+        first = "read" if mode == 0 else "write"
+        rows = [
+            (["cards", "a.deck", "sealed/new.job"], "1 cards\n", told("write", "new.job")),
+            (["cards", "a.deck", "sealed/cards.job"], "1 cards\n", told("write", "cards.job")),
+            (["cards", "a.deck", "sealed/more.job", "--append"], "1 cards\n", told("write", "more.job")),
+            (["send", "sealed/pay.job", "--to", called[0].address], "counted 3 of 3 jobs\noutcome done\n", told(first, "pay.job")),
+            (["exchange", "sealed/pay2.job", "free/got", "--to", called[1].address], "counted 3 of 3 jobs\noutcome done\nhanded 0 jobs, 0 whole\n", told(first, "pay2.job")),
+            (["exchange", "free/pay.job", "sealed/got", "--to", called[2].address], "counted 3 of 3 jobs\noutcome done\nhanded 0 jobs, 0 whole\n", told("write", "got")),
+        ]
+        for words, printed, fault in rows:
+            wanted = (0, printed, "") if mode == 0o755 else (3, "", fault)
+            faults.differs(f"rje {' '.join(words)}", folder.run(*words, **user), wanted)
+        came = [other.over().came for other in called]
+        faults.differs("what came", came, [received(JOBS) if mode == 0o755 else []] * 3)
+        process, port = folder.listening("receive", "sealed/got2", **user)
+        if port:
+            faults.differs("counted", Calls(port).go_on(OTHERS), (len(OTHERS), []))
+        faults.differs("rje receive", ended(process), (0, "handed 2 jobs, 2 whole\n", "") if mode == 0o755 else (3, "", told("write", "got2")))
+        os.chmod(folder.at("sealed"), 0o755)
+        if mode != 0o755:
+            faults.differs("files that differ", [name for name in files if folder.bytes(name) != before[name]], [])
+        names = sorted([*(name.removeprefix("sealed/") for name in files if "sealed" in name), *(["new.job"] if mode == 0o755 else [])])
+        faults.differs("files", sorted(os.listdir(folder.at("sealed"))), names)
+    return faults.told(f"a folder of mode {mode:03o}")
+
+
+def main(program, library):
+    global LIBRARY
+    LIBRARY, program, checks, began = os.path.abspath(library), os.path.abspath(program), Checks(), time.monotonic()
+    with concurrent.futures.ThreadPoolExecutor(WORKERS) as pool:
+        check_sizes(checks, pool, program)
+        figures(f"sizes: {time.monotonic() - began:.0f} s")
+        for told in pool.map(functools.partial(in_mode, program), MODES):
+            checks.check(told)
+        figures(f"modes: {time.monotonic() - began:.0f} s")
+        check_calls(checks, pool, program)
+        figures(f"{time.monotonic() - began:.0f} s in all")
+    print(checks.well)
+    return 1 if checks.ill else 0
+
+
+if __name__ == "__main__":
+    sys.exit(main(sys.argv[1], sys.argv[2]))
