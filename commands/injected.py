@@ -134,6 +134,7 @@ def receiver_faults(case, folder, before, end, counted):
         faults.differs("a file as it was, with status 0", status == 0, False)
         return faults
     jobs = jobs_of(folder.at(case.receives))
+    assert isinstance(jobs, list), jobs
     whole = [job for job in jobs if job[0] == WHOLE]
     faults.differs("what was received", whole, received(case.comes)[: len(whole)])
     more = 0 if told == f"rje: can't write {case.receives}\n" else 1

@@ -83,6 +83,7 @@ def round_of_appends(program, number):
         others = [end for end in ends if end != (0, "1 cards\n", "")]
         faults.differs("those that add nothing", others, [refusal("pay.job")] * len(others))
         found = jobs_of(folder.at("pay.job"))
+        faults.differs("a job file", type(found), list)
         faults.differs("the first of the file", found[: len(old)], in_state(old, [WAITING]))
         faults.differs("what was added", sorted(found[len(old) :]), sorted(in_state(added, [WAITING] * 8)))
         faults.differs("how many add", len(added) > 0, True)
