@@ -9,9 +9,9 @@ import threading
 import time
 
 sys.path.insert(0, os.path.dirname(os.path.abspath(__file__)))
-from connected import ACK0, ENQ, EOT, FOLDER, Receiver, Sender, job_of, jobs_in, length_of, write_jobs  # noqa: E402
+from connected import ENQ, FOLDER, Receiver, Sender, job_of, jobs_in, length_of, write_jobs  # noqa: E402
 import relayed  # noqa: E402
-from relayed import SENT, WAITING, WHOLE, free_port, is_listening  # noqa: E402
+from relayed import free_port, is_listening  # noqa: E402
 
 # So many seconds a command may take.
 PATIENCE = 20.0

@@ -1,7 +1,8 @@
 /* Loaded before the C library (LD_PRELOAD): counts the calls of the process on files, and at the one whose number INJECT_AT names, counted from
    1, does what INJECT says: KILL ends the process, and counts just the calls that change something; STOP stops it; EIO fails the call; FULL
-   fails it and all behind it for want of room, and counts just the calls that take some. Where INJECT_CALL is set, the calls of that name alone count. The call that was met, and its file, are
-   written into the file that INJECTED names. The system's own files and connections don't count. */
+   fails it and all behind it for want of room, and counts just the calls that take some. Where INJECT_CALL is set, the calls of that name alone
+   count. The call that was met, and its file, are written into the file that INJECTED names. The system's own files and connections don't
+   count. */
 #define _GNU_SOURCE
 #include <asm/fcntl.h>
 #include <dlfcn.h>
@@ -92,7 +93,8 @@ static void keep(int file, const char *path)
         snprintf(paths[file], MOST_LETTERS, "%s", path ? path : "");
 }
 
-CALL(int, open, (const char *path, int flags, mode_t mode), (path, flags, mode), named(path), flags & O_CREAT ? TAKES_ROOM : LOOKS, keep(done, named(path)))
+CALL(int, open, (const char *path, int flags, mode_t mode), (path, flags, mode), named(path),
+     flags & O_CREAT ? TAKES_ROOM : LOOKS, keep(done, named(path)))
 CALL(ssize_t, read, (int file, void *bytes, size_t length), (file, bytes, length), of(file), LOOKS, )
 CALL(ssize_t, write, (int file, const void *bytes, size_t length), (file, bytes, length), of(file), TAKES_ROOM, )
 CALL(int, fchmod, (int file, mode_t mode), (file, mode), of(file), CHANGES, )

@@ -3,10 +3,10 @@
 injected.py PROGRAM INJECT   INJECT: inject.c as a library
 
 Each command over its files is run with each of its calls in turn met by KILL (those that change something), by EIO, or by a disk that is full
-from then on (those that take room); and then once more, with nothing in its way. Looked at of the first run: no file is torn; what was counted is received, and what was received is counted or,
-after KILL and where it is told that nothing can be written, at most one job more; a failure is told, by status 3 and a line, unless all went
-well; and where a command tells that a file can't be written, nothing is new in it. Of the second: it isn't refused by what the first one left,
-and does what is left.
+from then on (those that take room); and then once more, with nothing in its way. Looked at of the first run: no file is torn; what was counted
+is received, and after KILL at most one job more came than is marked; a failure is told, by status 3 and a line, unless all went well; and where
+a command tells that a file can't be written, nothing is new in it. Of the second: it isn't refused by what the first one left, and does what is
+left. Looked at too: a sender on disks of each size, and each command, not as root, in folders of each kind of mode.
 
 Prints a line for each fault, lines that begin with 'figures: ', and at last how many checks went well.
 """
@@ -14,6 +14,7 @@ import collections
 import concurrent.futures
 import functools
 import os
+import re
 import resource
 import shutil
 import subprocess
@@ -23,12 +24,14 @@ import time
 
 sys.path.insert(0, os.path.dirname(os.path.abspath(__file__)))
 from connected import Checks, figures, job_of  # noqa: E402
-from ends import JOBS, OLD, OTHERS, SENT, WAITING, WHOLE, Called, Calls, Faults, Folder, ended, in_state, jobs_of, received  # noqa: E402
-from relayed import counted_in  # noqa: E402
+from ends import JOBS, OLD, OTHERS, Called, Calls, Faults, Folder, ended, in_state, jobs_of, received  # noqa: E402
+from relayed import SENT, WAITING, WHOLE, counted_in  # noqa: E402
 
 WORKERS, MOST_CALLS, KILLED = 3, 1000, -9
 NOBODY = 65534
 DECK = OLD
+# The names of files in what is told.
+KIND = re.compile(r"held|got|pay\.job|a\.deck")
 
 
 class Case:
@@ -219,28 +222,29 @@ def faults_at(program, case, word, number):
 
 
 def all_faults(program, case, word):
-    """What is wrong at any of its calls (the first three), how many calls there are, and how often it ended so."""
+    """What is wrong at any of its calls (the first three), how often it ended so, and how it ends where no call is met."""
     found, ways = [], collections.Counter()
     for number in range(1, MOST_CALLS):
         call, end, told = faults_at(program, case, word, number)
-        if call is None:
-            return found, number - 1, ways, end
-        ways[f"{end[0]} {end[2].strip().removeprefix('rje: ')}".strip()] += 1
+        if call is None or len(found) == 3:
+            return found, ways, end
+        ways[f"ended with {end[0]}" + (f" and told '{KIND.sub('FILE', end[2].strip())}'" if end[2] else "")] += 1
         if told:
             found.append(told)
-        if len(found) == 3:
-            return found, number, ways, end
-    return [*found, f"{case.label} has more than {MOST_CALLS} calls"], MOST_CALLS, ways, (0, "", "")
+    return [*found, f"{case.label} has more than {MOST_CALLS} calls"], ways, (0, "", "")
 
 
 def check_calls(checks, pool, program):
     pairs = [(case, word) for case in CASES for word in ("KILL", "EIO", "FULL") if word != "EIO" or case.version == 2]
     runs = {(case.label, word): pool.submit(all_faults, program, case, word) for case, word in pairs}
+    met = collections.defaultdict(collections.Counter)
     for (label, word), it in runs.items():
-        found, calls, ways, last = it.result()
+        found, ways, last = it.result()
         checks.check(" | ".join(found))
         checks.check(None if last[0] == 0 or found else f"{label} without a fault ends with {last}")
-        figures(f"{label}, {word} at {calls} calls: " + ", ".join(f"{count} with {way}" for way, count in sorted(ways.items())))
+        met[word] += ways
+    for word, ways in met.items():
+        figures(f"{ways.total()} calls met by {word}: " + ", ".join(f"{count} {way}" for way, count in ways.most_common()))
 
 
 def sends_all_or_nothing(folder, name, label, given, words, room=None, **further):
@@ -313,7 +317,7 @@ def check_sizes(checks, pool, program):
     checks.check(None if {it[1:] for it in found} >= {(True, 0), (False, 3)} else "all disks are too small, or none")
 
 
-# What each command says, as nobody, whose folder has this mode: of one that can't be searched, that the file can't be read where it is read first.
+# With the last of them not even the file can be found in the folder.
 MODES = [0o755, 0o333, 0o555, 0o111, 0o000]
 
 
@@ -330,25 +334,25 @@ def in_mode(program, mode):
         os.chmod(folder.at("a.deck"), 0o644)
         for name in ("sealed", "free"):
             os.mkdir(folder.at(name))
-        files = {"sealed/cards.job": OLD, "sealed/more.job": OLD, "sealed/pay.job": JOBS, "sealed/pay2.job": JOBS, "sealed/got": OLD, "free/pay.job": JOBS,
-                 "sealed/got2": OLD}
+        files = {f"sealed/{name}": OLD for name in ("cards.job", "more.job", "got", "got2")}
+        files |= {f"{name}.job": JOBS for name in ("sealed/pay", "sealed/pay2", "free/pay")}
         for name, jobs in files.items():
             folder.write(name, jobs)
-        for path, _, names in os.walk(folder.path):
-            for name in [path] + [os.path.join(path, name) for name in names if not name.startswith(("a.deck", "anyone"))]:
-                if is_root and name != folder.path:
-                    os.chown(name, NOBODY, NOBODY)
+        for name in [*files, "sealed", "free"] if is_root else []:
+            os.chown(folder.at(name), NOBODY, NOBODY)
         before = {name: folder.bytes(name) for name in files}
         os.chmod(folder.at("sealed"), mode)
         called, told = [Called() for _ in range(3)], "rje: can't {} sealed/{}\n".format
         first = "read" if mode == 0 else "write"
+        sent = "counted 3 of 3 jobs\noutcome done\n"
+        exchanged = f"{sent}handed 0 jobs, 0 whole\n"
         rows = [
             (["cards", "a.deck", "sealed/new.job"], "1 cards\n", told("write", "new.job")),
             (["cards", "a.deck", "sealed/cards.job"], "1 cards\n", told("write", "cards.job")),
             (["cards", "a.deck", "sealed/more.job", "--append"], "1 cards\n", told("write", "more.job")),
-            (["send", "sealed/pay.job", "--to", called[0].address], "counted 3 of 3 jobs\noutcome done\n", told(first, "pay.job")),
-            (["exchange", "sealed/pay2.job", "free/got", "--to", called[1].address], "counted 3 of 3 jobs\noutcome done\nhanded 0 jobs, 0 whole\n", told(first, "pay2.job")),
-            (["exchange", "free/pay.job", "sealed/got", "--to", called[2].address], "counted 3 of 3 jobs\noutcome done\nhanded 0 jobs, 0 whole\n", told("write", "got")),
+            (["send", "sealed/pay.job", "--to", called[0].address], sent, told(first, "pay.job")),
+            (["exchange", "sealed/pay2.job", "free/got", "--to", called[1].address], exchanged, told(first, "pay2.job")),
+            (["exchange", "free/pay.job", "sealed/got", "--to", called[2].address], exchanged, told("write", "got")),
         ]
         for words, printed, fault in rows:
             wanted = (0, printed, "") if mode == 0o755 else (3, "", fault)

@@ -13,11 +13,11 @@ import sys
 import time
 
 sys.path.insert(0, os.path.dirname(os.path.abspath(__file__)))
-from connected import Checks, figures, job_of  # noqa: E402
+from connected import ACK0, ENQ, EOT, Checks, figures, job_of  # noqa: E402
 from ends import (  # noqa: E402
-    ACK0, ENQ, EOT, JOBS, OLD, OTHERS, SENT, WAITING, Called, Calls, Faults, Folder, ended, free_port, in_state, is_listening, jobs_of, received,
-    refusal, waits_for,
+    JOBS, OLD, OTHERS, Called, Calls, Faults, Folder, ended, free_port, in_state, is_listening, jobs_of, received, refusal, waits_for,
 )
+from relayed import SENT, WAITING  # noqa: E402
 
 WORKERS = 3
 SENT_ALL = f"counted {len(JOBS)} of {len(JOBS)} jobs\noutcome done\n"
@@ -92,9 +92,10 @@ def round_of_appends(program, number):
 
 
 class Holder:
-    """A command that has the file `held`: from `begin` on, until `end` lets it go on and gives what is wrong with how it ended."""
+    """A command that has the file `held`: from `begin` on, until `end` lets it go on and gives what is wrong with how it ended. By then it has
+    replaced the file, or not: where it has, a second name is that of the old file, which it hasn't any more."""
 
-    words, receives = [], False
+    has_replaced = False
 
     def __init__(self, folder):
         self.folder = folder
@@ -111,6 +112,7 @@ class Holder:
 
 class Sends(Holder):
     label = "a sender"
+    has_replaced = True
 
     def begin(self):
         self.other = Called(is_let=False)
@@ -128,6 +130,7 @@ class Sends(Holder):
 
 class ExchangeCallsToSend(Holder):
     label = "the SEND of an exchange that called"
+    has_replaced = True
 
     def begin(self):
         self.other = Called(OTHERS, is_let=False)
@@ -163,6 +166,7 @@ class ExchangeCallsToReceive(Holder):
 
 class ExchangeIsCalled(Holder):
     label = "the SEND of an exchange that is called"
+    has_replaced = True
 
     def begin(self):
         self.process, port = self.folder.listening("exchange", "held", "other", "--timeout", "60000")
@@ -207,6 +211,7 @@ class ReceiveWaits(Holder):
 
 class ReceiveIsCalled(ReceiveWaits):
     label = "a receiver that is called"
+    has_replaced = True
 
     def begin(self):
         super().begin()
@@ -245,7 +250,7 @@ HOLDERS = [
     Sends, ExchangeCallsToSend, ExchangeCallsToReceive, ExchangeIsCalled, ExchangeWaits, ReceiveWaits, ReceiveIsCalled, CardsStopped,
     CardsAppendStopped,
 ]
-NAMES = ["held", "./held", "sub/../held", "again/held", "link", "sub/link", "hard", "sub/hard"]
+NAMES, SECOND_NAMES = ["held", "./held", "sub/../held", "again/held", "link", "sub/link"], ["hard", "sub/hard"]
 
 
 def attempts_at(name, address):
@@ -272,12 +277,12 @@ def beside_a_holder(program, kind):
         os.mkdir(folder.at("sub"))
         for link, target in {"again": ".", "link": "held", "sub/link": "../again/held"}.items():
             os.symlink(target, folder.at(link))
-        for link in ("hard", "sub/hard"):
+        for link in SECOND_NAMES:
             os.link(folder.at("held"), folder.at(link))
         holder = kind(folder)
         holder.begin()
         before, names, caller = folder.bytes("held"), folder.names(), Called(is_let=False)
-        for name in [*NAMES, folder.at("held")]:
+        for name in [*NAMES, folder.at("held"), *([] if kind.has_replaced else SECOND_NAMES)]:
             for words in attempts_at(name, caller.address):
                 if not faults:
                     faults.differs(f"rje {' '.join(words)}", folder.run(*words), refusal(name))
@@ -377,7 +382,7 @@ def spoiled_while_it_waits(program, spoil, status, told):
             spoil(folder)
         else:
             sender = Sends(folder)
-            os.link(folder.at("pay.job"), folder.at("held"))
+            os.symlink("pay.job", folder.at("held"))
             sender.begin()
         caller = Calls(port)
         faults.differs("what is said", caller.bid(), None)
