@@ -253,9 +253,8 @@ def sends_all_or_nothing(folder, name, label, given, words, room=None, **further
     faults, before, other = Faults(), folder.bytes(name), Called()
     end = folder.run(*words, "--to", other.address, **further)
     came, printed, told = other.over().came, f"counted {len(given)} of {len(given)} jobs\noutcome done\n", f"rje: can't write {name}\n"
-    is_sent = end[1] != ""
-    # The last writing of the file takes room again, which may be missing; all is marked by then.
-    faults.differs("how it ended", end in ((0, printed, ""), (3, printed, told), (3, "", told)), True)
+    is_sent = end[0] == 0
+    faults.differs("how it ended", end, (0, printed, "") if is_sent else (3, "", told))
     faults.differs("what came", came, received(given) if is_sent else [])
     if is_sent:
         faults.differs("what is marked", jobs_of(folder.at(name)), in_state(given, [SENT] * len(given)))
@@ -268,7 +267,7 @@ def sends_all_or_nothing(folder, name, label, given, words, room=None, **further
     faults.differs("a further one", again, (0, f"counted {len(left)} of {len(left)} jobs\noutcome done\n", ""))
     faults.differs("what came then", other.over().came, received(left))
     faults.differs("stray files", [name for name in os.listdir(os.path.dirname(folder.at(name))) if ".rje-" in name], [])
-    return faults.told(f"{label} {end}"), is_sent, end[0]
+    return faults.told(label), is_sent
 
 
 def within_size(program, version, size):
@@ -305,7 +304,7 @@ def check_sizes(checks, pool, program):
     for version in (2, 1):
         found = list(pool.map(functools.partial(within_size, program, version), range(ample + 2)))
         checks.check(" | ".join([it[0] for it in found if it[0]][:3]))
-        sizes = [size for size, it in enumerate(found) if it[1:] == (True, 0)]
+        sizes = [size for size, it in enumerate(found) if it[1]]
         checks.check(None if sizes == [ample, ample + 1] else f"a file of {ample} bytes is sent where files may have {sizes}")
     options = [f"size={pages * 4}k" for pages in range(2, 10)] + [f"size=1m,nr_inodes={files}" for files in range(2, 7)]
     found = [it for it in pool.map(functools.partial(on_disk, program), options)]
@@ -313,8 +312,8 @@ def check_sizes(checks, pool, program):
         figures("no disk can be mounted here")
         return
     checks.check(" | ".join([it[0] for it in found if it[0]][:3]))
-    figures("disks: " + ", ".join(f"{it} {'sends' if is_sent else 'sends nothing'}, {status}" for it, (_, is_sent, status) in zip(options, found)))
-    checks.check(None if {it[1:] for it in found} >= {(True, 0), (False, 3)} else "all disks are too small, or none")
+    figures("disks: " + ", ".join(f"{it} {'sends' if is_sent else 'sends nothing'}" for it, (_, is_sent) in zip(options, found)))
+    checks.check(None if {is_sent for _, is_sent in found} == {True, False} else "all disks are too small, or none")
 
 
 # With the last of them not even the file can be found in the folder.
@@ -371,6 +370,29 @@ def in_mode(program, mode):
     return faults.told(f"a folder of mode {mode:03o}")
 
 
+def left_by_another(program):
+    """What another user's command leaves that was killed, whatever its mask, refuses nobody; and a file of a lock's name that isn't empty is none."""
+    faults, is_root = Faults(), os.getuid() == 0
+    with Folder(program) as folder:
+        os.chmod(folder.path, 0o777)
+        folder.program = shutil.copy(program, folder.at("anyone.rje"))
+        CASES[0].prepare(folder)
+        for name, mode in {"anyone.rje": 0o755, "a.deck": 0o644, "held": 0o666}.items():
+            os.chmod(folder.at(name), mode)
+        kills = {"LD_PRELOAD": LIBRARY, "INJECT": "KILL", "INJECT_CALL": "rename", "INJECT_AT": "1"}
+        faults.differs("one that is killed", folder.run(*CASES[0].words, environment=kills, umask=0o077), (KILLED, "", ""))
+        faults.differs("its lock", ".held.rje-lock" in folder.names(), True)
+        user = {"user": NOBODY, "group": NOBODY, "extra_groups": []} if is_root else {}
+        faults.differs("another user's command", folder.run(*CASES[1].words, **user), (0, "1 cards\n", ""))
+        faults.differs("the file", jobs_of(folder.at("held")), in_state([*JOBS, *DECK], [WAITING] * 9))
+        folder.write(".held.rje-lock", OLD)
+        before = {name: folder.bytes(name) for name in folder.names()}
+        for case in CASES[:2]:
+            faults.differs(case.label, folder.run(*case.words), (3, "", "rje: can't write held\n"))
+        faults.differs("files", {name: folder.bytes(name) for name in folder.names()}, before)
+    return faults.told("locks that were left")
+
+
 def main(program, library):
     global LIBRARY
     LIBRARY, program, checks, began = os.path.abspath(library), os.path.abspath(program), Checks(), time.monotonic()
@@ -379,6 +401,7 @@ def main(program, library):
         figures(f"sizes: {time.monotonic() - began:.0f} s")
         for told in pool.map(functools.partial(in_mode, program), MODES):
             checks.check(told)
+        checks.check(left_by_another(program))
         figures(f"modes: {time.monotonic() - began:.0f} s")
         check_calls(checks, pool, program)
         figures(f"{time.monotonic() - began:.0f} s in all")

@@ -93,7 +93,7 @@ def round_of_appends(program, number):
 
 class Holder:
     """A command that has the file `held`: from `begin` on, until `end` lets it go on and gives what is wrong with how it ended. By then it has
-    replaced the file, or not: where it has, a second name is that of the old file, which it hasn't any more."""
+    replaced the file, or not: where it has, a second name from before is that of the old file, which it hasn't any more."""
 
     has_replaced = False
 
@@ -251,6 +251,7 @@ HOLDERS = [
     CardsAppendStopped,
 ]
 NAMES, SECOND_NAMES = ["held", "./held", "sub/../held", "again/held", "link", "sub/link"], ["hard", "sub/hard"]
+LATE_NAMES = ["late", "sub/late"]
 
 
 def attempts_at(name, address):
@@ -281,8 +282,10 @@ def beside_a_holder(program, kind):
             os.link(folder.at("held"), folder.at(link))
         holder = kind(folder)
         holder.begin()
+        for link in LATE_NAMES:
+            os.link(folder.at("held"), folder.at(link))
         before, names, caller = folder.bytes("held"), folder.names(), Called(is_let=False)
-        for name in [*NAMES, folder.at("held"), *([] if kind.has_replaced else SECOND_NAMES)]:
+        for name in [*NAMES, folder.at("held"), *LATE_NAMES, *([] if kind.has_replaced else SECOND_NAMES)]:
             for words in attempts_at(name, caller.address):
                 if not faults:
                     faults.differs(f"rje {' '.join(words)}", folder.run(*words), refusal(name))
