@@ -1,7 +1,7 @@
 """One process a job file: commands that write one file at the same time, under one name or several.
 
-locked.py PROGRAM INJECT [ROUNDS]   INJECT: inject.c as a library; ROUNDS: how many pairs of `receive`, and of `send` (200), and four times
-                                    as many as rounds of eight `cards --append`
+locked.py PROGRAM INJECT SLOW [ROUNDS]   INJECT, SLOW: inject.c and slow.c as libraries; ROUNDS: how many pairs of `receive`, and of `send`
+                                         (200), and four times as many as rounds of eight `cards --append`
 
 Prints a line for each fault, lines that begin with 'figures: ', and at last how many checks went well.
 """
@@ -15,7 +15,7 @@ import time
 sys.path.insert(0, os.path.dirname(os.path.abspath(__file__)))
 from connected import ACK0, ENQ, EOT, Checks, figures, job_of  # noqa: E402
 from ends import (  # noqa: E402
-    JOBS, OLD, OTHERS, Called, Calls, Faults, Folder, ended, free_port, in_state, is_listening, jobs_of, received, refusal, waits_for,
+    JOBS, OLD, OTHERS, Called, Calls, Faults, Folder, ended, in_state, is_listening, jobs_of, received, refusal, waits_for,
 )
 from relayed import SENT, WAITING  # noqa: E402
 
@@ -31,7 +31,8 @@ def pair_of_receivers(program, number):
         if number % 2:
             folder.write("got", OLD)
         before = folder.bytes("got")
-        ports = [free_port(), free_port()]
+        # Each pair has its own, below those that the system gives to whoever calls.
+        ports = [12000 + 2 * number, 12001 + 2 * number]
         ends = [folder.start("receive", "got", "--listen", f"127.0.0.1:{port}") for port in ports]
         waits_for(lambda: any(end.poll() is not None for end in ends))
         refused = 0 if ends[0].poll() is not None else 1
@@ -68,8 +69,10 @@ def pair_of_senders(program, number):
 
 
 def round_of_appends(program, number):
-    """Eight `cards --append` into one file at once: each adds its job, or is refused. Gives how many were refused, too."""
+    """Eight `cards --append` into one file at once: each adds its job, or is refused. Gives how many were refused, too. In each second round
+    the disk is slow, so that all but one meet another one."""
     faults = Faults()
+    disk = {"LD_PRELOAD": SLOW, "SLOW": "40"} if number % 2 else {}
     decks = [job_of(f"DECK{it}") for it in range(8)]
     with Folder(program) as folder:
         old = OLD if number % 2 else []
@@ -78,7 +81,7 @@ def round_of_appends(program, number):
         for it in range(8):
             with open(folder.at(f"{it}.deck"), "w") as file:
                 file.write(f"DECK{it}\n")
-        ends = [ended(it) for it in [folder.start("cards", f"{it}.deck", "pay.job", "--append") for it in range(8)]]
+        ends = [ended(it) for it in [folder.start("cards", f"{it}.deck", "pay.job", "--append", environment=disk) for it in range(8)]]
         added = [deck for deck, end in zip(decks, ends) if end == (0, "1 cards\n", "")]
         others = [end for end in ends if end != (0, "1 cards\n", "")]
         faults.differs("those that add nothing", others, [refusal("pay.job")] * len(others))
@@ -421,9 +424,9 @@ def refused_at_first(program):
     return faults.told("refused at first")
 
 
-def main(program, library, rounds=200):
-    global LIBRARY
-    LIBRARY, program, checks, began = os.path.abspath(library), os.path.abspath(program), Checks(), time.monotonic()
+def main(program, library, slow, rounds=200):
+    global LIBRARY, SLOW
+    LIBRARY, SLOW, program, checks, began = os.path.abspath(library), os.path.abspath(slow), os.path.abspath(program), Checks(), time.monotonic()
     with concurrent.futures.ThreadPoolExecutor(WORKERS) as pool:
         waits = [pool.submit(beside_a_holder, program, kind) for kind in HOLDERS]
         waits += [pool.submit(spoiled_while_it_waits, program, *row) for row in SPOILERS]
@@ -449,4 +452,4 @@ def main(program, library, rounds=200):
 
 
 if __name__ == "__main__":
-    sys.exit(main(sys.argv[1], sys.argv[2], *map(int, sys.argv[3:])))
+    sys.exit(main(*sys.argv[1:4], *map(int, sys.argv[4:])))
