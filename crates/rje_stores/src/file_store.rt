@@ -135,8 +135,10 @@ impl<'a, R: Files<File = File>> Store for FileStore<'a, R> {
         if self.locks.iter().any(|lock| lock.is_of(name)) {
             return Ok(());
         }
+        // The room first: a lock that there is no room for would leave its file.
+        self.locks.reserve(1)?;
         if let Some(lock) = FileLock::take(self.rt, alloc, name)? {
-            if let Err(lock) = self.locks.push(lock) {
+            if self.locks.push(lock).is_err() {
                 return Err(StoreFault::OutOfMemory);
             }
         }
