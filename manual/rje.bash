@@ -6,8 +6,8 @@ _rje() {
     cards) words+=' --printer --punch --transparent --name --append' ;;
     loop) words+=' --timeout --trace' ;;
     send) words+=' --to --timeout --trace' ;;
-    receive) words+=' --listen --timeout --trace' ;;
-    exchange) words+=' --to --listen --timeout --trace' ;;
+    receive) words+=' --listen --new --append --timeout --trace' ;;
+    exchange) words+=' --to --listen --new --append --timeout --trace' ;;
     esac
     COMPREPLY=()
     if [ "$COMP_CWORD" = 1 ]; then

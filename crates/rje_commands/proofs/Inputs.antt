@@ -20,9 +20,9 @@ use Rattle.rje_orders.specs.declared.order.TryOrder.{TryOrder}
 use Rattle.rje_orders.specs.declared.order.FileOrder.{FileOrder}
 use Rattle.rje_commands.specs.declared.command_fault.CommandFault.{CommandFault}
 use Rattle.rje_commands.specs.declared.command_fault.CommandFault.TheVariants as told
-use Rattle.rje_commands.specs.Commands.{AreEntriesOf, AreInFront, OfFile, OfFiles, OfDeck, IsFault, MakesFile, deck_job}
+use Rattle.rje_commands.specs.Commands.{AreEntriesOf, AreInFront, IsThere, OfFile, OfFiles, OfDeck, IsFault, MakesFile, deck_job}
 use Rattle.rje_commands.specs.NamedFile.{IsWriteFault}
-use Rattle.rje_commands.specs.Inside.Commands.{IsMadeFault, IsHeld, IsHeldFault, IsMade, IsThere, IsTryFault, IsTextFault, IsCheckFault}
+use Rattle.rje_commands.specs.Inside.Commands.{IsMadeFault, IsHeld, IsHeldFault, IsMade, IsTryFault, IsTextFault, IsCheckFault}
 use Rattle.rje_stores.specs.Store.{FileMap, Discloses, IsSame, Sets}
 
 module _ (P Q : List ℕ → Type 0) (more : (file : List ℕ) → P file → Q file) where
@@ -64,13 +64,13 @@ told_as (Err e) fault P is holds = subst P (sym is) holds
 told_as (Ok x) fault P is holds = absurd is
 
 -- what a name has after a read that left the files as they were, it had before
-there_before : (name : List ℕ) (f g : Option FileMap) (held : Option (List ℕ)) → Discloses f g IsSame → IsThere name g held → IsThere name f held
+pub there_before : (name : List ℕ) (f g : Option FileMap) (held : Option (List ℕ)) → Discloses f g IsSame → IsThere name g held → IsThere name f held
 there_before name None g held same is = tt
 there_before name (Some f) None held same is = absurd same
 there_before name (Some f) (Some g) held same is = sym (same name) ∙ is
 
 -- a job file that was read
-there_file : (name : List ℕ) (f : Option FileMap) (held : Option (List ℕ)) (P : List ℕ → Type 0) → IsThere name f held → IsSomeAnd held P → OfFile name f P
+pub there_file : (name : List ℕ) (f : Option FileMap) (held : Option (List ℕ)) (P : List ℕ → Type 0) → IsThere name f held → IsSomeAnd held P → OfFile name f P
 there_file name None held P is h = tt
 there_file name (Some f) held P is h = subst (λ (known : Option (List ℕ)). IsSomeAnd known P) (sym is) h
 

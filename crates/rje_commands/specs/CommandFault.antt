@@ -8,7 +8,7 @@ use Rattle.rje_print.specs.declared.script_fault.ScriptFault.{ScriptFault}
 use Rattle.rje_station.specs.declared.station_fault.StationFault.{StationFault}
 use Rattle.line_world.specs.declared.world_fault.WorldFault.{WorldFault}
 use Rattle.rje_commands.specs.declared.command_fault.CommandFault.{CommandFault}
-use Rattle.rje_commands.specs.declared.command_fault.CommandFault.TheVariants.{OutOfMemory, Deck, File, BadJob, Script, NotDamage, BadCut, NoCommand, LineFailed, Babble, OutOfStep, CannotRead, CannotWrite, InUse, Unsynced, Output, Closed}
+use Rattle.rje_commands.specs.declared.command_fault.CommandFault.TheVariants.{OutOfMemory, Deck, File, BadJob, Script, NotDamage, BadCut, HoldsJobs, NoCommand, LineFailed, Babble, OutOfStep, CannotRead, CannotWrite, InUse, Unsynced, Output, Closed}
 
 -- an input that is refused has status 1, want of memory 5
 abbrev pub deck_status : DeckFault → ℕ
@@ -30,6 +30,7 @@ status_of (BadJob number) = 1
 status_of (Script line) = 1
 status_of (NotDamage turn) = 1
 status_of (BadCut turn) = 1
+status_of (HoldsJobs name) = 1
 status_of NoCommand = 2
 status_of LineFailed = 3
 status_of Babble = 3

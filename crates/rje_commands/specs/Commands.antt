@@ -33,6 +33,10 @@ use Rattle.rje_stores.specs.Store.{FileMap, Discloses, IsSame, Sets}
 abbrev pub OfFile : List ℕ → Option FileMap → (List ℕ → Type 0) → Type 0
 OfFile name files P = IfSome files (λ known. IsSomeAnd (known name) P)
 
+-- where the files are told, this is what this name has
+abbrev pub IsThere : List ℕ → Option FileMap → Option (List ℕ) → Type 0
+IsThere name files found = IfSome files (λ known. known name ≡ found)
+
 -- this holds of the files of these two names
 abbrev pub OfFiles : (first second : List ℕ) → Option FileMap → (List ℕ → List ℕ → Type 0) → Type 0
 OfFiles first second files P = IfSome files (λ known. IsSomeAnd (known first) (λ a. IsSomeAnd (known second) (λ b. P a b)))

@@ -35,6 +35,9 @@ pub enum CommandFault<'a> {
     /// The turn of this number, from 1, has a fate whose cuts don't fit.
     #[error("turn {0} has a bad cut")]
     BadCut(usize),
+    /// The file of this name holds jobs, and the order keeps those.
+    #[error("{0} holds jobs")]
+    HoldsJobs(&'a str),
     /// The words ask for a command that isn't served here: one over sockets, or one over files.
     #[error("no command")]
     NoCommand,
@@ -97,6 +100,7 @@ impl CommandFault<'_> {
             | CommandFault::BadJob(_)
             | CommandFault::Script(_)
             | CommandFault::NotDamage(_)
+            | CommandFault::HoldsJobs(_)
             | CommandFault::BadCut(_) => 1,
             CommandFault::NoCommand => 2,
             CommandFault::LineFailed

@@ -12,10 +12,11 @@ mod try_command;
 pub use blocks_command::blocks;
 pub use cards_command::cards;
 pub use check_command::check;
-pub use holding::{HeldFile, lock_file};
+pub use holding::{HeldFile, lock_file, read_if_there};
 pub use inputs::{read_file, read_job_file};
 pub use output::{
     extend_file, look_at_file, look_beside, put, put_lines, set_byte_of_file, write_file,
+    write_grown,
 };
 pub use print_command::print;
 pub use show_command::show;

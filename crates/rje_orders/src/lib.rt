@@ -6,6 +6,6 @@ mod order;
 
 pub use device::Device;
 pub use order::{
-    CardsOrder, ExchangeOrder, FileOrder, LoopOrder, Meeting, Order, PeerOrder, STANDARD_INPUT,
-    SocketOrder, TryOrder,
+    CardsOrder, Destination, ExchangeOrder, Existing, FileOrder, LoopOrder, Meeting, Order,
+    ReceiveOrder, STANDARD_INPUT, SendOrder, SocketOrder, TryOrder,
 };

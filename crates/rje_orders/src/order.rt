@@ -1,4 +1,7 @@
 //! The orders of the program's commands.
+ghost use Rattle.std.specs.Prelude.{◌≡◌};
+ghost use Rattle.rje_orders.specs.Existing.{existing_chosen};
+
 use crate::device::Device;
 use rje_files::JobName;
 use std::net::SocketAddr;
@@ -38,9 +41,9 @@ pub enum SocketOrder<'a> {
     /// A transmission between both ends in this process.
     Loop(LoopOrder<'a>),
     /// A transmission to a receiver.
-    Send(PeerOrder<'a>),
+    Send(SendOrder<'a>),
     /// A transmission from a sender.
-    Receive(PeerOrder<'a>),
+    Receive(ReceiveOrder<'a>),
     /// A transmission each way over one connection.
     Exchange(ExchangeOrder<'a>),
 }
@@ -80,10 +83,10 @@ pub struct LoopOrder<'a> {
     pub trace: bool,
 }
 
-/// What `send` and `receive` are asked for.
+/// What `send` is asked for.
 #[derive(Clone, Copy, Debug, PartialEq, Eq)]
-pub struct PeerOrder<'a> {
-    /// The job file that is sent, or written.
+pub struct SendOrder<'a> {
+    /// The job file that is sent.
     pub jobs: &'a str,
     /// Where the receiver listens.
     pub address: SocketAddr,
@@ -93,13 +96,60 @@ pub struct PeerOrder<'a> {
     pub trace: bool,
 }
 
+/// What `receive` is asked for.
+#[derive(Clone, Copy, Debug, PartialEq, Eq)]
+pub struct ReceiveOrder<'a> {
+    /// The job file that is received into.
+    pub into: Destination<'a>,
+    /// Where it listens.
+    pub address: SocketAddr,
+    /// How long a hearing waits for more bytes, in milliseconds, 1 to 60000.
+    pub timeout: u16,
+    /// Whether each turn is told on standard error as it happens.
+    pub trace: bool,
+}
+
+/// A job file that is received into.
+#[derive(Clone, Copy, Debug, PartialEq, Eq)]
+pub struct Destination<'a> {
+    /// Its name.
+    pub jobs: &'a str,
+    /// What becomes of the jobs that it holds already.
+    pub existing: Existing,
+}
+
+/// What becomes of the jobs that a file which is received into holds already.
+#[derive(Clone, Copy, Debug, PartialEq, Eq)]
+pub enum Existing {
+    /// The jobs that come replace them.
+    Replace,
+    /// A file that holds jobs is refused.
+    Refuse,
+    /// They stay as they are, and the jobs that come stand after them.
+    Append,
+}
+
+impl Existing {
+    /// What the options for a new file and for adding to one choose: none where both are given.
+    pub fn chosen(new: bool, append: bool) -> Option<Existing>
+        ensures existing { result ≡ existing_chosen new append }
+    {
+        match (new, append) {
+            (false, false) => Some(Existing::Replace),
+            (true, false) => Some(Existing::Refuse),
+            (false, true) => Some(Existing::Append),
+            (true, true) => None,
+        }
+    }
+}
+
 /// What `exchange` is asked for.
 #[derive(Clone, Copy, Debug, PartialEq, Eq)]
 pub struct ExchangeOrder<'a> {
     /// The job file that is sent.
     pub send: &'a str,
-    /// The job file that is written.
-    pub received: &'a str,
+    /// The job file that is received into.
+    pub received: Destination<'a>,
     /// Whom it calls, or where it is called.
     pub place: Meeting,
     /// How long a hearing waits for more bytes, in milliseconds, 1 to 60000.

@@ -16,11 +16,12 @@ use Rattle.rje_orders.specs.declared.order.Meeting.{Meeting}
 use Rattle.rje_orders.specs.declared.order.Meeting.TheVariants.{Calls, Listens}
 use Rattle.rje_orders.specs.declared.order.Order.{Order}
 use Rattle.rje_orders.specs.declared.order.Order.TheVariants.{Files, Sockets}
-use Rattle.rje_orders.specs.declared.order.PeerOrder.{PeerOrder}
+use Rattle.rje_orders.specs.declared.order.ReceiveOrder.{ReceiveOrder}
+use Rattle.rje_orders.specs.declared.order.SendOrder.{SendOrder}
 use Rattle.rje_orders.specs.declared.order.SocketOrder.{SocketOrder}
 use Rattle.rje_words.specs.declared.words_fault.WordsFault.{WordsFault}
 use Rattle.rje_words.specs.Address.{IsAddressOf}
-use Rattle.rje_words.specs.Asking.{AsksFor, IsCardsOrderOf, IsExchangeOrderOf, IsFaultOf, IsFound, IsGivenName, IsMeetingFault, IsMeetingOf, IsOrderOf, IsPeerOrderOf, IsWordsFault}
+use Rattle.rje_words.specs.Asking.{AsksFor, IsCardsOrderOf, IsExchangeOrderOf, IsFaultOf, IsFound, IsGivenName, IsMeetingFault, IsMeetingOf, IsOrderOf, IsReceiveOrderOf, IsSendOrderOf, IsWordsFault}
 use Rattle.rje_words.specs.CommandLine.{rje_app}
 use Rattle.rje_program.specs.Command.{AsksForNoFiles, error_status, words_status}
 use Rattle.rje_program.specs.SocketCommand.{AsksForNoSockets}
@@ -62,6 +63,7 @@ over_sockets name = bytes_eq name (codes "loop") || (bytes_eq name (codes "send"
 abbrev is_of_sockets : WordsFault → Bool
 is_of_sockets WordsFault.BadAddress = true
 is_of_sockets WordsFault.NoMeeting = true
+is_of_sockets WordsFault.NewAndAppend = true
 is_of_sockets _ = false
 
 module _ (name : Text) (rows : List Row) where
@@ -87,6 +89,8 @@ module _ (name : Text) (rows : List Row) where
   of_fault WordsFault.BadAddress (inr (inl (is, none))) = rw is refl
   of_fault WordsFault.BadAddress (inr (inr (is, none))) = rw is refl
   of_fault WordsFault.NoMeeting (is, none) = rw is refl
+  of_fault WordsFault.NewAndAppend (inl (is, none)) = rw is refl
+  of_fault WordsFault.NewAndAppend (inr (is, none)) = rw is refl
 
   two_halves : over_sockets name ≡ false → over_sockets name ≡ true → ⊥
   two_halves files sockets = true≢false (sym sockets ∙ files)
@@ -100,13 +104,13 @@ module _ (name : Text) (rows : List Row) where
   cards_order (FileOrder.Print jobs) (is, has) named = absurd (apart _ _ name refl refl is named)
   cards_order (FileOrder.Try o) (is, has) named = absurd (apart _ _ name refl refl is named)
 
-  send_order : (order : SocketOrder) → IsOrderOf name rows (Sockets order) → name ≡ codes "send" → (o : PeerOrder) × IsPeerOrderOf (codes "to") rows o
+  send_order : (order : SocketOrder) → IsOrderOf name rows (Sockets order) → name ≡ codes "send" → (o : SendOrder) × IsSendOrderOf rows o
   send_order (SocketOrder.Send o) (is, has) named = (o, has)
   send_order (SocketOrder.Loop o) (is, has) named = absurd (apart _ _ name refl refl is named)
   send_order (SocketOrder.Receive o) (is, has) named = absurd (apart _ _ name refl refl is named)
   send_order (SocketOrder.Exchange o) (is, has) named = absurd (apart _ _ name refl refl is named)
 
-  receive_order : (order : SocketOrder) → IsOrderOf name rows (Sockets order) → name ≡ codes "receive" → (o : PeerOrder) × IsPeerOrderOf (codes "listen") rows o
+  receive_order : (order : SocketOrder) → IsOrderOf name rows (Sockets order) → name ≡ codes "receive" → (o : ReceiveOrder) × IsReceiveOrderOf rows o
   receive_order (SocketOrder.Receive o) (is, has) named = (o, has)
   receive_order (SocketOrder.Loop o) (is, has) named = absurd (apart _ _ name refl refl is named)
   receive_order (SocketOrder.Send o) (is, has) named = absurd (apart _ _ name refl refl is named)
@@ -124,12 +128,15 @@ module _ (name : Text) (rows : List Row) where
   no_fault (Files order) WordsFault.BadName is (named, (chosen, none)) = no_name _ _ (cards_order order is named).1.name none
   no_fault (Files order) WordsFault.BadAddress is none = two_halves (of_files order is) (of_fault WordsFault.BadAddress none)
   no_fault (Files order) WordsFault.NoMeeting is none = two_halves (of_files order is) (of_fault WordsFault.NoMeeting none)
+  no_fault (Files order) WordsFault.NewAndAppend is none = two_halves (of_files order is) (of_fault WordsFault.NewAndAppend none)
   no_fault (Sockets order) WordsFault.TwoDevices is none = two_halves (of_fault WordsFault.TwoDevices none) (of_sockets order is)
   no_fault (Sockets order) WordsFault.BadName is none = two_halves (of_fault WordsFault.BadName none) (of_sockets order is)
   no_fault (Sockets order) WordsFault.BadAddress is (inl (named, none)) = no_address _ _ (send_order order is named).1.address none
   no_fault (Sockets order) WordsFault.BadAddress is (inr (inl (named, none))) = no_address _ _ (receive_order order is named).1.address none
   no_fault (Sockets order) WordsFault.BadAddress is (inr (inr (named, none))) = no_place _ _ _ (exchange_order order is named).1.place none
   no_fault (Sockets order) WordsFault.NoMeeting is (named, none) = no_meeting _ _ _ (exchange_order order is named).1.place none
+  no_fault (Sockets order) WordsFault.NewAndAppend is (inl (named, (at, none))) = none-some _ (sym none ∙ (receive_order order is named).1.into.existing)
+  no_fault (Sockets order) WordsFault.NewAndAppend is (inr (named, (at, none))) = none-some _ (sym none ∙ (exchange_order order is named).1.received.existing)
 
 -- THE WORDS
 
@@ -150,6 +157,7 @@ no_mistake (word ∷ words) order WordsFault.TwoDevices asks fails two = both_fo
 no_mistake (word ∷ words) order WordsFault.BadName asks fails two = both_found (word ∷ words) _ _ (λ name rows. no_fault name rows order WordsFault.BadName) asks fails
 no_mistake (word ∷ words) order WordsFault.BadAddress asks fails two = both_found (word ∷ words) _ _ (λ name rows. no_fault name rows order WordsFault.BadAddress) asks fails
 no_mistake (word ∷ words) order WordsFault.NoMeeting asks fails two = both_found (word ∷ words) _ _ (λ name rows. no_fault name rows order WordsFault.NoMeeting) asks fails
+no_mistake (word ∷ words) order WordsFault.NewAndAppend asks fails two = both_found (word ∷ words) _ _ (λ name rows. no_fault name rows order WordsFault.NewAndAppend) asks fails
 
 one_half : (words : List Text) (files : FileOrder) (sockets : SocketOrder) → AsksFor words (Files files) → AsksFor words (Sockets sockets) → ⊥
 one_half [] files sockets asks also = also

@@ -22,7 +22,8 @@ pub fn tell_words<O: Write, E: Write>(fault: &WordsFault, out: &mut O, err: &mut
         WordsFault::TwoDevices
         | WordsFault::BadName
         | WordsFault::BadAddress
-        | WordsFault::NoMeeting => {
+        | WordsFault::NoMeeting
+        | WordsFault::NewAndAppend => {
             match writeln!(err, "rje: {fault}") {
                 Ok(()) => 2,
                 Err(_) => CommandFault::Output.status(),

@@ -19,7 +19,11 @@ use Rattle.rje_station.specs.Receiving.{sound_taken}
 use Rattle.rje_station.specs.Sending.{Sending}
 use Rattle.rje_station.specs.Station.{Contending, after_other, after_other_ended, after_other_refusal, after_own_refusal, after_own_reply, after_own_speaking, gives_way, lets_in}
 use Rattle.rje_sockets.specs.declared.broken_off.BrokenOff.{BrokenOff}
+use Rattle.rje_files.specs.declared.entry.Entry.{Entry}
 use Rattle.rje_sockets.specs.declared.keeper.Keeper.{Keeper}
+use Rattle.rje_sockets.specs.declared.kept_file.KeptFile.{KeptFile}
+use Rattle.rje_sockets.specs.InFront.{HasFront, IsOpened}
+use Rattle.rje_sockets.proofs.InFront.{left_alone, opened_as, opened_untold}
 use Rattle.rje_sockets.specs.declared.marker.Marker.{Marker}
 use Rattle.rje_sockets.specs.BothFiles.{BreaksBoth, GoesOnHolding, HoldsBoth, kept_of}
 use Rattle.rje_sockets.specs.BothWays.{FailsInOthers, FailsInOwn, StationTurn, TakesOthers, TakesOwn, Took, after_answering_other, after_own_turn}
@@ -84,12 +88,14 @@ sets_apart sent own bytes b f h two sets = (
 
 -- what is said of the files before and after a change of the one, and can be said as well where the other one is made behind it
 record IsApart (own : List ℕ) (Q : Option FileMap → Option FileMap → Type 0) : Type 0 where
+  leaves : (f h : FileMap) → Q (Some f) (Some h) → h own ≡ f own
   untold : (g : Option FileMap) → Q None g → Q None None
   told : (f : FileMap) → Q (Some f) None → ⊥
   apart : (bytes : List ℕ) (f h : FileMap) → Q (Some (with_bytes own bytes f)) (Some h) → Q (Some f) (Some (as_in own f h)) × Sets own bytes (as_in own f h) h
 
 sent_apart : (file sent own : List ℕ) (n : ℕ) → sent ≢ own → IsApart own (λ f g. MarksSent file n sent f g)
 sent_apart file sent own n two = record {
+  leaves = λ f h (b, is, few, sets). left_alone sent own b f h two sets;
   untold = λ g (b, is, few, t). (b, is, few, tt);
   told = λ f (b, is, few, t). t;
   apart = λ bytes f h (b, is, few, sets). let a = sets_apart sent own bytes b f h two sets in ((b, is, few, a.0), a.1);
@@ -97,60 +103,75 @@ sent_apart file sent own n two = record {
 
 marks_apart : (marker : Marker) (own : List ℕ) (n : ℕ) → marker.name.now ≢ own → IsApart own (λ f g. Marks marker n f g)
 marks_apart marker own n two = let are = sent_apart marker.file.items marker.name.now own marker.marked two in record {
+  leaves = λ f h m. are.leaves f h m.file;
   untold = λ g m. record { places = m.places; all = m.all; file = are.untold g m.file };
   told = λ f m. are.told f m.file;
   apart = λ bytes f h m. let a = are.apart bytes f h m.file in (record { places = m.places; all = m.all; file = a.0 }, a.1);
 }
 
-module _ (old : Marker) (counted : ℕ) (keeper : Keeper) (two : old.name.now ≢ keeper.name.now) (Q : Option FileMap → Option FileMap → Type 0) (can : IsApart keeper.name.now Q) where
+module _ (old : Marker) (counted : ℕ) (front : List Entry) (keeper : Keeper) (two : old.name.now ≢ keeper.file.into.jobs.now) (Q : Option FileMap → Option FileMap → Type 0)
+    (can : IsApart keeper.file.into.jobs.now Q) where
+  abbrev own : List ℕ
+  own = keeper.file.into.jobs.now
+
   as_marked : (files made others later : Option FileMap) → Marks old counted files made → MarksSent old.file.items old.marked old.name.now others later → Marks old counted others later
   as_marked files made others later m file = record { places = m.places; all = m.all; file = file }
 
   untold_marks : (marked g : Option FileMap) → MarksSent old.file.items old.marked old.name.now None marked → MarksSent old.file.items old.marked old.name.now None g
   untold_marks marked g (b, is, few, t) = (b, is, few, tt)
 
+  -- in front of what is kept stands what stood there
+  opened_still : (f m0 h : FileMap) → Marks old counted (Some f) (Some m0) → Q (Some f) (Some h) → IsOpened front keeper.file (Some m0) → IsOpened front keeper.file (Some h)
+  opened_still f m0 h m q = opened_as front keeper.file m0 h (can.leaves f h q ∙ sym ((marks_apart old own counted two).leaves f m0 m))
+
   -- the one file was changed beside what is kept in the other
   beside : (kept : List Job) (files marked g h : Option FileMap) → ((files : Option FileMap) → Marks old counted files g → Q files h) → Marks old counted files marked
-      → AreKept kept keeper.long keeper.name.now marked g → (marked' : Option FileMap) × Q files marked' × AreKept kept keeper.long keeper.name.now marked' h
-  beside [] None marked g h on m same = (None, can.untold h (on None (as_marked None marked None g m (untold_marks marked g m.file))), tt)
-  beside (j ∷ js) None marked g h on m (bytes, file, is, few, t) =
-      (None, can.untold h (on None (as_marked None marked None g m (untold_marks marked g m.file))), (bytes, file, is, few, tt))
-  beside kept (Some f) None g h on m k = absurd ((marks_apart old keeper.name.now counted two).told f m)
-  beside [] (Some f) (Some m0) g h on m same =
-      (h, on (Some f) (as_marked (Some f) (Some m0) (Some f) g m (stays old.file.items old.name.now old.marked (Some f) (Some m0) g same m.file)), same_itself h)
-  beside (j ∷ js) (Some f) (Some m0) None h on m (bytes, file, is, few, t) = absurd t
-  beside (j ∷ js) (Some f) (Some m0) (Some g) None on m (bytes, file, is, few, sets) =
-      absurd (can.told (with_bytes keeper.name.now bytes f) (on _ (as_marked (Some f) (Some m0) _ (Some g) m (marked_behind old.file.items old.name.now keeper.name.now bytes old.marked f m0 g two sets m.file))))
-  beside (j ∷ js) (Some f) (Some m0) (Some g) (Some h) on m (bytes, file, is, few, sets) =
-      let a = can.apart bytes f h (on _ (as_marked (Some f) (Some m0) _ (Some g) m (marked_behind old.file.items old.name.now keeper.name.now bytes old.marked f m0 g two sets m.file))) in
-      (Some (as_in keeper.name.now f h), a.0, (bytes, file, is, few, a.1))
+      → IsOpened front keeper.file marked → AreKept front kept keeper.long own marked g
+      → (marked' : Option FileMap) × Q files marked' × IsOpened front keeper.file marked' × AreKept front kept keeper.long own marked' h
+  beside [] None marked g h on m opened same =
+      (None, can.untold h (on None (as_marked None marked None g m (untold_marks marked g m.file))), opened_untold front keeper.file marked opened, tt)
+  beside (j ∷ js) None marked g h on m opened (bytes, file, is, few, t) =
+      (None, can.untold h (on None (as_marked None marked None g m (untold_marks marked g m.file))), opened_untold front keeper.file marked opened, (bytes, file, is, few, tt))
+  beside kept (Some f) None g h on m opened k = absurd ((marks_apart old own counted two).told f m)
+  beside [] (Some f) (Some m0) g None on m opened same =
+      absurd (can.told f (on (Some f) (as_marked (Some f) (Some m0) (Some f) g m (stays old.file.items old.name.now old.marked (Some f) (Some m0) g same m.file))))
+  beside [] (Some f) (Some m0) g (Some h) on m opened same =
+      let q = on (Some f) (as_marked (Some f) (Some m0) (Some f) g m (stays old.file.items old.name.now old.marked (Some f) (Some m0) g same m.file)) in
+      (Some h, q, opened_still f m0 h m q opened, same_itself (Some h))
+  beside (j ∷ js) (Some f) (Some m0) None h on m opened (bytes, file, is, few, t) = absurd t
+  beside (j ∷ js) (Some f) (Some m0) (Some g) None on m opened (bytes, file, is, few, sets) =
+      absurd (can.told (with_bytes own bytes f) (on _ (as_marked (Some f) (Some m0) _ (Some g) m (marked_behind old.file.items old.name.now own bytes old.marked f m0 g two sets m.file))))
+  beside (j ∷ js) (Some f) (Some m0) (Some g) (Some h) on m opened (bytes, file, is, few, sets) =
+      let a = can.apart bytes f h (on _ (as_marked (Some f) (Some m0) _ (Some g) m (marked_behind old.file.items old.name.now own bytes old.marked f m0 g two sets m.file))) in
+      (Some (as_in own f h), a.0, opened_still f m0 (as_in own f h) m a.0 opened, (bytes, file, is, few, a.1))
 
-  -- so it was beside what a keeper has kept
-  beside_keeper : (jobs : List Job) (files g h : Option FileMap) → ((files : Option FileMap) → Marks old counted files g → Q files h) → HoldsBoth old counted keeper jobs files g
-      → (marked : Option FileMap) × Q files marked × KeepsJobs keeper jobs marked h
-  beside_keeper jobs files g h on (marked, m, k) =
-      let now = beside (take keeper.kept jobs) files marked g h on m k.file in
-      (now.0, now.1, record { few = k.few; all = k.all; cut = k.cut; file = now.2 })
+-- so it was beside what a keeper has kept
+beside_keeper : (old : Marker) (counted : ℕ) (keeper : Keeper) (two : old.name.now ≢ keeper.file.into.jobs.now) (Q : Option FileMap → Option FileMap → Type 0) (can : IsApart keeper.file.into.jobs.now Q)
+    (jobs : List Job) (files g h : Option FileMap) → ((files : Option FileMap) → Marks old counted files g → Q files h) → HoldsBoth old counted keeper jobs files g
+    → (marked : Option FileMap) × Q files marked × KeepsJobs keeper jobs marked h
+beside_keeper old counted keeper two Q can jobs files g h on (marked, m, k) =
+    let now = beside old counted k.front keeper two Q can (take keeper.kept jobs) files marked g h on m k.opened k.kept in
+    (now.0, now.1, record { front = k.front; opened = now.2; few = k.few; all = k.all; cut = k.cut; kept = now.3 })
 
 -- A MARKER AND A KEEPER
 
-pub holds_marked : (old new : Marker) (counted more : ℕ) (keeper : Keeper) (jobs : List Job) (files g h : Option FileMap) → old.name.now ≢ keeper.name.now → GoesOnMarking old new counted more g h
+pub holds_marked : (old new : Marker) (counted more : ℕ) (keeper : Keeper) (jobs : List Job) (files g h : Option FileMap) → old.name.now ≢ keeper.file.into.jobs.now → GoesOnMarking old new counted more g h
     → HoldsBoth old counted keeper jobs files g → HoldsBoth new more keeper jobs files h
 holds_marked old new counted more keeper jobs files g h two (name, file, on) both =
-    let apart : new.name.now ≢ keeper.name.now = λ is. two (sym (ap (λ (n : _). n.now) name) ∙ is) in
-    beside_keeper old counted keeper two (λ f g. Marks new more f g) (marks_apart new keeper.name.now more apart) jobs files g h on both
+    let apart : new.name.now ≢ keeper.file.into.jobs.now = λ is. two (sym (ap (λ (n : _). n.now) name) ∙ is) in
+    beside_keeper old counted keeper two (λ f g. Marks new more f g) (marks_apart new keeper.file.into.jobs.now more apart) jobs files g h on both
 
 -- the whole file is marked
-pub holds_written : (marker : Marker) (counted n : ℕ) (keeper : Keeper) (jobs : List Job) (files g h : Option FileMap) → marker.name.now ≢ keeper.name.now
+pub holds_written : (marker : Marker) (counted n : ℕ) (keeper : Keeper) (jobs : List Job) (files g h : Option FileMap) → marker.name.now ≢ keeper.file.into.jobs.now
     → MarksSent marker.file.items n marker.name.now g h → HoldsBoth marker counted keeper jobs files g
     → (marked : Option FileMap) × MarksSent marker.file.items n marker.name.now files marked × KeepsJobs keeper jobs marked h
 holds_written marker counted n keeper jobs files g h two sets both =
-    beside_keeper marker counted keeper two (λ f g. MarksSent marker.file.items n marker.name.now f g) (sent_apart marker.file.items marker.name.now keeper.name.now n two)
+    beside_keeper marker counted keeper two (λ f g. MarksSent marker.file.items n marker.name.now f g) (sent_apart marker.file.items marker.name.now keeper.file.into.jobs.now n two)
     jobs files g h (λ f m. written_over marker.file.items marker.name.now marker.marked n f g h m.file sets) both
 
 -- no turn was taken yet
 pub holds_first : (marker : Marker) (counted : ℕ) (keeper : Keeper) (jobs : List Job) (f : Option FileMap) → GoesOnHolding marker marker counted counted keeper keeper jobs jobs f f
-holds_first marker counted keeper jobs f = record { name = refl; file = refl; own = refl; place = refl; holds = λ two files h. h }
+holds_first marker counted keeper jobs f = record { name = refl; file = refl; own = refl; holds = λ two files h. h }
 
 module _ (first old : Marker) (start counted : ℕ) (before keeper : Keeper) (begun jobs : List Job) (f g : Option FileMap) (p : GoesOnHolding first old start counted before keeper begun jobs f g) where
   -- more is marked
@@ -159,9 +180,8 @@ module _ (first old : Marker) (start counted : ℕ) (before keeper : Keeper) (be
     name = on.0 ∙ p.name;
     file = on.1 ∙ p.file;
     own = p.own;
-    place = p.place;
     holds = λ two files had.
-        let apart : old.name.now ≢ keeper.name.now = λ is. two (sym (ap (λ (n : _). n.now) p.name) ∙ is ∙ ap (λ (n : _). n.now) p.own) in
+        let apart : old.name.now ≢ keeper.file.into.jobs.now = λ is. two (sym (ap (λ (n : _). n.now) p.name) ∙ is ∙ ap (λ (x : KeptFile). x.into.jobs.now) p.own) in
         subst (λ (js : List Job). HoldsBoth new more keeper js files h) (sym same) (holds_marked old new counted more keeper jobs files g h apart on (p.holds two files had));
   }
 
@@ -171,10 +191,9 @@ module _ (first old : Marker) (start counted : ℕ) (before keeper : Keeper) (be
     name = p.name;
     file = p.file;
     own = on.0 ∙ p.own;
-    place = on.1 ∙ p.place;
     holds = λ two files had.
         let both = p.holds two files had in
-        subst (λ (n : ℕ). HoldsBoth old n after later files h) (sym same) (both.0, both.1, on.2 both.0 both.2);
+        subst (λ (n : ℕ). HoldsBoth old n after later files h) (sym same) (both.0, both.1, on.1 both.0 both.2);
   }
 
 -- WHAT A TURN LEAVES
@@ -237,12 +256,13 @@ comes_in s what refused false is = rw is (nothing s.receiver.jobs)
 
 -- what came was kept
 pub other_kept : (s mid : Contending) (what : Heard) (refused : Bool) (old new : Keeper) (jobs later : List Job) (f g : Option FileMap) → mid ≡ after_other s what refused Wish.Go
-    → jobs ≡ mid.receiver.jobs → later ≡ mid.receiver.jobs → new.name ≡ old.name → new.place ≡ old.place → new.kept ≡ kept_after old.place old.kept jobs
-    → ((files : Option FileMap) → AreKept (take old.kept jobs) old.long old.name.now files f → AreKept (take new.kept jobs) new.long old.name.now files g)
+    → jobs ≡ mid.receiver.jobs → later ≡ mid.receiver.jobs → new.file ≡ old.file → new.kept ≡ kept_after old.file.place old.kept jobs
+    → ((front : List Entry) (files : Option FileMap) → HasFront front old.file.front → AreKept front (take old.kept jobs) old.long old.file.into.jobs.now files f
+    → AreKept front (take new.kept jobs) new.long old.file.into.jobs.now files g)
     → GoesOnKeeping old new s.receiver.jobs later f g
-other_kept s mid what refused old new jobs later f g state is stay name place next kept =
+other_kept s mid what refused old new jobs later f g state is stay same next kept =
     let comes : Comes s.receiver.jobs jobs = subst (λ (js : List Job). Comes s.receiver.jobs js) (sym (is ∙ ap (λ (x : Contending). x.receiver.jobs) state)) (comes_in s what refused _ refl) in
-    subst (λ (js : List Job). GoesOnKeeping old new s.receiver.jobs js f g) (is ∙ sym stay) (goes_on old new s.receiver.jobs jobs f g comes name place next kept)
+    subst (λ (js : List Job). GoesOnKeeping old new s.receiver.jobs js f g) (is ∙ sym stay) (goes_on old new s.receiver.jobs jobs f g comes same next kept)
 
 other_refused : (f : StationFault) (s : Contending) → (after_other_refusal f s).receiver.jobs ≡ s.receiver.jobs
 other_refused fault.Over s = refl

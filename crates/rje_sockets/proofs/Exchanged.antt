@@ -1,5 +1,5 @@
 -- What a transmission each way made of its two files, from what was read before it.
-use Rattle.std.proofs.Common.{◌≡◌, ℕ, List, [], ◌++◌, ap₂, Option, Some, None, Result, Ok, Err, IfErr, IfOk, OnOk, length, refl, ap, sym, ◌∙◌, subst, inl, inr}
+use Rattle.std.proofs.Common.{◌≡◌, ◌⊎◌, ℕ, List, [], ◌++◌, ap₂, Option, Some, None, Result, Ok, Err, IfErr, IfOk, OnOk, length, refl, ap, sym, ◌∙◌, subst, inl, inr}
 use Rattle.std.specs.Prelude.{◌≢◌, IfSome}
 use Rattle.std.specs.Option.{IsSomeAnd}
 use Rattle.std.specs.Result.{IsOkAnd, MatchResult, is_ok, result_and}
@@ -20,7 +20,9 @@ use Rattle.rje_commands.specs.Commands.{OfFile}
 use Rattle.rje_commands.proofs.Inputs.{of_file}
 use Rattle.rje_sockets.specs.declared.broken_off.BrokenOff.{BrokenOff}
 use Rattle.rje_sockets.specs.declared.exchange.Left.{Left}
+use Rattle.rje_orders.specs.declared.order.Destination.{Destination}
 use Rattle.rje_sockets.specs.declared.keeper.Keeper.{Keeper}
+use Rattle.rje_sockets.specs.declared.kept_file.KeptFile.{KeptFile}
 use Rattle.rje_sockets.specs.declared.marker.Marker.{Marker}
 use Rattle.rje_sockets.specs.declared.socket_commands.ending.Ending.{Ending}
 use Rattle.rje_sockets.specs.BothFiles.{GoesOnHolding, HoldsBoth}
@@ -28,12 +30,14 @@ use Rattle.rje_sockets.specs.BothWays.{ExchangesTo}
 use Rattle.rje_sockets.specs.BrokenOff.{of_broken_off}
 use Rattle.rje_sockets.specs.Ending.{MakesJobFile, MarksSent}
 use Rattle.rje_sockets.specs.Exchanging.{Exchanges, ExchangesLeft, MakesBoth, ending_of_both, exchanged_text, is_idle}
-use Rattle.rje_sockets.specs.Inside.Sending.{IsOutgoing, IsSendFault}
+use Rattle.rje_sockets.specs.InFront.{IsDestinationFault, IsOpened, LooksInto}
+use Rattle.rje_sockets.specs.Inside.Sending.{IsExchangeFault, IsOutgoing, IsSendFault}
 use Rattle.rje_sockets.specs.Keeping.{IsOfFile, KeepsJobs}
 use Rattle.rje_sockets.specs.LeavingBoth.{LeavesBoth, LeavesExchange}
 use Rattle.rje_sockets.specs.OverLine.{LineTells}
 use Rattle.rje_sockets.proofs.BothFiles.{holds_written}
 use Rattle.rje_sockets.proofs.Growing.{none_kept}
+use Rattle.rje_sockets.proofs.InFront.{left_alone, opened_as}
 use Rattle.rje_sockets.proofs.Marked.{nothing_marked}
 use Rattle.rje_sockets.proofs.NamedFiles.{names_more}
 use Rattle.rje_stores.proofs.Changes.{same_itself}
@@ -42,14 +46,14 @@ use Rattle.rje_stores.specs.Store.{FileMap, Discloses, IsSame}
 
 -- what is marked at the end, and what is kept then
 pub makes_both : (old new : Marker) (counted n : ℕ) (before after : Keeper) (jobs later : List Job) (f mid g h : Option FileMap) → GoesOnHolding old new counted n before after jobs later f mid
-    → MarksSent new.file.items n new.name.now mid g → ((files : Option FileMap) → KeepsJobs after later files g → MakesJobFile later after.name.now files h)
-    → old.name.now ≢ before.name.now → (files : Option FileMap) → HoldsBoth old counted before jobs files f → MakesBoth old.file.items n later old.name.now before.name.now files h
+    → MarksSent new.file.items n new.name.now mid g → ((files : Option FileMap) → KeepsJobs after later files g → MakesJobFile later after.file.into files h)
+    → old.name.now ≢ before.file.into.jobs.now → (files : Option FileMap) → HoldsBoth old counted before jobs files f → MakesBoth old.file.items n later old.name.now before.file.into files h
 makes_both old new counted n before after jobs later f mid g h on sets makes two files had =
-    let apart : new.name.now ≢ after.name.now = λ is. two (sym (ap (λ (x : _). x.now) on.name) ∙ is ∙ ap (λ (x : _). x.now) on.own) in
+    let apart : new.name.now ≢ after.file.into.jobs.now = λ is. two (sym (ap (λ (x : _). x.now) on.name) ∙ is ∙ ap (λ (x : KeptFile). x.into.jobs.now) on.own) in
     let written = holds_written new n n after later files mid g apart sets (on.holds two files had) in (
       written.0,
       subst (λ (bytes : _). MarksSent bytes.items n old.name.now files written.0) on.file (subst (λ (name : _). MarksSent new.file.items n name.now files written.0) on.name written.1),
-      subst (λ (name : _). MakesJobFile later name.now written.0 h) on.own (makes written.0 written.2),
+      subst (λ (x : KeptFile). MakesJobFile later x.into written.0 h) on.own (makes written.0 written.2),
     )
 
 -- a transmission each way that nothing ended but itself
@@ -57,7 +61,7 @@ pub all_exchanged : (left : Result Left BrokenOff) (marked kept printed : Result
     (had has : Option (List ℕ)) (text : List ℕ) → IfOk left (λ l. ExchangesTo l s t station u)
     → OnOk left (GoesOnHolding old new s.sender.counted station.sender.counted before after s.receiver.jobs station.receiver.jobs f mid)
     → OnOk marked (MarksSent new.file.items station.sender.counted new.name.now mid g)
-    → OnOk kept ((files : Option FileMap) → IfErr left (λ broken. IsOfFile broken → ⊥) → KeepsJobs after station.receiver.jobs files g → MakesJobFile station.receiver.jobs after.name.now files h)
+    → OnOk kept ((files : Option FileMap) → IfErr left (λ broken. IsOfFile broken → ⊥) → KeepsJobs after station.receiver.jobs files g → MakesJobFile station.receiver.jobs after.file.into files h)
     → OnOk printed (Appends had has text) → text ≡ exchanged_text station.sender.counted (length s.sender.jobs) (outcome_of station.sender) station.receiver.jobs
     → IfOk left (λ l. OnOk (result_and marked kept) (OnOk printed (Exchanges (ending_of_both (outcome_of station.sender) (is_idle (length s.sender.jobs) station.receiver.jobs) l) t u s old before f h had has)))
 all_exchanged (Err b) marked kept printed t u s station old new before after f mid g h had has text exchanges holds sets keeps prints is = tt
@@ -96,72 +100,72 @@ pub three_lines : (a b c one two three : List ℕ) → a ≡ one → b ≡ two �
 three_lines a b c one two three is also last = ap₂ ◌++◌ is (ap₂ ◌++◌ also (append-nil c ∙ last)) ∙ sym (append_assoc one two three)
 
 -- a marker whose copy is in place, and a keeper, that have done nothing yet
-holds_nothing : (marker : Marker) (counted : ℕ) (keeper : Keeper) (jobs : List Job) (f g : Option FileMap) → marker.marked ≡ 0 → counted ≡ 0 → AreMarks marker.file.items marker.places.items
-    → MarksSent marker.file.items 0 marker.name.now f g → keeper.kept ≡ 0 → jobs ≡ [] → HoldsBoth marker counted keeper jobs f g
-holds_nothing marker counted keeper jobs f g none zero are copy kept empty = (
-  g,
-  nothing_marked marker counted f g none zero are copy,
-  subst (λ (js : List Job). KeepsJobs keeper js g g) (sym empty) (none_kept keeper g g kept (same_itself g)),
-)
+holds_nothing : (marker : Marker) (counted : ℕ) (front : List Entry) (keeper : Keeper) (jobs : List Job) (f g : Option FileMap) → marker.marked ≡ 0 → counted ≡ 0
+    → AreMarks marker.file.items marker.places.items → MarksSent marker.file.items 0 marker.name.now f g → marker.name.now ≢ keeper.file.into.jobs.now → IsOpened front keeper.file f
+    → keeper.kept ≡ 0 → jobs ≡ [] → HoldsBoth marker counted keeper jobs f g
+holds_nothing marker counted front keeper jobs f g none zero are copy two opened kept empty =
+    let so = marked f g copy opened in
+    (so.0, nothing_marked marker counted f so.0 none zero are so.1, subst (λ (js : List Job). KeepsJobs keeper js so.0 g) (sym empty) (none_kept keeper front so.0 g so.2 kept so.3)) where
+      marked : (f g : Option FileMap) → MarksSent marker.file.items 0 marker.name.now f g → IsOpened front keeper.file f
+          → (m : Option FileMap) × MarksSent marker.file.items 0 marker.name.now f m × IsOpened front keeper.file m × Discloses m g IsSame
+      marked None g (bytes, is, few, t) opened = (None, (bytes, is, few, tt), opened, tt)
+      marked (Some f) None (bytes, is, few, never) opened = absurd never
+      marked (Some f) (Some g) (bytes, is, few, sets) opened =
+          (Some g, (bytes, is, few, sets), opened_as front keeper.file f g (left_alone marker.name.now keeper.file.into.jobs.now bytes f g two sets) opened, same_itself (Some g))
 
-pub exchanges_left : (r : Result Ending CommandFault) (t u : LineTells) (rank : Rank) (send received : List ℕ) (jobs : List Job) (s : Contending) (marker : Marker) (keeper : Keeper)
+pub exchanges_left : (r : Result Ending CommandFault) (t u : LineTells) (rank : Rank) (send : List ℕ) (into : Destination) (jobs : List Job) (s : Contending) (marker : Marker) (front : List Entry) (keeper : Keeper)
     (f g h : Option FileMap) (before after : Option (List ℕ))
     → IsOutgoing send f jobs marker → MarksSent marker.file.items 0 marker.name.now f g → s ≡ first_contending rank jobs
-    → keeper.name.now ≡ received → keeper.kept ≡ 0 → send ≢ received
+    → keeper.file.into ≡ into → keeper.kept ≡ 0 → IsOpened front keeper.file f → send ≢ into.jobs.now
     → IfOk r (λ ending. Exchanges ending t u s marker keeper g h before after)
-    → IfOk r (λ ending. OfFile send f (λ bytes. ExchangesLeft ending t u rank send received bytes f h before after))
-exchanges_left (Err fault) t u rank send received jobs s marker keeper f g h before after out copy first called kept two done = tt
-exchanges_left (Ok ending) t u rank send received jobs s marker keeper f g h before after out copy first called kept two done =
+    → IfOk r (λ ending. OfFile send f (λ bytes. ExchangesLeft ending t u rank send into bytes f h before after))
+exchanges_left (Err fault) t u rank send into jobs s marker front keeper f g h before after out copy first called kept opened two done = tt
+exchanges_left (Ok ending) t u rank send into jobs s marker front keeper f g h before after out copy first called kept opened two done =
     let file = marker.file.items in
     let left = out.left in
     let given : length jobs ≡ length (unsent left.0) = ap length left.3 ∙ length-map (unsent left.0) (λ e. e.job) in
     let all : length s.sender.jobs ≡ length (unsent left.0) = ap (λ (x : Contending). length x.sender.jobs) first ∙ given in
-    let apart : marker.name.now ≢ keeper.name.now = λ e. two (sym out.named ∙ e ∙ called) in
-    let had = holds_nothing marker s.sender.counted keeper s.receiver.jobs f g out.none (ap (λ (x : Contending). x.sender.counted) first) out.marks copy kept
+    let apart : marker.name.now ≢ keeper.file.into.jobs.now = λ e. two (sym out.named ∙ e ∙ ap (λ (x : Destination). x.jobs.now) called) in
+    let had = holds_nothing marker s.sender.counted front keeper s.receiver.jobs f g out.none (ap (λ (x : Contending). x.sender.counted) first) out.marks copy apart opened kept
     (ap (λ (x : Contending). x.receiver.jobs) first) in
     let makes = done.makes apart f had in
-    of_file (λ bytes. ExchangesLeft ending t u rank send received bytes f h before after) file (record {
+    of_file (λ bytes. ExchangesLeft ending t u rank send into bytes f h before after) file (record {
       entries = left.0;
       left = done.left;
       station = done.station;
       file_is = left.1;
       exchanges = subst (λ (x : Contending). ExchangesTo done.left x t done.station u) (first ∙ ap (first_contending rank) left.3) done.exchanges;
-      makes = subst (λ (n : List ℕ). MakesBoth file done.station.sender.counted done.station.receiver.jobs n received f h) out.named
-          (subst (λ (n : List ℕ). MakesBoth file done.station.sender.counted done.station.receiver.jobs marker.name.now n f h) called makes);
+      makes = subst (λ (n : List ℕ). MakesBoth file done.station.sender.counted done.station.receiver.jobs n into f h) out.named
+          (subst (λ (x : Destination). MakesBoth file done.station.sender.counted done.station.receiver.jobs marker.name.now x f h) called makes);
       ending_is = subst (λ (n : ℕ). ending ≡ ending_of_both (outcome_of done.station.sender) (is_idle n done.station.receiver.jobs) done.left) all done.ending_is;
       text_is = subst (λ (n : ℕ). Appends before after (exchanged_text done.station.sender.counted n (outcome_of done.station.sender) done.station.receiver.jobs)) all done.text_is;
     }) send f out.read
 
 -- WHATEVER ENDS IT
 
-known_before : (P : Type 0) (f g : Option FileMap) → Discloses f g IsSame → IfSome g (λ _. P) → IfSome f (λ _. P)
-known_before P None g same known = tt
-known_before P (Some f) None same known = absurd same
-known_before P (Some f) (Some g) same known = known
-
 so_known : (P Q : Type 0) (f : Option FileMap) → (P → Q) → IfSome f (λ _. P) → IfSome f (λ _. Q)
 so_known P Q None then known = tt
 so_known P Q (Some f) then known = then known
 
-pub leaves_so : (Unsaid : Type 0) (rank : Rank) (send received : List ℕ) (jobs : List Job) (s : Contending) (marker : Marker) (keeper : Keeper) (f looked g h : Option FileMap)
+pub leaves_so : (Unsaid : Type 0) (rank : Rank) (send : List ℕ) (into : Destination) (jobs : List Job) (s : Contending) (marker : Marker) (front : List Entry) (keeper : Keeper) (f g h : Option FileMap)
     → IsOutgoing send f jobs marker → MarksSent marker.file.items 0 marker.name.now f g → s ≡ first_contending rank jobs
-    → keeper.name.now ≡ received → keeper.kept ≡ 0 → IfSome looked (λ _. keeper.place ≡ Growing) → send ≢ received → Discloses f looked IsSame
-    → (marker.marked ≡ s.sender.counted → keeper.place ≡ Growing → marker.name.now ≢ keeper.name.now → (files : Option FileMap)
-    → HoldsBoth marker s.sender.counted keeper s.receiver.jobs files g → LeavesBoth s marker.file.items marker.name.now keeper.name.now files h)
-    → IfSome f (λ _. LeavesExchange Unsaid rank send received f h)
-leaves_so Unsaid rank send received jobs s marker keeper f looked g h out copy first called kept grows two same leaves =
+    → keeper.file.into ≡ into → keeper.kept ≡ 0 → IsOpened front keeper.file f → send ≢ into.jobs.now
+    → (marker.marked ≡ s.sender.counted → keeper.file.place ≡ Growing → marker.name.now ≢ keeper.file.into.jobs.now → (files : Option FileMap)
+    → HoldsBoth marker s.sender.counted keeper s.receiver.jobs files g → LeavesBoth s marker.file.items marker.name.now keeper.file.into files h)
+    → IfSome f (λ _. LeavesExchange Unsaid rank send into f h)
+leaves_so Unsaid rank send into jobs s marker front keeper f g h out copy first called kept opened two leaves =
     let left = out.left in
     let zero : s.sender.counted ≡ 0 = ap (λ (x : Contending). x.sender.counted) first in
-    let apart : marker.name.now ≢ keeper.name.now = λ e. two (sym out.named ∙ e ∙ called) in
-    let had = holds_nothing marker s.sender.counted keeper s.receiver.jobs f g out.none zero out.marks copy kept (ap (λ (x : Contending). x.receiver.jobs) first) in
-    so_known (keeper.place ≡ Growing) (LeavesExchange Unsaid rank send received f h) f (λ (growing : keeper.place ≡ Growing).
+    let apart : marker.name.now ≢ keeper.file.into.jobs.now = λ e. two (sym out.named ∙ e ∙ ap (λ (x : Destination). x.jobs.now) called) in
+    let had = holds_nothing marker s.sender.counted front keeper s.receiver.jobs f g out.none zero out.marks copy apart opened kept (ap (λ (x : Contending). x.receiver.jobs) first) in
+    so_known (keeper.file.place ≡ Growing) (LeavesExchange Unsaid rank send into f h) f (λ (growing : keeper.file.place ≡ Growing).
     let both = leaves (out.none ∙ sym zero) growing apart f had in
-    inr (of_file (λ file. (entries : List Entry) × HasEntries entries file × LeavesBoth (first_contending rank (jobs_in (unsent entries))) file send received f h) marker.file.items (
+    inr (of_file (λ file. (entries : List Entry) × HasEntries entries file × LeavesBoth (first_contending rank (jobs_in (unsent entries))) file send into f h) marker.file.items (
       left.0,
       left.1,
-      subst (λ (x : Contending). LeavesBoth x marker.file.items send received f h) (first ∙ ap (first_contending rank) left.3)
-          (subst (λ (n : List ℕ). LeavesBoth s marker.file.items n received f h) out.named (subst (λ (n : List ℕ). LeavesBoth s marker.file.items marker.name.now n f h) called both)),
-    ) send f out.read)) (known_before (keeper.place ≡ Growing) f looked same grows)
+      subst (λ (x : Contending). LeavesBoth x marker.file.items send into f h) (first ∙ ap (first_contending rank) left.3)
+          (subst (λ (n : List ℕ). LeavesBoth s marker.file.items n into f h) out.named (subst (λ (x : Destination). LeavesBoth s marker.file.items marker.name.now x f h) called both)),
+    ) send f out.read)) opened.grows
 
 -- a file that was read after others were looked at
 file_before : (P : List ℕ → Type 0) (name : List ℕ) (f g : Option FileMap) → Discloses f g IsSame → OfFile name g P → OfFile name f P
@@ -178,8 +182,17 @@ outgoing_before name f g jobs marker same out = record {
   none = out.none;
 }
 
--- why it isn't sent
-pub send_fault_before : (W V : List ℕ → Type 0) (name : List ℕ) (f g : Option FileMap) (fault : CommandFault) → ((n : List ℕ) → W n → V n) → Discloses f g IsSame
-    → IsSendFault W name g fault → IsSendFault V name f fault
-send_fault_before W V name f g fault more same (inl (fails, names)) = inl (fails, names_more (λ n. n ≡ name) (λ n. n ≡ name) W V (λ n e. e) more fault names)
-send_fault_before W V name f g fault more same (inr (file, is, read)) = inr (file, is, file_before (λ read. file ≡ read) name f g same read)
+-- WHY IT ISN'T EXCHANGED
+
+-- what is sent isn't
+pub send_fault_of : (send : List ℕ) (into : Destination) (W : List ℕ → Type 0) (f g : Option FileMap) (fault : CommandFault) → ((n : List ℕ) → W n → n ≡ send) → Discloses f g IsSame
+    → IsSendFault W send g fault → IsExchangeFault send into f fault
+send_fault_of send into W f g fault writes same (inl (fails, names)) =
+    inl (fails, names_more (λ n. n ≡ send) (λ n. (n ≡ send) ⊎ LooksInto into n) W (λ n. (n ≡ send) ⊎ (n ≡ into.jobs.now)) (λ n e. inl e) (λ n w. inl (writes n w)) fault names)
+send_fault_of send into W f g fault writes same (inr (file, is, read)) = inr (inl (file, is, file_before (λ read. file ≡ read) send f g same read))
+
+-- what comes isn't received
+pub destination_fault_of : (send : List ℕ) (into : Destination) (f g : Option FileMap) (fault : CommandFault) → Discloses f g IsSame → IsDestinationFault into g fault → IsExchangeFault send into f fault
+destination_fault_of send into f g fault same (inl (fails, names)) =
+    inl (fails, names_more (LooksInto into) (λ n. (n ≡ send) ⊎ LooksInto into n) (λ n. n ≡ into.jobs.now) (λ n. (n ≡ send) ⊎ (n ≡ into.jobs.now)) (λ n e. inr e) (λ n e. inr e) fault names)
+destination_fault_of send into f g fault same (inr (file, is, read)) = inr (inr (file, is, file_before (λ read. file ≡ read) into.jobs.now f g same read))

@@ -1,5 +1,6 @@
 -- The statuses of a transmission that fails.
 use Rattle.std.proofs.Common.{◌≡◌, ◌⊎◌, inl, inr, ℕ, List, [], ◌∷◌, ◌++◌, map, Bool, true, false, not, Option, Result, Ok, Err, IfErr, if◌then◌else◌, refl, sym, ◌∙◌, subst, arith}
+use Rattle.std.specs.Prelude.{◌≢◌}
 use Rattle.std.specs.List.{AllByRecursion}
 use Rattle.std.proofs.lemmas.List.Elements.{recursion_from_All}
 use Rattle.std.proofs.lemmas.Option.{none-some}
@@ -9,7 +10,8 @@ use Rattle.rje_jobs.specs.Fitting.{JobFits}
 use Rattle.rje_files.specs.declared.entry.Entry.{Entry}
 use Rattle.rje_files.specs.Entry.{entry_of, jobs_in}
 use Rattle.rje_files.specs.Unsent.{CanPass, IsLeft, is_sent, unsent}
-use Rattle.rje_files.specs.FileFault.{IsEntryFault}
+use Rattle.rje_files.specs.FileFault.{IsEntryFault, IsFileFault}
+use Rattle.rje_files.specs.JobFile.{IsEntryFile}
 use Rattle.rje_files.proofs.GoodEntries.{all_received, none_bad}
 use Rattle.rje_station.specs.declared.line_fault.LineFault.{LineFault}
 use Rattle.rje_station.specs.declared.station_fault.StationFault.{StationFault}
@@ -19,9 +21,14 @@ use Rattle.rje_commands.specs.declared.command_fault.CommandFault.{CommandFault}
 use Rattle.rje_commands.specs.declared.command_fault.CommandFault.TheVariants as told
 use Rattle.rje_commands.specs.CommandFault.{IsFailing, of_station, status_of}
 use Rattle.rje_commands.specs.Commands.{OfFile}
+use Rattle.rje_commands.specs.NamedFile.{IsReadFault, IsWriteFault}
+use Rattle.rje_orders.specs.declared.order.Destination.{Destination}
+use Rattle.rje_orders.specs.declared.order.Existing.TheVariants.{Replace}
 use Rattle.rje_sockets.specs.Ending.{IsRefusedFile, IsUnsentFault}
-use Rattle.rje_sockets.specs.Inside.Sending.{IsSendFault}
-use Rattle.rje_sockets.specs.NamedFiles.{NamesOne}
+use Rattle.rje_sockets.specs.InFront.{IsDestinationFault, IsRefusedDestination, IsStandingFault, LooksInto}
+use Rattle.rje_sockets.specs.Inside.Sending.{IsExchangeFault, IsSendFault}
+use Rattle.rje_sockets.specs.NamedFiles.{NamesOne, NamesWritten}
+use Rattle.rje_sockets.proofs.NamedFiles.{names_more}
 use Rattle.rje_stores.specs.Store.{FileMap}
 use Rattle.rje_commands.proofs.Inputs.{of_file}
 
@@ -103,3 +110,79 @@ pub send_refuses : (Written : List ℕ → Type 0) (name : List ℕ) (files : Op
 send_refuses Written name files f status is (inl three) one = absurd (omega (arith, three, one))
 send_refuses Written name files f status (inl (fails, names)) (inr told) one = absurd (never_1 (status_of f) fails (sym told ∙ one))
 send_refuses Written name files f status (inr (file, is, read)) (inr told) one = of_file IsRefusedFile file (f, is, sym told ∙ one) name files read
+
+-- WHAT IS RECEIVED INTO
+
+-- the file that is received into is refused, or there is no memory for it
+standing_status : (into : Destination) (file : List ℕ) (f : CommandFault) → IsStandingFault into file f → (status_of f ≡ 1) ⊎ IsFailing (status_of f)
+standing_status into file (told.File FileFault.OutOfMemory) is = inr (inr (inl refl))
+standing_status into file (told.File _) is = inl refl
+standing_status into file (told.HoldsJobs name) is = inl refl
+standing_status into file _ is = absurd is
+
+-- the status that is told
+told_status : (f : CommandFault) (status : ℕ) → (status_of f ≡ 1) ⊎ IsFailing (status_of f) → (status ≡ 3) ⊎ (status ≡ status_of f) → (status ≡ 0) ⊎ ((status ≡ 4) ⊎ ((status ≡ 1) ⊎ IsFailing status))
+told_status f status is (inl three) = inr (inr (inr (inl three)))
+told_status f status (inl one) (inr told) = inr (inr (inl (told ∙ one)))
+told_status f status (inr fails) (inr told) = inr (inr (inr (subst IsFailing (sym told) fails)))
+
+pub destination_status : (into : Destination) (files : Option FileMap) (f : CommandFault) (status : ℕ) → IsDestinationFault into files f → (status ≡ 3) ⊎ (status ≡ status_of f)
+    → (status ≡ 0) ⊎ ((status ≡ 4) ⊎ ((status ≡ 1) ⊎ IsFailing status))
+destination_status into files f status (inl (fails, names)) told = told_status f status (inr fails) told
+destination_status into files f status (inr (file, is, read)) told = told_status f status (standing_status into file f is) told
+
+pub destination_refuses : (into : Destination) (files : Option FileMap) (f : CommandFault) (status : ℕ) → IsDestinationFault into files f → (status ≡ 3) ⊎ (status ≡ status_of f)
+    → status ≡ 1 → OfFile into.jobs.now files (IsRefusedDestination into)
+destination_refuses into files f status is (inl three) one = absurd (omega (arith, three, one))
+destination_refuses into files f status (inl (fails, names)) (inr told) one = absurd (never_1 (status_of f) fails (sym told ∙ one))
+destination_refuses into files f status (inr (file, is, read)) (inr told) one = of_file (IsRefusedDestination into) file (f, is, sym told ∙ one) into.jobs.now files read
+
+-- or what is sent
+pub exchange_status : (send : List ℕ) (into : Destination) (files : Option FileMap) (f : CommandFault) (status : ℕ) → IsExchangeFault send into files f → (status ≡ 3) ⊎ (status ≡ status_of f)
+    → (status ≡ 0) ⊎ ((status ≡ 4) ⊎ ((status ≡ 1) ⊎ IsFailing status))
+exchange_status send into files f status (inl (fails, names)) told = told_status f status (inr fails) told
+exchange_status send into files f status (inr (inl (file, is, read))) told = told_status f status (unsent_status file f is) told
+exchange_status send into files f status (inr (inr (file, is, read))) told = told_status f status (standing_status into file f is) told
+
+pub exchange_refuses : (send : List ℕ) (into : Destination) (files : Option FileMap) (f : CommandFault) (status : ℕ) → IsExchangeFault send into files f → (status ≡ 3) ⊎ (status ≡ status_of f)
+    → status ≡ 1 → OfFile send files IsRefusedFile ⊎ OfFile into.jobs.now files (IsRefusedDestination into)
+exchange_refuses send into files f status is (inl three) one = absurd (omega (arith, three, one))
+exchange_refuses send into files f status (inl (fails, names)) (inr told) one = absurd (never_1 (status_of f) fails (sym told ∙ one))
+exchange_refuses send into files f status (inr (inl (file, is, read))) (inr told) one = inl (of_file IsRefusedFile file (f, is, sym told ∙ one) send files read)
+exchange_refuses send into files f status (inr (inr (file, is, read))) (inr told) one = inr (of_file (IsRefusedDestination into) file (f, is, sym told ∙ one) into.jobs.now files read)
+
+pub exchange_fails_so : {X : Type 0} (r : Result X CommandFault) (send : List ℕ) (into : Destination) (files : Option FileMap) → IfErr r (λ fault. IsFailing (status_of fault))
+    → IfErr r (NamesOne (λ n. (n ≡ send) ⊎ LooksInto into n) (λ n. (n ≡ send) ⊎ (n ≡ into.jobs.now))) → IfErr r (IsExchangeFault send into files)
+exchange_fails_so (Ok x) send into files fails names = tt
+exchange_fails_so (Err fault) send into files fails names = inl (fails, names)
+
+pub receive_fails_so : {X : Type 0} (r : Result X CommandFault) (into : Destination) (files : Option FileMap) → IfErr r (λ fault. IsFailing (status_of fault)) → IfErr r (NamesWritten into.jobs.now)
+    → IfErr r (IsDestinationFault into files)
+receive_fails_so (Ok x) into files fails names = tt
+receive_fails_so (Err fault) into files fails names = inl (fails, names_more (λ _. ⊥) (LooksInto into) (λ n. n ≡ into.jobs.now) (λ n. n ≡ into.jobs.now) (λ n never. absurd never) (λ n e. e) fault names)
+
+-- it can't be written
+pub write_fails_so : (into : Destination) (files : Option FileMap) (f : CommandFault) → IsWriteFault into.jobs.now f → IsDestinationFault into files f
+write_fails_so into files told.OutOfMemory is = inl (inr (inl refl), tt)
+write_fails_so into files (told.CannotWrite name) is = inl (inl refl, is)
+write_fails_so into files (told.InUse name) is = inl (inl refl, is)
+write_fails_so into files (told.Unsynced name) is = inl (inl refl, is)
+write_fails_so into files _ is = absurd is
+
+-- it can't be read
+pub read_fails_so : (into : Destination) (files : Option FileMap) (f : CommandFault) → into.existing ≢ Replace → IsReadFault into.jobs.now f → IsDestinationFault into files f
+read_fails_so into files told.OutOfMemory other is = inl (inr (inl refl), tt)
+read_fails_so into files (told.CannotRead name) other is = inl (inl refl, (other, is))
+read_fails_so into files _ other is = absurd is
+
+-- what is sent can't be marked
+pub written_fails_so : (send : List ℕ) (into : Destination) (files : Option FileMap) (f : CommandFault) (name : List ℕ) → name ≡ send → IsFailing (status_of f) → NamesWritten name f
+    → IsExchangeFault send into files f
+written_fails_so send into files f name is fails names =
+    inl (fails, names_more (λ _. ⊥) (λ n. (n ≡ send) ⊎ LooksInto into n) (λ n. n ≡ name) (λ n. (n ≡ send) ⊎ (n ≡ into.jobs.now)) (λ n never. absurd never) (λ n e. inl (e ∙ is)) f names)
+
+-- or it is no job file
+pub file_fails_so : (into : Destination) (files : Option FileMap) (bytes : List ℕ) (f : FileFault) → into.existing ≢ Replace → (f ≡ FileFault.OutOfMemory) ⊎ IsFileFault IsEntryFile bytes f
+    → OfFile into.jobs.now files (λ read. bytes ≡ read) → IsDestinationFault into files (told.File f)
+file_fails_so into files bytes f other (inl memory) read = rw memory (inl (inr (inl refl), tt))
+file_fails_so into files bytes f other (inr is) read = inr (bytes, (other, is), read)

@@ -14,7 +14,10 @@ use Rattle.rje_station.specs.JoinedJobs.{begun_in, with_read, with_block}
 use Rattle.bsc_link.specs.declared.wish.Wish.{Wish}
 use Rattle.bsc_link.specs.Receiver.{receiver_news}
 use Rattle.rje_station.specs.Receiving.{Receiving, after_receiving, jobs_after, sound_taken}
+use Rattle.rje_files.specs.declared.entry.Entry.{Entry}
 use Rattle.rje_sockets.specs.declared.keeper.Keeper.{Keeper}
+use Rattle.rje_sockets.specs.declared.kept_file.KeptFile.{KeptFile}
+use Rattle.rje_sockets.specs.InFront.{HasFront, IsOpened}
 use Rattle.rje_stores.specs.declared.store.Place.{Place}
 use Rattle.rje_stores.specs.declared.store.Place.TheVariants.{Growing, Once}
 use Rattle.rje_sockets.specs.Keeping.{AreKept, GoesOnKeeping, kept_after, whole_in_front}
@@ -147,36 +150,40 @@ kept_all : (place : Place) (kept : ℕ) (js more : List Job) → Comes js more �
 kept_all place kept js more c all grows = ap (λ (p : Place). kept_after p kept more) grows ∙ ap (λ (n : ℕ). kept_after Growing n more) (all grows) ∙ c.next
 
 -- something came, and what has come whole was kept
-pub goes_on : (old new : Keeper) (js more : List Job) (f g : Option FileMap) → Comes js more → new.name ≡ old.name → new.place ≡ old.place
-    → new.kept ≡ kept_after old.place old.kept more
-    → ((files : Option FileMap) → AreKept (take old.kept more) old.long old.name.now files f → AreKept (take new.kept more) new.long old.name.now files g)
+pub goes_on : (old new : Keeper) (js more : List Job) (f g : Option FileMap) → Comes js more → new.file ≡ old.file
+    → new.kept ≡ kept_after old.file.place old.kept more
+    → ((front : List Entry) (files : Option FileMap) → HasFront front old.file.front → AreKept front (take old.kept more) old.long old.file.into.jobs.now files f
+    → AreKept front (take new.kept more) new.long old.file.into.jobs.now files g)
     → GoesOnKeeping old new js more f g
-goes_on old new js more f g c name place next kept = (
-  name,
-  place,
+goes_on old new js more f g c same next kept = (
+  same,
   λ files k. record {
-    few = omega (arith, next, kept_few old.place old.kept js more c k.all k.few);
-    all = λ grows. next ∙ kept_all old.place old.kept js more c k.all (sym place ∙ grows);
+    front = k.front;
+    opened = subst (λ (x : KeptFile). IsOpened k.front x files) (sym same) k.opened;
+    few = omega (arith, next, kept_few old.file.place old.kept js more c k.all k.few);
+    all = λ grows. next ∙ kept_all old.file.place old.kept js more c k.all (sym (ap (λ (x : KeptFile). x.place) same) ∙ grows);
     cut = c.cut k.cut;
-    file = subst (λ (n : _). AreKept (take new.kept more) new.long n.now files g) (sym name)
-        (kept files (subst (λ (xs : List Job). AreKept xs old.long old.name.now files f) (sym (c.front old.kept k.few)) k.file));
+    kept = subst (λ (x : KeptFile). AreKept k.front (take new.kept more) new.long x.into.jobs.now files g) (sym same)
+        (kept k.front files k.opened.has
+        (subst (λ (xs : List Job). AreKept k.front xs old.long old.file.into.jobs.now files f) (sym (c.front old.kept k.few)) k.kept));
   },
 )
 
 -- one after another
 pub goes_on_twice : (first old new : Keeper) (js more all : List Job) (f g h : Option FileMap) → GoesOnKeeping first old js more f g → GoesOnKeeping old new more all g h → GoesOnKeeping first new js all f h
-goes_on_twice first old new js more all f g h p q = (q.0 ∙ p.0, q.1 ∙ p.1, λ files k. q.2 files (p.2 files k))
+goes_on_twice first old new js more all f g h p q = (q.0 ∙ p.0, λ files k. q.1 files (p.1 files k))
 
 pub goes_nowhere : (keeper : Keeper) (js : List Job) (f : Option FileMap) → GoesOnKeeping keeper keeper js js f f
-goes_nowhere keeper js f = (refl, refl, λ files k. k)
+goes_nowhere keeper js f = (refl, λ files k. k)
 
 -- one turn of a station: it heard something, what has come whole was kept, and its jobs stay as it replies
 pub turn_kept : (r heard r' : Receiving) (what : Heard) (refused : Bool) (old new : Keeper) (jobs : List Job) (f g : Option FileMap) → heard ≡ after_receiving r what refused Wish.Go
-    → jobs ≡ heard.jobs → r'.jobs ≡ heard.jobs → new.name ≡ old.name → new.place ≡ old.place → new.kept ≡ kept_after old.place old.kept jobs
-    → ((files : Option FileMap) → AreKept (take old.kept jobs) old.long old.name.now files f → AreKept (take new.kept jobs) new.long old.name.now files g)
+    → jobs ≡ heard.jobs → r'.jobs ≡ heard.jobs → new.file ≡ old.file → new.kept ≡ kept_after old.file.place old.kept jobs
+    → ((front : List Entry) (files : Option FileMap) → HasFront front old.file.front → AreKept front (take old.kept jobs) old.long old.file.into.jobs.now files f
+    → AreKept front (take new.kept jobs) new.long old.file.into.jobs.now files g)
     → GoesOnKeeping old new r.jobs r'.jobs f g
-turn_kept r heard r' what refused old new jobs f g state is stay name place next kept =
+turn_kept r heard r' what refused old new jobs f g state is stay same next kept =
     let accepted : Bool = (receiver_news r.core (sound_taken what refused) Wish.Go).accepted in
     let comes : Comes r.jobs heard.jobs = subst (λ (s : Receiving). Comes r.jobs s.jobs) (sym state) (heard_comes what accepted r.jobs) in
     let all : Comes r.jobs jobs = subst (λ (js : List Job). Comes r.jobs js) (sym is) comes in
-    subst (λ (js : List Job). GoesOnKeeping old new r.jobs js f g) (is ∙ sym stay) (goes_on old new r.jobs jobs f g all name place next kept)
+    subst (λ (js : List Job). GoesOnKeeping old new r.jobs js f g) (is ∙ sym stay) (goes_on old new r.jobs jobs f g all same next kept)

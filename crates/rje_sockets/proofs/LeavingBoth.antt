@@ -8,6 +8,7 @@ use Rattle.rje_commands.specs.declared.command_fault.CommandFault.{CommandFault}
 use Rattle.rje_sockets.specs.declared.broken_off.BrokenOff.{BrokenOff}
 use Rattle.rje_sockets.specs.declared.exchange.Left.{Left}
 use Rattle.rje_sockets.specs.declared.keeper.Keeper.{Keeper}
+use Rattle.rje_sockets.specs.declared.kept_file.KeptFile.{KeptFile}
 use Rattle.rje_sockets.specs.declared.marker.Marker.{Marker}
 use Rattle.rje_stores.specs.declared.store.Place.TheVariants.{Growing}
 use Rattle.rje_sockets.specs.Answering.{HasWhole}
@@ -19,7 +20,8 @@ use Rattle.rje_sockets.specs.LeavingBoth.{CameTo, HasCounted, LeavesBoth, MarksA
 use Rattle.rje_sockets.specs.OverLine.{HeardAndReplied, LineTells, SpokeAndHeard}
 use Rattle.rje_sockets.proofs.BothFiles.{holds_written}
 use Rattle.rje_sockets.proofs.BothWays.{took_watched}
-use Rattle.rje_sockets.proofs.Received.{has_kept, has_rest, still_keeps}
+use Rattle.rje_sockets.proofs.Growing.{still_keeps}
+use Rattle.rje_sockets.proofs.Received.{has_kept, has_rest}
 use Rattle.rje_stores.specs.Store.{FileMap, Discloses, IsSame}
 
 -- WHILE IT TAKES ITS TURNS
@@ -80,12 +82,12 @@ pub file_stays : (left : Result Left BrokenOff) (t u : LineTells) (s s' : Conten
     → new.file ≡ old.file
 file_stays left t u s s' old new before after f g exchanges holds breaks = (held left t u s s' old new before after f g exchanges holds breaks).holds.file
 
--- so do both names
+-- so do the name of the one file, and the other
 pub names_stay : (left : Result Left BrokenOff) (t u : LineTells) (s s' : Contending) (old new : Marker) (before after : Keeper) (f g : Option FileMap) → IfOk left (λ l. ExchangesTo l s t s' u)
     → OnOk left (GoesOnHolding old new s.sender.counted s'.sender.counted before after s.receiver.jobs s'.receiver.jobs f g) → IfErr left (BreaksBoth s s' old new before after f g)
-    → (new.name.now ≡ old.name.now) × (after.name.now ≡ before.name.now)
+    → (new.name.now ≡ old.name.now) × (after.file ≡ before.file)
 names_stay left t u s s' old new before after f g exchanges holds breaks =
-    let on = (held left t u s s' old new before after f g exchanges holds breaks).holds in (ap (λ (x : _). x.now) on.name, ap (λ (x : _). x.now) on.own)
+    let on = (held left t u s s' old new before after f g exchanges holds breaks).holds in (ap (λ (x : _). x.now) on.name, on.own)
 
 -- THE WHOLE FILE OF WHAT IS SENT
 
@@ -105,7 +107,7 @@ module _ (s s' : Contending) (old new : Marker) (count : (new.marked ≡ old.mar
     by (inr (last, came, is)) = at last came is
 
   -- it is written, or what was marked in between stays
-  marked_then : {X : Type 0} (written : Result X CommandFault) (n : ℕ) (keeper : Keeper) (jobs : List Job) (files g h : Option FileMap) → new.name.now ≢ keeper.name.now → CameTo s s'
+  marked_then : {X : Type 0} (written : Result X CommandFault) (n : ℕ) (keeper : Keeper) (jobs : List Job) (files g h : Option FileMap) → new.name.now ≢ keeper.file.into.jobs.now → CameTo s s'
       → OnOk written (MarksSent new.file.items s'.sender.counted new.name.now g h) → OnErr written (Discloses g h IsSame) → HoldsBoth new n keeper jobs files g
       → (marked : Option FileMap) × MarksAlone s new.file.items new.name.now files marked × KeepsJobs keeper jobs marked h
   marked_then (Ok x) n keeper jobs files g h apart came sets still both =
@@ -115,19 +117,19 @@ module _ (s s' : Contending) (old new : Marker) (count : (new.marked ≡ old.mar
 
 -- WHAT IS LEFT OF WHAT CAME
 
-module _ (kept : Result (Unit {0}) CommandFault) (keeper : Keeper) (last s' : Contending) (marked g made : Option FileMap) (grows : keeper.place ≡ Growing)
+module _ (kept : Result (Unit {0}) CommandFault) (keeper : Keeper) (last s' : Contending) (marked g made : Option FileMap) (grows : keeper.file.place ≡ Growing)
     (k : KeepsJobs keeper last.receiver.jobs marked g) (still : OnErr kept (Discloses g made IsSame)) where
   rest_kept : (Well : Type 0) → Well → last ≡ s'
-      → OnOk kept ((files : Option FileMap) → Well → KeepsJobs keeper s'.receiver.jobs files g → MakesJobFile s'.receiver.jobs keeper.name.now files made)
-      → HasWhole last.receiver.jobs keeper.name.now marked made
+      → OnOk kept ((files : Option FileMap) → Well → KeepsJobs keeper s'.receiver.jobs files g → MakesJobFile s'.receiver.jobs keeper.file.into files made)
+      → HasWhole last.receiver.jobs keeper.file.into marked made
   rest_kept Well well same makes =
       has_rest kept keeper last.receiver.jobs marked g made grows k
       (on_ok_weaker kept
-      (λ m. subst (λ (x : Contending). KeepsJobs keeper x.receiver.jobs marked g → MakesJobFile x.receiver.jobs keeper.name.now marked made) (sym same) (m marked well)) makes) still
+      (λ m. subst (λ (x : Contending). KeepsJobs keeper x.receiver.jobs marked g → MakesJobFile x.receiver.jobs keeper.file.into marked made) (sym same) (m marked well)) makes) still
 
   kept_then : (left : Result Left BrokenOff) → (IfErr left (λ broken. IsOfFile broken → ⊥) → last ≡ s')
-      → OnOk kept ((files : Option FileMap) → IfErr left (λ broken. IsOfFile broken → ⊥) → KeepsJobs keeper s'.receiver.jobs files g → MakesJobFile s'.receiver.jobs keeper.name.now files made)
-      → IfErr left (λ broken. IsOfFile broken → Discloses g made IsSame) → HasWhole last.receiver.jobs keeper.name.now marked made
+      → OnOk kept ((files : Option FileMap) → IfErr left (λ broken. IsOfFile broken → ⊥) → KeepsJobs keeper s'.receiver.jobs files g → MakesJobFile s'.receiver.jobs keeper.file.into files made)
+      → IfErr left (λ broken. IsOfFile broken → Discloses g made IsSame) → HasWhole last.receiver.jobs keeper.file.into marked made
   kept_then (Ok l) same makes refused = rest_kept _ tt (same tt) makes
   kept_then (Err (BrokenOff.Line e)) same makes refused = rest_kept _ (λ never. never) (same (λ never. never)) makes
   kept_then (Err (BrokenOff.File e)) same makes refused = has_kept keeper last.receiver.jobs marked made grows (still_keeps keeper last.receiver.jobs marked g made k (refused tt))
@@ -138,19 +140,19 @@ pub leaves_both : {X : Type 0} (left : Result Left BrokenOff) (written : Result 
     → OnOk left (GoesOnHolding old new s.sender.counted s'.sender.counted before after s.receiver.jobs s'.receiver.jobs f g) → IfErr left (BreaksBoth s s' old new before after f g)
     → (new.marked ≡ old.marked) ⊎ HasCounted s new.marked
     → OnOk written (MarksSent new.file.items s'.sender.counted new.name.now g h) → OnErr written (Discloses g h IsSame)
-    → OnOk kept ((files : Option FileMap) → IfErr left (λ broken. IsOfFile broken → ⊥) → KeepsJobs after s'.receiver.jobs files h → MakesJobFile s'.receiver.jobs after.name.now files made)
+    → OnOk kept ((files : Option FileMap) → IfErr left (λ broken. IsOfFile broken → ⊥) → KeepsJobs after s'.receiver.jobs files h → MakesJobFile s'.receiver.jobs after.file.into files made)
     → IfErr left (λ broken. IsOfFile broken → Discloses h made IsSame) → OnErr kept (Discloses h made IsSame)
-    → old.marked ≡ s.sender.counted → before.place ≡ Growing → old.name.now ≢ before.name.now
-    → (files : Option FileMap) → HoldsBoth old s.sender.counted before s.receiver.jobs files f → LeavesBoth s old.file.items old.name.now before.name.now files made
+    → old.marked ≡ s.sender.counted → before.file.place ≡ Growing → old.name.now ≢ before.file.into.jobs.now
+    → (files : Option FileMap) → HoldsBoth old s.sender.counted before s.receiver.jobs files f → LeavesBoth s old.file.items old.name.now before.file.into files made
 leaves_both left written kept t u s s' old new before after f g h made exchanges holding breaks count sets stays makes refused still start grows two files had =
     let on = held left t u s s' old new before after f g exchanges holding breaks in
-    let apart : new.name.now ≢ after.name.now = λ is. two (sym (ap (λ (x : _). x.now) on.holds.name) ∙ is ∙ ap (λ (x : _). x.now) on.holds.own) in
+    let apart : new.name.now ≢ after.file.into.jobs.now = λ is. two (sym (ap (λ (x : _). x.now) on.holds.name) ∙ is ∙ ap (λ (x : KeptFile). x.into.jobs.now) on.holds.own) in
     let m = marked_then s s' old new count start written on.counted after on.last.receiver.jobs files g h apart on.ended sets stays (on.holds.holds two files had) in
     record {
       marked = m.0;
       marks = subst (λ (bytes : _). MarksAlone s bytes.items old.name.now files m.0) on.holds.file (subst (λ (name : _). MarksAlone s new.file.items name.now files m.0) on.holds.name m.1);
       last = on.last;
       came = on.came;
-      kept = subst (λ (name : _). HasWhole on.last.receiver.jobs name.now m.0 made) on.holds.own
-          (kept_then kept after on.last s' m.0 h made (on.holds.place ∙ grows) m.2 still left on.same makes refused);
+      kept = subst (λ (x : KeptFile). HasWhole on.last.receiver.jobs x.into m.0 made) on.holds.own
+          (kept_then kept after on.last s' m.0 h made (ap (λ (x : KeptFile). x.place) on.holds.own ∙ grows) m.2 still left on.same makes refused);
     }

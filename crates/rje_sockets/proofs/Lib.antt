@@ -9,11 +9,11 @@ pub mod Exchanged
 pub mod Sending
 pub mod Outgoing
 pub mod Patience
-pub mod Keeping
+pub mod InFront
+mod Keeping
 pub mod Growing
 pub mod Answering
 pub mod Received
-pub mod ReceivedAfter
 pub mod NamedFiles
 pub mod Failing
 pub mod Looped

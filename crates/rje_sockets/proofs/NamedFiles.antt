@@ -12,6 +12,8 @@ use Rattle.rje_sockets.specs.declared.broken_off.BrokenOff.{BrokenOff}
 use Rattle.rje_sockets.specs.declared.exchange.Left.{Left}
 use Rattle.rje_sockets.specs.declared.socket_commands.ending.Ending.{Ending}
 use Rattle.rje_sockets.specs.BrokenOff.{of_broken_off}
+use Rattle.rje_orders.specs.declared.order.Destination.{Destination}
+use Rattle.rje_sockets.specs.InFront.{LooksInto}
 use Rattle.rje_sockets.specs.NamedFiles.{NamesOne, NamesWritten}
 
 pub names_more : (R S V W : List ℕ → Type 0) → ((n : List ℕ) → R n → S n) → ((n : List ℕ) → V n → W n) → (f : CommandFault) → NamesOne R V f → NamesOne S W f
@@ -38,11 +40,11 @@ pub written_names : {X : Type 0} (r : Result X CommandFault) (named name : List 
 written_names r named name is names = err_names r (λ _. ⊥) (λ n. n ≡ name) (λ n. n ≡ named) (λ n. n ≡ name) (λ n never. absurd never) (λ n e. e ∙ is) names
 
 -- of two
-pub both_names : {X : Type 0} (r : Result X CommandFault) (one other send received : List ℕ) → one ≡ send → other ≡ received → IfErr r (NamesOne (λ _. ⊥) (λ n. (n ≡ one) ⊎ (n ≡ other)))
-    → IfErr r (NamesOne (λ n. n ≡ send) (λ n. (n ≡ send) ⊎ (n ≡ received)))
-both_names r one other send received is also names =
-    err_names r (λ _. ⊥) (λ n. n ≡ send) (λ n. (n ≡ one) ⊎ (n ≡ other)) (λ n. (n ≡ send) ⊎ (n ≡ received)) (λ n never. absurd never) (λ n. by) names where
-      by : {n : List ℕ} → (n ≡ one) ⊎ (n ≡ other) → (n ≡ send) ⊎ (n ≡ received)
+pub both_names : {X : Type 0} (r : Result X CommandFault) (one other send : List ℕ) (into : Destination) → one ≡ send → other ≡ into.jobs.now → IfErr r (NamesOne (λ _. ⊥) (λ n. (n ≡ one) ⊎ (n ≡ other)))
+    → IfErr r (NamesOne (λ n. (n ≡ send) ⊎ LooksInto into n) (λ n. (n ≡ send) ⊎ (n ≡ into.jobs.now)))
+both_names r one other send into is also names =
+    err_names r (λ _. ⊥) (λ n. (n ≡ send) ⊎ LooksInto into n) (λ n. (n ≡ one) ⊎ (n ≡ other)) (λ n. (n ≡ send) ⊎ (n ≡ into.jobs.now)) (λ n never. absurd never) (λ n. by) names where
+      by : {n : List ℕ} → (n ≡ one) ⊎ (n ≡ other) → (n ≡ send) ⊎ (n ≡ into.jobs.now)
       by (inl e) = inl (e ∙ is)
       by (inr e) = inr (e ∙ also)
 

@@ -11,7 +11,11 @@ use Rattle.rje_sockets.specs.declared.broken_off.BrokenOff.{BrokenOff}
 use Rattle.rje_commands.specs.declared.command_fault.CommandFault.{CommandFault}
 use Rattle.rje_commands.specs.declared.command_fault.CommandFault.TheVariants as told
 use Rattle.rje_sockets.specs.declared.exchange.Left.{Left}
+use Rattle.rje_files.specs.declared.entry.Entry.{Entry}
+use Rattle.rje_orders.specs.declared.order.Destination.{Destination}
 use Rattle.rje_sockets.specs.declared.keeper.Keeper.{Keeper}
+use Rattle.rje_sockets.specs.declared.kept_file.KeptFile.{KeptFile}
+use Rattle.rje_sockets.specs.InFront.{IsOpened}
 use Rattle.rje_sockets.specs.declared.socket_commands.ending.Ending.{Ending}
 use Rattle.rje_stores.specs.declared.store.Place.TheVariants.{Growing}
 use Rattle.rje_sockets.specs.Answering.{HasWhole, KeepsAnswered, KeepsToBreak, KeepsToEnd}
@@ -21,7 +25,7 @@ use Rattle.rje_sockets.specs.Patience.{LeavesSo}
 use Rattle.rje_sockets.specs.OverLine.{LineTells}
 use Rattle.rje_stores.specs.Store.{FileMap, Discloses, IsSame}
 use Rattle.rje_sockets.proofs.Answering.{none_answered}
-use Rattle.rje_sockets.proofs.Growing.{kept_still, none_kept}
+use Rattle.rje_sockets.proofs.Growing.{none_kept, still_keeps}
 
 -- WHERE ALL IS WELL
 
@@ -45,124 +49,127 @@ pub err_unless_short : (r ending : Result Ending CommandFault) (P : CommandFault
 err_unless_short r ending P (inl same) holds memory = rw same holds
 err_unless_short r ending P (inr short) holds memory = rw short memory
 
-pub receives : (left : Result Left BrokenOff) (written printed : Result (Unit {0}) CommandFault) (t u : LineTells) (name : List ℕ) (files made : Option FileMap) (before after : Option (List ℕ)) (station : Receiving)
-    → IfOk left (λ l. LeavesSo l first_receiving t station u) → IfOk left (λ l. OnOk written (MakesJobFile station.jobs name files made)) → OnOk printed (Appends before after (received_text station.jobs))
-    → IfOk left (λ l. OnOk written (OnOk printed (Receives (ending_of_left l) t u name files made before after)))
-receives (Err b) written printed t u name files made before after station leaves makes text = tt
-receives (Ok l) (Err e) printed t u name files made before after station leaves makes text = tt
-receives (Ok l) (Ok w) (Err e) t u name files made before after station leaves makes text = tt
-receives (Ok l) (Ok w) (Ok p) t u name files made before after station leaves makes text = record { left = l; station = station; leaves = leaves; ending_is = refl; writes = (makes, text) }
+pub receives : (left : Result Left BrokenOff) (written printed : Result (Unit {0}) CommandFault) (t u : LineTells) (into : Destination) (files made : Option FileMap) (before after : Option (List ℕ)) (station : Receiving)
+    → IfOk left (λ l. LeavesSo l first_receiving t station u) → IfOk left (λ l. OnOk written (MakesJobFile station.jobs into files made)) → OnOk printed (Appends before after (received_text station.jobs))
+    → IfOk left (λ l. OnOk written (OnOk printed (Receives (ending_of_left l) t u into files made before after)))
+receives (Err b) written printed t u into files made before after station leaves makes text = tt
+receives (Ok l) (Err e) printed t u into files made before after station leaves makes text = tt
+receives (Ok l) (Ok w) (Err e) t u into files made before after station leaves makes text = tt
+receives (Ok l) (Ok w) (Ok p) t u into files made before after station leaves makes text = record { left = l; station = station; leaves = leaves; ending_is = refl; writes = (makes, text) }
 
 -- where it came to an end, the file is that of its jobs
-pub made_at_end : (written : Result (Unit {0}) CommandFault) (first last : Keeper) (station : Receiving) (name : List ℕ) (f looked kept made : Option FileMap) (before after : ℕ) (left : Result Left BrokenOff)
-    → first.name.now ≡ name → first.kept ≡ 0 → Discloses f looked IsSame → OnOk left (KeepsToEnd first last first_receiving station before after looked kept)
-    → OnOk written ((files : Option FileMap) → IfErr left (λ broken. IsOfFile broken → ⊥) → KeepsJobs last station.jobs files kept → MakesJobFile station.jobs last.name.now files made)
-    → IfOk left (λ _. OnOk written (MakesJobFile station.jobs name f made))
-made_at_end written first last station name f looked kept made before after (Err e) named none same ends makes = tt
-made_at_end written first last station name f looked kept made before after (Ok l) named none same (far, answered, jobs, (one, place, on)) makes =
-    let now : KeepsJobs last station.jobs f kept = subst (λ (js : List Job). KeepsJobs last js f kept) (sym jobs) (on f (none_kept first f looked none same)) in
-    on_ok_weaker written (λ m. subst (λ (n : List ℕ). MakesJobFile station.jobs n f made) (ap (λ (n : _). n.now) one ∙ named) (m f tt now)) makes
+pub made_at_end : (written : Result (Unit {0}) CommandFault) (front : List Entry) (first last : Keeper) (station : Receiving) (f looked kept made : Option FileMap) (before after : ℕ) (left : Result Left BrokenOff)
+    → IsOpened front first.file f → first.kept ≡ 0 → Discloses f looked IsSame → OnOk left (KeepsToEnd first last first_receiving station before after looked kept)
+    → OnOk written ((files : Option FileMap) → IfErr left (λ broken. IsOfFile broken → ⊥) → KeepsJobs last station.jobs files kept → MakesJobFile station.jobs last.file.into files made)
+    → IfOk left (λ _. OnOk written (MakesJobFile station.jobs first.file.into f made))
+made_at_end written front first last station f looked kept made before after (Err e) opened none same ends makes = tt
+made_at_end written front first last station f looked kept made before after (Ok l) opened none same (far, answered, jobs, (one, on)) makes =
+    let now : KeepsJobs last station.jobs f kept = subst (λ (js : List Job). KeepsJobs last js f kept) (sym jobs) (on f (none_kept first front f looked opened none same)) in
+    on_ok_weaker written (λ m. subst (λ (x : KeptFile). MakesJobFile station.jobs x.into f made) one (m f tt now)) makes
 
 -- WHATEVER ENDS IT
 
--- its keeper keeps the name
-pub keeper_named : (left : Result Left BrokenOff) (k k' : Keeper) (r r' : Receiving) (before after : ℕ) (f g : Option FileMap) → OnOk left (KeepsToEnd k k' r r' before after f g)
-    → IfErr left (KeepsToBreak k k' r r' before after f g) → k'.name ≡ k.name
-keeper_named (Ok l) k k' r r' before after f g (far, answered, jobs, goes) breaks = goes.0
-keeper_named (Err b) k k' r r' before after f g ends (far, near, sent, then, answered, goes, inl (silent, more, why)) = more.0 ∙ goes.0
-keeper_named (Err b) k k' r r' before after f g ends (far, near, sent, then, answered, goes, inr (one, (what, refused, may, jobs, more))) = more.0 ∙ goes.0
+-- its keeper keeps the file
+pub keeper_stays : (left : Result Left BrokenOff) (k k' : Keeper) (r r' : Receiving) (before after : ℕ) (f g : Option FileMap) → OnOk left (KeepsToEnd k k' r r' before after f g)
+    → IfErr left (KeepsToBreak k k' r r' before after f g) → k'.file ≡ k.file
+keeper_stays (Ok l) k k' r r' before after f g (far, answered, jobs, goes) breaks = goes.0
+keeper_stays (Err b) k k' r r' before after f g ends (far, near, sent, then, answered, goes, inl (silent, more, why)) = more.0 ∙ goes.0
+keeper_stays (Err b) k k' r r' before after f g ends (far, near, sent, then, answered, goes, inr (one, (what, refused, may, jobs, more))) = more.0 ∙ goes.0
 
 -- what a keeper has kept
-of_kept : (kept : List Job) (long : ℕ) (name : List ℕ) (files made : Option FileMap) → AreKept kept long name files made → MakesJobFile kept name files made ⊎ ((kept ≡ []) × Discloses files made IsSame)
-of_kept [] long name files made same = inr (refl, same)
-of_kept (j ∷ js) long name files made (bytes, file, l, few, sets) = inl (bytes, file, omega (arith, l, few), sets)
+of_kept : (front : List Entry) (file : KeptFile) (kept : List Job) (long : ℕ) (files made : Option FileMap) → IsOpened front file files → AreKept front kept long file.into.jobs.now files made
+    → MakesJobFile kept file.into files made ⊎ ((kept ≡ []) × Discloses files made IsSame)
+of_kept front file [] long files made opened same = inr (refl, same)
+of_kept front file (j ∷ js) long files made opened (bytes, of, l, few, sets) = inl (front, bytes, opened.stand, of, omega (arith, l, few), sets)
 
-pub has_kept : (keeper : Keeper) (jobs : List Job) (files made : Option FileMap) → keeper.place ≡ Growing → KeepsJobs keeper jobs files made → HasWhole jobs keeper.name.now files made
+pub has_kept : (keeper : Keeper) (jobs : List Job) (files made : Option FileMap) → keeper.file.place ≡ Growing → KeepsJobs keeper jobs files made → HasWhole jobs keeper.file.into files made
 has_kept keeper jobs files made grows k = (
   take keeper.kept jobs,
   [],
   ap (λ (n : ℕ). take n jobs) (k.all grows) ∙ sym (append-nil (take (whole_in_front jobs) jobs)),
-  of_kept (take keeper.kept jobs) keeper.long keeper.name.now files made k.file,
+  of_kept k.front keeper.file (take keeper.kept jobs) keeper.long files made k.opened k.kept,
 )
 
 -- all of the jobs
-has_all : (jobs : List Job) (name : List ℕ) (files made : Option FileMap) → MakesJobFile jobs name files made → HasWhole jobs name files made
-has_all jobs name files made makes = (jobs, drop (whole_in_front jobs) jobs, sym (take-append-drop (whole_in_front jobs) jobs), inl makes)
-
-pub still_keeps : (keeper : Keeper) (jobs : List Job) (files f g : Option FileMap) → KeepsJobs keeper jobs files f → Discloses f g IsSame → KeepsJobs keeper jobs files g
-still_keeps keeper jobs files f g k still = record {
-  few = k.few;
-  all = k.all;
-  cut = k.cut;
-  file = kept_still (take keeper.kept jobs) keeper.long keeper.name.now files f g k.file still;
-}
+has_all : (jobs : List Job) (into : Destination) (files made : Option FileMap) → MakesJobFile jobs into files made → HasWhole jobs into files made
+has_all jobs into files made makes = (jobs, drop (whole_in_front jobs) jobs, sym (take-append-drop (whole_in_front jobs) jobs), inl makes)
 
 -- the rest is kept, or nothing changes
-pub has_rest : (written : Result (Unit {0}) CommandFault) (keeper : Keeper) (jobs : List Job) (files kept made : Option FileMap) → keeper.place ≡ Growing → KeepsJobs keeper jobs files kept
-    → OnOk written (KeepsJobs keeper jobs files kept → MakesJobFile jobs keeper.name.now files made) → OnErr written (Discloses kept made IsSame) → HasWhole jobs keeper.name.now files made
-has_rest (Ok x) keeper jobs files kept made grows k makes same = has_all jobs keeper.name.now files made (makes k)
+pub has_rest : (written : Result (Unit {0}) CommandFault) (keeper : Keeper) (jobs : List Job) (files kept made : Option FileMap) → keeper.file.place ≡ Growing → KeepsJobs keeper jobs files kept
+    → OnOk written (KeepsJobs keeper jobs files kept → MakesJobFile jobs keeper.file.into files made) → OnErr written (Discloses kept made IsSame) → HasWhole jobs keeper.file.into files made
+has_rest (Ok x) keeper jobs files kept made grows k makes same = has_all jobs keeper.file.into files made (makes k)
 has_rest (Err e) keeper jobs files kept made grows k makes same = has_kept keeper jobs files made grows (still_keeps keeper jobs files kept made k same)
 
-module _ (written : Result (Unit {0}) CommandFault) (first last : Keeper) (station : Receiving) (name : List ℕ) (f looked kept made : Option FileMap) (before after : ℕ)
-    (named : first.name.now ≡ name) (none : first.kept ≡ 0) (grows : first.place ≡ Growing) (same : Discloses f looked IsSame) where
+module _ (written : Result (Unit {0}) CommandFault) (front : List Entry) (first last : Keeper) (station : Receiving) (f looked kept made : Option FileMap) (before after : ℕ)
+    (opened : IsOpened front first.file f) (none : first.kept ≡ 0) (grows : first.file.place ≡ Growing) (same : Discloses f looked IsSame) where
   -- what goes on from nothing
-  from_none : (near : Keeper) (jobs : List Job) (g : Option FileMap) → GoesOnKeeping first near [] jobs looked g → KeepsJobs near jobs f g × (near.place ≡ Growing) × (near.name.now ≡ name)
-  from_none near jobs g (one, place, on) = (on f (none_kept first f looked none same), place ∙ grows, ap (λ (n : _). n.now) one ∙ named)
+  from_none : (near : Keeper) (jobs : List Job) (g : Option FileMap) → GoesOnKeeping first near [] jobs looked g → KeepsJobs near jobs f g × (near.file ≡ first.file)
+  from_none near jobs g (one, on) = (on f (none_kept first front f looked opened none same), one)
 
-  at_name : (keeper : Keeper) (jobs : List Job) → keeper.name.now ≡ name → HasWhole jobs keeper.name.now f made → HasWhole jobs name f made
-  at_name keeper jobs is has = subst (λ (n : List ℕ). HasWhole jobs n f made) is has
+  grown : (keeper : Keeper) → keeper.file ≡ first.file → keeper.file.place ≡ Growing
+  grown keeper is = ap (λ (x : KeptFile). x.place) is ∙ grows
+
+  at_file : (keeper : Keeper) (jobs : List Job) → keeper.file ≡ first.file → HasWhole jobs keeper.file.into f made → HasWhole jobs first.file.into f made
+  at_file keeper jobs is has = subst (λ (x : KeptFile). HasWhole jobs x.into f made) is has
 
   pub kept_to_end : KeepsToEnd first last first_receiving station before after looked kept
-      → OnOk written (KeepsJobs last station.jobs f kept → MakesJobFile station.jobs last.name.now f made) → OnErr written (Discloses kept made IsSame) → KeepsAnswered name f made before after
+      → OnOk written (KeepsJobs last station.jobs f kept → MakesJobFile station.jobs last.file.into f made) → OnErr written (Discloses kept made IsSame) → KeepsAnswered first.file.into f made before after
   kept_to_end (far, answered, jobs, goes) makes still =
       let k = from_none last far.jobs kept goes in
       let now : KeepsJobs last station.jobs f kept = subst (λ (js : List Job). KeepsJobs last js f kept) (sym jobs) k.0 in
-      (far, after, answered, inl (refl, subst (λ (js : List Job). HasWhole js name f made) jobs (at_name last station.jobs k.2 (has_rest written last station.jobs f kept made k.1 now makes still))))
+      (far, after, answered, inl (refl, subst (λ (js : List Job). HasWhole js first.file.into f made) jobs (at_file last station.jobs k.1 (has_rest written last station.jobs f kept made (grown last k.1) now makes still))))
 
   -- it broke off, and what was kept by then is there
   kept_by : (broken : BrokenOff) → KeepsToBreak first last first_receiving station before after looked kept broken
-      → ((jobs : List Job) → (station.jobs ≡ jobs) ⊎ IsOfFile broken → last.place ≡ Growing → KeepsJobs last jobs f kept → HasWhole jobs last.name.now f made) → KeepsAnswered name f made before after
+      → ((jobs : List Job) → (station.jobs ≡ jobs) ⊎ IsOfFile broken → last.file.place ≡ Growing → KeepsJobs last jobs f kept → HasWhole jobs last.file.into f made)
+      → KeepsAnswered first.file.into f made before after
   kept_by broken (far, near, sent, then, answered, goes, inl (silent, more, why)) has =
       let k = from_none near far.jobs then goes in
-      let name_is : last.name.now ≡ name = ap (λ (n : _). n.now) more.0 ∙ k.2 in
-      (far, sent, answered, inl (silent, at_name last far.jobs name_is (has far.jobs (turned why) (more.1 ∙ k.1) (more.2 f k.0)))) where
+      let is : last.file ≡ first.file = more.0 ∙ k.1 in
+      (far, sent, answered, inl (silent, at_file last far.jobs is (has far.jobs (turned why) (grown last is) (more.1 f k.0)))) where
         turned : IsOfFile broken ⊎ (station.jobs ≡ far.jobs) → (station.jobs ≡ far.jobs) ⊎ IsOfFile broken
         turned (inl x) = inr x
         turned (inr x) = inl x
   kept_by broken (far, near, sent, then, answered, goes, inr (one, (what, refused, may, jobs, more))) has =
       let k = from_none near far.jobs then goes in
-      let name_is : last.name.now ≡ name = ap (λ (n : _). n.now) more.0 ∙ k.2 in
-      (far, sent, answered, inr (one, (what, refused, may, subst (λ (js : List Job). HasWhole js name f made) jobs (at_name last station.jobs name_is (has station.jobs (inl refl) (more.1 ∙ k.1) (more.2 f k.0))))))
+      let is : last.file ≡ first.file = more.0 ∙ k.1 in
+      (far, sent, answered, inr (one, (what, refused, may, subst (λ (js : List Job). HasWhole js first.file.into f made) jobs (at_file last station.jobs is (has station.jobs (inl refl) (grown last is) (more.1 f k.0))))))
 
   -- whatever is left of it
   pub kept_whatever : (left : Result Left BrokenOff) → OnOk left (KeepsToEnd first last first_receiving station before after looked kept)
       → IfErr left (KeepsToBreak first last first_receiving station before after looked kept)
-      → OnOk written ((files : Option FileMap) → IfErr left (λ broken. IsOfFile broken → ⊥) → KeepsJobs last station.jobs files kept → MakesJobFile station.jobs last.name.now files made)
-      → IfErr left (λ broken. IsOfFile broken → Discloses kept made IsSame) → OnErr written (Discloses kept made IsSame) → KeepsAnswered name f made before after
+      → OnOk written ((files : Option FileMap) → IfErr left (λ broken. IsOfFile broken → ⊥) → KeepsJobs last station.jobs files kept → MakesJobFile station.jobs last.file.into files made)
+      → IfErr left (λ broken. IsOfFile broken → Discloses kept made IsSame) → OnErr written (Discloses kept made IsSame) → KeepsAnswered first.file.into f made before after
   kept_whatever (Ok l) ends breaks makes refused still = kept_to_end ends (on_ok_weaker written (λ m. m f tt) makes) still
   kept_whatever (Err (BrokenOff.File e)) ends breaks makes refused still =
-      kept_by (BrokenOff.File e) breaks (λ jobs why grown k. has_kept last jobs f made grown (still_keeps last jobs f kept made k (refused tt)))
+      kept_by (BrokenOff.File e) breaks (λ jobs why growing k. has_kept last jobs f made growing (still_keeps last jobs f kept made k (refused tt)))
   kept_whatever (Err (BrokenOff.Line e)) ends breaks makes refused still = kept_by (BrokenOff.Line e) breaks has where
-    rest : last.place ≡ Growing → KeepsJobs last station.jobs f kept → HasWhole station.jobs last.name.now f made
-    rest grown k =
-        has_rest written last station.jobs f kept made grown k (on_ok_weaker written (λ m. m f (λ never. absurd never)) makes) still
+    rest : last.file.place ≡ Growing → KeepsJobs last station.jobs f kept → HasWhole station.jobs last.file.into f made
+    rest growing k =
+        has_rest written last station.jobs f kept made growing k (on_ok_weaker written (λ m. m f (λ never. absurd never)) makes) still
 
-    has : (jobs : List Job) → (station.jobs ≡ jobs) ⊎ IsOfFile (BrokenOff.Line e) → last.place ≡ Growing → KeepsJobs last jobs f kept → HasWhole jobs last.name.now f made
-    has jobs (inr never) grown k = absurd never
-    has jobs (inl same_jobs) grown k =
-        subst (λ (js : List Job). HasWhole js last.name.now f made) same_jobs (rest grown (subst (λ (js : List Job). KeepsJobs last js f kept) (sym same_jobs) k))
+    has : (jobs : List Job) → (station.jobs ≡ jobs) ⊎ IsOfFile (BrokenOff.Line e) → last.file.place ≡ Growing → KeepsJobs last jobs f kept → HasWhole jobs last.file.into f made
+    has jobs (inr never) growing k = absurd never
+    has jobs (inl same_jobs) growing k =
+        subst (λ (js : List Job). HasWhole js last.file.into f made) same_jobs (rest growing (subst (λ (js : List Job). KeepsJobs last js f kept) (sym same_jobs) k))
 
 -- over a store that tells its files
-pub received_kept : (written : Result (Unit {0}) CommandFault) (first last : Keeper) (station : Receiving) (name : List ℕ) (f looked kept made : Option FileMap) (before after : ℕ) (left : Result Left BrokenOff)
-    → first.name.now ≡ name → first.kept ≡ 0 → IfSome f (λ _. first.place ≡ Growing) → Discloses f looked IsSame
+pub received_kept : (written : Result (Unit {0}) CommandFault) (front : List Entry) (first last : Keeper) (station : Receiving) (f looked kept made : Option FileMap) (before after : ℕ) (left : Result Left BrokenOff)
+    → IsOpened front first.file f → first.kept ≡ 0 → Discloses f looked IsSame
     → OnOk left (KeepsToEnd first last first_receiving station before after looked kept) → IfErr left (KeepsToBreak first last first_receiving station before after looked kept)
-    → OnOk written ((files : Option FileMap) → IfErr left (λ broken. IsOfFile broken → ⊥) → KeepsJobs last station.jobs files kept → MakesJobFile station.jobs last.name.now files made)
-    → IfErr left (λ broken. IsOfFile broken → Discloses kept made IsSame) → OnErr written (Discloses kept made IsSame) → IfSome f (λ _. KeepsAnswered name f made before after)
-received_kept written first last station name None looked kept made before after left named none grows same ends breaks makes refused still = tt
-received_kept written first last station name (Some f) looked kept made before after left named none grows same ends breaks makes refused still =
-    kept_whatever written first last station name (Some f) looked kept made before after named none grows same left ends breaks makes refused still
+    → OnOk written ((files : Option FileMap) → IfErr left (λ broken. IsOfFile broken → ⊥) → KeepsJobs last station.jobs files kept → MakesJobFile station.jobs last.file.into files made)
+    → IfErr left (λ broken. IsOfFile broken → Discloses kept made IsSame) → OnErr written (Discloses kept made IsSame) → IfSome f (λ _. KeepsAnswered first.file.into f made before after)
+received_kept written front first last station None looked kept made before after left opened none same ends breaks makes refused still = tt
+received_kept written front first last station (Some f) looked kept made before after left opened none same ends breaks makes refused still =
+    kept_whatever written front first last station (Some f) looked kept made before after opened none opened.grows same left ends breaks makes refused still
 
 -- nothing was heard
-pub nothing_kept : (name : List ℕ) (f made : Option FileMap) (before after : ℕ) → Discloses f made IsSame → after ≡ before → IfSome f (λ _. KeepsAnswered name f made before after)
-nothing_kept name None made before after same silent = tt
-nothing_kept name (Some f) made before after same silent = (first_receiving, before, none_answered first_receiving before, inl (silent, ([], [], refl, inr (refl, same))))
+pub nothing_kept : (into : Destination) (f made : Option FileMap) (before after : ℕ) → Discloses f made IsSame → after ≡ before → IfSome f (λ _. KeepsAnswered into f made before after)
+nothing_kept into None made before after same silent = tt
+nothing_kept into (Some f) made before after same silent = (first_receiving, before, none_answered first_receiving before, inl (silent, ([], [], refl, inr (refl, same))))
+
+-- some replies were transmitted, and what they answer is kept
+pub keeps_so_many : (into : Destination) (f made : Option FileMap) (before after : ℕ) → IfSome f (λ _. KeepsAnswered into f made before after)
+    → IfSome f (λ _. (n : ℕ) × (m : ℕ) × KeepsAnswered into f made n m)
+keeps_so_many into None made before after kept = tt
+keeps_so_many into (Some f) made before after kept = (before, after, kept)

@@ -10,6 +10,7 @@ use Rattle.rje_station.specs.JoinedJobs.{begun_in}
 use Rattle.rje_station.specs.Line.{one_more}
 use Rattle.rje_station.specs.Receiving.{Receiving, MayRefuse, after_receiving, first_receiving, with_reply}
 use Rattle.line_world.specs.AnyLines.{ReceiverTook}
+use Rattle.rje_orders.specs.declared.order.Destination.{Destination}
 use Rattle.rje_sockets.specs.declared.broken_off.BrokenOff.{BrokenOff}
 use Rattle.rje_sockets.specs.declared.keeper.Keeper.{Keeper}
 use Rattle.rje_sockets.specs.Ending.{MakesJobFile}
@@ -31,21 +32,21 @@ pub record Answered (r r' : Receiving) (before after : ℕ) : Type 0 where
   pub took : ReceiverTook r history r'
   pub sent : after ≡ answers history before
 
--- of these jobs the file of this name has all in front that have come whole, and may have more, and no other file changed; where there are
--- none, all files may be as they were
-abbrev pub HasWhole : List Job → (name : List ℕ) → (files made : Option FileMap) → Type 0
-HasWhole jobs name files made =
+-- of these jobs the file of the destination has all in front that have come whole, after the entries that stay, and may have more, and no other
+-- file changed; where there are none, all files may be as they were
+abbrev pub HasWhole : List Job → (into : Destination) → (files made : Option FileMap) → Type 0
+HasWhole jobs into files made =
     (kept : List Job) × (rest : List Job) × (kept ≡ take (whole_in_front jobs) jobs ++ rest)
-    × (MakesJobFile kept name files made ⊎ ((kept ≡ []) × Discloses files made IsSame))
+    × (MakesJobFile kept into files made ⊎ ((kept ≡ []) × Discloses files made IsSame))
 
 -- Whatever ended the transmission: a new station took some turns, in which the line transmitted just its replies, and the file has what had
 -- come whole by then; or it heard one thing more, what had come whole by then is in the file, and the line failed as it replied.
-abbrev pub KeepsAnswered : (name : List ℕ) → (files made : Option FileMap) → (before after : ℕ) → Type 0
-KeepsAnswered name files made before after =
+abbrev pub KeepsAnswered : (into : Destination) → (files made : Option FileMap) → (before after : ℕ) → Type 0
+KeepsAnswered into files made before after =
     (far : Receiving) × (sent : ℕ) × Answered first_receiving far before sent
-    × (((after ≡ sent) × HasWhole far.jobs name files made)
+    × (((after ≡ sent) × HasWhole far.jobs into files made)
     ⊎ ((after ≡ one_more sent) × ((what : Heard) × (refused : Bool) × MayRefuse what (begun_in far.jobs) refused
-    × HasWhole (after_receiving far what refused Wish.Go).jobs name files made)))
+    × HasWhole (after_receiving far what refused Wish.Go).jobs into files made)))
 
 -- A keeper kept what came whole, and the station broke off in this turn: it replied to nothing, where a job couldn't be kept or nothing came;
 -- or what came was kept, and the line failed as it replied.

@@ -20,9 +20,8 @@ HoldsBoth marker counted keeper jobs files made =
 pub record GoesOnHolding (old new : Marker) (counted more : ℕ) (before after : Keeper) (jobs later : List Job) (f g : Option FileMap) : Type 0 where
   pub name : new.name ≡ old.name
   pub file : new.file ≡ old.file
-  pub own : after.name ≡ before.name
-  pub place : after.place ≡ before.place
-  pub holds : old.name.now ≢ before.name.now → (files : Option FileMap) → HoldsBoth old counted before jobs files f → HoldsBoth new more after later files g
+  pub own : after.file ≡ before.file
+  pub holds : old.name.now ≢ before.file.into.jobs.now → (files : Option FileMap) → HoldsBoth old counted before jobs files f → HoldsBoth new more after later files g
 
 -- what is kept of the jobs of a station that broke off: all that it has; or, where the last one couldn't be kept, those that it had before
 abbrev pub kept_of : Contending → Contending → BrokenOff → List Job

@@ -17,6 +17,8 @@ use Rattle.rje_sockets.specs.declared.exchange.Left.{Left}
 use Rattle.rje_commands.specs.declared.command_fault.CommandFault.{CommandFault}
 use Rattle.rje_commands.specs.CommandFault.{status_of}
 use Rattle.rje_commands.specs.Commands.{OfFile}
+use Rattle.rje_orders.specs.declared.order.Destination.{Destination}
+use Rattle.rje_sockets.specs.InFront.{StandInFront}
 use Rattle.rje_sockets.specs.OverLine.{LineTells, SendsOver}
 use Rattle.rje_sockets.specs.Patience.{LeavesSo}
 use Rattle.rje_stores.specs.Store.{FileMap, Discloses, Sets}
@@ -43,33 +45,35 @@ received_text jobs = handed_line (length jobs) (whole_jobs jobs)
 abbrev pub loop_text : (counted given : ℕ) → List Job → Option Outcome → List ℕ
 loop_text counted given jobs outcome = counted_line counted given ++ received_text jobs ++ outcome_line outcome
 
--- the file of this name became the version 2 file of these jobs, without names and Whole or Cut, and no other file changed
-abbrev pub MakesJobFile : List Job → (name : List ℕ) → (files made : Option FileMap) → Type 0
-MakesJobFile jobs name files made =
-    (bytes : List ℕ) × IsEntryFileOf Second (map entry_of jobs) bytes × (length bytes ≤ 16777216) × Discloses files made (Sets name bytes)
+-- the file of a destination became the version 2 file of the entries in front and of these jobs, without names and Whole or Cut, and no other
+-- file changed
+abbrev pub MakesJobFile : List Job → (into : Destination) → (files made : Option FileMap) → Type 0
+MakesJobFile jobs into files made =
+    (front : List Entry) × (bytes : List ℕ) × StandInFront into.existing into.jobs.now files front
+    × IsEntryFileOf Second (front ++ map entry_of jobs) bytes × (length bytes ≤ 16777216) × Discloses files made (Sets into.jobs.now bytes)
 
 -- so it did, and just the jobs' line was printed
-abbrev pub WritesJobs : List Job → (name : List ℕ) → (files made : Option FileMap) → (before after : Option (List ℕ)) → Type 0
-WritesJobs jobs name files made before after = MakesJobFile jobs name files made × Appends before after (received_text jobs)
+abbrev pub WritesJobs : List Job → (into : Destination) → (files made : Option FileMap) → (before after : Option (List ℕ)) → Type 0
+WritesJobs jobs into files made before after = MakesJobFile jobs into files made × Appends before after (received_text jobs)
 
 -- only where the sender ended the transmission all was received
 abbrev pub ending_of_left : Left → Ending
 ending_of_left Left.Ended = Ending.Done
 ending_of_left Left.Abandoned = Ending.Other
 
--- one transmission was received over a line: a new station took some turns there and left so, the file of this name became that of its jobs, and
--- just their line was printed
-pub record Receives (ending : Ending) (t u : LineTells) (name : List ℕ) (files made : Option FileMap) (before after : Option (List ℕ)) : Type 0 where
+-- one transmission was received over a line: a new station took some turns there and left so, the file of the destination became that of the
+-- entries in front and its jobs, and just their line was printed
+pub record Receives (ending : Ending) (t u : LineTells) (into : Destination) (files made : Option FileMap) (before after : Option (List ℕ)) : Type 0 where
   pub left : Left
   pub station : Receiving
   pub leaves : LeavesSo left first_receiving t station u
   pub ending_is : ending ≡ ending_of_left left
-  pub writes : WritesJobs station.jobs name files made before after
+  pub writes : WritesJobs station.jobs into files made before after
 
 -- a command over a line ended with this status, and one transmission was received
-abbrev pub EndsReceiving : (status : ℕ) → (t u : LineTells) → (name : List ℕ) → (files made : Option FileMap) → (before after : Option (List ℕ)) → Type 0
-EndsReceiving status t u name files made before after =
-    (ending : Ending) × (status ≡ ending_status ending) × Receives ending t u name files made before after
+abbrev pub EndsReceiving : (status : ℕ) → (t u : LineTells) → (into : Destination) → (files made : Option FileMap) → (before after : Option (List ℕ)) → Type 0
+EndsReceiving status t u into files made before after =
+    (ending : Ending) × (status ≡ ending_status ending) × Receives ending t u into files made before after
 
 -- the file of this name became that of the same entries as this file's, in which just the first counted of those that were not Sent are Sent,
 -- and no other file changed

@@ -10,6 +10,7 @@ use Rattle.rje_files.specs.JobFile.{HasEntries}
 use Rattle.rje_files.specs.Unsent.{unsent}
 use Rattle.rje_station.specs.Sending.{outcome_of}
 use Rattle.rje_station.specs.Station.{Contending, first_contending}
+use Rattle.rje_orders.specs.declared.order.Destination.{Destination}
 use Rattle.rje_orders.specs.declared.order.Meeting.{Meeting}
 use Rattle.rje_orders.specs.declared.order.Meeting.TheVariants.{Calls, Listens}
 use Rattle.rje_commands.specs.Commands.{OfFile}
@@ -45,10 +46,10 @@ abbrev pub exchanged_text : (counted given : ℕ) → Option Outcome → List Jo
 exchanged_text counted given outcome jobs = counted_line counted given ++ outcome_line outcome ++ received_text jobs
 
 -- the file of the one name became that of the same entries as this file's, in which just so many of those that were not Sent are Sent, and the
--- file of the other name became that of these jobs; no other file changed
-abbrev pub MakesBoth : (file : List ℕ) → (counted : ℕ) → List Job → (send received : List ℕ) → (files made : Option FileMap) → Type 0
-MakesBoth file counted jobs send received files made =
-    (marked : Option FileMap) × MarksSent file counted send files marked × MakesJobFile jobs received marked made
+-- file of the destination became that of the entries in front and these jobs; no other file changed
+abbrev pub MakesBoth : (file : List ℕ) → (counted : ℕ) → List Job → (send : List ℕ) → (into : Destination) → (files made : Option FileMap) → Type 0
+MakesBoth file counted jobs send into files made =
+    (marked : Option FileMap) × MarksSent file counted send files marked × MakesJobFile jobs into marked made
 
 -- one transmission was made each way over a line: the station took some turns there and left so; what it counted is marked in the one file, what
 -- came is kept in the other, and just the lines of both were printed
@@ -56,25 +57,25 @@ pub record Exchanges (ending : Ending) (t u : LineTells) (s : Contending) (marke
   pub left : Left
   pub station : Contending
   pub exchanges : ExchangesTo left s t station u
-  pub makes : marker.name.now ≢ keeper.name.now → (files : Option FileMap) → HoldsBoth marker s.sender.counted keeper s.receiver.jobs files f
-      → MakesBoth marker.file.items station.sender.counted station.receiver.jobs marker.name.now keeper.name.now files g
+  pub makes : marker.name.now ≢ keeper.file.into.jobs.now → (files : Option FileMap) → HoldsBoth marker s.sender.counted keeper s.receiver.jobs files f
+      → MakesBoth marker.file.items station.sender.counted station.receiver.jobs marker.name.now keeper.file.into files g
   pub ending_is : ending ≡ ending_of_both (outcome_of station.sender) (is_idle (length s.sender.jobs) station.receiver.jobs) left
   pub text_is : Appends before after (exchanged_text station.sender.counted (length s.sender.jobs) (outcome_of station.sender) station.receiver.jobs)
 
 -- what was left of the job file of the one name was exchanged over a line for the jobs of the other station: a new station of this rank took some
--- turns there and left so; the jobs that it counted are Sent in that file now, the file of the other name is that of the jobs that came, no
+-- turns there and left so; the jobs that it counted are Sent in that file now, the file of the destination is that of the entries in front and the jobs that came, no
 -- other file changed, and just the lines of both were printed
-pub record ExchangesLeft (ending : Ending) (t u : LineTells) (rank : Rank) (send received file : List ℕ) (files made : Option FileMap) (before after : Option (List ℕ)) : Type 0 where
+pub record ExchangesLeft (ending : Ending) (t u : LineTells) (rank : Rank) (send : List ℕ) (into : Destination) (file : List ℕ) (files made : Option FileMap) (before after : Option (List ℕ)) : Type 0 where
   pub entries : List Entry
   pub left : Left
   pub station : Contending
   pub file_is : HasEntries entries file
   pub exchanges : ExchangesTo left (first_contending rank (jobs_in (unsent entries))) t station u
-  pub makes : MakesBoth file station.sender.counted station.receiver.jobs send received files made
+  pub makes : MakesBoth file station.sender.counted station.receiver.jobs send into files made
   pub ending_is : ending ≡ ending_of_both (outcome_of station.sender) (is_idle (length (unsent entries)) station.receiver.jobs) left
   pub text_is : Appends before after (exchanged_text station.sender.counted (length (unsent entries)) (outcome_of station.sender) station.receiver.jobs)
 
 -- a command over a line ended with this status, and what was left of the job file of the one name was exchanged so
-abbrev pub EndsExchanging : (status : ℕ) → (t u : LineTells) → Rank → (send received : List ℕ) → (files made : Option FileMap) → (before after : Option (List ℕ)) → Type 0
-EndsExchanging status t u rank send received files made before after =
-    (ending : Ending) × (status ≡ ending_status ending) × OfFile send files (λ file. ExchangesLeft ending t u rank send received file files made before after)
+abbrev pub EndsExchanging : (status : ℕ) → (t u : LineTells) → Rank → (send : List ℕ) → (into : Destination) → (files made : Option FileMap) → (before after : Option (List ℕ)) → Type 0
+EndsExchanging status t u rank send into files made before after =
+    (ending : Ending) × (status ≡ ending_status ending) × OfFile send files (λ file. ExchangesLeft ending t u rank send into file files made before after)

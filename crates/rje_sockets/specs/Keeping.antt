@@ -1,7 +1,8 @@
 -- What a receiver has in its file of the jobs of a transmission while they come (own profile).
-use Rattle.std.specs.Prelude.{◌≡◌, ◌+◌, ◌≤◌, ℕ, Bool, List, [], ◌∷◌, length, map, take, Option, Some, None, ⊤, if◌then◌else◌}
+use Rattle.std.specs.Prelude.{◌≡◌, ◌+◌, ◌≤◌, ◌++◌, ℕ, Bool, List, [], ◌∷◌, length, map, take, Option, Some, None, ⊤, if◌then◌else◌}
 use Rattle.std.specs.List.{prefix_len, slice_get}
 use Rattle.rje_jobs.specs.declared.job.Job.{Job}
+use Rattle.rje_files.specs.declared.entry.Entry.{Entry}
 use Rattle.rje_files.specs.declared.job_file.version.FileVersion.TheVariants.{Second}
 use Rattle.rje_files.specs.Entry.{entry_of}
 use Rattle.rje_files.specs.JobFile.{IsEntryFileOf}
@@ -13,6 +14,7 @@ use Rattle.rje_station.specs.Receiving.{Receiving, MayRefuse, after_abandon, aft
 use Rattle.line_world.specs.AnyLines.{ReceiverFails, ReceiverTook}
 use Rattle.rje_sockets.specs.declared.broken_off.BrokenOff.{BrokenOff}
 use Rattle.rje_sockets.specs.declared.keeper.Keeper.{Keeper}
+use Rattle.rje_sockets.specs.InFront.{IsOpened}
 use Rattle.rje_stores.specs.declared.store.Place.{Place}
 use Rattle.rje_stores.specs.declared.store.Place.TheVariants.{Growing, Once}
 use Rattle.rje_stores.specs.Store.{FileMap, Discloses, IsSame, Sets}
@@ -21,26 +23,27 @@ use Rattle.rje_stores.specs.Store.{FileMap, Discloses, IsSame, Sets}
 abbrev pub whole_in_front : List Job → ℕ
 whole_in_front jobs = prefix_len (λ job. job.whole) jobs
 
--- where there are some, the file of this name became the version 2 file of these jobs, which has so many bytes, and no other file changed;
--- where there are none, no file changed
-abbrev pub AreKept : List Job → (long : ℕ) → (name : List ℕ) → (files made : Option FileMap) → Type 0
-AreKept [] long name files made = Discloses files made IsSame
-AreKept (job ∷ jobs) long name files made =
-    (bytes : List ℕ) × IsEntryFileOf Second (map entry_of (job ∷ jobs)) bytes × (length bytes ≡ long) × (long ≤ 16777216) × Discloses files made (Sets name bytes)
+-- where there are some, the file of this name became the version 2 file of the entries in front and these jobs, which has so many bytes, and no
+-- other file changed; where there are none, no file changed
+abbrev pub AreKept : (front : List Entry) → List Job → (long : ℕ) → (name : List ℕ) → (files made : Option FileMap) → Type 0
+AreKept front [] long name files made = Discloses files made IsSame
+AreKept front (job ∷ jobs) long name files made =
+    (bytes : List ℕ) × IsEntryFileOf Second (front ++ map entry_of (job ∷ jobs)) bytes × (length bytes ≡ long) × (long ≤ 16777216) × Discloses files made (Sets name bytes)
 
--- What a keeper has kept of these jobs since the files were these: some of the first that have come whole, and in a file that grows all of
--- these. But for the last one all jobs have come whole.
+-- What a keeper has kept of these jobs since the files were these, after the entries in front: some of the first that have come whole, and in a
+-- file that grows all of these. But for the last one all jobs have come whole.
 pub record KeepsJobs (keeper : Keeper) (jobs : List Job) (files made : Option FileMap) : Type 0 where
+  pub front : List Entry
+  pub opened : IsOpened front keeper.file files
   pub few : keeper.kept ≤ whole_in_front jobs
-  pub all : keeper.place ≡ Growing → keeper.kept ≡ whole_in_front jobs
+  pub all : keeper.file.place ≡ Growing → keeper.kept ≡ whole_in_front jobs
   pub cut : length jobs ≤ whole_in_front jobs + 1
-  pub file : AreKept (take keeper.kept jobs) keeper.long keeper.name.now files made
+  pub kept : AreKept front (take keeper.kept jobs) keeper.long keeper.file.into.jobs.now files made
 
 -- a keeper of the same file went on to keep what it had kept, and what came since
 abbrev pub GoesOnKeeping : (old new : Keeper) → (jobs more : List Job) → (before after : Option FileMap) → Type 0
 GoesOnKeeping old new jobs more before after =
-    (new.name ≡ old.name) × (new.place ≡ old.place)
-    × ((files : Option FileMap) → KeepsJobs old jobs files before → KeepsJobs new more files after)
+    (new.file ≡ old.file) × ((files : Option FileMap) → KeepsJobs old jobs files before → KeepsJobs new more files after)
 
 -- a job couldn't be kept
 abbrev pub IsOfFile : BrokenOff → Type 0

@@ -7,6 +7,7 @@ use Rattle.rje_files.specs.JobFile.{HasEntries}
 use Rattle.rje_files.specs.Unsent.{unsent}
 use Rattle.rje_station.specs.Station.{Contending, first_contending}
 use Rattle.rje_commands.specs.Commands.{OfFile}
+use Rattle.rje_orders.specs.declared.order.Destination.{Destination}
 use Rattle.rje_sockets.specs.declared.broken_off.BrokenOff.{BrokenOff}
 use Rattle.rje_sockets.specs.Answering.{HasWhole}
 use Rattle.rje_sockets.specs.BothWays.{Fails, LeavesFrom, StationTurn, Took}
@@ -28,18 +29,18 @@ HasCounted s n = (last : Contending) × CameTo s last × (last.sender.counted �
 abbrev pub MarksAlone : Contending → (file name : List ℕ) → (files made : Option FileMap) → Type 0
 MarksAlone s file name files made = (last : Contending) × CameTo s last × MarksSent file last.sender.counted name files made
 
--- just what it had counted is marked in the file of the one name; in that of the other name all in front is kept of what had come whole, and
--- there may be more of what had come; and no other file changed
-pub record LeavesBoth (s : Contending) (file send received : List ℕ) (files made : Option FileMap) : Type 0 where
+-- just what it had counted is marked in the file of the one name; in that of the destination all in front is kept of what had come whole, after
+-- the entries that stay, and there may be more of what had come; and no other file changed
+pub record LeavesBoth (s : Contending) (file send : List ℕ) (into : Destination) (files made : Option FileMap) : Type 0 where
   pub marked : Option FileMap
   pub marks : MarksAlone s file send files marked
   pub last : Contending
   pub came : CameTo s last
-  pub kept : HasWhole last.receiver.jobs received marked made
+  pub kept : HasWhole last.receiver.jobs into marked made
 
 -- nothing was said, and no file changed; or a new station of this rank, for what was left of the job file of the one name, left the files so
-abbrev pub LeavesExchange : (Unsaid : Type 0) → Rank → (send received : List ℕ) → (files made : Option FileMap) → Type 0
-LeavesExchange Unsaid rank send received files made =
+abbrev pub LeavesExchange : (Unsaid : Type 0) → Rank → (send : List ℕ) → (into : Destination) → (files made : Option FileMap) → Type 0
+LeavesExchange Unsaid rank send into files made =
     (Unsaid × Discloses files made IsSame)
     ⊎ OfFile send files (λ file. (entries : List Entry) × HasEntries entries file
-    × LeavesBoth (first_contending rank (jobs_in (unsent entries))) file send received files made)
+    × LeavesBoth (first_contending rank (jobs_in (unsent entries))) file send into files made)

@@ -1,3 +1,4 @@
+pub mod InFront
 pub mod Keeping
 pub mod Answering
 pub mod BrokenOff

@@ -9,6 +9,7 @@ use Rattle.rje_sockets.specs.Answering.{KeepsAnswered}
 use Rattle.rje_sockets.specs.Ending.{IsUnsentFault, Receives, SendsLeft}
 use Rattle.rje_sockets.specs.Exchanging.{ExchangesLeft, rank_at}
 use Rattle.rje_sockets.specs.LeavingBoth.{LeavesExchange}
+use Rattle.rje_sockets.specs.InFront.{IsStandingFault, LooksInto}
 use Rattle.rje_sockets.specs.Looping.{IsUnloopedFault, Loops}
 use Rattle.rje_sockets.specs.Marking.{MarksNoMore}
 use Rattle.rje_sockets.specs.NamedFiles.{NamesOne}
@@ -23,41 +24,42 @@ abbrev pub Transmits : SocketOrder → Ending → (files made : Option FileMap) 
 Transmits (SocketOrder.Loop order) ending files made before after = OfFile order.jobs.now files (λ file. Loops ending file before after)
 Transmits (SocketOrder.Send order) ending files made before after =
     OverConnection (λ t u. OfFile order.jobs.now files (λ file. SendsLeft ending t u order.jobs.now file files made before after))
-Transmits (SocketOrder.Receive order) ending files made before after = OverConnection (λ t u. Receives ending t u order.jobs.now files made before after)
+Transmits (SocketOrder.Receive order) ending files made before after = OverConnection (λ t u. Receives ending t u order.into files made before after)
 Transmits (SocketOrder.Exchange order) ending files made before after =
-    OverConnection (λ t u. OfFile order.send.now files (λ file. ExchangesLeft ending t u (rank_at order.place) order.send.now order.received.now file files made before after))
+    OverConnection (λ t u. OfFile order.send.now files (λ file. ExchangesLeft ending t u (rank_at order.place) order.send.now order.received file files made before after))
 
 -- Whatever ends it: `loop` changes no file, `send` marks just what was counted, in its file `receive` has what had come whole, and `exchange`
 -- does both.
 abbrev pub LeavesFiles : SocketOrder → (files made : Option FileMap) → Type 0
 LeavesFiles (SocketOrder.Loop order) files made = Discloses files made IsSame
 LeavesFiles (SocketOrder.Send order) files made = MarksNoMore ⊤ order.jobs.now files made
-LeavesFiles (SocketOrder.Receive order) files made = IfSome files (λ _. (before : ℕ) × (after : ℕ) × KeepsAnswered order.jobs.now files made before after)
+LeavesFiles (SocketOrder.Receive order) files made = IfSome files (λ _. (before : ℕ) × (after : ℕ) × KeepsAnswered order.into files made before after)
 LeavesFiles (SocketOrder.Exchange order) files made =
-    IfSome files (λ _. LeavesExchange ⊤ (rank_at order.place) order.send.now order.received.now files made)
+    IfSome files (λ _. LeavesExchange ⊤ (rank_at order.place) order.send.now order.received files made)
 
 -- WHY IT ISN'T CARRIED OUT
 
--- the job file that is sent is refused for this: that of `loop`, or what is left of that of `send` or `exchange`
+-- a job file is refused for this: that of `loop`, what is left of that of `send` or `exchange`, or that which `receive` or `exchange` receives into
 abbrev pub Refuses : SocketOrder → Option FileMap → CommandFault → Type 0
 Refuses (SocketOrder.Loop order) files fault = OfFile order.jobs.now files (λ file. IsUnloopedFault file fault)
 Refuses (SocketOrder.Send order) files fault = OfFile order.jobs.now files (λ file. IsUnsentFault file fault)
-Refuses (SocketOrder.Receive order) files fault = ⊥
-Refuses (SocketOrder.Exchange order) files fault = OfFile order.send.now files (λ file. IsUnsentFault file fault)
+Refuses (SocketOrder.Receive order) files fault = OfFile order.into.jobs.now files (λ file. IsStandingFault order.into file fault)
+Refuses (SocketOrder.Exchange order) files fault =
+    OfFile order.send.now files (λ file. IsUnsentFault file fault) ⊎ OfFile order.received.jobs.now files (λ file. IsStandingFault order.received file fault)
 
 -- the order reads the file of this name
 abbrev pub ReadsFile : SocketOrder → List ℕ → Type 0
 ReadsFile (SocketOrder.Loop order) name = name ≡ order.jobs.now
 ReadsFile (SocketOrder.Send order) name = name ≡ order.jobs.now
-ReadsFile (SocketOrder.Receive order) name = ⊥
-ReadsFile (SocketOrder.Exchange order) name = name ≡ order.send.now
+ReadsFile (SocketOrder.Receive order) name = LooksInto order.into name
+ReadsFile (SocketOrder.Exchange order) name = (name ≡ order.send.now) ⊎ LooksInto order.received name
 
 -- the order writes it
 abbrev pub WritesFile : SocketOrder → List ℕ → Type 0
 WritesFile (SocketOrder.Loop order) name = ⊥
 WritesFile (SocketOrder.Send order) name = name ≡ order.jobs.now
-WritesFile (SocketOrder.Receive order) name = name ≡ order.jobs.now
-WritesFile (SocketOrder.Exchange order) name = (name ≡ order.send.now) ⊎ (name ≡ order.received.now)
+WritesFile (SocketOrder.Receive order) name = name ≡ order.into.jobs.now
+WritesFile (SocketOrder.Exchange order) name = (name ≡ order.send.now) ⊎ (name ≡ order.received.jobs.now)
 
 -- or a file that it reads or writes, a line, an output or memory fails
 abbrev pub IsSocketFault : SocketOrder → Option FileMap → CommandFault → Type 0

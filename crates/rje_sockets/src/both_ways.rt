@@ -46,7 +46,7 @@ pub fn exchange_all<'a, 'b, L: Line, S: Store, W: Watch>(
         station.new (L.talk line.new, L.transmissions line.new)) }
     ensures status { IfErr result (λ broken. IsFailing (status_of (of_broken_off broken))) }
     ensures names { IfErr result (λ broken.
-        NamesWritten keeper.old.name.now (of_broken_off broken)) }
+        NamesWritten keeper.old.file.into.jobs.now (of_broken_off broken)) }
     ensures cause { IfErr result (IsBreak (λ f. L.last_fault line.new ≡ Some f)
         (ExchangesToBabble station.old (L.talk line.old, L.transmissions line.old)
         station.new (L.talk line.new))
@@ -186,7 +186,7 @@ fn take_others_turn<'a, 'b, L: Line, S: Store, W: Watch>(
         × (station.new.receiver.arrival ≡ Some arrival)) }
     ensures status { IfErr result (λ broken. IsFailing (status_of (of_broken_off broken))) }
     ensures names { IfErr result (λ broken.
-        NamesWritten keeper.old.name.now (of_broken_off broken)) }
+        NamesWritten keeper.old.file.into.jobs.now (of_broken_off broken)) }
     ensures kept { OnOk result (GoesOnKeeping keeper.old keeper.new station.old.receiver.jobs
         station.new.receiver.jobs (S.files store.old) (S.files store.new)) }
     ensures broken { IfErr result (λ broken. GoesOnKeeping keeper.old keeper.new

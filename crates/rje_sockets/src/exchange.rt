@@ -163,7 +163,7 @@ pub fn receive_all<'a, L: Line, S: Store, W: Watch>(
         (station.old.over ≡ true)) }
     ensures status { IfErr result (λ broken. IsFailing (status_of (of_broken_off broken))) }
     ensures names { IfErr result (λ broken.
-        NamesWritten keeper.old.name.now (of_broken_off broken)) }
+        NamesWritten keeper.old.file.into.jobs.now (of_broken_off broken)) }
     ensures kept { OnOk result (KeepsToEnd keeper.old keeper.new station.old station.new
         (L.transmissions line.old) (L.transmissions line.new)
         (S.files store.old) (S.files store.new)) }
@@ -199,7 +199,7 @@ fn hear_out<'a, L: Line, S: Store, W: Watch>(
         (station.old.over ≡ true)) }
     ensures status { IfErr result (λ broken. IsFailing (status_of (of_broken_off broken))) }
     ensures names { IfErr result (λ broken.
-        NamesWritten keeper.old.name.now (of_broken_off broken)) }
+        NamesWritten keeper.old.file.into.jobs.now (of_broken_off broken)) }
     ensures kept { OnOk result (KeepsToEnd keeper.old keeper.new station.old station.new
         (L.transmissions line.old) (L.transmissions line.new)
         (S.files store.old) (S.files store.new)) }
@@ -262,7 +262,7 @@ fn hear_keep_and_speak<'a, L: Line, S: Store, W: Watch>(
         station.new.jobs (S.files store.old) (S.files store.new)) }
     ensures status { IfErr result (λ broken. IsFailing (status_of (of_broken_off broken))) }
     ensures names { IfErr result (λ broken.
-        NamesWritten keeper.old.name.now (of_broken_off broken)) }
+        NamesWritten keeper.old.file.into.jobs.now (of_broken_off broken)) }
     ensures silent { IfErr result (λ broken. IsOfFile broken
         → L.transmissions line.new ≡ L.transmissions line.old) }
     ensures broken { IfErr result (BreaksKeeping keeper.old keeper.new station.old station.new

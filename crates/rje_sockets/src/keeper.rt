@@ -1,28 +1,33 @@
 //! Keeps the jobs of a transmission in a file while they come.
-ghost use Rattle.std.specs.Prelude.{◌≡◌, ◌+◌, ◌-◌, ◌^◌, ◌<◌, ◌≤◌, ◌++◌, ◌∷◌, [], List, Option, length, take, IfOk, IfSome, OnOk, OnErr, IfErr};
+ghost use Rattle.std.specs.Prelude.{◌≡◌, ◌+◌, ◌-◌, ◌^◌, ◌<◌, ◌≤◌, ◌++◌, ◌∷◌, ℕ, [], List, Option, length, map, take, IfOk, IfSome, OnOk, OnErr, IfErr};
 ghost use Rattle.rje_commands.specs.CommandFault.{IsFailing, status_of};
-ghost use Rattle.rje_sockets.specs.Ending.{MakesJobFile};
 ghost use Rattle.rje_commands.specs.NamedFile.{IsWriteFault};
+ghost use Rattle.rje_files.specs.declared.entry.Entry.{Entry};
+ghost use Rattle.rje_files.specs.declared.job_file.version.FileVersion.TheVariants.{Second};
+ghost use Rattle.rje_files.specs.Entry.{entry_of};
+ghost use Rattle.rje_files.specs.JobFile.{IsEntryFileOf};
+ghost use Rattle.rje_jobs.specs.declared.job.Job.{Job as Item};
+ghost use Rattle.rje_sockets.specs.Ending.{MakesJobFile};
+ghost use Rattle.rje_sockets.specs.InFront.{HasFront};
 ghost use Rattle.rje_sockets.specs.Keeping.{AreKept, KeepsJobs, kept_after};
 ghost use Rattle.rje_sockets.specs.NamedFiles.{NamesWritten};
 ghost use Rattle.rje_stores.specs.Store.{FileMap, Discloses, IsSame, Sets};
-ghost use Rattle.rje_jobs.specs.declared.job.Job.{Job as Item};
 
+use crate::kept_file::KeptFile;
 use crate::tally::Tally;
-use rje_commands::{CommandFault, extend_file, lock_file, look_at_file, write_file};
-use rje_files::{Growth, entries_of, growth_of, write_entries};
+use rje_commands::{CommandFault, extend_file, write_file, write_grown};
+use rje_files::{entries_of, growth_of, write_entries};
 use rje_jobs::{Job, Jobs};
 use rje_stores::{MAX_INPUT, Place, Store};
 use std::alloc::Global;
 
-/// Keeps the jobs of a transmission in the file of a name: each as soon as it has come to its end, or all at the end where the file is a
-/// device or a pipe.
+/// Keeps the jobs of a transmission in a file: each as soon as it has come to its end, or all at the end where the file is a device or a
+/// pipe.
 #[derive(Drop)]
 pub struct Keeper<'a> {
     alloc: Global,
-    name: &'a str,
-    place: Place,
-    /// So many jobs are in the file.
+    file: KeptFile<'a>,
+    /// So many jobs are in the file, after those in front.
     kept: usize,
     /// It has so many bytes, where there are some.
     long: usize,
@@ -33,31 +38,20 @@ pub struct Keeper<'a> {
 }
 
 impl<'a> Keeper<'a> {
-    /// Keeps jobs in the file of this name, which it has for itself, if it can be written. Nothing is written yet.
-    pub fn new<S: Store>(
-        alloc: Global,
-        name: &'a str,
-        store: &mut S,
-    ) -> Result<Keeper<'a>, CommandFault<'a>>
-        ensures name { IfOk result (λ keeper. keeper.name.now ≡ name.entry.now) }
-        ensures none { IfOk result (λ keeper. keeper.kept ≡ 0) }
-        ensures grows { IfSome (S.files store.old) (λ _. IfOk result (λ keeper.
-            keeper.place ≡ Place.Growing)) }
-        ensures held { OnOk result (S.holds store.new name.entry.now) }
-        ensures fault { IfErr result (IsWriteFault name.entry.now) }
-        ensures same { Discloses (S.files store.old) (S.files store.new) IsSame }
+    /// Keeps jobs in this file. None is kept yet.
+    pub fn new(alloc: Global, file: KeptFile<'a>) -> Keeper<'a>
+        ensures file { result.file ≡ file.entry }
+        ensures none { result.kept ≡ 0 }
     {
-        let place = look_at_file(name, store)?;
-        lock_file(alloc, name, store)?;
-        Ok(Keeper {
+        let tally = Tally::after_file(file.front.bytes.len());
+        Keeper {
             alloc,
-            name,
-            place,
+            file,
             kept: 0,
             long: 0,
-            tally: Tally::new(),
+            tally,
             is_short: false,
-        })
+        }
     }
 
     /// Whether the last block was refused for want of memory, and hasn't come again.
@@ -75,24 +69,24 @@ impl<'a> Keeper<'a> {
         refused: bool,
         store: &mut S,
     ) -> Result<(), CommandFault<'a>>
-        ensures name { self.new.name ≡ self.old.name }
-        ensures place { self.new.place ≡ self.old.place }
+        ensures file { self.new.file ≡ self.old.file }
         ensures next { OnOk result (self.new.kept
-            ≡ kept_after self.old.place self.old.kept jobs.now) }
-        ensures kept { OnOk result ((files : Option FileMap)
-            → AreKept (take self.old.kept jobs.now) self.old.long self.old.name.now files
-            (S.files store.old)
-            → AreKept (take self.new.kept jobs.now) self.new.long self.old.name.now files
-            (S.files store.new)) }
-        ensures fault { IfErr result (IsWriteFault self.old.name.now) }
+            ≡ kept_after self.old.file.place self.old.kept jobs.now) }
+        ensures kept { OnOk result ((front : List Entry) (files : Option FileMap)
+            → HasFront front self.old.file.front
+            → AreKept front (take self.old.kept jobs.now) self.old.long
+            self.old.file.into.jobs.now files (S.files store.old)
+            → AreKept front (take self.new.kept jobs.now) self.new.long
+            self.old.file.into.jobs.now files (S.files store.new)) }
+        ensures fault { IfErr result (IsWriteFault self.old.file.into.jobs.now) }
         ensures unchanged { OnErr result (self.new ≡ self.old) }
         ensures same { OnErr result (Discloses (S.files store.old) (S.files store.new) IsSame) }
     {
         let tally = self.tally.after(jobs);
         if tally.is_too_much() {
-            return Err(CommandFault::CannotWrite(self.name));
+            return Err(CommandFault::CannotWrite(self.file.into.jobs));
         }
-        if self.place == Place::Growing && self.kept < jobs.len() && jobs[self.kept].whole {
+        if self.file.place == Place::Growing && self.kept < jobs.len() && jobs[self.kept].whole {
             self.add(&jobs[self.kept], store)?;
         }
         self.is_short = refused || self.is_short && tally == self.tally;
@@ -100,7 +94,7 @@ impl<'a> Keeper<'a> {
         Ok(())
     }
 
-    /// Keeps what is left of these jobs: one that was cut, or all of them. Where there are none, the file is one of no jobs.
+    /// Keeps what is left of these jobs: one that was cut, or all of them. Where there are none, the file is that of the entries in front.
     pub fn finish<S: Store>(
         &mut self,
         jobs: Vec<Job>,
@@ -108,13 +102,17 @@ impl<'a> Keeper<'a> {
     ) -> Result<(), CommandFault<'a>>
         ensures file { OnOk result ((files : Option FileMap)
             → KeepsJobs self.old jobs.items files (S.files store.old)
-            → MakesJobFile jobs.items self.old.name.now files (S.files store.new)) }
+            → MakesJobFile jobs.items self.old.file.into files (S.files store.new)) }
         ensures status { IfErr result (λ fault. IsFailing (status_of fault)) }
-        ensures names { IfErr result (NamesWritten self.old.name.now) }
+        ensures names { IfErr result (NamesWritten self.old.file.into.jobs.now) }
         ensures same { OnErr result (Discloses (S.files store.old) (S.files store.new) IsSame) }
     {
-        if self.place == Place::Once || jobs.is_empty() {
-            return write_job_file(self.alloc, Jobs::from(jobs), self.name, store);
+        let name = self.file.into.jobs;
+        if jobs.is_empty() {
+            return write_file(name, self.file.front.bytes.as_slice(), store);
+        }
+        if self.file.place == Place::Once {
+            return write_job_file(self.alloc, Jobs::from(jobs), name, store);
         }
         if self.kept < jobs.len() {
             self.add(&jobs[self.kept], store)?;
@@ -124,50 +122,43 @@ impl<'a> Keeper<'a> {
 
     /// Puts one more job into the file.
     fn add<S: Store>(&mut self, job: &Job, store: &mut S) -> Result<(), CommandFault<'a>>
-        requires few { self.old.kept < 2 ^ 64 - 1 }
-        ensures name { self.new.name ≡ self.old.name }
-        ensures place { self.new.place ≡ self.old.place }
+        ensures file { self.new.file ≡ self.old.file }
         ensures count { OnOk result (self.new.kept ≡ self.old.kept + 1) }
-        ensures kept { OnOk result ((jobs : List Item) (files : Option FileMap)
-            → length jobs ≡ self.old.kept
-            → AreKept jobs self.old.long self.old.name.now files (S.files store.old)
-            → AreKept (jobs ++ job.now ∷ []) self.new.long self.old.name.now files
-            (S.files store.new)) }
-        ensures fault { IfErr result (IsWriteFault self.old.name.now) }
+        ensures kept { OnOk result ((front : List Entry) (jobs : List Item) (files : Option FileMap)
+            → length jobs ≡ self.old.kept → HasFront front self.old.file.front
+            → AreKept front jobs self.old.long self.old.file.into.jobs.now files
+            (S.files store.old)
+            → AreKept front (jobs ++ job.now ∷ []) self.new.long self.old.file.into.jobs.now
+            files (S.files store.new)) }
+        ensures fault { IfErr result (IsWriteFault self.old.file.into.jobs.now) }
         ensures unchanged { OnErr result (self.new ≡ self.old) }
         ensures same { OnErr result (Discloses (S.files store.old) (S.files store.new) IsSame) }
     {
-        let growth = growth_of(self.alloc, self.kept, job)?;
+        let name = self.file.into.jobs;
+        let Some(count) = self.entries() else {
+            return Err(CommandFault::CannotWrite(name));
+        };
+        let growth = growth_of(self.alloc, count, job)?;
         self.long = if self.kept == 0 {
-            write_first(self.name, growth, store)?
+            let front = self.file.front.bytes.as_slice();
+            write_grown(self.alloc, name, front, &growth, store)?
         } else {
-            extend_file(self.alloc, self.name, self.long, &growth, store)?
+            extend_file(self.alloc, name, self.long, &growth, store)?
         };
         self.kept += 1;
         Ok(())
     }
-}
 
-/// Makes the file of this name one of a first job, and answers how many bytes it has.
-fn write_first<'a, S: Store>(
-    name: &'a str,
-    growth: Growth,
-    store: &mut S,
-) -> Result<usize, CommandFault<'a>>
-    ensures sets { OnOk result (Discloses (S.files store.old) (S.files store.new)
-        (Sets name.entry.now (growth.front.items ++ growth.tail.items))) }
-    ensures length { IfOk result (λ long.
-        (long ≡ length (growth.front.items ++ growth.tail.items)) × (long ≤ MAX_INPUT)) }
-    ensures fault { IfErr result (IsWriteFault name.entry.now) }
-    ensures same { OnErr result (Discloses (S.files store.old) (S.files store.new) IsSame) }
-{
-    let Growth {
-        front: mut bytes,
-        tail,
-    } = growth;
-    bytes.extend_from_slice(tail.as_slice())?;
-    write_file(name, bytes.as_slice(), store)?;
-    Ok(bytes.len())
+    /// How many entries the file has with the jobs that are kept, where one more can be counted.
+    fn entries(&self) -> Option<usize>
+        ensures count { IfSome result (λ n. n ≡ self.now.file.front.jobs + self.now.kept) }
+        ensures room { IfSome result (λ n. n < 2 ^ 64 - 1) }
+    {
+        match self.file.front.jobs.checked_add(self.kept) {
+            Some(count) if count < usize::MAX => Some(count),
+            _ => None,
+        }
+    }
 }
 
 /// Makes the version 2 file of these jobs the file of this name.
@@ -177,8 +168,9 @@ fn write_job_file<'a, S: Store>(
     name: &'a str,
     store: &mut S,
 ) -> Result<(), CommandFault<'a>>
-    ensures file { OnOk result
-        (MakesJobFile jobs name.entry.now (S.files store.old) (S.files store.new)) }
+    ensures file { OnOk result ((bytes : List ℕ)
+        × IsEntryFileOf Second (map entry_of jobs) bytes × (length bytes ≤ MAX_INPUT)
+        × Discloses (S.files store.old) (S.files store.new) (Sets name.entry.now bytes)) }
     ensures status { IfErr result (λ fault. IsFailing (status_of fault)) }
     ensures names { IfErr result (NamesWritten name.entry.now) }
     ensures same { OnErr result (Discloses (S.files store.old) (S.files store.new) IsSame) }

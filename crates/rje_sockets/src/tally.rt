@@ -8,9 +8,6 @@ const MAX_RECORDS: usize = 750_000;
 /// The most jobs that are held of one transmission.
 const MAX_JOBS: usize = 100_000;
 
-/// The bytes of a version 2 job file before its jobs.
-const HEADER: usize = 14;
-
 /// The bytes of a job in it before its records.
 const JOB_HEADER: usize = 19;
 
@@ -27,19 +24,19 @@ pub(crate) struct Tally {
     whole: bool,
     /// The records of all jobs.
     records: usize,
-    /// The bytes of a job file of all jobs.
+    /// The bytes of a job file of all jobs, with what stands in front of them.
     bytes: usize,
 }
 
 impl Tally {
-    /// Nothing has come.
-    pub(crate) fn new() -> Tally {
+    /// Nothing has come after a file of so many bytes.
+    pub(crate) fn after_file(bytes: usize) -> Tally {
         Tally {
             jobs: 0,
             last: 0,
             whole: true,
             records: 0,
-            bytes: HEADER,
+            bytes,
         }
     }
 

@@ -9,4 +9,4 @@ mod store;
 pub use file_store::FileStore;
 pub use memory_store::MemoryStore;
 pub use reading::{MAX_INPUT, read_all};
-pub use store::{Place, Store, StoreFault};
+pub use store::{Place, Store, StoreFault, grown_bytes};

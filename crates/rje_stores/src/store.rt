@@ -78,6 +78,7 @@ pub trait Store {
         ensures has { IfOk result (λ bytes. Has (files self.old) name.now bytes.items) }
         ensures limit { IfOk result (λ bytes. length bytes.items ≤ MAX_INPUT) }
         ensures missing { IsErrOf result StoreFault.Missing → IsMissing (files self.old) name.now }
+        ensures still { (other : List ℕ) → holds self.old other → holds self.new other }
         ensures same { Discloses (files self.old) (files self.new) IsSame }
     {
         self.read(alloc, name)
@@ -88,6 +89,7 @@ pub trait Store {
         ensures has { IfOk result (λ bytes. Has (files self.old) name.now bytes.items) }
         ensures limit { IfOk result (λ bytes. length bytes.items ≤ MAX_INPUT) }
         ensures missing { IsErrOf result StoreFault.Missing → IsMissing (files self.old) name.now }
+        ensures still { (other : List ℕ) → holds self.old other → holds self.new other }
         ensures same { Discloses (files self.old) (files self.new) IsSame };
 
     /// Makes these bytes the file of this name, in place of what it had. A store may fail at any time.
@@ -160,7 +162,7 @@ pub trait Store {
 }
 
 /// These bytes with one piece in front, in place of as many, and another behind. Failed where they are fewer than the piece in front.
-pub(crate) fn grown_bytes(
+pub fn grown_bytes(
     alloc: Global,
     bytes: &[u8],
     front: &[u8],

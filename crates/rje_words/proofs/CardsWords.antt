@@ -13,7 +13,7 @@ use Rattle.rje_orders.specs.declared.order.Order.{Order}
 use Rattle.rje_orders.specs.declared.order.Order.TheVariants.{Files, Sockets}
 use Rattle.rje_orders.specs.declared.order.FileOrder.TheVariants.{Cards}
 use Rattle.rje_words.specs.declared.words_fault.WordsFault.{WordsFault}
-use Rattle.rje_words.specs.declared.words_fault.WordsFault.TheVariants.{Refused, TwoDevices, BadName, BadAddress, NoMeeting}
+use Rattle.rje_words.specs.declared.words_fault.WordsFault.TheVariants.{Refused, TwoDevices, BadName, BadAddress, NoMeeting, NewAndAppend}
 use Rattle.rje_words.specs.Asking.{IsFaultOf, IsGivenName, IsOrderOf, IsWordsFault, device_in, is_on}
 use Rattle.rje_words.specs.Canonical.{BadNameTold, CardsAsked, RepeatedRefused, TwoDevicesTold}
 use Rattle.rje_words.specs.CardsWords.{CardsWord, CardsOption, HaveFiles, HaveName, adds_among, append, device_among, file, files_in, has_each_once, is_among, is_same, named, names_in, option, printer, punch, transparent, words_typed}
@@ -22,7 +22,7 @@ use Rattle.rje_orders.specs.Device.{chosen}
 use Rattle.rje_words.specs.Orders.{IsCards}
 use Rattle.rje_words.specs.WordsFault.{IsRefusedFor, IsWantOfMemory}
 use Rattle.rje_words.proofs.CardsLevel.{AllFilesFit, AllFit, FileFits, Repeats, Reads, Seen, cards, cards_fault, cards_met, is_seen, level_conflicts, level_passes, nothing_seen, rules, with_file, with_option, with_word, with_words}
-use Rattle.rje_words.proofs.FileWords.{apart, memory_only, no_address, no_socket}
+use Rattle.rje_words.proofs.FileWords.{apart, memory_only, no_address, no_destination, no_socket}
 use Rattle.rje_text.proofs.Both.{both}
 
 -- OPTIONS THAT WERE SEEN
@@ -294,6 +294,10 @@ module _ (ws : List CardsWord) (deck jobs : Text) (given : Option Text) (have : 
   no_meeting : IsSomeAnd (subcommand_of rje_app words) (λ met. IsFaultOf met.0 met.1 NoMeeting) → ⊥
   no_meeting h = apart _ _ (of_rows (λ name rs. IsFaultOf name rs NoMeeting) h).0 refl
 
+  -- nor any for a file that is received into
+  no_choice : IsSomeAnd (subcommand_of rje_app words) (λ met. IsFaultOf met.0 met.1 NewAndAppend) → ⊥
+  no_choice h = no_destination (codes "cards") rows refl refl (of_rows (λ name rs. IsFaultOf name rs NewAndAppend) h)
+
   -- clap refuses nothing of the words, and finds no address
   memory : (fault : WordsFault) → (IsFaultOf (codes "cards") rows TwoDevices → ⊥) → (IsFaultOf (codes "cards") rows BadName → ⊥)
       → IsWordsFault words fault → IsWantOfMemory fault
@@ -302,6 +306,7 @@ module _ (ws : List CardsWord) (deck jobs : Text) (given : Option Text) (have : 
   memory BadName no_two no_bad h = absurd (no_bad (of_rows (λ name rs. IsFaultOf name rs BadName) h.1))
   memory BadAddress no_two no_bad h = absurd (no_address (codes "cards") rows refl refl refl (of_rows (λ name rs. IsFaultOf name rs BadAddress) h.1))
   memory NoMeeting no_two no_bad h = absurd (no_meeting h.1)
+  memory NewAndAppend no_two no_bad h = absurd (no_choice h.1)
 
   two_or_memory : device_among ws ≡ None → (fault : WordsFault) → IsWordsFault words fault → (fault ≡ TwoDevices) ⊎ IsWantOfMemory fault
   two_or_memory two (Refused error) h = inr (memory_only error (subst (λ kinds. HasKind kinds error) faultless h))
@@ -309,6 +314,7 @@ module _ (ws : List CardsWord) (deck jobs : Text) (given : Option Text) (have : 
   two_or_memory two BadName h = absurd ((of_rows (λ name rs. IsFaultOf name rs BadName) h.1).1.0 (device_is ∙ two))
   two_or_memory two BadAddress h = absurd (no_address (codes "cards") rows refl refl refl (of_rows (λ name rs. IsFaultOf name rs BadAddress) h.1))
   two_or_memory two NoMeeting h = absurd (no_meeting h.1)
+  two_or_memory two NewAndAppend h = absurd (no_choice h.1)
 
   bad_or_memory : (device : Device) → device_among ws ≡ Some device → (fault : WordsFault) → IsWordsFault words fault → (fault ≡ BadName) ⊎ IsWantOfMemory fault
   bad_or_memory device one (Refused error) h = inr (memory_only error (subst (λ kinds. HasKind kinds error) faultless h))
@@ -316,6 +322,7 @@ module _ (ws : List CardsWord) (deck jobs : Text) (given : Option Text) (have : 
   bad_or_memory device one BadName h = inl refl
   bad_or_memory device one BadAddress h = absurd (no_address (codes "cards") rows refl refl refl (of_rows (λ name rs. IsFaultOf name rs BadAddress) h.1))
   bad_or_memory device one NoMeeting h = absurd (no_meeting h.1)
+  bad_or_memory device one NewAndAppend h = absurd (no_choice h.1)
 
   order_read : (device : Device) (name : Text) (order : Order) → IsOrderOf (codes "cards") rows order → device_among ws ≡ Some device
       → IsGivenName given (Some name) → IsCards deck jobs device name (adds_among ws) order
@@ -459,6 +466,7 @@ module _ (ws : List CardsWord) (deck jobs : Text) (given : Option Text) (have : 
   told_twice BadName h = absurd (faulty h.0)
   told_twice BadAddress h = absurd (faulty h.0)
   told_twice NoMeeting h = absurd (faulty h.0)
+  told_twice NewAndAppend h = absurd (faulty h.0)
 
 pub repeated_refused : RepeatedRefused
 repeated_refused ws deck jobs given have has_name twice = record {

@@ -15,7 +15,7 @@ use Rattle.rje_orders.specs.declared.order.FileOrder.TheVariants.{Blocks, Show, 
 use Rattle.rje_orders.specs.declared.order.SocketOrder.{SocketOrder}
 use Rattle.rje_orders.specs.declared.order.SocketOrder.TheVariants.{Loop, Send, Receive, Exchange}
 use Rattle.rje_words.specs.declared.words_fault.WordsFault.{WordsFault}
-use Rattle.rje_words.specs.declared.words_fault.WordsFault.TheVariants.{Refused, TwoDevices, BadName, BadAddress, NoMeeting}
+use Rattle.rje_words.specs.declared.words_fault.WordsFault.TheVariants.{Refused, TwoDevices, BadName, BadAddress, NoMeeting, NewAndAppend}
 use Rattle.rje_words.specs.Asking.{AsksFor, IsFaultOf, IsOrderOf, IsWordsFault, word_in}
 use Rattle.rje_words.specs.Canonical.{AskOnlyFor, BlocksAsked, ShowAsked, CheckAsked, PrintAsked, TryAsked}
 use Rattle.rje_words.specs.CommandLine.{rje_app, is_file, names_file}
@@ -50,12 +50,13 @@ pub record AreTaken {V : Type 0} (view : List Row → V) (words : List Text) (na
 
 module _ {V : Type 0} (view : List Row → V) (word : Text) (words : List Text) (name : Text) (value : V) (taken : AreTaken view (word ∷ words) name value) where
   pub only_memory : (bytes_eq name (codes "cards") ≡ false) → (bytes_eq name (codes "exchange") ≡ false) → ((rows : List Row) → IsFaultOf name rows BadAddress → ⊥)
-      → (fault : WordsFault) → IsWordsFault (word ∷ words) fault → IsWantOfMemory fault
-  only_memory two place bad (Refused error) h = memory_only error (subst (λ kinds. HasKind kinds error) taken.faultless h)
-  only_memory two place bad TwoDevices h = let r = as_seen view _ name value (λ n rows. IsFaultOf n rows TwoDevices) taken.found h.1 in absurd (apart _ _ r.2.0 two)
-  only_memory two place bad BadName h = let r = as_seen view _ name value (λ n rows. IsFaultOf n rows BadName) taken.found h.1 in absurd (apart _ _ r.2.0 two)
-  only_memory two place bad BadAddress h = let r = as_seen view _ name value (λ n rows. IsFaultOf n rows BadAddress) taken.found h.1 in absurd (bad r.0 r.2)
-  only_memory two place bad NoMeeting h = let r = as_seen view _ name value (λ n rows. IsFaultOf n rows NoMeeting) taken.found h.1 in absurd (apart _ _ r.2.0 place)
+      → ((rows : List Row) → IsFaultOf name rows NewAndAppend → ⊥) → (fault : WordsFault) → IsWordsFault (word ∷ words) fault → IsWantOfMemory fault
+  only_memory two place bad choice (Refused error) h = memory_only error (subst (λ kinds. HasKind kinds error) taken.faultless h)
+  only_memory two place bad choice TwoDevices h = let r = as_seen view _ name value (λ n rows. IsFaultOf n rows TwoDevices) taken.found h.1 in absurd (apart _ _ r.2.0 two)
+  only_memory two place bad choice BadName h = let r = as_seen view _ name value (λ n rows. IsFaultOf n rows BadName) taken.found h.1 in absurd (apart _ _ r.2.0 two)
+  only_memory two place bad choice BadAddress h = let r = as_seen view _ name value (λ n rows. IsFaultOf n rows BadAddress) taken.found h.1 in absurd (bad r.0 r.2)
+  only_memory two place bad choice NoMeeting h = let r = as_seen view _ name value (λ n rows. IsFaultOf n rows NoMeeting) taken.found h.1 in absurd (apart _ _ r.2.0 place)
+  only_memory two place bad choice NewAndAppend h = let r = as_seen view _ name value (λ n rows. IsFaultOf n rows NewAndAppend) taken.found h.1 in absurd (choice r.0 r.2)
 
   pub only_order : (P : Order → Type 0) → ((rows : List Row) → view rows ≡ value → (order : Order) → IsOrderOf name rows order → P order)
       → (order : Order) → AsksFor (word ∷ words) order → P order
@@ -231,13 +232,19 @@ no_address name rows send receive exchange (inl e) = apart _ _ e.0 send
 no_address name rows send receive exchange (inr (inl e)) = apart _ _ e.0 receive
 no_address name rows send receive exchange (inr (inr e)) = apart _ _ e.0 exchange
 
+pub no_destination : (name : Text) (rows : List Row) → bytes_eq name (codes "receive") ≡ false → bytes_eq name (codes "exchange") ≡ false
+    → IsFaultOf name rows NewAndAppend → ⊥
+no_destination name rows receive exchange (inl e) = apart _ _ e.0 receive
+no_destination name rows receive exchange (inr e) = apart _ _ e.0 exchange
+
 module _ {V : Type 0} (view : List Row → V) (word : Text) (words : List Text) (name : Text) (value : V) (P : Order → Type 0) where
   ask_only : fault_of rje_app (word ∷ words) ≡ [] → seen view (subcommand_of rje_app (word ∷ words)) ≡ Some (name, value)
       → bytes_eq name (codes "cards") ≡ false → bytes_eq name (codes "send") ≡ false → bytes_eq name (codes "receive") ≡ false
       → bytes_eq name (codes "exchange") ≡ false → ((rows : List Row) → view rows ≡ value → (order : Order) → IsOrderOf name rows order → P order) → AskOnlyFor (word ∷ words) P
   ask_only none found cards send receive exchange reads = let taken : AreTaken view (word ∷ words) name value = record { faultless = none; found = found } in record {
     order = only_order view word words name value taken P reads;
-    fault = only_memory view word words name value taken cards exchange (λ rows. no_address name rows send receive exchange);
+    fault = only_memory view word words name value taken cards exchange (λ rows. no_address name rows send receive exchange)
+        (λ rows. no_destination name rows receive exchange);
   }
 
 pub blocks_asked : BlocksAsked

@@ -13,7 +13,7 @@ use Rattle.clap.specs.declared.parser.ArgMatches.{ArgMatches}
 use Rattle.clap.specs.declared.parser.ArgMatches.TheViews.{out-ArgMatches}
 use Rattle.rje_orders.specs.declared.order.Order.{Order}
 use Rattle.rje_words.specs.declared.words_fault.WordsFault.{WordsFault}
-use Rattle.rje_words.specs.declared.words_fault.WordsFault.TheVariants.{Refused, TwoDevices, BadName, BadAddress, NoMeeting}
+use Rattle.rje_words.specs.declared.words_fault.WordsFault.TheVariants.{Refused, TwoDevices, BadName, BadAddress, NoMeeting, NewAndAppend}
 use Rattle.rje_words.specs.Asking.{AsksFor, IsFound, IsOrderOf, IsTimeoutOf, IsFaultOf, IsWordsFault}
 use Rattle.rje_words.specs.CommandLine.{rje_app}
 
@@ -130,6 +130,7 @@ module _ (words : List Text) (some_word : words ≢ []) where
       go (w ∷ ws) ne BadName h = h
       go (w ∷ ws) ne BadAddress h = h
       go (w ∷ ws) ne NoMeeting h = h
+      go (w ∷ ws) ne NewAndAppend h = h
 
   module _ (taken : fault_of rje_app words ≡ []) (name : Text) (rows : List Row) (met : subcommand_of rje_app words ≡ Some (name, rows)) where
     pub orders_asked : (r : Result Order WordsFault) → IfOk r (IsOrderOf name rows) → IfOk r (AsksFor words)

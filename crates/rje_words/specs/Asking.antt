@@ -1,13 +1,16 @@
 -- What words ask for (own profile): clap finds a command's name and its rows, and these are read.
 use Rattle.std.specs.Prelude.{◌≡◌, ◌≢◌, ◌<◌, ◌^◌, ◌⊎◌, ℕ, Bool, false, ⊤, List, [], ◌∷◌, Option, None, Some, codes, unwrap_or}
 use Rattle.std.specs.Option.{IsSomeAnd, option_map_or}
+use Rattle.std.specs.declared.net.socket_addr.SocketAddr.{SocketAddr}
 use Rattle.std.specs.Str.{bytes_eq}
 use Rattle.std.specs.Str.Parse.{IsNumeral, digits_value, without_leading_plus}
 use Rattle.clap.specs.Words.{HasKind, Row, Text, fault_of, first_of, one_of, subcommand_of}
 use Rattle.rje_files.specs.Entry.{IsNameOf, blank_name}
 use Rattle.rje_orders.specs.declared.device.Device.{Device}
 use Rattle.rje_orders.specs.declared.order.CardsOrder.{CardsOrder}
+use Rattle.rje_orders.specs.declared.order.Destination.{Destination}
 use Rattle.rje_orders.specs.declared.order.ExchangeOrder.{ExchangeOrder}
+use Rattle.rje_orders.specs.declared.order.Existing.{Existing}
 use Rattle.rje_orders.specs.declared.order.LoopOrder.{LoopOrder}
 use Rattle.rje_orders.specs.declared.order.Meeting.{Meeting}
 use Rattle.rje_orders.specs.declared.order.Meeting.TheVariants.{Calls, Listens}
@@ -15,13 +18,15 @@ use Rattle.rje_orders.specs.declared.order.Order.{Order}
 use Rattle.rje_orders.specs.declared.order.Order.TheVariants.{Files, Sockets}
 use Rattle.rje_orders.specs.declared.order.FileOrder.TheVariants.{Blocks, Cards, Show, Check, Print, Try}
 use Rattle.rje_orders.specs.declared.order.SocketOrder.TheVariants.{Loop, Send, Receive, Exchange}
-use Rattle.rje_orders.specs.declared.order.PeerOrder.{PeerOrder}
+use Rattle.rje_orders.specs.declared.order.ReceiveOrder.{ReceiveOrder}
+use Rattle.rje_orders.specs.declared.order.SendOrder.{SendOrder}
 use Rattle.rje_orders.specs.declared.order.TryOrder.{TryOrder}
 use Rattle.rje_words.specs.declared.words_fault.WordsFault.{WordsFault}
-use Rattle.rje_words.specs.declared.words_fault.WordsFault.TheVariants.{Refused, TwoDevices, BadName, BadAddress, NoMeeting}
+use Rattle.rje_words.specs.declared.words_fault.WordsFault.TheVariants.{Refused, TwoDevices, BadName, BadAddress, NoMeeting, NewAndAppend}
 use Rattle.rje_words.specs.Address.{IsAddressOf}
 use Rattle.rje_words.specs.CommandLine.{rje_app}
 use Rattle.rje_orders.specs.Device.{chosen}
+use Rattle.rje_orders.specs.Existing.{existing_chosen}
 use Rattle.rje_words.specs.Orders.{IsBlocks}
 
 -- the word that was found for a value, and no character where none was
@@ -71,13 +76,44 @@ pub record IsLoopOrderOf (rows : List Row) (order : LoopOrder) : Type 0 where
   pub timeout : IsTimeoutOf (one_of (codes "timeout") rows) order.timeout
   pub trace : order.trace ≡ is_on (codes "trace") rows
 
--- the order has the job file, the time-out and the address that were found, the address by this option, and tells each turn where the option
--- for that was
-pub record IsPeerOrderOf (id : Text) (rows : List Row) (order : PeerOrder) : Type 0 where
+-- the order has the job file, the address of the receiver and the time-out that were found, and tells each turn where that option was
+pub record IsSendOrderOf (rows : List Row) (order : SendOrder) : Type 0 where
   pub jobs : order.jobs.now ≡ word_in (codes "JOBS") rows
-  pub address : IsAddressOf (word_in id rows) (Some order.address)
+  pub address : IsAddressOf (word_in (codes "to") rows) (Some order.address)
   pub timeout : IsTimeoutOf (one_of (codes "timeout") rows) order.timeout
   pub trace : order.trace ≡ is_on (codes "trace") rows
+
+-- the address of the receiver that was found is none
+abbrev pub IsSendFaultOf : List Row → WordsFault → Type 0
+IsSendFaultOf rows BadAddress = IsAddressOf (word_in (codes "to") rows) None
+IsSendFaultOf rows _ = ⊥
+
+-- what the options choose for the jobs that the file which is received into holds already
+abbrev pub existing_in : List Row → Option Existing
+existing_in rows = existing_chosen (is_on (codes "new") rows) (is_on (codes "append") rows)
+
+-- it is received into the job file that was found for this word, and the options choose this for the jobs that it holds already
+pub record IsDestinationOf (id : Text) (rows : List Row) (into : Destination) : Type 0 where
+  pub jobs : into.jobs.now ≡ word_in id rows
+  pub existing : existing_in rows ≡ Some into.existing
+
+-- the order has the job file with the choice for its jobs, the address to listen at and the time-out that were found, and tells each turn
+-- where that option was
+pub record IsReceiveOrderOf (rows : List Row) (order : ReceiveOrder) : Type 0 where
+  pub into : IsDestinationOf (codes "JOBS") rows order.into
+  pub address : IsAddressOf (word_in (codes "listen") rows) (Some order.address)
+  pub timeout : IsTimeoutOf (one_of (codes "timeout") rows) order.timeout
+  pub trace : order.trace ≡ is_on (codes "trace") rows
+
+-- the text is that of an address
+abbrev pub IsSomeAddress : Text → Type 0
+IsSomeAddress text = (address : SocketAddr) × IsAddressOf text (Some address)
+
+-- the address to listen at that was found is none, or it is one and both options for the jobs of the file were given
+abbrev pub IsReceiveFaultOf : List Row → WordsFault → Type 0
+IsReceiveFaultOf rows BadAddress = IsAddressOf (word_in (codes "listen") rows) None
+IsReceiveFaultOf rows NewAndAppend = IsSomeAddress (word_in (codes "listen") rows) × (existing_in rows ≡ None)
+IsReceiveFaultOf rows _ = ⊥
 
 -- the other end is called at the address of the one option, or the call is awaited at that of the other one, by the texts that were
 -- found for them: of which there is just one
@@ -94,13 +130,23 @@ IsMeetingFault (Some text) None BadAddress = IsAddressOf text None
 IsMeetingFault None (Some text) BadAddress = IsAddressOf text None
 IsMeetingFault _ _ _ = ⊥
 
--- the order has the two job files and the time-out that were found, calls or is called so, and tells each turn where that option was
+-- there is just one text, and it is that of an address
+abbrev pub IsSomeMeeting : (to listen : Option Text) → Type 0
+IsSomeMeeting to listen = (place : Meeting) × IsMeetingOf to listen place
+
+-- the order has the two job files, the second with the choice for its jobs, and the time-out that were found, calls or is called so, and
+-- tells each turn where that option was
 pub record IsExchangeOrderOf (rows : List Row) (order : ExchangeOrder) : Type 0 where
   pub send : order.send.now ≡ word_in (codes "SEND") rows
-  pub received : order.received.now ≡ word_in (codes "RECEIVED") rows
+  pub received : IsDestinationOf (codes "RECEIVED") rows order.received
   pub place : IsMeetingOf (first_of (codes "to") rows) (first_of (codes "listen") rows) order.place
   pub timeout : IsTimeoutOf (one_of (codes "timeout") rows) order.timeout
   pub trace : order.trace ≡ is_on (codes "trace") rows
+
+-- what was found is no meeting, or it is one and both options for the jobs of the file which is received into were given
+abbrev pub IsExchangeFaultOf : List Row → WordsFault → Type 0
+IsExchangeFaultOf rows NewAndAppend = IsSomeMeeting (first_of (codes "to") rows) (first_of (codes "listen") rows) × (existing_in rows ≡ None)
+IsExchangeFaultOf rows fault = IsMeetingFault (first_of (codes "to") rows) (first_of (codes "listen") rows) fault
 
 -- the order is that of the command of this name, with the values that were found
 abbrev pub IsOrderOf : Text → List Row → Order → Type 0
@@ -111,8 +157,8 @@ IsOrderOf name rows (Files (Check jobs)) = (name ≡ codes "check") × (jobs.now
 IsOrderOf name rows (Files (Print jobs)) = (name ≡ codes "print") × (jobs.now ≡ word_in (codes "JOBS") rows)
 IsOrderOf name rows (Files (Try order)) = (name ≡ codes "try") × IsTryOrderOf rows order
 IsOrderOf name rows (Sockets (Loop order)) = (name ≡ codes "loop") × IsLoopOrderOf rows order
-IsOrderOf name rows (Sockets (Send order)) = (name ≡ codes "send") × IsPeerOrderOf (codes "to") rows order
-IsOrderOf name rows (Sockets (Receive order)) = (name ≡ codes "receive") × IsPeerOrderOf (codes "listen") rows order
+IsOrderOf name rows (Sockets (Send order)) = (name ≡ codes "send") × IsSendOrderOf rows order
+IsOrderOf name rows (Sockets (Receive order)) = (name ≡ codes "receive") × IsReceiveOrderOf rows order
 IsOrderOf name rows (Sockets (Exchange order)) = (name ≡ codes "exchange") × IsExchangeOrderOf rows order
 
 -- the values that were found for the command of this name are none that can be carried out
@@ -121,9 +167,11 @@ IsFaultOf name rows (Refused error) = ⊥
 IsFaultOf name rows TwoDevices = (name ≡ codes "cards") × IsCardsFaultOf rows TwoDevices
 IsFaultOf name rows BadName = (name ≡ codes "cards") × IsCardsFaultOf rows BadName
 IsFaultOf name rows BadAddress =
-    ((name ≡ codes "send") × IsAddressOf (word_in (codes "to") rows) None) ⊎ (((name ≡ codes "receive") × IsAddressOf (word_in (codes "listen") rows) None)
-    ⊎ ((name ≡ codes "exchange") × IsMeetingFault (first_of (codes "to") rows) (first_of (codes "listen") rows) BadAddress))
-IsFaultOf name rows NoMeeting = (name ≡ codes "exchange") × IsMeetingFault (first_of (codes "to") rows) (first_of (codes "listen") rows) NoMeeting
+    ((name ≡ codes "send") × IsSendFaultOf rows BadAddress)
+    ⊎ (((name ≡ codes "receive") × IsReceiveFaultOf rows BadAddress) ⊎ ((name ≡ codes "exchange") × IsExchangeFaultOf rows BadAddress))
+IsFaultOf name rows NoMeeting = (name ≡ codes "exchange") × IsExchangeFaultOf rows NoMeeting
+IsFaultOf name rows NewAndAppend =
+    ((name ≡ codes "receive") × IsReceiveFaultOf rows NewAndAppend) ⊎ ((name ≡ codes "exchange") × IsExchangeFaultOf rows NewAndAppend)
 
 -- the words are taken, and what is found of the command that they name is this
 abbrev pub IsFound : List Text → (Text → List Row → Type 0) → Type 0
@@ -134,8 +182,8 @@ abbrev pub AsksFor : List Text → Order → Type 0
 AsksFor [] order = IsBlocks (codes "-") order
 AsksFor (word ∷ words) order = IsFound (word ∷ words) (λ name rows. IsOrderOf name rows order)
 
--- this is why the words ask for nothing that can be done: clap refuses them, memory ran out, or they choose two devices, or a name
--- or an address that is none
+-- this is why the words ask for nothing that can be done: clap refuses them, memory ran out, or they choose two devices, a name or an
+-- address that is none, or both a new file and one that is added to
 abbrev pub IsWordsFault : List Text → WordsFault → Type 0
 IsWordsFault [] fault = ⊥
 IsWordsFault words (Refused error) = HasKind (fault_of rje_app words) error

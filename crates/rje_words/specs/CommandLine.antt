@@ -85,15 +85,25 @@ loop_app = with_rule (with_rule (file_app (codes "loop") (codes "JOBS")) timeout
 abbrev pub send_app : App
 send_app = with_rule (with_rule (with_rule (file_app (codes "send") (codes "JOBS")) (address_rule (codes "to"))) timeout_rule) trace_rule
 
--- `receive JOBS --listen ADDR`
-abbrev pub receive_app : App
-receive_app = with_rule (with_rule (with_rule (file_app (codes "receive") (codes "JOBS")) (address_rule (codes "listen"))) timeout_rule) trace_rule
+-- the options for the jobs that the file which is received into holds already
+abbrev pub with_existing_rules : App → App
+with_existing_rules app = with_rule (with_rule app (flag_rule (codes "new"))) (flag_rule (codes "append"))
 
--- `exchange SEND RECEIVED --to ADDR`, or with `--listen ADDR`
+-- `receive JOBS --listen ADDR`, with the options for the jobs of the file
+abbrev pub receive_app : App
+receive_app =
+    with_rule (with_rule (with_existing_rules (with_rule (file_app (codes "receive") (codes "JOBS")) (address_rule (codes "listen"))))
+    timeout_rule) trace_rule
+
+-- the options for whom is called, and for where it is listened
+abbrev pub with_meeting_rules : App → App
+with_meeting_rules app = with_rule (with_rule app (meeting_rule (codes "to"))) (meeting_rule (codes "listen"))
+
+-- `exchange SEND RECEIVED --to ADDR`, or with `--listen ADDR`, with the options for the jobs of RECEIVED
 abbrev pub exchange_app : App
 exchange_app =
-    with_rule (with_rule (with_rule (with_rule (with_rule (file_app (codes "exchange") (codes "SEND"))
-    (file_rule (codes "RECEIVED"))) (meeting_rule (codes "to"))) (meeting_rule (codes "listen"))) timeout_rule) trace_rule
+    with_rule (with_rule (with_existing_rules (with_meeting_rules (with_rule (file_app (codes "exchange") (codes "SEND"))
+    (file_rule (codes "RECEIVED"))))) timeout_rule) trace_rule
 
 -- the commands over decks
 abbrev pub with_deck_apps : App → App

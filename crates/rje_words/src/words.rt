@@ -4,8 +4,8 @@ ghost use Rattle.clap.specs.Words.{first_of, found_of, one_of, rows_of};
 ghost use Rattle.rje_words.specs.CommandLine.{IsOneOf, command_names};
 ghost use Rattle.rje_words.specs.Address.{IsAddressOf};
 ghost use Rattle.rje_words.specs.Asking.{AsksFor, IsWordsFault, IsOrderOf, IsFaultOf, IsCardsOrderOf, IsCardsFaultOf};
-ghost use Rattle.rje_words.specs.Asking.{IsLoopOrderOf, IsPeerOrderOf, IsExchangeOrderOf, IsMeetingOf, IsMeetingFault, IsTimeoutOf, IsGivenName};
-ghost use Rattle.rje_words.specs.Asking.{word_in, is_on};
+ghost use Rattle.rje_words.specs.Asking.{IsLoopOrderOf, IsSendOrderOf, IsSendFaultOf, IsReceiveOrderOf, IsReceiveFaultOf, IsExchangeOrderOf, IsExchangeFaultOf};
+ghost use Rattle.rje_words.specs.Asking.{IsMeetingOf, IsMeetingFault, IsTimeoutOf, IsGivenName, word_in, is_on, existing_in};
 
 mod app;
 
@@ -15,8 +15,8 @@ use app::program;
 use clap::ArgMatches;
 use rje_files::{JobName, NO_NAME, name_of};
 use rje_orders::{
-    CardsOrder, Device, ExchangeOrder, FileOrder, LoopOrder, Meeting, Order, PeerOrder,
-    STANDARD_INPUT, SocketOrder, TryOrder,
+    CardsOrder, Destination, Device, ExchangeOrder, Existing, FileOrder, LoopOrder, Meeting, Order,
+    ReceiveOrder, STANDARD_INPUT, SendOrder, SocketOrder, TryOrder,
 };
 use std::alloc::Global;
 
@@ -51,8 +51,8 @@ fn order_of<'a>(command: &str, matches: &ArgMatches<'a>) -> Result<Order<'a>, Wo
             script: word(matches, "SCRIPT"),
         }))),
         "loop" => Ok(Order::Sockets(SocketOrder::Loop(loop_order(matches)))),
-        "send" => Ok(Order::Sockets(SocketOrder::Send(peer_order(matches, "to")?))),
-        "receive" => Ok(Order::Sockets(SocketOrder::Receive(peer_order(matches, "listen")?))),
+        "send" => Ok(Order::Sockets(SocketOrder::Send(send_order(matches)?))),
+        "receive" => Ok(Order::Sockets(SocketOrder::Receive(receive_order(matches)?))),
         "exchange" => Ok(Order::Sockets(SocketOrder::Exchange(exchange_order(matches)?))),
         _ => unreachable!(),
     }
@@ -103,17 +103,36 @@ fn loop_order<'a>(matches: &ArgMatches<'a>) -> LoopOrder<'a>
     }
 }
 
-/// The address is the value of this option.
-fn peer_order<'a>(matches: &ArgMatches<'a>, id: &str) -> Result<PeerOrder<'a>, WordsFault>
-    ensures asked { IfOk result (IsPeerOrderOf id.now (rows_of (found_of matches.now))) }
-    ensures told { IfErr result (λ fault. (fault ≡ WordsFault.BadAddress)
-        × IsAddressOf (word_in id.now (rows_of (found_of matches.now))) None) }
+fn send_order<'a>(matches: &ArgMatches<'a>) -> Result<SendOrder<'a>, WordsFault>
+    ensures asked { IfOk result (IsSendOrderOf (rows_of (found_of matches.now))) }
+    ensures told { IfErr result (IsSendFaultOf (rows_of (found_of matches.now))) }
 {
-    let Some(address) = address_of(word(matches, id)) else {
+    let Some(address) = address_of(word(matches, "to")) else {
         return Err(WordsFault::BadAddress);
     };
-    Ok(PeerOrder {
+    Ok(SendOrder {
         jobs: word(matches, "JOBS"),
+        address,
+        timeout: timeout_of(matches),
+        trace: has_trace(matches),
+    })
+}
+
+fn receive_order<'a>(matches: &ArgMatches<'a>) -> Result<ReceiveOrder<'a>, WordsFault>
+    ensures asked { IfOk result (IsReceiveOrderOf (rows_of (found_of matches.now))) }
+    ensures told { IfErr result (IsReceiveFaultOf (rows_of (found_of matches.now))) }
+{
+    let Some(address) = address_of(word(matches, "listen")) else {
+        return Err(WordsFault::BadAddress);
+    };
+    let Some(existing) = existing_in(matches) else {
+        return Err(WordsFault::NewAndAppend);
+    };
+    Ok(ReceiveOrder {
+        into: Destination {
+            jobs: word(matches, "JOBS"),
+            existing,
+        },
         address,
         timeout: timeout_of(matches),
         trace: has_trace(matches),
@@ -122,17 +141,30 @@ fn peer_order<'a>(matches: &ArgMatches<'a>, id: &str) -> Result<PeerOrder<'a>, W
 
 fn exchange_order<'a>(matches: &ArgMatches<'a>) -> Result<ExchangeOrder<'a>, WordsFault>
     ensures asked { IfOk result (IsExchangeOrderOf (rows_of (found_of matches.now))) }
-    ensures told { IfErr result (IsMeetingFault
-        (first_of (codes "to") (rows_of (found_of matches.now)))
-        (first_of (codes "listen") (rows_of (found_of matches.now)))) }
+    ensures told { IfErr result (IsExchangeFaultOf (rows_of (found_of matches.now))) }
 {
+    let place = meeting_in(matches)?;
+    let Some(existing) = existing_in(matches) else {
+        return Err(WordsFault::NewAndAppend);
+    };
     Ok(ExchangeOrder {
         send: word(matches, "SEND"),
-        received: word(matches, "RECEIVED"),
-        place: meeting_in(matches)?,
+        received: Destination {
+            jobs: word(matches, "RECEIVED"),
+            existing,
+        },
+        place,
         timeout: timeout_of(matches),
         trace: has_trace(matches),
     })
+}
+
+/// What becomes of the jobs that the file which is received into holds already; None where both of
+/// the options for them were given.
+fn existing_in(matches: &ArgMatches) -> Option<Existing>
+    ensures { result ≡ existing_in (rows_of (found_of matches.now)) }
+{
+    Existing::chosen(is_given(matches, "new"), is_given(matches, "append"))
 }
 
 /// How the two ends come to a connection: by one of two options.

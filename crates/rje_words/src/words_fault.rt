@@ -24,6 +24,9 @@ pub enum WordsFault {
     /// Both of the options for an address, or none of them.
     #[error("choose --to or --listen")]
     NoMeeting,
+    /// Both of the options for the jobs that a file which is received into holds already.
+    #[error("choose --new or --append")]
+    NewAndAppend,
 }
 
 impl From<clap::Error> for WordsFault {

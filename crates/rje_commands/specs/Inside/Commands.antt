@@ -1,5 +1,5 @@
 -- Of what the private functions of the commands tell; no promise rests on it.
-use Rattle.std.specs.Prelude.{◌≡◌, ℕ, List, [], ◌∷◌, ◌++◌, Option, None, IfSome, true, false, ⊤}
+use Rattle.std.specs.Prelude.{◌≡◌, ℕ, List, [], ◌∷◌, ◌++◌, Option, None, true, false, ⊤}
 use Rattle.std.specs.Option.{IsSomeAnd}
 use Rattle.rje_files.specs.FileFault.{IsFileFault}
 use Rattle.rje_files.specs.declared.entry.Entry.{Entry}
@@ -11,13 +11,9 @@ use Rattle.rje_print.specs.JobTexts.{IsShown}
 use Rattle.rje_print.specs.Script.{IsFirstBadLine}
 use Rattle.rje_commands.specs.declared.command_fault.CommandFault.{CommandFault}
 use Rattle.rje_orders.specs.declared.order.CardsOrder.{CardsOrder}
-use Rattle.rje_commands.specs.Commands.{AreEntriesOf, HasBadJob, IsFaultOfRun}
+use Rattle.rje_commands.specs.Commands.{AreEntriesOf, HasBadJob, IsFaultOfRun, IsThere}
 use Rattle.rje_commands.specs.NamedFile.{IsReadFault}
 use Rattle.rje_stores.specs.Store.{FileMap}
-
--- where the files are told, this is what this name has
-abbrev pub IsThere : List ℕ → Option FileMap → Option (List ℕ) → Type 0
-IsThere name files found = IfSome files (λ known. known name ≡ found)
 
 -- this is the job file to which the job is added, where there is one
 abbrev pub IsHeld : CardsOrder → Option FileMap → Option (List ℕ) → Type 0

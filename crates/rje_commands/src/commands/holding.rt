@@ -1,7 +1,6 @@
 //! Files that a command has for itself, from before they are read until they were last written.
 ghost use Rattle.std.specs.Prelude.{◌≡◌, IfOk, IfErr, OnOk, option_map};
-ghost use Rattle.rje_commands.specs.Commands.{OfFile};
-ghost use Rattle.rje_commands.specs.Inside.Commands.{IsThere};
+ghost use Rattle.rje_commands.specs.Commands.{OfFile, IsThere};
 ghost use Rattle.rje_commands.specs.NamedFile.{IsHoldFault, IsReadFault, IsWriteFault};
 ghost use Rattle.rje_stores.specs.Store.{Discloses, IsSame};
 
@@ -90,6 +89,7 @@ pub fn read_if_there<'a, S: Store>(
     ensures file { IfOk result (λ found.
         IsThere name.entry.now (S.files store.old) (option_map (λ bytes. bytes.items) found)) }
     ensures fault { IfErr result (IsReadFault name.entry.now) }
+    ensures held { S.holds store.new name.entry.now }
     ensures same { Discloses (S.files store.old) (S.files store.new) IsSame }
 {
     match store.read_held(alloc, name) {

@@ -1,6 +1,7 @@
 //! What a command gives: to its output, and to a file.
 ghost use Rattle.std.specs.Prelude.{◌≡◌, ◌≢◌, ◌≤◌, ◌+◌, length, IfOk, IfSome, OnOk, OnErr, IfErr, true};
 ghost use Rattle.std.specs.List.{flat_map};
+ghost use Rattle.rje_files.specs.Growth.{grown};
 ghost use Rattle.rje_commands.specs.NamedFile.{IsWriteFault};
 ghost use Rattle.rje_commands.specs.CommandFault.{is_of_output};
 ghost use Rattle.rje_stores.specs.Store.{Discloses, Extends, IsSame, Sets, SetsByte};
@@ -9,7 +10,7 @@ ghost use Rattle.std.specs.Io.KnownBytes.{Appends};
 use crate::command_fault::CommandFault;
 use rje_files::Growth;
 use rje_print::PrintedLine;
-use rje_stores::{MAX_INPUT, Place, Store, StoreFault};
+use rje_stores::{MAX_INPUT, Place, Store, StoreFault, grown_bytes};
 use std::alloc::Global;
 use std::io::Write;
 
@@ -53,6 +54,35 @@ pub fn write_file<'a, S: Store>(
     }
     match store.write(name, bytes) {
         Ok(()) => Ok(()),
+        Err(fault) => Err(not_written(name, fault)),
+    }
+}
+
+/// Makes these bytes with a growth the file of this name, where they are no more than are read of a file. Returns how many they are.
+pub fn write_grown<'a, S: Store>(
+    alloc: Global,
+    name: &'a str,
+    bytes: &[u8],
+    growth: &Growth,
+    store: &mut S,
+) -> Result<usize, CommandFault<'a>>
+    ensures sets { OnOk result (Discloses (S.files store.old) (S.files store.new)
+        (Sets name.entry.now (grown growth.now.front.items growth.now.tail.items bytes.now))) }
+    ensures length { IfOk result (λ long. (long ≡ length (grown growth.now.front.items
+        growth.now.tail.items bytes.now)) × (long ≤ MAX_INPUT)) }
+    ensures fault { IfErr result (IsWriteFault name.entry.now) }
+    ensures same { OnErr result (Discloses (S.files store.old) (S.files store.new) IsSame) }
+{
+    match grown_bytes(
+        alloc,
+        bytes,
+        growth.front.as_slice(),
+        growth.tail.as_slice(),
+    ) {
+        Ok(longer) => {
+            write_file(name, longer.as_slice(), store)?;
+            Ok(longer.len())
+        }
         Err(fault) => Err(not_written(name, fault)),
     }
 }

@@ -8,6 +8,8 @@ use Rattle.rje_commands.specs.CommandFault.{IsFailing, status_of}
 use Rattle.rje_commands.specs.Commands.{OfFile}
 use Rattle.rje_sockets.specs.declared.marker.Marker.{Marker}
 use Rattle.rje_sockets.specs.Ending.{IsUnsentFault}
+use Rattle.rje_orders.specs.declared.order.Destination.{Destination}
+use Rattle.rje_sockets.specs.InFront.{IsStandingFault, LooksInto}
 use Rattle.rje_sockets.specs.NamedFiles.{NamesOne}
 use Rattle.rje_stores.specs.Store.{FileMap}
 
@@ -24,3 +26,11 @@ pub record IsOutgoing (name : List ℕ) (files : Option FileMap) (jobs : List Jo
 abbrev pub IsSendFault : (Written : List ℕ → Type 0) → (name : List ℕ) → Option FileMap → CommandFault → Type 0
 IsSendFault Written name files fault =
     (IsFailing (status_of fault) × NamesOne (λ named. named ≡ name) Written fault) ⊎ ((file : List ℕ) × IsUnsentFault file fault × OfFile name files (λ read. file ≡ read))
+
+-- this is the fault of a line or an output, or of memory, or of the file that is sent or the one that is received into; or it is why one of them
+-- isn't exchanged
+abbrev pub IsExchangeFault : (send : List ℕ) → (into : Destination) → Option FileMap → CommandFault → Type 0
+IsExchangeFault send into files fault =
+    (IsFailing (status_of fault) × NamesOne (λ name. (name ≡ send) ⊎ LooksInto into name) (λ name. (name ≡ send) ⊎ (name ≡ into.jobs.now)) fault)
+    ⊎ (((file : List ℕ) × IsUnsentFault file fault × OfFile send files (λ read. file ≡ read))
+    ⊎ ((file : List ℕ) × IsStandingFault into file fault × OfFile into.jobs.now files (λ read. file ≡ read)))

@@ -2,15 +2,17 @@
 ghost use Rattle.std.specs.Prelude.{◌≡◌, ◌≢◌, ◌⊎◌, List, Option, IfErr, IfOk, IfSome, OnOk, ⊤};
 ghost use Rattle.std.specs.List.{flat_map};
 ghost use Rattle.rje_jobs.specs.declared.job.Job.{Job as Item};
+ghost use Rattle.rje_files.specs.declared.entry.Entry.{Entry};
 ghost use Rattle.rje_files.specs.Unsent.{IsLeft};
 ghost use Rattle.rje_commands.specs.Commands.{OfFile};
 ghost use Rattle.rje_commands.specs.CommandFault.{IsFailing, status_of};
 ghost use Rattle.rje_sockets.specs.BothFiles.{HoldsBoth};
 ghost use Rattle.rje_sockets.specs.Ending.{IsRefusedFile};
 ghost use Rattle.rje_sockets.specs.Exchanging.{EndsExchanging, Exchanges, ExchangesLeft, ending_of_both, exchanged_text, is_idle, rank_at};
-ghost use Rattle.rje_sockets.specs.Inside.Sending.{IsSendFault};
+ghost use Rattle.rje_sockets.specs.Inside.Sending.{IsExchangeFault, IsSendFault};
+ghost use Rattle.rje_sockets.specs.InFront.{IsDestinationFault, IsOpened, IsRefusedDestination};
 ghost use Rattle.rje_sockets.specs.LeavingBoth.{LeavesBoth, LeavesExchange};
-ghost use Rattle.rje_sockets.specs.NamedFiles.{NamesOne, NamesWritten};
+ghost use Rattle.rje_sockets.specs.NamedFiles.{NamesOne};
 ghost use Rattle.rje_sockets.specs.OverLine.{OverConnection};
 ghost use Rattle.rje_stores.specs.Store.{FileMap, Discloses, IsSame};
 ghost use Rattle.rje_stores.specs.declared.store.Place.TheVariants.{Growing};
@@ -19,6 +21,7 @@ use crate::both_ways::exchange_all;
 use crate::connection::{TimedLine, accepted, connected, tell_if_short};
 use crate::exchange::Left;
 use crate::keeper::Keeper;
+use crate::kept_file::KeptFile;
 use crate::marker::Marker;
 use crate::parting::{HearsOut, Leaves, Parting, parts_in_step};
 use crate::socket_commands::Ending;
@@ -29,7 +32,7 @@ use crate::watch::{Unwatched, Watch};
 use bsc_link::{Outcome, Rank};
 use rje_commands::{CommandFault, lock_file, look_beside, put_lines, tell};
 use rje_jobs::Job;
-use rje_orders::{ExchangeOrder, Meeting};
+use rje_orders::{Destination, ExchangeOrder, Meeting};
 use rje_print::{PrintedLine, counted_text, handed_text, outcome_text};
 use rje_station::{Line, Station};
 use rje_stores::Store;
@@ -53,13 +56,12 @@ pub fn exchange<'a, R: Net + Clock, S: Store, O: Write, E: Write>(
     ensures exchanged { IfOk result (λ ending. OverConnection (λ t u.
         OfFile order.entry.send.now (S.files store.old) (λ file.
         ExchangesLeft ending t u (rank_at order.entry.place)
-        order.entry.send.now order.entry.received.now file
+        order.entry.send.now order.entry.received file
         (S.files store.old) (S.files store.new) (O.contents out.old) (O.contents out.new)))) }
-    ensures fault { IfErr result (IsSendFault
-        (λ name. (name ≡ order.entry.send.now) ⊎ (name ≡ order.entry.received.now))
-        order.entry.send.now (S.files store.old)) }
+    ensures fault { IfErr result (IsExchangeFault order.entry.send.now order.entry.received
+        (S.files store.old)) }
     ensures files { IfSome (S.files store.old) (λ _. LeavesExchange ⊤ (rank_at order.entry.place)
-        order.entry.send.now order.entry.received.now (S.files store.old) (S.files store.new)) }
+        order.entry.send.now order.entry.received (S.files store.old) (S.files store.new)) }
     ensures files_kept { IfErr result (λ fault. status_of fault ≡ 1
         → Discloses (S.files store.old) (S.files store.new) IsSame) }
     ensures silent { IfErr result (λ fault. status_of fault ≡ 1 → out.new ≡ out.old) }
@@ -98,7 +100,7 @@ pub fn exchange_over<L: Line, S: Store, O: Write, E: Write>(
     rank: Rank,
     line: &mut L,
     send: &str,
-    received: &str,
+    received: Destination,
     store: &mut S,
     out: &mut O,
     err: &mut E,
@@ -106,12 +108,14 @@ pub fn exchange_over<L: Line, S: Store, O: Write, E: Write>(
     ensures exchanged { (result ≡ 0) ⊎ (result ≡ 4) → EndsExchanging result
         (L.talk line.old, L.transmissions line.old)
         (L.talk line.new, L.transmissions line.new) rank
-        send.now received.now (S.files store.old) (S.files store.new)
+        send.now received.entry (S.files store.old) (S.files store.new)
         (O.contents out.old) (O.contents out.new) }
     ensures status { (result ≡ 0) ⊎ ((result ≡ 4) ⊎ ((result ≡ 1) ⊎ IsFailing result)) }
-    ensures refused { result ≡ 1 → OfFile send.now (S.files store.old) IsRefusedFile }
+    ensures refused { result ≡ 1 → OfFile send.now (S.files store.old) IsRefusedFile
+        ⊎ OfFile received.entry.jobs.now (S.files store.old)
+        (IsRefusedDestination received.entry) }
     ensures files { IfSome (S.files store.old) (λ _. LeavesExchange (line.new ≡ line.old) rank
-        send.now received.now (S.files store.old) (S.files store.new)) }
+        send.now received.entry (S.files store.old) (S.files store.new)) }
     ensures files_kept { result ≡ 1 → Discloses (S.files store.old) (S.files store.new) IsSame }
     ensures silent { result ≡ 1 → (line.new ≡ line.old) × (out.new ≡ out.old) }
 {
@@ -126,20 +130,19 @@ fn exchanged<'a, L: Line, S: Store, O: Write>(
     rank: Rank,
     line: &mut L,
     send: &'a str,
-    received: &'a str,
+    received: Destination<'a>,
     store: &mut S,
     out: &mut O,
 ) -> Result<Ending, CommandFault<'a>>
     ensures exchanged { IfOk result (λ ending. OfFile send.entry.now (S.files store.old) (λ file.
         ExchangesLeft ending (L.talk line.old, L.transmissions line.old)
         (L.talk line.new, L.transmissions line.new) rank
-        send.entry.now received.entry.now file
+        send.entry.now received.entry file
         (S.files store.old) (S.files store.new) (O.contents out.old) (O.contents out.new))) }
-    ensures fault { IfErr result (IsSendFault
-        (λ name. (name ≡ send.entry.now) ⊎ (name ≡ received.entry.now))
-        send.entry.now (S.files store.old)) }
+    ensures fault { IfErr result (IsExchangeFault send.entry.now received.entry
+        (S.files store.old)) }
     ensures files { IfSome (S.files store.old) (λ _. LeavesExchange (line.new ≡ line.old) rank
-        send.entry.now received.entry.now (S.files store.old) (S.files store.new)) }
+        send.entry.now received.entry (S.files store.old) (S.files store.new)) }
     ensures files_kept { IfErr result (λ fault. status_of fault ≡ 1
         → Discloses (S.files store.old) (S.files store.new) IsSame) }
     ensures silent { IfErr result (λ fault. status_of fault ≡ 1
@@ -180,24 +183,24 @@ fn look_before_meeting<'a, S: Store>(
     }
 }
 
-/// Keeps jobs in the file of one name, which is not that of the other.
+/// Keeps jobs in the file of a destination, which is not that of the other name.
 fn keeper_beside<'a, S: Store>(
     alloc: Global,
     other: &str,
-    name: &'a str,
+    into: Destination<'a>,
     store: &mut S,
 ) -> Result<Keeper<'a>, CommandFault<'a>>
-    ensures two { OnOk result (other.now ≢ name.entry.now) }
-    ensures name { IfOk result (λ keeper. keeper.name.now ≡ name.entry.now) }
+    ensures two { OnOk result (other.now ≢ into.entry.jobs.now) }
+    ensures into { IfOk result (λ keeper. keeper.file.into ≡ into.entry) }
     ensures none { IfOk result (λ keeper. keeper.kept ≡ 0) }
-    ensures grows { IfSome (S.files store.old) (λ _. IfOk result (λ keeper.
-        keeper.place ≡ Growing)) }
-    ensures status { IfErr result (λ fault. IsFailing (status_of fault)) }
-    ensures names { IfErr result (NamesWritten name.entry.now) }
+    ensures opened { IfOk result (λ keeper. (front : List Entry)
+        × IsOpened front keeper.file (S.files store.old)) }
+    ensures fault { IfErr result (IsDestinationFault into.entry (S.files store.old)) }
     ensures same { Discloses (S.files store.old) (S.files store.new) IsSame }
 {
-    look_beside(alloc, other, name, store)?;
-    Keeper::new(alloc, name, store)
+    look_beside(alloc, other, into.jobs, store)?;
+    let file = KeptFile::open(alloc, into, store)?;
+    Ok(Keeper::new(alloc, file))
 }
 
 /// Exchanges over a line what the station has for what comes. At the end it marks what was counted in the whole file, keeps what is left of
@@ -221,13 +224,15 @@ fn exchange_files<'a, 'b, L: Line, P: Parting<L>, S: Store, W: Watch, O: Write>(
     ensures status { IfErr result (λ fault. (jobs : List Item)
         → IsLeft marker.entry.file.items jobs → IsFailing (status_of fault)) }
     ensures names { IfErr result (NamesOne (λ _. ⊥)
-        (λ name. (name ≡ marker.entry.name.now) ⊎ (name ≡ keeper.entry.name.now))) }
+        (λ name. (name ≡ marker.entry.name.now)
+        ⊎ (name ≡ keeper.entry.file.into.jobs.now))) }
     ensures files { marker.entry.marked ≡ station.entry.sender.counted
-        → keeper.entry.place ≡ Growing → marker.entry.name.now ≢ keeper.entry.name.now
+        → keeper.entry.file.place ≡ Growing
+        → marker.entry.name.now ≢ keeper.entry.file.into.jobs.now
         → (files : Option FileMap) → HoldsBoth marker.entry station.entry.sender.counted
         keeper.entry station.entry.receiver.jobs files (S.files store.old)
         → LeavesBoth station.entry marker.entry.file.items marker.entry.name.now
-        keeper.entry.name.now files (S.files store.new) }
+        keeper.entry.file.into files (S.files store.new) }
 {
     let given = station.sender().jobs().len();
     let left = exchange_all(&mut station, line, &mut marker, &mut keeper, store, watch);

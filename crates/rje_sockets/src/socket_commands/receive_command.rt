@@ -1,11 +1,14 @@
 //! `receive`: one transmission from whoever connects, into a job file.
-ghost use Rattle.std.specs.Prelude.{◌≡◌, ◌⊎◌, ℕ, Option, Err, IfErr, IfOk, IfSome, IsErr, IsErrOf, IsOk, OnErr, OnOk, true, false};
+ghost use Rattle.std.specs.Prelude.{◌≡◌, ◌⊎◌, ℕ, List, Option, Err, IfErr, IfOk, IfSome, IsErr, IsErrOf, IsOk, OnErr, OnOk, true, false};
 ghost use Rattle.std.specs.Result.{IsOkAnd};
+ghost use Rattle.rje_files.specs.declared.entry.Entry.{Entry};
 ghost use Rattle.rje_sockets.specs.Answering.{KeepsAnswered};
 ghost use Rattle.rje_commands.specs.CommandFault.{IsFailing, status_of};
+ghost use Rattle.rje_commands.specs.Commands.{OfFile};
 ghost use Rattle.rje_commands.specs.declared.command_fault.CommandFault.TheVariants.{OutOfMemory};
 ghost use Rattle.rje_sockets.specs.BrokenOff.{of_broken_off};
 ghost use Rattle.rje_sockets.specs.Ending.{MakesJobFile, Receives, EndsReceiving};
+ghost use Rattle.rje_sockets.specs.InFront.{IsDestinationFault, IsOpened, IsRefusedDestination};
 ghost use Rattle.rje_sockets.specs.Keeping.{IsOfFile, KeepsJobs};
 ghost use Rattle.rje_sockets.specs.NamedFiles.{NamesWritten};
 ghost use Rattle.rje_sockets.specs.OverLine.{OverConnection};
@@ -15,12 +18,13 @@ use crate::broken_off::BrokenOff;
 use crate::connection::{accepted, tell_if_short};
 use crate::exchange::{Left, receive_all};
 use crate::keeper::Keeper;
+use crate::kept_file::KeptFile;
 use crate::socket_commands::Ending;
 use crate::tracer::Tracer;
 use crate::watch::{Unwatched, Watch};
-use rje_commands::{CommandFault, lock_file, look_at_file, put, tell};
+use rje_commands::{CommandFault, put, tell};
 use rje_jobs::Job;
-use rje_orders::PeerOrder;
+use rje_orders::{Destination, ReceiveOrder};
 use rje_print::handed_text;
 use rje_station::{Line, ReceivingStation};
 use rje_stores::Store;
@@ -29,82 +33,114 @@ use std::io::Write;
 use std::net::Net;
 use std::time::Clock;
 
-/// Looks whether the job file can be written, has it for itself, takes one connection at this address and one transmission, writes its
-/// jobs into the file and prints how many there are. Where that is asked for, who is connected and each turn is told to `err` as it happens.
+/// Has the file of the order's destination for itself, takes one connection at the order's address and one transmission, writes its jobs into
+/// the file and prints how many there are. Where that is asked for, who is connected and each turn is told to `err` as it happens.
 pub fn receive<'a, R: Net + Clock, S: Store, O: Write, E: Write>(
     rt: &R,
     alloc: Global,
-    order: PeerOrder<'a>,
+    order: ReceiveOrder<'a>,
     store: &mut S,
     out: &mut O,
     err: &mut E,
 ) -> Result<Ending, CommandFault<'a>>
     ensures received { IfOk result (λ ending. OverConnection (λ t u.
-        Receives ending t u order.entry.jobs.now
+        Receives ending t u order.entry.into
         (S.files store.old) (S.files store.new) (O.contents out.old) (O.contents out.new))) }
-    ensures status { IfErr result (λ fault. IsFailing (status_of fault)) }
-    ensures names { IfErr result (NamesWritten order.entry.jobs.now) }
+    ensures fault { IfErr result (IsDestinationFault order.entry.into (S.files store.old)) }
     ensures kept { IfSome (S.files store.old) (λ _. (before : ℕ) × (after : ℕ)
-        × KeepsAnswered order.entry.jobs.now (S.files store.old) (S.files store.new)
+        × KeepsAnswered order.entry.into (S.files store.old) (S.files store.new)
         before after) }
+    ensures files_kept { IfErr result (λ fault. status_of fault ≡ 1
+        → Discloses (S.files store.old) (S.files store.new) IsSame) }
+    ensures silent { IfErr result (λ fault. status_of fault ≡ 1 → out.new ≡ out.old) }
 {
-    look_at_file(order.jobs, store)?;
-    lock_file(alloc, order.jobs, store)?;
+    let file = KeptFile::open(alloc, order.into, store)?;
     let Ok((mut line, peer)) = accepted(rt, order.address, order.timeout) else {
         return Err(CommandFault::LineFailed);
     };
     let mut tracer = Tracer::new(rt, order.trace, &mut *err);
     tracer.connected(peer);
-    let ending = received(alloc, &mut line, order.jobs, store, &mut tracer, out);
+    let ending = received(alloc, &mut line, file, store, &mut tracer, out);
     tell_if_short(order.timeout, "the peer", line.waited(), err);
     ending
 }
 
-/// Receives one transmission over a line into the job file of this name, also where the line fails, and prints how many jobs there are.
+/// Receives one transmission over a line into the file of a destination, also where the line fails, and prints how many jobs there are.
 /// Each job is in the file before its last block is answered. Answers the exit status, and tells why it isn't 0.
 pub fn receive_over<L: Line, S: Store, O: Write, E: Write>(
     alloc: Global,
     line: &mut L,
-    name: &str,
+    into: Destination,
     store: &mut S,
     out: &mut O,
     err: &mut E,
 ) -> u8
     ensures received { (result ≡ 0) ⊎ (result ≡ 4) → EndsReceiving result
         (L.talk line.old, L.transmissions line.old)
-        (L.talk line.new, L.transmissions line.new) name.now
+        (L.talk line.new, L.transmissions line.new) into.entry
         (S.files store.old) (S.files store.new) (O.contents out.old) (O.contents out.new) }
-    ensures status { (result ≡ 0) ⊎ ((result ≡ 4) ⊎ IsFailing result) }
-    ensures kept { IfSome (S.files store.old) (λ _. KeepsAnswered name.now
+    ensures status { (result ≡ 0) ⊎ ((result ≡ 4) ⊎ ((result ≡ 1) ⊎ IsFailing result)) }
+    ensures refused { result ≡ 1 → OfFile into.entry.jobs.now (S.files store.old)
+        (IsRefusedDestination into.entry) }
+    ensures kept { IfSome (S.files store.old) (λ _. KeepsAnswered into.entry
         (S.files store.old) (S.files store.new)
         (L.transmissions line.old) (L.transmissions line.new)) }
+    ensures files_kept { result ≡ 1 → Discloses (S.files store.old) (S.files store.new) IsSame }
+    ensures silent { result ≡ 1 → (line.new ≡ line.old) × (out.new ≡ out.old) }
 {
-    match received(alloc, line, name, store, &mut Unwatched, out) {
+    match received_into(alloc, line, into, store, out) {
         Ok(ending) => ending.status(),
         Err(fault) => tell(&fault, err),
     }
 }
 
-fn received<'a, L: Line, S: Store, W: Watch, O: Write>(
+fn received_into<'a, L: Line, S: Store, O: Write>(
     alloc: Global,
     line: &mut L,
-    name: &'a str,
+    into: Destination<'a>,
     store: &mut S,
-    watch: &mut W,
     out: &mut O,
 ) -> Result<Ending, CommandFault<'a>>
     ensures received { IfOk result (λ ending. Receives ending
         (L.talk line.old, L.transmissions line.old)
-        (L.talk line.new, L.transmissions line.new) name.entry.now
+        (L.talk line.new, L.transmissions line.new) into.entry
         (S.files store.old) (S.files store.new) (O.contents out.old) (O.contents out.new)) }
-    ensures status { IfErr result (λ fault. IsFailing (status_of fault)) }
-    ensures names { IfErr result (NamesWritten name.entry.now) }
-    ensures kept { IfSome (S.files store.old) (λ _. KeepsAnswered name.entry.now
+    ensures fault { IfErr result (IsDestinationFault into.entry (S.files store.old)) }
+    ensures kept { IfSome (S.files store.old) (λ _. KeepsAnswered into.entry
         (S.files store.old) (S.files store.new)
+        (L.transmissions line.old) (L.transmissions line.new)) }
+    ensures files_kept { IfErr result (λ fault. status_of fault ≡ 1
+        → Discloses (S.files store.old) (S.files store.new) IsSame) }
+    ensures silent { IfErr result (λ fault. status_of fault ≡ 1
+        → (line.new ≡ line.old) × (out.new ≡ out.old)) }
+{
+    let file = KeptFile::open(alloc, into, store)?;
+    received(alloc, line, file, store, &mut Unwatched, out)
+}
+
+/// Receives one transmission over a line into this file.
+fn received<'a, L: Line, S: Store, W: Watch, O: Write>(
+    alloc: Global,
+    line: &mut L,
+    file: KeptFile<'a>,
+    store: &mut S,
+    watch: &mut W,
+    out: &mut O,
+) -> Result<Ending, CommandFault<'a>>
+    ensures received { (front : List Entry) (files : Option FileMap)
+        → IsOpened front file.entry files → Discloses files (S.files store.old) IsSame
+        → IfOk result (λ ending. Receives ending (L.talk line.old, L.transmissions line.old)
+        (L.talk line.new, L.transmissions line.new) file.entry.into
+        files (S.files store.new) (O.contents out.old) (O.contents out.new)) }
+    ensures status { IfErr result (λ fault. IsFailing (status_of fault)) }
+    ensures names { IfErr result (NamesWritten file.entry.into.jobs.now) }
+    ensures kept { (front : List Entry) (files : Option FileMap)
+        → IsOpened front file.entry files → Discloses files (S.files store.old) IsSame
+        → IfSome files (λ _. KeepsAnswered file.entry.into files (S.files store.new)
         (L.transmissions line.old) (L.transmissions line.new)) }
 {
     let mut station = ReceivingStation::new(alloc)?;
-    let mut keeper = Keeper::new(alloc, name, store)?;
+    let mut keeper = Keeper::new(alloc, file);
     let left = receive_all(&mut station, line, &mut keeper, store, watch);
     let handed = handed_text(station.jobs());
     let written = keep_rest(&left, &mut keeper, station.take(), store);
@@ -138,11 +174,11 @@ pub(super) fn keep_rest<'a, S: Store>(
     ensures file { OnOk result ((files : Option FileMap)
         → IfErr left.now (λ broken. IsOfFile broken → ⊥)
         → KeepsJobs keeper.old jobs.items files (S.files store.old)
-        → MakesJobFile jobs.items keeper.old.name.now files (S.files store.new)) }
+        → MakesJobFile jobs.items keeper.old.file.into files (S.files store.new)) }
     ensures refused { IfErr left.now (λ broken. IsOfFile broken
         → Discloses (S.files store.old) (S.files store.new) IsSame) }
     ensures status { IfErr result (λ fault. IsFailing (status_of fault)) }
-    ensures names { IfErr result (NamesWritten keeper.old.name.now) }
+    ensures names { IfErr result (NamesWritten keeper.old.file.into.jobs.now) }
     ensures same { OnErr result (Discloses (S.files store.old) (S.files store.new) IsSame) }
 {
     let written = match left {

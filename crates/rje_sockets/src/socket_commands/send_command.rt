@@ -27,7 +27,7 @@ use bsc_link::Outcome;
 use rje_commands::{CommandFault, HeldFile, put_lines, read_file, tell};
 use rje_files::{first_unsendable, mark_places, read_entries, unsent_jobs};
 use rje_jobs::Jobs;
-use rje_orders::PeerOrder;
+use rje_orders::SendOrder;
 use rje_print::{counted_text, outcome_text};
 use rje_station::{Line, SendingStation};
 use rje_stores::Store;
@@ -37,11 +37,12 @@ use std::net::Net;
 use std::time::Clock;
 
 /// Sends the jobs of a job file that were not sent to this address, marks those that were counted, and prints how many there are and how
-/// it ended. It has the file for itself from before it reads it, and nothing is said before the copy is in place that marks go into. Where that is asked for, who is connected and each turn is told to `err` as it happens.
+/// it ended. It has the file for itself from before it reads it, and nothing is said before the copy is in place that marks go into. Where
+/// that is asked for, who is connected and each turn is told to `err` as it happens.
 pub fn send<'a, R: Net + Clock, S: Store, O: Write, E: Write>(
     rt: &R,
     alloc: Global,
-    order: PeerOrder<'a>,
+    order: SendOrder<'a>,
     store: &mut S,
     out: &mut O,
     err: &mut E,

@@ -4,7 +4,8 @@ ghost use Rattle.clap.specs.Words.{App, Rule, with_rule, with_subcommand};
 ghost use Rattle.rje_words.specs.CommandLine.{IsArg, IsApp, file_rule, flag_rule, name_rule, address_rule};
 ghost use Rattle.rje_words.specs.CommandLine.{timeout_rule, trace_rule, file_app, blocks_app, cards_app};
 ghost use Rattle.rje_words.specs.CommandLine.{meeting_rule, try_app, loop_app, send_app, receive_app, exchange_app, rje_app};
-ghost use Rattle.rje_words.specs.CommandLine.{with_device_rules, with_deck_apps, with_file_apps, with_line_apps};
+ghost use Rattle.rje_words.specs.CommandLine.{with_device_rules, with_existing_rules, with_meeting_rules};
+ghost use Rattle.rje_words.specs.CommandLine.{with_deck_apps, with_file_apps, with_line_apps};
 
 use clap::{Arg, ArgAction, Command, value_parser};
 use std::alloc::{AllocError, Global};
@@ -143,6 +144,12 @@ fn receive<'a>(alloc: Global) -> Result<Command<'a>, AllocError>
     )?;
     let listen = address(alloc, "listen", "Where to listen, as 0.0.0.0:3780");
     let command = with_arg(command, listen)?;
+    let command = with_existing(
+        alloc,
+        command,
+        "Refuse JOBS where it holds jobs",
+        "Keep the jobs that JOBS holds, and add those that come after them",
+    )?;
     let command = with_arg(command, timeout(alloc))?;
     with_arg(command, trace(alloc))
 }
@@ -165,6 +172,21 @@ fn exchange<'a>(alloc: Global) -> Result<Command<'a>, AllocError>
         "The job file to write, in place of one that is there",
     );
     let command = with_arg(command, received)?;
+    let command = with_meeting(alloc, command)?;
+    let command = with_existing(
+        alloc,
+        command,
+        "Refuse RECEIVED where it holds jobs",
+        "Keep the jobs that RECEIVED holds, and add those that come after them",
+    )?;
+    let command = with_arg(command, timeout(alloc))?;
+    with_arg(command, trace(alloc))
+}
+
+/// The command with the options for whom it calls, and for where it listens.
+fn with_meeting<'a>(alloc: Global, command: Command<'a>) -> Result<Command<'a>, AllocError>
+    ensures { (app : App) → IsApp app command.entry → IfOk result (IsApp (with_meeting_rules app)) }
+{
     let to = meeting(
         alloc,
         "to",
@@ -176,9 +198,21 @@ fn exchange<'a>(alloc: Global) -> Result<Command<'a>, AllocError>
         "listen",
         "Wait for the other end's call, at 0.0.0.0:3780, say",
     );
-    let command = with_arg(command, listen)?;
-    let command = with_arg(command, timeout(alloc))?;
-    with_arg(command, trace(alloc))
+    with_arg(command, listen)
+}
+
+/// The command with the options for the jobs that the file which it receives into holds already, and
+/// the helps of both.
+fn with_existing<'a>(
+    alloc: Global,
+    command: Command<'a>,
+    new: &'a str,
+    append: &'a str,
+) -> Result<Command<'a>, AllocError>
+    ensures { (app : App) → IsApp app command.entry → IfOk result (IsApp (with_existing_rules app)) }
+{
+    let command = with_arg(command, flag(alloc, "new", new))?;
+    with_arg(command, flag(alloc, "append", append))
 }
 
 fn blocks<'a>(alloc: Global) -> Result<Command<'a>, AllocError>

@@ -3,6 +3,7 @@ use super::sending::ReadOnly;
 use super::told_line::ToldLine;
 use super::{NO_JOBS, Written, assert_file, joined, line_of, store_of};
 use bsc_link::Rank;
+use rje_orders::{Destination, Existing};
 use rje_sockets::exchange_over;
 use rje_station::Line;
 use rje_stores::Store;
@@ -49,7 +50,10 @@ fn assert_ends(
         rank,
         line,
         "out",
-        received,
+        Destination {
+            jobs: received,
+            existing: Existing::Replace,
+        },
         store,
         &mut out,
         &mut err,

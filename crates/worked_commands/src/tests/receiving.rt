@@ -2,7 +2,8 @@
 ghost use Rattle.std.specs.Prelude.{None};
 
 use super::told_line::ToldLine;
-use super::{NO_JOBS, Written, assert_file, line_of};
+use super::{FILE, NO_JOBS, Written, assert_file, line_of, store_of};
+use rje_orders::{Destination, Existing};
 use rje_sockets::receive_over;
 use rje_station::Line;
 use rje_stores::{MemoryStore, Store, StoreFault};
@@ -26,6 +27,12 @@ const FAILED: &[u8] = b"rje: line failed\n";
 
 const NOT_WRITTEN: &[u8] = b"rje: can't write got\n";
 
+/// What is received into in most tests.
+const REPLACED: Destination = Destination {
+    jobs: "got",
+    existing: Existing::Replace,
+};
+
 /// What comes over this line is received into the file `got` of this store: it ends with this status and writes these texts.
 pub(super) fn assert_receives(
     rt: &(impl Abort + AllocGlobal),
@@ -37,7 +44,7 @@ pub(super) fn assert_receives(
 ) {
     let mut out = Written::new();
     let mut err = Written::new();
-    let ended = receive_over(rt.alloc(), line, "got", store, &mut out, &mut err);
+    let ended = receive_over(rt.alloc(), line, REPLACED, store, &mut out, &mut err);
     assert!(rt; ended == status);
     assert!(rt; out.as_slice() == text);
     assert!(rt; err.as_slice() == told);
@@ -103,6 +110,42 @@ fn a_transmission_is_received_into_a_job_file(rt: HostRuntime) -> Result<(), Fai
     assert_receives(&rt, &mut line, &mut store, 0, ONE_JOB, b"");
     assert_file(&rt, &mut store, "got", RECEIVED);
     Ok(())
+}
+
+/// The version 2 file of the job of `FILE`, and after it the one that is received.
+const ADDED: &[u8] =
+    b"RJ37\x00\x02\x00\x00\x00\x00\x00\x00\x00\x02        \x02\x00\x00\x00\x00\x00\x00\x00\x00\x00\x01\x00\x01\xC1        \x02\x00\x00\x00\x00\x00\x00\x00\x00\x00\x01\x00\x01\xC1";
+
+/// The transmission is received into the file `got`, which holds a job, and so that this becomes of that job: it ends with this status, tells
+/// this, and leaves this file.
+fn assert_receives_beside(
+    rt: &(impl Abort + AllocGlobal),
+    existing: Existing,
+    status: u8,
+    told: &[u8],
+    file: &[u8],
+) -> Result<(), Fail> {
+    let mut line = line_of(rt.alloc(), &TRANSMISSION)?;
+    let mut store = store_of(rt.alloc(), "got", FILE)?;
+    let into = Destination {
+        jobs: "got",
+        existing,
+    };
+    let mut out = Written::new();
+    let mut err = Written::new();
+    let ended = receive_over(rt.alloc(), &mut line, into, &mut store, &mut out, &mut err);
+    assert!(rt; ended == status);
+    assert!(rt; err.as_slice() == told);
+    assert_file(rt, &mut store, "got", file);
+    Ok(())
+}
+
+#[test]
+fn jobs_that_a_file_holds_are_replaced_refused_or_kept(rt: HostRuntime) -> Result<(), Fail> {
+    let refused = b"rje: got holds jobs\n";
+    assert_receives_beside(&rt, Existing::Replace, 0, b"", RECEIVED)?;
+    assert_receives_beside(&rt, Existing::Refuse, 1, refused, FILE)?;
+    assert_receives_beside(&rt, Existing::Append, 0, b"", ADDED)
 }
 
 #[test]
@@ -218,7 +261,14 @@ fn a_job_that_cannot_be_kept_is_not_acknowledged(rt: HostRuntime) -> Result<(), 
         };
         let mut out = Written::new();
         let mut err = Written::new();
-        let ended = receive_over(rt.alloc(), &mut line, "got", &mut store, &mut out, &mut err);
+        let ended = receive_over(
+            rt.alloc(),
+            &mut line,
+            REPLACED,
+            &mut store,
+            &mut out,
+            &mut err,
+        );
         assert!(rt; line.sent() == answers[room as usize]);
         let (status, told) = if room < 2 {
             (3, NOT_WRITTEN)

@@ -4,6 +4,7 @@ ghost use Rattle.std.specs.Prelude.{None};
 use super::receiving::FillingStore;
 use super::{FILE, Written, assert_file, joined, line_of, store_of};
 use line_world::MemoryLine;
+use rje_orders::{Destination, Existing};
 use rje_program::command;
 use rje_sockets::{receive_over, send_over};
 use rje_stores::{MemoryStore, Place, Store, StoreFault};
@@ -381,7 +382,10 @@ fn a_job_that_was_cut_is_kept_as_cut_and_cannot_be_sent(rt: HostRuntime) -> Resu
     let ended = receive_over(
         rt.alloc(),
         &mut line,
-        "jobs",
+        Destination {
+            jobs: "jobs",
+            existing: Existing::Replace,
+        },
         &mut store,
         &mut out,
         &mut err,

@@ -1,8 +1,8 @@
 //! Orders and faults, by their words.
 use clap::error::ErrorKind;
 use rje_orders::{
-    CardsOrder, Device, ExchangeOrder, FileOrder, LoopOrder, Meeting, Order, PeerOrder,
-    SocketOrder, TryOrder,
+    CardsOrder, Destination, Device, ExchangeOrder, Existing, FileOrder, LoopOrder, Meeting, Order,
+    ReceiveOrder, SendOrder, SocketOrder, TryOrder,
 };
 use rje_words::{WordsFault, parse};
 use std::net::{Ipv4Addr, SocketAddr, SocketAddrV4};
@@ -35,6 +35,14 @@ fn assert_refused(rt: &(impl Abort + AllocGlobal), words: &[&str], kind: ErrorKi
 
 fn assert_bad_address(rt: &(impl Abort + AllocGlobal), words: &[&str]) {
     assert!(rt; matches!(parse(rt.alloc(), words), Err(WordsFault::BadAddress)));
+}
+
+/// A job file whose jobs are replaced.
+fn replaces<'a>(jobs: &'a str) -> Destination<'a> {
+    Destination {
+        jobs,
+        existing: Existing::Replace,
+    }
 }
 
 fn local(port: u16) -> SocketAddr {
@@ -108,7 +116,7 @@ fn commands_over_sockets(rt: HostRuntime) {
     assert_order(
         &rt,
         &["send", "--to", "127.0.0.1:3780", "jobs.rje"],
-        Order::Sockets(SocketOrder::Send(PeerOrder {
+        Order::Sockets(SocketOrder::Send(SendOrder {
             jobs: "jobs.rje",
             address: local(3780),
             timeout: 3000,
@@ -124,8 +132,8 @@ fn commands_over_sockets(rt: HostRuntime) {
             "--listen",
             "127.0.0.1:0",
         ],
-        Order::Sockets(SocketOrder::Receive(PeerOrder {
-            jobs: "jobs.rje",
+        Order::Sockets(SocketOrder::Receive(ReceiveOrder {
+            into: replaces("jobs.rje"),
             address: local(0),
             timeout: 60000,
             trace: false,
@@ -140,7 +148,7 @@ fn an_exchange_calls_or_is_called(rt: HostRuntime) {
         &["exchange", "out.rje", "in.rje", "--to", "127.0.0.1:3780"],
         Order::Sockets(SocketOrder::Exchange(ExchangeOrder {
             send: "out.rje",
-            received: "in.rje",
+            received: replaces("in.rje"),
             place: Meeting::Calls(local(3780)),
             timeout: 3000,
             trace: false,
@@ -159,7 +167,7 @@ fn an_exchange_calls_or_is_called(rt: HostRuntime) {
         ],
         Order::Sockets(SocketOrder::Exchange(ExchangeOrder {
             send: "out.rje",
-            received: "in.rje",
+            received: replaces("in.rje"),
             place: Meeting::Listens(local(0)),
             timeout: 250,
             trace: true,
@@ -302,13 +310,91 @@ fn append_stands_among_the_other_words(rt: HostRuntime) {
     );
 }
 
+/// What becomes of the jobs of the file that is received into, where a command is asked for that
+/// receives into one.
+fn existing<'a>(rt: &impl AllocGlobal, words: &'a [&'a str]) -> Option<Existing> {
+    match parse(rt.alloc(), words) {
+        Ok(Order::Sockets(SocketOrder::Receive(order))) => Some(order.into.existing),
+        Ok(Order::Sockets(SocketOrder::Exchange(order))) => Some(order.received.existing),
+        _ => None,
+    }
+}
+
+fn assert_both_chosen(rt: &(impl Abort + AllocGlobal), words: &[&str]) {
+    assert!(rt; matches!(parse(rt.alloc(), words), Err(WordsFault::NewAndAppend)));
+}
+
+#[test]
+fn what_becomes_of_jobs_stands_among_the_other_words(rt: HostRuntime) {
+    let at = "127.0.0.1:3780";
+    let words = ["receive", "jobs", "--listen", at];
+    assert!(rt; existing(&rt, &words) == Some(Existing::Replace));
+    let words = ["receive", "jobs", "--listen", at, "--new"];
+    assert!(rt; existing(&rt, &words) == Some(Existing::Refuse));
+    let words = ["receive", "--append", "--listen", at, "jobs"];
+    assert!(rt; existing(&rt, &words) == Some(Existing::Append));
+    let words = ["exchange", "out", "in", "--to", at];
+    assert!(rt; existing(&rt, &words) == Some(Existing::Replace));
+    let words = ["exchange", "--new", "out", "in", "--to", at];
+    assert!(rt; existing(&rt, &words) == Some(Existing::Refuse));
+    let words = ["exchange", "out", "--append", "in", "--listen", at];
+    assert!(rt; existing(&rt, &words) == Some(Existing::Append));
+}
+
+#[test]
+fn both_choices_for_jobs_are_told(rt: HostRuntime) {
+    let at = "127.0.0.1:3780";
+    assert_both_chosen(
+        &rt,
+        &["receive", "jobs", "--listen", at, "--new", "--append"],
+    );
+    assert_both_chosen(
+        &rt,
+        &["exchange", "--append", "out", "in", "--new", "--to", at],
+    );
+    assert_bad_address(
+        &rt,
+        &["receive", "jobs", "--listen", "3780", "--new", "--append"],
+    );
+    assert_bad_address(
+        &rt,
+        &["exchange", "out", "in", "--to", "a", "--new", "--append"],
+    );
+    let words = ["exchange", "out", "in", "--new", "--append"];
+    assert!(rt; matches!(parse(rt.alloc(), &words), Err(WordsFault::NoMeeting)));
+}
+
+#[test]
+fn other_words_for_jobs_are_refused(rt: HostRuntime) {
+    let at = "127.0.0.1:3780";
+    assert_refused(
+        &rt,
+        &["receive", "jobs", "--new", "--listen", at, "--new"],
+        ErrorKind::ArgumentConflict,
+    );
+    assert_refused(
+        &rt,
+        &["receive", "jobs", "--listen", at, "--append=yes"],
+        ErrorKind::TooManyValues,
+    );
+    assert_refused(
+        &rt,
+        &["send", "jobs", "--to", at, "--append"],
+        ErrorKind::UnknownArgument,
+    );
+    assert_refused(
+        &rt,
+        &["cards", "deck", "jobs", "--new"],
+        ErrorKind::UnknownArgument,
+    );
+}
+
 /// Whether a command over sockets is asked to tell its turns, where one is asked for.
 fn traces<'a>(rt: &impl AllocGlobal, words: &'a [&'a str]) -> Option<bool> {
     match parse(rt.alloc(), words) {
         Ok(Order::Sockets(SocketOrder::Loop(order))) => Some(order.trace),
-        Ok(Order::Sockets(SocketOrder::Send(order) | SocketOrder::Receive(order))) => {
-            Some(order.trace)
-        }
+        Ok(Order::Sockets(SocketOrder::Send(order))) => Some(order.trace),
+        Ok(Order::Sockets(SocketOrder::Receive(order))) => Some(order.trace),
         _ => None,
     }
 }

@@ -8,7 +8,7 @@ use Rattle.rje_sockets.proofs.BothFiles.{answer_leaves, other_kept, refusal_leav
 use Rattle.rje_sockets.specs.OverLine.{HeardAndReplied}
 use Rattle.rje_sockets.proofs.OverLine.{last_passed, other_owes, reply_passed}
 use Rattle.rje_sockets.proofs.BothWays.{fails_as, others_taken}
-use Rattle.rje_sockets.proofs.Received.{still_keeps}
+use Rattle.rje_sockets.proofs.Growing.{still_keeps}
 use Rattle.rje_sockets.proofs.both_ways.take_others_turn.Goals.{then-is_over, else-is_over+in_ok-reply}
 use Rattle.rje_sockets.proofs.both_ways.take_others_turn.Goals as goal
 
@@ -35,7 +35,7 @@ returns-clause-kept g c =
     ] in
     other_kept c.args.station.now c.hear_other.new.self heard.what heard.refused c.args.keeper.now c.keep.new.self c.jobs.result.now c.if-is_over.station.receiver.jobs
     (g.S.Store.files c.args.store.now) (g.S.Store.files c.keep.new.store) heard.state (c.jobs.ensures ∙ ap (λ (r : Receiving). r.jobs) c.receiver-2.ensures)
-    (answer_leaves c.hear_other.new.self c.if-is_over.station c.is_over.result after) c.keep.ensures.name c.keep.ensures.place (search rules) (search rules)
+    (answer_leaves c.hear_other.new.self c.if-is_over.station c.is_over.result after) c.keep.ensures.file (search rules) (search rules)
 
 pub returns-in_err-reply-clause-broken : goal.returns-in_err-reply-clause-broken
 returns-in_err-reply-clause-broken g c =
@@ -46,7 +46,7 @@ returns-in_err-reply-clause-broken g c =
     (g.S.Store.files c.args.store.now) (g.S.Store.files c.keep.new.store)) c.from_residual.ensures.1
     (other_kept c.args.station.now c.hear_other.new.self heard.what heard.refused c.args.keeper.now c.keep.new.self c.jobs.result.now c.reply.new.self.receiver.jobs
     (g.S.Store.files c.args.store.now) (g.S.Store.files c.keep.new.store) heard.state (c.jobs.ensures ∙ ap (λ (r : Receiving). r.jobs) c.receiver-2.ensures)
-    (refusal_leaves fault c.hear_other.new.self c.reply.new.self c.in_err-reply.ensures.kept) c.keep.ensures.name c.keep.ensures.place (search rules) (search rules))
+    (refusal_leaves fault c.hear_other.new.self c.reply.new.self c.in_err-reply.ensures.kept) c.keep.ensures.file (search rules) (search rules))
 
 pub returns-clause-gave : goal.returns-clause-gave
 returns-clause-gave g c is =
@@ -88,7 +88,6 @@ pub returns-in-Err-keep-clause-broken : goal.returns-in-Err-keep-clause-broken
 returns-in-Err-keep-clause-broken g c =
     let same : c.keep.new.self ≡ c.args.keeper.now = c.in-Err-keep.ensures.unchanged in
     rw same (
-      refl,
       refl,
       λ files k. still_keeps c.args.keeper.now c.args.station.now.receiver.jobs files (g.S.Store.files c.args.store.now) (g.S.Store.files c.keep.new.store) k c.in-Err-keep.ensures.same,
     )

@@ -29,13 +29,13 @@ pub returns-in-Ok-clause-kept : goal.returns-in-Ok-clause-kept
 returns-in-Ok-clause-kept g c =
     let heard = c.in_ok-reply.ensures.heard in
     turn_kept c.args.station.now c.hear.new.self c.speak.new.self heard.what heard.refused c.args.keeper.now c.keep.new.self c.jobs.result.now
-    (g.S.Store.files c.args.store.now) (g.S.Store.files c.keep.new.store) heard.state c.jobs.ensures (search rules) c.keep.ensures.name c.keep.ensures.place (search rules) (search rules)
+    (g.S.Store.files c.args.store.now) (g.S.Store.files c.keep.new.store) heard.state c.jobs.ensures (search rules) c.keep.ensures.file (search rules) (search rules)
 
 pub returns-in-Err-Over-clause-kept : goal.returns-in-Err-Over-clause-kept
 returns-in-Err-Over-clause-kept g c =
     let heard = c.in_ok-reply.ensures.heard in
     turn_kept c.args.station.now c.hear.new.self c.speak.new.self heard.what heard.refused c.args.keeper.now c.keep.new.self c.jobs.result.now
-    (g.S.Store.files c.args.store.now) (g.S.Store.files c.keep.new.store) heard.state c.jobs.ensures (search rules) c.keep.ensures.name c.keep.ensures.place (search rules) (search rules)
+    (g.S.Store.files c.args.store.now) (g.S.Store.files c.keep.new.store) heard.state c.jobs.ensures (search rules) c.keep.ensures.file (search rules) (search rules)
 
 pub returns-in-Ok-clause-told : goal.returns-in-Ok-clause-told
 returns-in-Ok-clause-told g c =
@@ -94,7 +94,7 @@ returns-in-Err-speak g c =
           heard.may,
           jobs ∙ ap (λ (s : Receiving). s.jobs) heard.state,
           turn_kept c.args.station.now c.hear.new.self c.speak.new.self heard.what heard.refused c.args.keeper.now c.keep.new.self c.jobs.result.now
-              (g.S.Store.files c.args.store.now) (g.S.Store.files c.keep.new.store) heard.state c.jobs.ensures jobs c.keep.ensures.name c.keep.ensures.place (search rules) (search rules),
+              (g.S.Store.files c.args.store.now) (g.S.Store.files c.keep.new.store) heard.state c.jobs.ensures jobs c.keep.ensures.file (search rules) (search rules),
         ),
       );
       told = tt;

@@ -6,26 +6,21 @@ use Rattle.rje_sockets.proofs.Growing.{made_of, grows_not_once, one_left, none_l
 use Rattle.rje_sockets.proofs.keeper.Keeper.finish.Goals.{then-self-len+in_ok-add, else-self-len}
 use Rattle.rje_sockets.proofs.keeper.Keeper.finish.Goals as goal
 
-pub returns : goal.returns
-returns g c = record {
-  file = λ files k.
-      let jobs : List Job = c.args.jobs.items in
-      let kept : ℕ = c.args.self.now.kept in
-      let name : List ℕ = c.args.self.now.name.now in
-      let some : length jobs ≡ 0 → ⊥ = search rules in
-      let grows : c.args.self.now.place ≡ Growing = grows_not_once c.args.self.now.place (search rules) in
-      elim c.if-self-len.branch [
-        | then-self-len+in_ok-add w ↦
-            let less : kept < length jobs = search rules in
-            let there : get_or jobs kept w.index.result.now ≡ w.index.result.now = search rules in
-            rw (w.store-is) (made_of _ jobs w.add.new.self.long name files (g.S.Store.files w.add.new.store)
-            (one_left jobs kept w.index.result.now less (omega (arith, k.cut, k.all grows)) there) some
-            (w.in_ok-add.ensures.kept (take kept jobs) files (length-take-le kept jobs (omega (arith, less))) k.file))
-        | else-self-len w ↦
-            let all : kept < length jobs → ⊥ = search rules in
-            rw (w.store-is) (made_of (take kept jobs) jobs c.args.self.now.long name files (g.S.Store.files c.args.store.now) (none_left jobs kept all) some k.file)
-      ];
-  status = tt;
-  names = tt;
-  same = tt;
-}
+pub returns-clause-file : goal.returns-clause-file
+returns-clause-file g c files k =
+    let jobs : List Job = c.args.jobs.items in
+    let kept : ℕ = c.args.self.now.kept in
+    let file = c.args.self.now.file in
+    let some : length jobs ≡ 0 → ⊥ = search rules in
+    let grows : file.place ≡ Growing = grows_not_once file.place (search rules) in
+    elim c.if-self-len.branch [
+      | then-self-len+in_ok-add w ↦
+          let less : kept < length jobs = search rules in
+          let there : get_or jobs kept w.index.result.now ≡ w.index.result.now = search rules in
+          rw (w.store-is) (made_of k.front file _ jobs w.add.new.self.long files (g.S.Store.files w.add.new.store) k.opened
+          (one_left jobs kept w.index.result.now less (omega (arith, k.cut, k.all grows)) there) some
+          (w.in_ok-add.ensures.kept k.front (take kept jobs) files (length-take-le kept jobs (omega (arith, less))) k.opened.has k.kept))
+      | else-self-len w ↦
+          let all : kept < length jobs → ⊥ = search rules in
+          rw (w.store-is) (made_of k.front file (take kept jobs) jobs c.args.self.now.long files (g.S.Store.files c.args.store.now) k.opened (none_left jobs kept all) some k.kept)
+    ]

@@ -1,15 +1,17 @@
-use Rattle.std.proofs.Common.{rules, inl, None, Err, ◌≡◌, ◌⊎◌, ◌∙◌}
+use Rattle.std.proofs.Common.{rules, inl, None, Err, ◌≡◌, ap}
 use Rattle.rje_station.specs.Station.{first_contending}
 use Rattle.rje_station.specs.StationFault.{IsNewCause}
+use Rattle.rje_orders.specs.declared.order.Destination.{Destination}
 use Rattle.rje_commands.specs.CommandFault.{of_station}
 use Rattle.rje_commands.specs.Commands.{OfFile}
 use Rattle.rje_sockets.specs.Exchanging.{ExchangesLeft, rank_at}
-use Rattle.rje_sockets.proofs.Exchanged.{exchanges_left, leaves_so, outgoing_before, send_fault_before}
+use Rattle.rje_sockets.proofs.Exchanged.{destination_fault_of, exchanges_left, leaves_so, outgoing_before, send_fault_of}
 use Rattle.rje_sockets.proofs.OverLine.{over_connection}
-use Rattle.rje_sockets.proofs.Failing.{left_fails, not_refused, send_fails, station_fails}
-use Rattle.rje_sockets.proofs.NamedFiles.{both_names, names_more, station_names}
+use Rattle.rje_sockets.proofs.Failing.{exchange_fails_so, left_fails, not_refused, station_fails, written_fails_so}
+use Rattle.rje_sockets.proofs.InFront.{opened_before}
+use Rattle.rje_sockets.proofs.NamedFiles.{both_names, station_names}
 use Rattle.rje_sockets.proofs.Sending.{marked_after}
-use Rattle.rje_stores.proofs.Changes.{same_twice}
+use Rattle.rje_stores.proofs.Changes.{same_itself, same_twice}
 use Rattle.rje_sockets.proofs.socket_commands.exchange_command.exchange.Goals as goal
 
 pub returns : goal.returns
@@ -22,25 +24,43 @@ returns g c =
     let out = outgoing_before c.args.order.send.now f beside c.in_ok-jobs.field-0.jobs c.in_ok-jobs.field-0.marker same c.in_ok-jobs.ensures.outgoing in
     let jobs = c.in_ok-jobs.field-0.jobs in
     let marker = c.in_ok-jobs.field-0.marker in
+    let keeper = c.in_ok-keeper.keeper in
+    let into = c.args.order.received in
     let first : c.in_ok-station.station ≡ first_contending (rank_at c.args.order.place) jobs = rw (c.rank_of.ensures, c.as_slice.ensures.slice) at c.in_ok-station.ensures.ready in
     let begun = g.S.Store.files c.begin.new.store in
     let copy = marked_after marker.file.items marker.name.now 0 f read begun (same_twice f beside read same c.read_outgoing.ensures.same) c.in_ok-begin.ensures.begun in
     let fails = left_fails c.exchange_files-ending.result marker.file.items jobs out.left c.exchange_files-ending.ensures.status in
+    let front = c.in_ok-keeper.ensures.opened.0 in
+    let opened = opened_before front keeper.file f looked c.look_before_meeting.ensures.same c.in_ok-keeper.ensures.opened.1 in
     record {
       exchanged = over_connection c.exchange_files-ending.result (λ t u ending. OfFile c.args.order.send.now f (λ file. ExchangesLeft ending t u (rank_at c.args.order.place) c.args.order.send.now
-          c.args.order.received.now file f (g.S.Store.files c.exchange_files-ending.new.store) (g.O.Write.contents c.args.out.now) (g.O.Write.contents c.exchange_files-ending.new.out))) _ _
-          (exchanges_left c.exchange_files-ending.result (None, _) (None, _) (rank_at c.args.order.place) c.args.order.send.now c.args.order.received.now jobs c.in_ok-station.station marker
-          c.in_ok-keeper.keeper f begun (g.S.Store.files c.exchange_files-ending.new.store)
+          into file f (g.S.Store.files c.exchange_files-ending.new.store) (g.O.Write.contents c.args.out.now) (g.O.Write.contents c.exchange_files-ending.new.out))) _ _
+          (exchanges_left c.exchange_files-ending.result (None, _) (None, _) (rank_at c.args.order.place) c.args.order.send.now into jobs c.in_ok-station.station marker
+          front keeper f begun (g.S.Store.files c.exchange_files-ending.new.store)
           (g.O.Write.contents c.args.out.now) (g.O.Write.contents c.exchange_files-ending.new.out) out copy first
-          c.in_ok-keeper.ensures.name c.in_ok-keeper.ensures.none c.in_ok-keeper.ensures.two c.exchange_files-ending.ensures.exchanged);
-      fault = send_fails c.exchange_files-ending.result (λ n. (n ≡ c.args.order.send.now) ⊎ (n ≡ c.args.order.received.now)) c.args.order.send.now f fails
-          (both_names c.exchange_files-ending.result marker.name.now c.in_ok-keeper.keeper.name.now c.args.order.send.now c.args.order.received.now out.named c.in_ok-keeper.ensures.name c.exchange_files-ending.ensures.names);
-      files = leaves_so _ (rank_at c.args.order.place) c.args.order.send.now c.args.order.received.now jobs c.in_ok-station.station marker c.in_ok-keeper.keeper f looked
+          c.in_ok-keeper.ensures.into c.in_ok-keeper.ensures.none opened c.in_ok-keeper.ensures.two c.exchange_files-ending.ensures.exchanged);
+      fault = exchange_fails_so c.exchange_files-ending.result c.args.order.send.now into f fails
+          (both_names c.exchange_files-ending.result marker.name.now keeper.file.into.jobs.now c.args.order.send.now into out.named (ap (λ (x : Destination). x.jobs.now) c.in_ok-keeper.ensures.into) c.exchange_files-ending.ensures.names);
+      files = leaves_so _ (rank_at c.args.order.place) c.args.order.send.now into jobs c.in_ok-station.station marker front keeper f
           begun (g.S.Store.files c.exchange_files-ending.new.store) out copy first
-          c.in_ok-keeper.ensures.name c.in_ok-keeper.ensures.none c.in_ok-keeper.ensures.grows c.in_ok-keeper.ensures.two c.look_before_meeting.ensures.same c.exchange_files-ending.ensures.files;
+          c.in_ok-keeper.ensures.into c.in_ok-keeper.ensures.none opened c.in_ok-keeper.ensures.two c.exchange_files-ending.ensures.files;
       files_kept = not_refused c.exchange_files-ending.result _ fails;
       silent = not_refused c.exchange_files-ending.result _ fails;
     }
+
+pub returns-in_err-look_before_meeting-clause-fault : goal.returns-in_err-look_before_meeting-clause-fault
+returns-in_err-look_before_meeting-clause-fault g c =
+    let f = g.S.Store.files c.args.store.now in
+    let fault = c.in_err-look_before_meeting.field-0.0 in
+    let is : c.from_residual.result ≡ Err fault = search rules in
+    rw is (send_fault_of c.args.order.send.now c.args.order.received (λ n. n ≡ c.args.order.send.now) f f fault (λ n e. e) (same_itself f) c.in_err-look_before_meeting.ensures.fault)
+
+pub returns-in_err-keeper-clause-fault : goal.returns-in_err-keeper-clause-fault
+returns-in_err-keeper-clause-fault g c =
+    let fault = c.in_err-keeper.field-0.0 in
+    let is : c.from_residual-in_err-keeper.result ≡ Err fault = search rules in
+    rw is (destination_fault_of c.args.order.send.now c.args.order.received (g.S.Store.files c.args.store.now) (g.S.Store.files c.look_before_meeting.new.store) fault c.look_before_meeting.ensures.same
+    c.in_err-keeper.ensures.fault)
 
 pub returns-in_err-station-clause-fault : goal.returns-in_err-station-clause-fault
 returns-in_err-station-clause-fault g c =
@@ -55,10 +75,8 @@ returns-in_err-begin-clause-fault g c =
     let out = c.in_ok-jobs.ensures.outgoing in
     let fault = c.in_err-begin.field-0.0 in
     let is : c.from_residual-in_err-begin.result ≡ Err fault = search rules in
-    rw is (inl (
-      c.in_err-begin.ensures.status c.in_ok-jobs.field-0.jobs out.left,
-      names_more (λ _. ⊥) (λ n. n ≡ c.args.order.send.now) (λ n. n ≡ c.in_ok-jobs.field-0.marker.name.now) (λ n. (n ≡ c.args.order.send.now) ⊎ (n ≡ c.args.order.received.now)) (λ n never. absurd never) (λ n e. inl (e ∙ out.named)) fault c.in_err-begin.ensures.names,
-    ))
+    rw is (written_fails_so c.args.order.send.now c.args.order.received (g.S.Store.files c.args.store.now) fault c.in_ok-jobs.field-0.marker.name.now out.named
+    (c.in_err-begin.ensures.status c.in_ok-jobs.field-0.jobs out.left) c.in_err-begin.ensures.names)
 
 pub returns-in_err-jobs-clause-fault : goal.returns-in_err-jobs-clause-fault
 returns-in_err-jobs-clause-fault g c =
@@ -68,8 +86,7 @@ returns-in_err-jobs-clause-fault g c =
     let same = same_twice f looked beside c.look_before_meeting.ensures.same c.keeper_beside.ensures.same in
     let fault = c.in_err-jobs.field-0.0 in
     let is : c.from_residual-in_err-jobs.result ≡ Err fault = search rules in
-    rw is (send_fault_before (λ n. n ≡ c.args.order.send.now) (λ n. (n ≡ c.args.order.send.now) ⊎ (n ≡ c.args.order.received.now)) c.args.order.send.now f beside fault
-    (λ n e. inl e) same c.in_err-jobs.ensures.fault)
+    rw is (send_fault_of c.args.order.send.now c.args.order.received (λ n. n ≡ c.args.order.send.now) f beside fault (λ n e. e) same c.in_err-jobs.ensures.fault)
 
 pub returns-in_err-jobs-clause-files_kept : goal.returns-in_err-jobs-clause-files_kept
 returns-in_err-jobs-clause-files_kept g c =
@@ -80,3 +97,11 @@ returns-in_err-jobs-clause-files_kept g c =
     let same = same_twice f looked beside c.look_before_meeting.ensures.same c.keeper_beside.ensures.same in
     let is : c.from_residual-in_err-jobs.result ≡ Err c.in_err-jobs.field-0.0 = search rules in
     rw is (λ one. same_twice f beside read same c.read_outgoing.ensures.same)
+
+pub returns-in_err-keeper-clause-files_kept : goal.returns-in_err-keeper-clause-files_kept
+returns-in_err-keeper-clause-files_kept g c =
+    let f = g.S.Store.files c.args.store.now in
+    let looked = g.S.Store.files c.look_before_meeting.new.store in
+    let beside = g.S.Store.files c.keeper_beside.new.store in
+    let is : c.from_residual-in_err-keeper.result ≡ Err c.in_err-keeper.field-0.0 = search rules in
+    rw is (λ one. same_twice f looked beside c.look_before_meeting.ensures.same c.keeper_beside.ensures.same)

@@ -1,4 +1,4 @@
-use Rattle.std.proofs.Common.{rules, ◌≡◌, ◌⊎◌, Bool, Err, inl, inr, length, refl, subst}
+use Rattle.std.proofs.Common.{rules, ◌≡◌, ◌⊎◌, Bool, Err, ap, inl, inr, length, refl, subst}
 use Rattle.std.specs.Prelude.{List}
 use Rattle.std.specs.List.{flat_map}
 use Rattle.std.specs.Result.{IsOkAnd, MatchResult, result_and}
@@ -8,6 +8,7 @@ use Rattle.rje_files.specs.Unsent.{IsLeft}
 use Rattle.rje_commands.specs.CommandFault.{IsFailing, status_of}
 use Rattle.rje_commands.specs.declared.command_fault.CommandFault.{CommandFault}
 use Rattle.rje_sockets.specs.Exchanging.{Exchanges, ending_of_both, is_idle}
+use Rattle.rje_sockets.specs.declared.kept_file.KeptFile.{KeptFile}
 use Rattle.rje_sockets.specs.NamedFiles.{NamesOne}
 use Rattle.rje_sockets.proofs.Exchanged.{all_exchanged, exchange_fails}
 use Rattle.rje_sockets.proofs.LeavingBoth.{file_stays, leaves_both, marks_as_many, names_stay}
@@ -74,7 +75,7 @@ returns-clause-names g c =
     subst (λ (b : Bool). MatchResult c.left_after.result (λ l. IsOkAnd c.map-ending.result (λ ending. ending ≡ ending_of_both (outcome_of c.exchange_all-left.new.station.sender) b l))
     (λ e. c.map-ending.result ≡ Err e)) idle (search rules) in
     let one = c.args.marker.name.now in
-    let other = c.args.keeper.name.now in
+    let other = c.args.keeper.file.into.jobs.now in
     let Names : CommandFault → Type 0 = NamesOne (λ _. ⊥) (λ n. (n ≡ one) ⊎ (n ≡ other)) in
     let stay = names_stay c.exchange_all-left.result (g.L.Line.talk c.args.line.now, g.L.Line.transmissions c.args.line.now) (g.L.Line.talk c.exchange_all-left.new.line, g.L.Line.transmissions c.exchange_all-left.new.line)
     c.args.station c.exchange_all-left.new.station c.args.marker c.exchange_all-left.new.marker c.args.keeper c.exchange_all-left.new.keeper (g.S.Store.files c.args.store.now)
@@ -83,5 +84,5 @@ returns-clause-names g c =
     (told_names c.map-ending.result c.left_after.result (ending_of_both (outcome_of c.exchange_all-left.new.station.sender) (is_idle (length c.args.station.sender.jobs) c.exchange_all-left.new.station.receiver.jobs)) Names c.exchange_all-left.result c.finish-marked.result c.keep_rest-kept.result
     c.put_lines-printed.result told c.left_after.ensures.first (search rules) (search rules) (search rules)
     (left_of_both c.exchange_all-left.result one other c.exchange_all-left.ensures.names) (err_of_both c.finish-marked.result c.exchange_all-left.new.marker.name.now one other (inl stay.0) c.finish-marked.ensures.names)
-    (err_of_both c.keep_rest-kept.result c.exchange_all-left.new.keeper.name.now one other (inr stay.1) c.keep_rest-kept.ensures.names)
+    (err_of_both c.keep_rest-kept.result c.exchange_all-left.new.keeper.file.into.jobs.now one other (inr (ap (λ (x : KeptFile). x.into.jobs.now) stay.1)) c.keep_rest-kept.ensures.names)
     (output_of_none c.put_lines-printed.result (λ _. ⊥) (λ n. (n ≡ one) ⊎ (n ≡ other)) c.put_lines-printed.ensures.fault)) tt

@@ -1,31 +1,45 @@
-use Rattle.std.proofs.Common.{None, rules}
+use Rattle.std.proofs.Common.{IfOk, ℕ, rules, refl, subst}
+use Rattle.std.specs.Prelude.{IfSome}
+use Rattle.rje_orders.specs.declared.order.Destination.{Destination}
+use Rattle.rje_sockets.specs.Answering.{KeepsAnswered}
 use Rattle.rje_sockets.specs.Ending.{Receives}
+use Rattle.rje_sockets.proofs.Failing.{not_refused, receive_fails_so}
+use Rattle.rje_sockets.specs.OverLine.{OverConnection}
 use Rattle.rje_sockets.proofs.OverLine.{over_connection}
-use Rattle.rje_sockets.proofs.ReceivedAfter.{keeps_after, keeps_nothing, receives_after}
+use Rattle.rje_sockets.proofs.Received.{keeps_so_many, nothing_kept}
 use Rattle.rje_sockets.proofs.socket_commands.receive_command.receive.Goals as goal
 
 pub returns-clause-received : goal.returns-clause-received
 returns-clause-received g c =
-    over_connection c.received-ending.result (λ t u ending. Receives ending t u c.args.order.jobs.now (g.S.Store.files c.args.store.now) (g.S.Store.files c.received-ending.new.store)
-    (g.O.Write.contents c.args.out.now) (g.O.Write.contents c.received-ending.new.out)) _ _
-    (receives_after c.received-ending.result (None, _) (None, _) c.args.order.jobs.now (g.S.Store.files c.args.store.now) (g.S.Store.files c.lock_file.new.store) (g.S.Store.files c.received-ending.new.store)
-    (g.O.Write.contents c.args.out.now) (g.O.Write.contents c.received-ending.new.out) (search rules) c.received-ending.ensures.received)
+    let opened = c.in_ok-file.ensures.opened in
+    let files = g.S.Store.files c.args.store.now in
+    let made = g.S.Store.files c.received-ending.new.store in
+    let had = g.O.Write.contents c.args.out.now in
+    let has = g.O.Write.contents c.received-ending.new.out in
+    subst (λ (into : Destination). IfOk c.received-ending.result (λ ending. OverConnection (λ t u. Receives ending t u into files made had has))) c.in_ok-file.ensures.into
+    (over_connection c.received-ending.result (λ t u ending. Receives ending t u c.in_ok-file.file.into files made had has) _ _
+    (c.received-ending.ensures.received opened.0 files opened.1 c.in_ok-file.ensures.same))
 
 pub returns-clause-kept : goal.returns-clause-kept
 returns-clause-kept g c =
-    keeps_after c.args.order.jobs.now (g.S.Store.files c.args.store.now) (g.S.Store.files c.lock_file.new.store) (g.S.Store.files c.received-ending.new.store) _ _ (search rules) c.received-ending.ensures.kept
+    let opened = c.in_ok-file.ensures.opened in
+    let files = g.S.Store.files c.args.store.now in
+    subst (λ (into : Destination). IfSome files (λ _. (n : ℕ) × (m : ℕ) × KeepsAnswered into files (g.S.Store.files c.received-ending.new.store) n m)) c.in_ok-file.ensures.into
+    (keeps_so_many c.in_ok-file.file.into files (g.S.Store.files c.received-ending.new.store) _ _ (c.received-ending.ensures.kept opened.0 files opened.1 c.in_ok-file.ensures.same))
 
-pub returns-in_err-lock_file-clause-kept : goal.returns-in_err-lock_file-clause-kept
-returns-in_err-lock_file-clause-kept g c =
-    keeps_nothing c.args.order.jobs.now (g.S.Store.files c.args.store.now) (g.S.Store.files c.lock_file.new.store) (search rules)
+pub returns-clause-fault : goal.returns-clause-fault
+returns-clause-fault g c = receive_fails_so c.received-ending.result c.args.order.into (g.S.Store.files c.args.store.now) c.received-ending.ensures.status (search rules)
 
-pub returns-in_err-look_at_file-clause-kept : goal.returns-in_err-look_at_file-clause-kept
-returns-in_err-look_at_file-clause-kept g c =
-    keeps_nothing c.args.order.jobs.now (g.S.Store.files c.args.store.now) (g.S.Store.files c.look_at_file.new.store) (search rules)
+pub returns-clause-files_kept : goal.returns-clause-files_kept
+returns-clause-files_kept g c = not_refused c.received-ending.result _ c.received-ending.ensures.status
+
+pub returns-clause-silent : goal.returns-clause-silent
+returns-clause-silent g c = not_refused c.received-ending.result _ c.received-ending.ensures.status
+
+pub returns-in_err-file-clause-kept : goal.returns-in_err-file-clause-kept
+returns-in_err-file-clause-kept g c =
+    keeps_so_many c.args.order.into (g.S.Store.files c.args.store.now) (g.S.Store.files c.open.new.store) 0 0 (nothing_kept c.args.order.into (g.S.Store.files c.args.store.now) (g.S.Store.files c.open.new.store) 0 0 c.open.ensures.same refl)
 
 pub returns-in_default-clause-kept : goal.returns-in_default-clause-kept
 returns-in_default-clause-kept g c =
-    keeps_nothing c.args.order.jobs.now (g.S.Store.files c.args.store.now) (g.S.Store.files c.lock_file.new.store) (search rules)
-
-pub returns-in_default-clause-names : goal.returns-in_default-clause-names
-returns-in_default-clause-names g c = search rules
+    keeps_so_many c.args.order.into (g.S.Store.files c.args.store.now) (g.S.Store.files c.open.new.store) 0 0 (nothing_kept c.args.order.into (g.S.Store.files c.args.store.now) (g.S.Store.files c.open.new.store) 0 0 c.open.ensures.same refl)

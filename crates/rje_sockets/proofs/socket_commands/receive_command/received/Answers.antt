@@ -1,47 +1,45 @@
-use Rattle.std.proofs.Common.{rules, ◌≡◌, ◌∙◌, OnOk, IfErr, inl, inr, refl, ap, subst}
+use Rattle.std.proofs.Common.{rules, ◌≡◌, ◌∙◌, IfOk, OnOk, IfErr, inl, inr, refl, ap, sym, subst}
 use Rattle.rje_station.specs.Receiving.{Receiving}
-use Rattle.rje_stores.proofs.Changes.{same_itself}
-use Rattle.rje_sockets.specs.Answering.{KeepsToBreak, KeepsToEnd}
+use Rattle.rje_sockets.specs.Answering.{KeepsAnswered, KeepsToBreak, KeepsToEnd}
 use Rattle.rje_commands.specs.declared.command_fault.CommandFault.{CommandFault}
 use Rattle.rje_commands.specs.CommandFault.{IsFailing, status_of}
 use Rattle.rje_sockets.specs.declared.socket_commands.ending.Ending.{Ending}
 use Rattle.rje_sockets.specs.BrokenOff.{of_broken_off}
-use Rattle.rje_sockets.specs.Ending.{Receives, ending_of_left}
+use Rattle.rje_sockets.specs.Ending.{MakesJobFile, Receives, ending_of_left}
+use Rattle.std.specs.Prelude.{IfSome}
+use Rattle.rje_sockets.specs.declared.kept_file.KeptFile.{KeptFile}
+use Rattle.rje_sockets.specs.InFront.{IsOpened}
 use Rattle.rje_sockets.specs.NamedFiles.{NamesWritten}
 use Rattle.rje_sockets.specs.OverLine.{LineTells}
 use Rattle.rje_sockets.proofs.NamedFiles.{output_of_none, received_names}
-use Rattle.rje_sockets.proofs.Received.{ends_well, err_unless_short, keeper_named, ok_unless_short, made_at_end, nothing_kept, received_kept, receives}
+use Rattle.rje_sockets.proofs.Received.{ends_well, err_unless_short, keeper_stays, ok_unless_short, made_at_end, nothing_kept, received_kept, receives}
 use Rattle.rje_sockets.proofs.socket_commands.receive_command.received.Goals as goal
 
 pub returns-in_err-station-clause-kept : goal.returns-in_err-station-clause-kept
-returns-in_err-station-clause-kept g c =
-    nothing_kept c.args.name.now (g.S.Store.files c.args.store.now) (g.S.Store.files c.args.store.now) (g.L.Line.transmissions c.args.line.now) (g.L.Line.transmissions c.args.line.now)
-    (same_itself (g.S.Store.files c.args.store.now)) refl
-
-pub returns-in_err-keeper-clause-kept : goal.returns-in_err-keeper-clause-kept
-returns-in_err-keeper-clause-kept g c =
-    nothing_kept c.args.name.now (g.S.Store.files c.args.store.now) (g.S.Store.files c.new-2.new.store) (g.L.Line.transmissions c.args.line.now) (g.L.Line.transmissions c.args.line.now)
-    c.new-2.ensures.same refl
+returns-in_err-station-clause-kept g c front files opened same =
+    nothing_kept c.args.file.into files (g.S.Store.files c.args.store.now) (g.L.Line.transmissions c.args.line.now) (g.L.Line.transmissions c.args.line.now) same refl
 
 pub returns-clause-received : goal.returns-clause-received
-returns-clause-received g c =
+returns-clause-received g c front files opened same =
+    let keeper = c.new-keeper.result in
     let station = c.receive_all-left.new.station in
     let left = c.receive_all-left.result in
     let written = c.keep_rest-written.result in
-    let files = g.S.Store.files c.args.store.now in
+    let looked = g.S.Store.files c.args.store.now in
     let made = g.S.Store.files c.keep_rest-written.new.store in
     let start = c.in_ok-station.ensures.ready in
     let was : LineTells = (g.L.Line.talk c.args.line.now, g.L.Line.transmissions c.args.line.now) in
     let is : LineTells = (g.L.Line.talk c.receive_all-left.new.line, g.L.Line.transmissions c.receive_all-left.new.line) in
-    let P : Ending → Type 0 = λ ending. Receives ending was is c.args.name.now files made (g.O.Write.contents c.args.out.now) (g.O.Write.contents c.put-printed.new.out) in
+    let P : Ending → Type 0 = λ ending. Receives ending was is c.args.file.into files made (g.O.Write.contents c.args.out.now) (g.O.Write.contents c.put-printed.new.out) in
     ok_unless_short c.unless_short.result c.map-ending.result P c.unless_short.ensures.ending
     (ends_well c.map-ending.result c.left_after.result left written c.put-printed.result ending_of_left P c.left_after.ensures.left c.map-ending.ensures.cases c.map-ending.ensures.variant
-    (receives left written c.put-printed.result was is c.args.name.now files made (g.O.Write.contents c.args.out.now) (g.O.Write.contents c.put-printed.new.out) station (search rules)
-    (made_at_end written c.in_ok-keeper.keeper c.receive_all-left.new.keeper station c.args.name.now files (g.S.Store.files c.new-2.new.store)
+    (receives left written c.put-printed.result was is c.args.file.into files made (g.O.Write.contents c.args.out.now) (g.O.Write.contents c.put-printed.new.out) station (search rules)
+    (subst (λ (x : KeptFile). IfOk left (λ _. OnOk written (MakesJobFile station.jobs x.into files made))) c.new-keeper.ensures.file
+    (made_at_end written front keeper c.receive_all-left.new.keeper station files looked
     (g.S.Store.files c.receive_all-left.new.store) made (g.L.Line.transmissions c.args.line.now) (g.L.Line.transmissions c.receive_all-left.new.line) left
-    c.in_ok-keeper.ensures.name c.in_ok-keeper.ensures.none c.in_ok-keeper.ensures.same
-    (subst (λ (s : Receiving). OnOk left (KeepsToEnd c.in_ok-keeper.keeper c.receive_all-left.new.keeper s station (g.L.Line.transmissions c.args.line.now)
-    (g.L.Line.transmissions c.receive_all-left.new.line) (g.S.Store.files c.new-2.new.store) (g.S.Store.files c.receive_all-left.new.store))) start c.receive_all-left.ensures.kept) (rw c.take.ensures at c.keep_rest-written.ensures.file))
+    (subst (λ (x : KeptFile). IsOpened front x files) (sym c.new-keeper.ensures.file) opened) c.new-keeper.ensures.none same
+    (subst (λ (s : Receiving). OnOk left (KeepsToEnd keeper c.receive_all-left.new.keeper s station (g.L.Line.transmissions c.args.line.now)
+    (g.L.Line.transmissions c.receive_all-left.new.line) looked (g.S.Store.files c.receive_all-left.new.store))) start c.receive_all-left.ensures.kept) (rw c.take.ensures at c.keep_rest-written.ensures.file)))
     (search rules)))
 
 pub returns-clause-status : goal.returns-clause-status
@@ -52,30 +50,33 @@ returns-clause-status g c =
 
 pub returns-clause-names : goal.returns-clause-names
 returns-clause-names g c =
-    let name = c.args.name.now in
+    let name = c.args.file.into.jobs.now in
     let left = c.receive_all-left.result in
-    let stays = keeper_named left c.in_ok-keeper.keeper c.receive_all-left.new.keeper c.in_ok-station.station c.receive_all-left.new.station (g.L.Line.transmissions c.args.line.now)
-    (g.L.Line.transmissions c.receive_all-left.new.line) (g.S.Store.files c.new-2.new.store) (g.S.Store.files c.receive_all-left.new.store) c.receive_all-left.ensures.kept c.receive_all-left.ensures.broken in
-    let named : c.receive_all-left.new.keeper.name.now ≡ name = ap (λ n. n.now) stays ∙ c.in_ok-keeper.ensures.name in
+    let first : c.new-keeper.result.file.into.jobs.now ≡ name = ap (λ (x : KeptFile). x.into.jobs.now) c.new-keeper.ensures.file in
+    let stays = keeper_stays left c.new-keeper.result c.receive_all-left.new.keeper c.in_ok-station.station c.receive_all-left.new.station (g.L.Line.transmissions c.args.line.now)
+    (g.L.Line.transmissions c.receive_all-left.new.line) (g.S.Store.files c.args.store.now) (g.S.Store.files c.receive_all-left.new.store) c.receive_all-left.ensures.kept c.receive_all-left.ensures.broken in
+    let named : c.receive_all-left.new.keeper.file.into.jobs.now ≡ name = ap (λ (x : KeptFile). x.into.jobs.now) stays ∙ first in
     err_unless_short c.unless_short.result c.map-ending.result (NamesWritten name) c.unless_short.ensures.ending
     (received_names c.map-ending.result c.left_after.result ending_of_left (NamesWritten name) left c.keep_rest-written.result c.put-printed.result c.map-ending.ensures.cases
     c.left_after.ensures.first c.left_after.ensures.second c.left_after.ensures.third c.left_after.ensures.none
-    (subst (λ n. IfErr left (λ broken. NamesWritten n (of_broken_off broken))) c.in_ok-keeper.ensures.name c.receive_all-left.ensures.names)
+    (subst (λ n. IfErr left (λ broken. NamesWritten n (of_broken_off broken))) first c.receive_all-left.ensures.names)
     (subst (λ n. IfErr c.keep_rest-written.result (NamesWritten n)) named c.keep_rest-written.ensures.names)
     (output_of_none c.put-printed.result (λ _. ⊥) (λ named. named ≡ name) c.put-printed.ensures.fault)) tt
 
 pub returns-clause-kept : goal.returns-clause-kept
-returns-clause-kept g c =
+returns-clause-kept g c front files opened same =
+    let keeper = c.new-keeper.result in
     let station = c.receive_all-left.new.station in
     let left = c.receive_all-left.result in
     let written = c.keep_rest-written.result in
-    let files = g.S.Store.files c.args.store.now in
+    let looked = g.S.Store.files c.args.store.now in
     let made = g.S.Store.files c.keep_rest-written.new.store in
     let start = c.in_ok-station.ensures.ready in
-    received_kept written c.in_ok-keeper.keeper c.receive_all-left.new.keeper station c.args.name.now files (g.S.Store.files c.new-2.new.store)
+    subst (λ (x : KeptFile). IfSome files (λ _. KeepsAnswered x.into files made (g.L.Line.transmissions c.args.line.now) (g.L.Line.transmissions c.receive_all-left.new.line))) c.new-keeper.ensures.file
+    (received_kept written front keeper c.receive_all-left.new.keeper station files looked
     (g.S.Store.files c.receive_all-left.new.store) made (g.L.Line.transmissions c.args.line.now) (g.L.Line.transmissions c.receive_all-left.new.line) left
-    c.in_ok-keeper.ensures.name c.in_ok-keeper.ensures.none c.in_ok-keeper.ensures.grows c.in_ok-keeper.ensures.same
-    (subst (λ (s : Receiving). OnOk left (KeepsToEnd c.in_ok-keeper.keeper c.receive_all-left.new.keeper s station (g.L.Line.transmissions c.args.line.now)
-    (g.L.Line.transmissions c.receive_all-left.new.line) (g.S.Store.files c.new-2.new.store) (g.S.Store.files c.receive_all-left.new.store))) start c.receive_all-left.ensures.kept)
-    (subst (λ (s : Receiving). IfErr left (KeepsToBreak c.in_ok-keeper.keeper c.receive_all-left.new.keeper s station (g.L.Line.transmissions c.args.line.now)
-    (g.L.Line.transmissions c.receive_all-left.new.line) (g.S.Store.files c.new-2.new.store) (g.S.Store.files c.receive_all-left.new.store))) start c.receive_all-left.ensures.broken) (rw c.take.ensures at c.keep_rest-written.ensures.file) (search rules) (search rules)
+    (subst (λ (x : KeptFile). IsOpened front x files) (sym c.new-keeper.ensures.file) opened) c.new-keeper.ensures.none same
+    (subst (λ (s : Receiving). OnOk left (KeepsToEnd keeper c.receive_all-left.new.keeper s station (g.L.Line.transmissions c.args.line.now)
+    (g.L.Line.transmissions c.receive_all-left.new.line) looked (g.S.Store.files c.receive_all-left.new.store))) start c.receive_all-left.ensures.kept)
+    (subst (λ (s : Receiving). IfErr left (KeepsToBreak keeper c.receive_all-left.new.keeper s station (g.L.Line.transmissions c.args.line.now)
+    (g.L.Line.transmissions c.receive_all-left.new.line) looked (g.S.Store.files c.receive_all-left.new.store))) start c.receive_all-left.ensures.broken) (rw c.take.ensures at c.keep_rest-written.ensures.file) (search rules) (search rules))

@@ -5,5 +5,6 @@ use Rattle.rje_words.proofs.words.app.receive.Goals as goal
 pub returns : goal.returns
 returns c =
     let listen = c.in_ok-command-2.ensures (file_app (codes "receive") (codes "JOBS")) (address_rule (codes "listen")) c.in_ok-command.ensures c.address-listen.ensures in
-    let timeout = c.in_ok-command-3.ensures _ timeout_rule listen c.timeout.ensures in
+    let existing = c.in_ok-command-3.ensures _ listen in
+    let timeout = c.in_ok-command-4.ensures _ timeout_rule existing c.timeout.ensures in
     c.with_arg-3.ensures _ trace_rule timeout c.trace.ensures

@@ -1,6 +1,0 @@
-use Rattle.std.proofs.Common.{refl, subst, sym}
-use Rattle.rje_words.specs.Address.{IsAddressText}
-use Rattle.rje_words.proofs.words.peer_order.Goals as goal
-
-pub returns-in_default-clause-told : goal.returns-in_default-clause-told
-returns-in_default-clause-told c = (refl, λ address h. c.in_default.ensures address (subst (λ text. IsAddressText text address) (sym c.word.ensures) h))
