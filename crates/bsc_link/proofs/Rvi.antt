@@ -1,13 +1,22 @@
 -- At most one RVI is made.
-use Rattle.std.proofs.Common.{◌≡◌, refl, ◌∙◌, Bool, true, false, not, ◌&&◌, ◌||◌, ℕ, ◌+◌, ◌≤◌, arith, List, [], ◌∷◌, Some}
+use Rattle.std.proofs.Common.{◌≡◌, refl, ◌∙◌, Bool, true, false, not, ◌&&◌, ◌||◌, cond, ℕ, ◌+◌, ◌≤◌, arith, List, [], ◌∷◌, Some}
+use Rattle.std.specs.Prelude.{count_by}
 use Rattle.std.proofs.lemmas.Bool.{false≢true}
+use Rattle.std.proofs.lemmas.List.Sums.{sum_by-cons}
 use Rattle.bsc_link.specs.declared.sound.Sound.{Sound}
 use Rattle.bsc_link.specs.declared.wish.Wish.{Wish}
 use Rattle.bsc_link.specs.declared.receiver_place.ReceiverPlace.{ReceiverPlace}
 use Rattle.bsc_link.specs.Receiver.{ReceiverState, first_receiver_state, due_ack, is_rvi, line_when_idle, line_in_transmission, reply_to_block, receiver_news}
 use Rattle.bsc_link.specs.Runs.{ReceiverStep, ReceiverHears, LongQuiet, after_receiver_step, news_of, news_in, makes_rvi, rvi_made_in}
 use Rattle.bsc_link.specs.Laws.{MakesAtMostOneRvi}
-use Rattle.bsc_link.proofs.Endings.{one_if, count_by-cons}
+
+-- one where a test passes
+abbrev one_if : Bool → ℕ
+one_if passes = cond passes 1 0
+
+-- how many pass, of the first and of the rest
+count_by-cons : {X : Type 0} (p : X → Bool) (x : X) (xs : List X) → count_by p (x ∷ xs) ≡ one_if (p x) + count_by p xs
+count_by-cons p x xs = sum_by-cons (λ y. cond (p y) 1 0) x xs
 
 -- an acknowledgement is no RVI
 due-is_no_rvi : (odd : Bool) → is_rvi (Some (due_ack odd)) ≡ false

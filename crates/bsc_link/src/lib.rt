@@ -23,10 +23,7 @@ mod wish;
 
 pub use contender::Contender;
 pub use contender_place::ContenderPlace;
-pub use laws::{
-    at_most_one_rvi, counts_stay_below_their_limits, limits_give_up, nothing_follows_the_end,
-    seven_tries_give_up,
-};
+pub use laws::at_most_one_rvi;
 pub use next::Next;
 pub use outcome::Outcome;
 pub use rank::Rank;
