@@ -9,7 +9,6 @@ pub mod Lines
 pub mod SenderCore
 pub mod ReceiverCore
 pub mod Schedule
-pub mod Turns
 pub mod OneConversation
 pub mod Settled
 pub mod OnePairConversation

@@ -1,5 +1,5 @@
 -- The bridge from the rules to the link cores: where the two cores stand after a history whose sounds they heard. Own profile.
-use Rattle.std.specs.Prelude.{◌≡◌, ◌⊎◌, ◌&&◌, Some, None, ℕ, ◌+◌, Bool, false, not, [], ◌∷◌, length, if◌then◌else◌}
+use Rattle.std.specs.Prelude.{◌≡◌, ℕ, ◌+◌, Bool, false, not, [], ◌∷◌, length, if◌then◌else◌}
 use Rattle.bsc_link.specs.declared.sound.Sound.{Sound}
 use Rattle.bsc_link.specs.declared.say.Say.{Say}
 use Rattle.bsc_link.specs.declared.next.Next.TheVariants as Next
@@ -14,9 +14,7 @@ use Rattle.bsc_history.specs.Got.{got, brings_block}
 use Rattle.bsc_history.specs.ReplyRule.{replying, was_bid, last_reply, has_made_rvi}
 use Rattle.bsc_history.specs.SayingRule.{saying}
 use Rattle.bsc_history.specs.Outcome.{outcome_after}
-use Rattle.bsc_history.specs.declared.sound_turn.SoundTurn.{SoundTurn}
-use Rattle.bsc_history.specs.Fate.{sound_of, sound_of_reply, after_fate}
-use Rattle.bsc_history.specs.Conversation.{MayBeSpoken, IsConversation, is_block}
+use Rattle.bsc_history.specs.Conversation.{MayBeSpoken, IsConversation}
 
 -- THE SENDER
 
@@ -111,17 +109,3 @@ ReceiverCoreAccepts =
 -- a conversation is one in which the sender speaks by its rule
 abbrev pub ConversationsAreSpoken : Type 0
 ConversationsAreSpoken = (plan : Plan) (h : History) → IsConversation plan h → IsSpoken plan h
-
--- ONE TURN OF BOTH
-
--- a fate of this place breaks its rule where the cores stand so
-abbrev pub CoresBreak : SenderState → ReceiverState → SoundTurn → Type 0
-CoresBreak s r place =
-    let said = sound_of (say_in s.place) in
-    (after_fate place.up said ≡ None)
-    ⊎ ((arrived : Sound) × (after_fate place.up said ≡ Some arrived)
-    × (after_fate place.down (sound_of_reply (receiver_news r (taken arrived (place.refused && is_block arrived)) place.wish).reply) ≡ None))
-
--- one more where a block was counted
-abbrev pub counts_in : Bool → ℕ → ℕ
-counts_in counted n = if counted then n + 1 else n

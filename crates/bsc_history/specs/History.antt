@@ -22,11 +22,6 @@ what_follows plan n = elim (slice_get plan n) [ None ↦ Next.Done | Some begins
 abbrev pub BeginsWithJob : Plan → Type 0
 BeginsWithJob plan = what_follows plan 0 ≡ Next.NewJob
 
--- there is no block, or the first one begins a job
-abbrev pub MayBegin : Plan → Type 0
-MayBegin [] = Unit {0}
-MayBegin (begins ∷ plan) = begins ≡ true
-
 -- a block turn said a block, for the first time or again, or asked for the reply to one
 abbrev pub is_block_turn : SpokenTurn → Bool
 is_block_turn t = elim t.said [ Say.Block ↦ true | Say.Again ↦ true | Say.Ask ↦ true | _ ↦ false ]

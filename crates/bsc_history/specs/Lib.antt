@@ -8,7 +8,6 @@ pub mod Fate
 pub mod Conversation
 pub mod Agreement
 pub mod Cores
-pub mod SoundFault
 pub mod Pair
 pub mod PairCount
 pub mod PairConversation

@@ -80,6 +80,56 @@ fn a_delay_stays_while_the_pause_does(rt: HostRuntime) -> Result<(), Fail> {
     assert_one_block(&rt, &places, &[BID, DELAY, DELAY, BLOCK_ACK1, END])
 }
 
+/// A job of three blocks goes over such turns, of which one is left over, and its first block is answered so.
+fn assert_three_blocks(
+    rt: &(impl Abort + AllocGlobal),
+    place: Place,
+    first: Line,
+) -> Result<(), Fail> {
+    let jobs = [job_of(rt, 18, 80)?];
+    let lines = [BID, first, BLOCK_ACK0, BLOCK_ACK1, END];
+    let report = assert_report(rt, &jobs, &[place; 6], &lines, 1, Some(Outcome::Done))?;
+    assert_same_jobs(rt, report.handed.as_slice(), &jobs);
+    Ok(())
+}
+
+#[test]
+fn a_clean_line_brings_every_block(rt: HostRuntime) -> Result<(), Fail> {
+    assert_three_blocks(&rt, GOOD, BLOCK_ACK1)
+}
+
+#[test]
+fn one_rvi_is_made_whatever_is_wished(rt: HostRuntime) -> Result<(), Fail> {
+    let rvi = Line(Say::Block, Sound::Block, Some(Reply::Rvi), Sound::Rvi);
+    assert_three_blocks(&rt, TURN, rvi)
+}
+
+/// A job of so many records of 80 bytes over a schedule that ends before the EOT.
+fn assert_no_eot(
+    rt: &(impl Abort + AllocGlobal),
+    records: usize,
+    places: &[Place],
+    lines: &[Line],
+    (counted, outcome): (usize, Option<Outcome>),
+) -> Result<(), Fail> {
+    let jobs = [job_of(rt, records, 80)?];
+    let _report = assert_report(rt, &jobs, places, lines, counted, outcome)?;
+    Ok(())
+}
+
+#[test]
+fn a_schedule_that_ends_before_eot_tells_how_it_ends(rt: HostRuntime) -> Result<(), Fail> {
+    let (lost, ask) = (DOWN_LOST, ASK_UNHEARD);
+    let places = [GOOD, lost, lost, lost, lost, lost, lost, lost];
+    let lines = [BID, BLOCK_UNHEARD, ask, ask, ask, ask, ask, ask];
+    assert_no_eot(&rt, 1, &places, &lines, (0, Some(Outcome::GaveUp)))?;
+    let (places, lines) = ([GOOD, GOOD], [BID, BLOCK_ACK1]);
+    assert_no_eot(&rt, 1, &places, &lines, (1, Some(Outcome::Done)))?;
+    // Seven records are two blocks.
+    assert_no_eot(&rt, 7, &places, &lines, (0, None))?;
+    assert_no_eot(&rt, 1, &[], &[], (0, None))
+}
+
 #[test]
 fn a_job_that_was_handed_out_may_stay_uncounted(rt: HostRuntime) -> Result<(), Fail> {
     let jobs = [job_of(&rt, 1, 1)?];
@@ -180,6 +230,10 @@ fn what_no_damage_can_be_is_refused_at_its_turn(rt: HostRuntime) -> Result<(), F
     assert_refused(&rt, &[text], WorldFault::NotDamage(1, 1))?;
     let eot = damaged(&[0x32, 0x32, 0x37]);
     assert_refused(&rt, &[GOOD, eot, text], WorldFault::NotDamage(1, 2))?;
+    // What is damaged, a block or a TTD, would be heard as a block.
+    let block = damaged(&[0x32, 0x32, 0x02, 0xC1, 0x1E, 0x03, 0x18, 0x5D]);
+    assert_refused(&rt, &[GOOD, block], WorldFault::NotDamage(1, 2))?;
+    assert_refused(&rt, &[PAUSE, block], WorldFault::NotDamage(1, 2))?;
     let nak = Place {
         down: Way::Damaged(&[0x32, 0x32, 0x3D]),
         ..GOOD
