@@ -49,9 +49,33 @@ enum Follows {
     NothingChanges,
 }
 
-/// A line of the sender's table: the state, the sounds, and what follows.
+/// A line of the sender's table: the states, the sounds, and what follows.
 #[derive(Clone, Copy, Debug)]
-struct SenderLine(Sending, &'static [Sound], Follows);
+struct SenderLine(&'static [Sending], &'static [Sound], Follows);
+
+/// Block 1 is outstanding.
+const FIRST: &[Sending] = &[Sending::Block1, Sending::Again1, Sending::Ask1];
+
+const FIRST_SAID: &[Sending] = &[Sending::Block1, Sending::Again1];
+
+/// Block 2 is outstanding.
+const SECOND: &[Sending] = &[
+    Sending::Block2,
+    Sending::Again2,
+    Sending::Ask2,
+    Sending::Block2AfterRvi,
+    Sending::Ask2AfterRvi,
+];
+
+const NO_RVI: &[Sending] = &[Sending::Block2, Sending::Again2, Sending::Ask2];
+
+const SECOND_SAID: &[Sending] = &[Sending::Block2, Sending::Again2];
+
+const SECOND_ASKED: &[Sending] = &[Sending::Ask2, Sending::Ask2AfterRvi];
+
+const DELAYS: &[Sending] = &[Sending::Delay, Sending::PausedDelay];
+
+const ENDS: &[Sending] = &[Sending::End, Sending::Over];
 
 const ACK0: &[Sound] = &[Sound::Ack0];
 
@@ -102,58 +126,33 @@ const ALL_SOUNDS: &[Sound] = &[
     Sound::Quiet,
 ];
 
-static SENDER_TABLE: [SenderLine; 51] = [
-    SenderLine(Sending::Bid, ACK0, Follows::Progress),
-    SenderLine(Sending::Bid, WACK, Follows::Hold(Say::Bid)),
-    SenderLine(Sending::Bid, EOT, Follows::OverEnded),
-    SenderLine(Sending::Bid, OTHERS, Follows::Try(Say::Bid)),
-    SenderLine(Sending::Bid, NO_GRANT, Follows::Try(Say::Bid)),
-    SenderLine(Sending::Block1, ACK1, Follows::Counted),
-    SenderLine(Sending::Block1, RVI, Follows::Counted),
-    SenderLine(Sending::Block1, NAK, Follows::Try(Say::Again)),
-    SenderLine(Sending::Block1, WACK, Follows::Hold(Say::Ask)),
-    SenderLine(Sending::Block1, EOT, Follows::OverEnded),
-    SenderLine(Sending::Block1, OTHERS, Follows::Try(Say::Ask)),
-    SenderLine(Sending::Block1, ACK0, Follows::Try(Say::Ask)),
-    SenderLine(Sending::Again1, ACK1, Follows::Counted),
-    SenderLine(Sending::Again1, RVI, Follows::Counted),
-    SenderLine(Sending::Again1, NAK, Follows::Try(Say::Again)),
-    SenderLine(Sending::Again1, WACK, Follows::Hold(Say::Ask)),
-    SenderLine(Sending::Again1, EOT, Follows::OverEnded),
-    SenderLine(Sending::Again1, OTHERS, Follows::Try(Say::Ask)),
-    SenderLine(Sending::Again1, ACK0, Follows::Try(Say::Ask)),
-    SenderLine(Sending::Block2, ACK0, Follows::Counted),
-    SenderLine(Sending::Block2, RVI, Follows::Counted),
-    SenderLine(Sending::Block2, ACK1, Follows::Try(Say::Ask)),
-    SenderLine(Sending::Again2, ACK0, Follows::Counted),
-    SenderLine(Sending::Again2, ACK1, Follows::Try(Say::Ask)),
-    SenderLine(Sending::Block2AfterRvi, ACK0, Follows::Counted),
-    SenderLine(Sending::Block2AfterRvi, RVI, Follows::Try(Say::Ask)),
-    SenderLine(Sending::Ask1, ACK1, Follows::Counted),
-    SenderLine(Sending::Ask1, RVI, Follows::Counted),
-    SenderLine(Sending::Ask1, NAK, Follows::Try(Say::Again)),
-    SenderLine(Sending::Ask1, ACK0, Follows::Try(Say::Again)),
-    SenderLine(Sending::Ask1, WACK, Follows::Hold(Say::Ask)),
-    SenderLine(Sending::Ask1, EOT, Follows::OverEnded),
-    SenderLine(Sending::Ask1, OTHERS, Follows::Try(Say::Ask)),
-    SenderLine(Sending::Ask2, ACK0, Follows::Counted),
-    SenderLine(Sending::Ask2, RVI, Follows::Counted),
-    SenderLine(Sending::Ask2, ACK1, Follows::Try(Say::Again)),
-    SenderLine(Sending::Ask2AfterRvi, ACK0, Follows::Counted),
-    SenderLine(Sending::Ask2AfterRvi, ACK1, Follows::Try(Say::Again)),
-    SenderLine(Sending::Ask2AfterRvi, RVI, Follows::Try(Say::Again)),
-    SenderLine(Sending::PausedDelay, NAK, Follows::Hold(Say::Delay)),
-    SenderLine(Sending::PausedDelay, WACK, Follows::Hold(Say::Delay)),
-    SenderLine(Sending::PausedDelay, EOT, Follows::OverEnded),
-    SenderLine(Sending::PausedDelay, OTHERS, Follows::Try(Say::Delay)),
-    SenderLine(Sending::PausedDelay, NO_DELAY, Follows::Try(Say::Delay)),
-    SenderLine(Sending::Delay, NAK, Follows::Hold(Say::Block)),
-    SenderLine(Sending::Delay, WACK, Follows::Hold(Say::Delay)),
-    SenderLine(Sending::Delay, EOT, Follows::OverEnded),
-    SenderLine(Sending::Delay, OTHERS, Follows::Try(Say::Delay)),
-    SenderLine(Sending::Delay, NO_DELAY, Follows::Try(Say::Delay)),
-    SenderLine(Sending::End, ALL_SOUNDS, Follows::NothingChanges),
-    SenderLine(Sending::Over, ALL_SOUNDS, Follows::NothingChanges),
+static SENDER_TABLE: [SenderLine; 26] = [
+    SenderLine(&[Sending::Bid], ACK0, Follows::Progress),
+    SenderLine(&[Sending::Bid], WACK, Follows::Hold(Say::Bid)),
+    SenderLine(&[Sending::Bid], OTHERS, Follows::Try(Say::Bid)),
+    SenderLine(&[Sending::Bid], NO_GRANT, Follows::Try(Say::Bid)),
+    SenderLine(&[Sending::Bid], EOT, Follows::OverEnded),
+    SenderLine(FIRST, ACK1, Follows::Counted),
+    SenderLine(FIRST, RVI, Follows::Counted),
+    SenderLine(FIRST, NAK, Follows::Try(Say::Again)),
+    SenderLine(FIRST, WACK, Follows::Hold(Say::Ask)),
+    SenderLine(FIRST, OTHERS, Follows::Try(Say::Ask)),
+    SenderLine(FIRST, EOT, Follows::OverEnded),
+    SenderLine(FIRST_SAID, ACK0, Follows::Try(Say::Ask)),
+    SenderLine(&[Sending::Ask1], ACK0, Follows::Try(Say::Again)),
+    SenderLine(SECOND, ACK0, Follows::Counted),
+    SenderLine(NO_RVI, RVI, Follows::Counted),
+    SenderLine(SECOND_SAID, ACK1, Follows::Try(Say::Ask)),
+    SenderLine(SECOND_ASKED, ACK1, Follows::Try(Say::Again)),
+    SenderLine(&[Sending::Block2AfterRvi], RVI, Follows::Try(Say::Ask)),
+    SenderLine(&[Sending::Ask2AfterRvi], RVI, Follows::Try(Say::Again)),
+    SenderLine(&[Sending::PausedDelay], NAK, Follows::Hold(Say::Delay)),
+    SenderLine(&[Sending::Delay], NAK, Follows::Hold(Say::Block)),
+    SenderLine(DELAYS, WACK, Follows::Hold(Say::Delay)),
+    SenderLine(DELAYS, OTHERS, Follows::Try(Say::Delay)),
+    SenderLine(DELAYS, NO_DELAY, Follows::Try(Say::Delay)),
+    SenderLine(DELAYS, EOT, Follows::OverEnded),
+    SenderLine(ENDS, ALL_SOUNDS, Follows::NothingChanges),
 ];
 
 /// Where progress leads.
@@ -165,65 +164,29 @@ enum Leads {
     Turned,
 }
 
-/// A progress: the state, the sound, what follows the outstanding block, whether there is a pause, and where it leads.
+/// A progress: the states and their sounds, what follows the outstanding block, whether there is a pause, and where it leads.
 #[derive(Clone, Copy, Debug)]
-struct ProgressLine(Sending, Sound, Next, bool, Leads);
+struct ProgressLine(&'static [(Sending, Sound)], Next, bool, Leads);
 
-static PROGRESS_TABLE: [ProgressLine; 12] = [
-    ProgressLine(Sending::Bid, Sound::Ack0, Next::Done, true, Leads::Done),
-    ProgressLine(Sending::Bid, Sound::Ack0, Next::NewJob, true, Leads::Delay),
-    ProgressLine(Sending::Bid, Sound::Ack0, Next::NewJob, false, Leads::Block),
-    ProgressLine(Sending::Block1, Sound::Ack1, Next::Done, true, Leads::Done),
-    ProgressLine(
-        Sending::Block1,
-        Sound::Ack1,
-        Next::NewJob,
-        true,
-        Leads::Delay,
-    ),
-    ProgressLine(
-        Sending::Block1,
-        Sound::Ack1,
-        Next::NewJob,
-        false,
-        Leads::Block,
-    ),
-    ProgressLine(
-        Sending::Block1,
-        Sound::Rvi,
-        Next::NewJob,
-        false,
-        Leads::Turned,
-    ),
-    ProgressLine(
-        Sending::Block1,
-        Sound::Rvi,
-        Next::Block,
-        false,
-        Leads::Block,
-    ),
-    ProgressLine(Sending::Block1, Sound::Rvi, Next::Done, false, Leads::Done),
-    ProgressLine(
-        Sending::Block2AfterRvi,
-        Sound::Ack0,
-        Next::NewJob,
-        true,
-        Leads::Turned,
-    ),
-    ProgressLine(
-        Sending::Ask2AfterRvi,
-        Sound::Ack0,
-        Next::Block,
-        true,
-        Leads::Delay,
-    ),
-    ProgressLine(
-        Sending::Ask2AfterRvi,
-        Sound::Ack0,
-        Next::Done,
-        true,
-        Leads::Done,
-    ),
+const UNNOTED: &[(Sending, Sound)] = &[(Sending::Bid, Sound::Ack0), (Sending::Block1, Sound::Ack1)];
+
+/// An RVI is noted then.
+const NOTED: &[(Sending, Sound)] = &[
+    (Sending::Block1, Sound::Rvi),
+    (Sending::Block2AfterRvi, Sound::Ack0),
+    (Sending::Ask2AfterRvi, Sound::Ack0),
+];
+
+static PROGRESS_TABLE: [ProgressLine; 9] = [
+    ProgressLine(UNNOTED, Next::Done, true, Leads::Done),
+    ProgressLine(UNNOTED, Next::NewJob, true, Leads::Delay),
+    ProgressLine(UNNOTED, Next::NewJob, false, Leads::Block),
+    ProgressLine(NOTED, Next::NewJob, true, Leads::Turned),
+    ProgressLine(NOTED, Next::NewJob, false, Leads::Turned),
+    ProgressLine(NOTED, Next::Block, true, Leads::Delay),
+    ProgressLine(NOTED, Next::Block, false, Leads::Block),
+    ProgressLine(NOTED, Next::Done, true, Leads::Done),
+    ProgressLine(NOTED, Next::Done, false, Leads::Done),
 ];
 
 /// A new sender that came to this state, where it can with a try and a hold counted.
@@ -477,9 +440,8 @@ fn shown(sender: Sender) -> Shown {
     )
 }
 
-/// One line of the sender's table, at one of its sounds.
-fn assert_sender_line(rt: &impl Abort, line: SenderLine, sound: Sound) {
-    let SenderLine(at, _, follows) = line;
+/// One line of the sender's table, at one of its states and sounds.
+fn assert_sender_line(rt: &impl Abort, at: Sending, sound: Sound, follows: Follows) {
     let before = sender_at(at);
     let mut after = before;
     let news = after.hear(sound, Next::Block, matches!(at, Sending::PausedDelay));
@@ -521,28 +483,36 @@ fn assert_receiver_line(rt: &impl Abort, line: ReceiverLine, sound: Sound, wish:
 
 fn assert_sender_table(rt: &impl Abort) {
     for line in &SENDER_TABLE {
-        for sound in line.1 {
-            assert_sender_line(rt, *line, *sound);
+        for at in line.0 {
+            for sound in line.1 {
+                assert_sender_line(rt, *at, *sound, line.2);
+            }
         }
     }
 }
 
+/// One progress, from one of its states.
+fn assert_progress(rt: &impl Abort, at: Sending, sound: Sound, line: ProgressLine) {
+    let (due, outcome) = match line.3 {
+        Leads::Block => (Say::Block, None),
+        Leads::Delay => (Say::Delay, None),
+        Leads::Done => (Say::End, Some(Outcome::Done)),
+        Leads::Turned => (Say::End, Some(Outcome::Turned)),
+    };
+    let mut sender = sender_at(at);
+    sender.hear(sound, line.1, line.2);
+    assert_eq!(rt;
+        (sender.say(), sender.outcome()),
+        (due, outcome),
+        "at {at:?} {line:?}"
+    );
+}
+
 fn assert_progress_table(rt: &impl Abort) {
     for line in &PROGRESS_TABLE {
-        let ProgressLine(at, sound, next, pause, leads) = *line;
-        let (due, outcome) = match leads {
-            Leads::Block => (Say::Block, None),
-            Leads::Delay => (Say::Delay, None),
-            Leads::Done => (Say::End, Some(Outcome::Done)),
-            Leads::Turned => (Say::End, Some(Outcome::Turned)),
-        };
-        let mut sender = sender_at(at);
-        sender.hear(sound, next, pause);
-        assert_eq!(rt;
-            (sender.say(), sender.outcome()),
-            (due, outcome),
-            "at {line:?}"
-        );
+        for (at, sound) in line.0 {
+            assert_progress(rt, *at, *sound, *line);
+        }
     }
 }
 
@@ -635,13 +605,4 @@ fn a_receiver_answers_turn_by_turn(rt: HostRuntime) {
         };
         assert_eq!(rt; receiver.hear(sound, wish), news, "at {sound:?} {wish:?}");
     }
-}
-
-#[test]
-fn a_block_before_a_bid_is_not_accepted(rt: HostRuntime) {
-    let mut receiver = Receiver::new();
-    let news = receiver.hear(Sound::Block, Wish::Go);
-    assert_eq!(rt; (news.accepted, news.reply), (false, None));
-    let news = receiver.hear(Sound::Enq, Wish::Turn);
-    assert_eq!(rt; (news.accepted, news.reply), (false, Some(Reply::Ack0)));
 }
