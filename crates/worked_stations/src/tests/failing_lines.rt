@@ -2,12 +2,12 @@
 ghost use Rattle.std.specs.Prelude.{◌+◌, ◌-◌, ◌^◌, min, Some, None, ⊤};
 
 use super::job_of;
-use super::stations::{ENQ, FAILED, one_piece};
+use super::stations::{ENQ, FAILED, assert_events, one_piece};
 use bsc_link::{Outcome, Wish};
 use line_world::MemoryLine;
 use rje_jobs::Job;
 use rje_station::{
-    Came, Line, LineFault, MAX_HEARD, ReceivingStation, SendingStation, StationFault,
+    Came, Event, Line, LineFault, MAX_HEARD, ReceivingStation, SendingStation, StationFault,
 };
 use std::alloc::Global;
 use std::process::Abort;
@@ -97,6 +97,9 @@ fn assert_sender_fails(
     assert!(rt; station.outcome().is_some() == counted);
     assert!(rt; station.outcome().is_none() || station.outcome() == Some(Outcome::Done));
     assert!(rt; station.jobs().len() == 1);
+    if failing == 1 {
+        assert_events(rt, station.trace(), &[Event::Over]);
+    }
 }
 
 #[test]

@@ -388,65 +388,54 @@ pub(super) const FAILED: Option<StationFault> = Some(StationFault::Line(LineFaul
 /// What is counted and how many jobs were handed out, by the call of a line that fails.
 const COUNTS: [(usize, usize); 5] = [(0, 0), (0, 0), (0, 0), (0, 1), (1, 1)];
 
-/// So many jobs are counted, and so many were handed out, each of them the one job.
+/// So many jobs are counted, with which the transmission is done, and so many were handed out, each of them the one job.
 fn assert_counts(rt: &impl Abort, ends: &Ends<'_>, counted: usize, handed: usize) {
     assert!(rt; ends.sender.counted() == counted);
+    assert!(rt; ends.sender.outcome().is_some() == (counted == 1));
+    assert!(rt; ends.sender.outcome().is_none() || ends.sender.outcome() == Some(Outcome::Done));
     assert!(rt; ends.receiver.jobs().len() == handed);
     if handed == 1 {
         assert_one_job(rt, ends.receiver.jobs(), 1, &[0xC1]);
     }
 }
 
-/// This call of the sender's line fails: a transmit, a listen, and so on.
-fn assert_senders_call_fails(
+/// This call fails, of the sender's line or of the receiver's, by turns a transmit and a listen.
+fn assert_call_fails(
     rt: &(impl Abort + AllocGlobal),
+    of_sender: bool,
     call: u64,
-    counted: usize,
-    handed: usize,
+    (counted, handed): (usize, usize),
 ) -> Result<(), Fail> {
     let jobs = [job_of(rt, 1, 1)?];
     let mut ends = Ends::new(rt.alloc(), &jobs)?;
-    ends.sending_line.fail_at(call);
-    assert!(rt; converse(&mut ends, rt.alloc()).err() == FAILED);
-    assert!(rt; sender_is_over(&mut ends));
-    assert_counts(rt, &ends, counted, handed);
-    let done = if counted == 1 {
-        Some(Outcome::Done)
+    if of_sender {
+        ends.sending_line.fail_at(call);
     } else {
-        None
+        ends.receiving_line.fail_at(call);
+    }
+    assert!(rt; converse(&mut ends, rt.alloc()).err() == FAILED);
+    let is_over = if of_sender {
+        sender_is_over(&mut ends)
+    } else {
+        receiver_is_over(&mut ends)
     };
-    assert!(rt; ends.sender.outcome() == done);
+    assert!(rt; is_over);
+    assert_counts(rt, &ends, counted, handed);
     Ok(())
 }
 
 #[test]
 fn each_call_of_the_senders_line_fails_once(rt: HostRuntime) -> Result<(), Fail> {
-    for (i, (counted, handed)) in COUNTS.iter().enumerate() {
-        assert_senders_call_fails(&rt, i as u64 + 1, *counted, *handed)?;
+    for (i, counts) in COUNTS.iter().enumerate() {
+        assert_call_fails(&rt, true, i as u64 + 1, *counts)?;
     }
-    Ok(())
-}
-
-/// This call of the receiver's line fails: a listen, a transmit, and so on.
-fn assert_receivers_call_fails(
-    rt: &(impl Abort + AllocGlobal),
-    call: u64,
-    counted: usize,
-    handed: usize,
-) -> Result<(), Fail> {
-    let jobs = [job_of(rt, 1, 1)?];
-    let mut ends = Ends::new(rt.alloc(), &jobs)?;
-    ends.receiving_line.fail_at(call);
-    assert!(rt; converse(&mut ends, rt.alloc()).err() == FAILED);
-    assert!(rt; receiver_is_over(&mut ends));
-    assert_counts(rt, &ends, counted, handed);
     Ok(())
 }
 
 #[test]
 fn each_call_of_the_receivers_line_fails_once(rt: HostRuntime) -> Result<(), Fail> {
-    for (i, (counted, handed)) in COUNTS.iter().enumerate() {
-        assert_receivers_call_fails(&rt, i as u64 + 1, *counted, *handed)?;
+    for (i, counts) in COUNTS.iter().enumerate() {
+        assert_call_fails(&rt, false, i as u64 + 1, *counts)?;
     }
     Ok(())
 }
@@ -473,19 +462,6 @@ fn a_cut_job_is_not_whole(rt: HostRuntime) -> Result<(), Fail> {
     assert!(rt; !handed[1].whole);
     assert!(rt; handed[1].records.len() == 6);
     assert!(rt; ends.sender.counted() == 1);
-    Ok(())
-}
-
-#[test]
-fn a_bid_that_fails_ends_the_sender(rt: HostRuntime) -> Result<(), Fail> {
-    let jobs = [job_of(&rt, 1, 1)?];
-    let mut line = MemoryLine::new(rt.alloc());
-    line.fail_at(1);
-    let mut sender = SendingStation::new(rt.alloc(), &jobs)?;
-    assert!(rt; sender.speak(&mut line).err() == FAILED);
-    assert!(rt; sender.speak(&mut line).err() == Some(StationFault::Over));
-    assert!(rt; sender.counted() == 0);
-    assert_events(&rt, sender.trace(), &[Event::Over]);
     Ok(())
 }
 
