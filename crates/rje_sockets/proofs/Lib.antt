@@ -2,8 +2,6 @@ pub mod OwnTurn
 pub mod BothFiles
 pub mod LeavingBoth
 pub mod BothWays
-pub mod Live
-pub mod LineBreak
 pub mod OverLine
 pub mod Exchanged
 pub mod Sending

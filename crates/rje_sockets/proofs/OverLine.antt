@@ -21,7 +21,7 @@ use Rattle.rje_station.specs.Receiving.{Receiving, Replied, after_receiving, sou
 use Rattle.rje_station.specs.Sending.{Sending, Spoke, after_speaking, is_end}
 use Rattle.rje_station.specs.Station.{Contending, HeardAnswer, SpokeDue, after_other, after_own_speaking, due_at, lets_in, with_said}
 use Rattle.rje_station.proofs.Due.{answer_heard, due_kept, not_end}
-use Rattle.rje_sockets.specs.OverLine.{Answers, HeardAndReplied, LineTells, OverConnection, SendsOver, SpokeAndHeard, reply_after}
+use Rattle.rje_sockets.specs.OverLine.{Answers, HeardAndReplied, LineTells, OverConnection, SendsOver, SpokeAndHeard}
 use Rattle.rje_sockets.specs.Watching.{SenderWatched, SenderWatchedAll}
 use Rattle.rje_sockets.proofs.Watched.{sender_took}
 
@@ -70,25 +70,6 @@ over_owes r heard what refused is over =
 pub last_passed : (what : Heard) (arrival : Arrival) (reply : Option Reply) (t u : LineTells) (heard : Option Talk) → Passes t.0 heard (λ t u. Hearing t u what) → reply ≡ None → u.0 ≡ heard → u.1 ≡ t.1
     → HeardAndReplied what t u arrival reply
 last_passed what arrival reply t u heard hears none is silent = reply_passed what arrival reply None t u heard hears none (replied_none heard u.0 is) silent
-
--- where both ends are here
-
-pub end_unanswered : (what : Heard) (arrival : Arrival) (said : Say) (reply : Option Reply) (v u : LineTells) (heard : Option Talk) → said ≡ Say.End → Passes v.0 heard (λ t u. Hearing t u what) → u.0 ≡ heard → u.1 ≡ v.1
-    → HeardAndReplied what v u arrival (reply_after said reply)
-end_unanswered what arrival said reply v u heard end hears is silent = rw end (last_passed what arrival None v u heard hears refl is silent)
-
-replies_after : (said : Say) (reply : Option Reply) → is_end said ≡ false → reply_after said reply ≡ reply
-replies_after Say.End reply more = absurd (true≢false more)
-replies_after Say.Bid reply more = refl
-replies_after Say.Block reply more = refl
-replies_after Say.Again reply more = refl
-replies_after Say.Delay reply more = refl
-replies_after Say.Ask reply more = refl
-replies_after Say.Nothing reply more = refl
-
-pub turn_answered : (what : Heard) (arrival : Arrival) (said : Say) (reply due : Option Reply) (v u : LineTells) (heard : Option Talk) → is_end said ≡ false → Passes v.0 heard (λ t u. Hearing t u what) → reply ≡ due
-    → Passes heard u.0 (Replied due) → u.1 ≡ with_reply due v.1 → HeardAndReplied what v u arrival (reply_after said reply)
-turn_answered what arrival said reply due v u heard more hears is sent once = reply_passed what arrival (reply_after said reply) due v u heard hears (replies_after said reply more ∙ is) sent once
 
 -- A STATION THAT SENDS AND RECEIVES
 

@@ -3,9 +3,7 @@ pub mod Keeping
 pub mod Answering
 pub mod BrokenOff
 pub mod NamedFiles
-pub mod LineBreak
 pub mod OverLine
-pub mod Babble
 pub mod Inside
 pub mod Ending
 pub mod Patience

@@ -4,15 +4,14 @@ use Rattle.std.specs.Prelude.{◌≡◌, ℕ, List, Option, None}
 use Rattle.bsc_codes.specs.declared.block.Block.{Block}
 use Rattle.bsc_frame.specs.declared.heard.Heard.{Heard}
 use Rattle.bsc_history.specs.History.{History}
-use Rattle.bsc_link.specs.declared.reply.Reply.{Reply}
 use Rattle.bsc_link.specs.declared.say.Say.{Say}
 use Rattle.bsc_link.specs.declared.sound.Sound.{Sound}
 use Rattle.line_world.specs.AnyLines.{IsThrough}
-use Rattle.rje_station.specs.Hearing.{Hearing, HearsSound, sound_heard}
+use Rattle.rje_station.specs.Hearing.{Hearing, HearsSound}
 use Rattle.rje_station.specs.Line.{Passes, Talk, one_more}
 use Rattle.rje_station.specs.Receiving.{Replied, with_reply}
 use Rattle.rje_station.specs.Sending.{Sending, Spoke}
-use Rattle.rje_sockets.specs.Watching.{SawBoth, SawReceiver, SawSender, SenderWatchedAll}
+use Rattle.rje_sockets.specs.Watching.{SawReceiver, SawSender, SenderWatchedAll}
 
 -- what a line tells: its bytes, where it tells them, and how many transmissions it has begun
 abbrev pub LineTells : Type 0
@@ -32,18 +31,6 @@ SpokeAndHeard rest t u said heard =
 abbrev pub HeardAndReplied : Heard → SawReceiver LineTells
 HeardAndReplied what t u arrival reply =
     (heard : Option Talk) × Passes t.0 heard (λ t u. Hearing t u what) × Passes heard u.0 (Replied reply) × (u.1 ≡ with_reply reply t.1)
-
--- where both ends are here, nothing is replied after EOT
-abbrev pub reply_after : Say → Option Reply → Option Reply
-reply_after Say.End reply = None
-reply_after _ reply = reply
-
--- a turn of both, in which the lines at their ends sent and gave so
-abbrev pub BothSpoke : SawBoth (LineTells × LineTells)
-BothSpoke t u turn =
-    ((rest : List Block) × SpokeAndHeard rest t.0 u.0 turn.said turn.heard)
-    × ((what : Heard) × (turn.arrived ≡ sound_heard what)
-    × HeardAndReplied what t.1 u.1 (record { sound = turn.arrived; refused = turn.refused }) (reply_after turn.said turn.reply))
 
 -- a sending station took some turns to its end, in each of which the line sent and gave so
 abbrev pub SendsOver : Sending → LineTells → Sending → LineTells → Type 0

@@ -10,12 +10,10 @@ ghost use Rattle.rje_station.specs.declared.station_fault.StationFault.TheVarian
 ghost use Rattle.rje_station.specs.Station.{Contending, due_at, is_deaf, after_other_refusal};
 ghost use Rattle.rje_commands.specs.CommandFault.{IsFailing, of_station, status_of};
 ghost use Rattle.rje_sockets.specs.BothWays.{has_listened, AreOver, ExchangesTo, FailsInOwn, FailsInOthers, LeavesFrom, StationTurn, TakesOwn, TakesOthers, Waits, Watched};
-ghost use Rattle.rje_sockets.specs.Babble.{BabblesInOthers, BabblesInOwn, ExchangesToBabble};
 ghost use Rattle.rje_sockets.specs.BothFiles.{BreaksBoth, GoesOnHolding, kept_of};
 ghost use Rattle.rje_sockets.specs.BrokenOff.{of_broken_off};
 ghost use Rattle.rje_sockets.specs.Keeping.{GoesOnKeeping};
 ghost use Rattle.rje_sockets.specs.LeavingBoth.{HasCounted};
-ghost use Rattle.rje_sockets.specs.LineBreak.{IsBreak, IsLineBreak};
 ghost use Rattle.rje_sockets.specs.Marking.{GoesOnMarking};
 ghost use Rattle.rje_sockets.specs.NamedFiles.{NamesWritten};
 ghost use Rattle.rje_sockets.specs.OverLine.{HeardAndReplied, SpokeAndHeard};
@@ -47,10 +45,6 @@ pub fn exchange_all<'a, 'b, L: Line, S: Store, W: Watch>(
     ensures status { IfErr result (λ broken. IsFailing (status_of (of_broken_off broken))) }
     ensures names { IfErr result (λ broken.
         NamesWritten keeper.old.file.into.jobs.now (of_broken_off broken)) }
-    ensures cause { IfErr result (IsBreak (λ f. L.last_fault line.new ≡ Some f)
-        (ExchangesToBabble station.old (L.talk line.old, L.transmissions line.old)
-        station.new (L.talk line.new))
-        (station.old.failed ≡ true)) }
     ensures holds { OnOk result (GoesOnHolding marker.old marker.new station.old.sender.counted
         station.new.sender.counted keeper.old keeper.new station.old.receiver.jobs
         station.new.receiver.jobs (S.files store.old) (S.files store.new)) }
@@ -99,8 +93,6 @@ fn may_bid_at_once<'a>(station: &Station<'a>) -> bool
 /// Whether both transmissions are over.
 fn is_over<'a>(station: &Station<'a>) -> bool
     ensures over { result ≡ true → AreOver station.now }
-    ensures goes_on { result ≡ false → (due_at station.now ≢ say.Nothing)
-        ⊎ (station.now.receiver.over ≡ false) }
 {
     station.due() == Say::Nothing && station.receiver().is_over()
 }
@@ -112,8 +104,6 @@ fn is_own_turn<'a>(station: &Station<'a>, has_listened: bool) -> bool
         → (has_listened ≡ true) ⊎ (station.now.receiver.over ≡ true) }
     ensures listens { result ≡ false → (due_at station.now ≡ say.Nothing)
         ⊎ ((due_at station.now ≡ say.Bid) × (has_listened ≡ false)) }
-    ensures hears { result ≡ false → due_at station.now ≢ say.Nothing
-        → station.now.receiver.over ≡ false }
 {
     match station.due() {
         Say::Nothing => false,
@@ -135,8 +125,6 @@ fn take_own_turn<'a, 'b, L: Line, S: Store, W: Watch>(
         × TakesOwn station.old station.new said heard
         × W.saw_sender watch.old watch.new said heard) }
     ensures fault { IfErr result (FailsInOwn station.old station.new) }
-    ensures cause { IfErr result (IsLineBreak (λ f. L.last_fault line.new ≡ Some f)
-        (BabblesInOwn station.old (L.talk line.old) station.new (L.talk line.new)) ⊥) }
     ensures gave { OnOk result ((said : Word) × (heard : Tone)
         × TakesOwn station.old station.new said heard
         × SpokeAndHeard station.old.sender.rest (L.talk line.old, L.transmissions line.old)
@@ -175,9 +163,6 @@ fn take_others_turn<'a, 'b, L: Line, S: Store, W: Watch>(
         × (station.new ≡ after_other_refusal (fault.Line Closed) station.old)
         × (watch.new ≡ watch.old)) }
     ensures fault { IfErr result (FailsInOthers station.old station.new) }
-    ensures cause { IfErr result (IsBreak (λ f. L.last_fault line.new ≡ Some f)
-        (BabblesInOthers station.old (L.talk line.old) station.new (L.talk line.new))
-        (is_deaf station.old ≡ true)) }
     ensures gave { IfOk result (λ is_turn. is_turn ≡ true → (arrival : Coming)
         × (reply : Option Answer)
         × (takes : TakesOthers station.old station.new arrival reply)

@@ -6,13 +6,11 @@ ghost use Rattle.line_world.specs.declared.spoken.Spoken.{Spoken as Turn};
 ghost use Rattle.rje_station.specs.Receiving.{Receiving, after_abandon};
 ghost use Rattle.rje_sockets.specs.Answering.{BreaksKeeping, KeepsToBreak, KeepsToEnd, with_answer};
 ghost use Rattle.rje_commands.specs.CommandFault.{IsFailing, of_station, status_of};
-ghost use Rattle.rje_sockets.specs.Babble.{BabblesToReceiver, BabblesToSender, BothToBabble, ReceivesToBabble, SendsToBabble};
 ghost use Rattle.rje_sockets.specs.BrokenOff.{of_broken_off};
 ghost use Rattle.rje_sockets.specs.Keeping.{BreaksOff, BreaksOffNow, GoesOnKeeping, IsOfFile};
-ghost use Rattle.rje_sockets.specs.LineBreak.{IsBreak, IsLineBreak};
 ghost use Rattle.rje_sockets.specs.Marking.{GoesOnMarking, WereCounted};
 ghost use Rattle.rje_sockets.specs.NamedFiles.{NamesWritten};
-ghost use Rattle.rje_sockets.specs.OverLine.{BothSpoke, HeardAndReplied, SendsOver, SpokeAndHeard};
+ghost use Rattle.rje_sockets.specs.OverLine.{HeardAndReplied, SendsOver, SpokeAndHeard};
 ghost use Rattle.rje_sockets.specs.Patience.{LeavesSo, HearsOut, was_quiet};
 ghost use Rattle.rje_stores.specs.Store.{Discloses, IsSame};
 ghost use Rattle.rje_sockets.specs.Watching.{SenderWatched, SenderWatchedAll, ReceiverWatched, ReceiverWatchedAll, BothWatchedAll};
@@ -55,9 +53,6 @@ pub fn send_all<'a, L: Line, S: Store, W: Watch>(
         station.new (L.talk line.new, L.transmissions line.new)) }
     ensures fault { IfErr result (SendsToFault station.old station.new) }
     ensures status { IfErr result (λ fault. IsFailing (status_of (of_station fault))) }
-    ensures cause { IfErr result (IsLineBreak (λ f. L.last_fault line.new ≡ Some f)
-        (SendsToBabble station.old (L.talk line.old, L.transmissions line.old)
-        station.new (L.talk line.new)) ⊥) }
     ensures marked { OnOk result (GoesOnMarking marker.old marker.new station.old.counted
         station.new.counted (S.files store.old) (S.files store.new)) }
     ensures broken { OnErr result ((n : ℕ) × GoesOnMarking marker.old marker.new
@@ -87,8 +82,6 @@ fn speak_hear_and_mark<'a, L: Line, S: Store, W: Watch>(
         × (station.new ≡ station.old)) }
     ensures fault { IfErr result (SenderFails station.old station.new) }
     ensures status { IfErr result (λ fault. IsFailing (status_of (of_station fault))) }
-    ensures cause { IfErr result (IsLineBreak (λ f. L.last_fault line.new ≡ Some f)
-        (BabblesToSender station.old (L.talk line.old) station.new (L.talk line.new)) ⊥) }
     ensures gave { IfOk result (λ is_turn. is_turn ≡ true → (t : SpokenTurn) × SenderWatched
         SpokeAndHeard station.old (L.talk line.old, L.transmissions line.old)
         station.new (L.talk line.new, L.transmissions line.new) t) }
@@ -119,8 +112,6 @@ fn speak_and_hear<L: Line, W: Watch>(
         × (station.new ≡ station.old)) }
     ensures fault { IfErr result (SenderFails station.old station.new) }
     ensures status { IfErr result (λ fault. IsFailing (status_of (of_station fault))) }
-    ensures cause { IfErr result (IsLineBreak (λ f. L.last_fault line.new ≡ Some f)
-        (BabblesToSender station.old (L.talk line.old) station.new (L.talk line.new)) ⊥) }
     ensures gave { IfOk result (λ is_turn. is_turn ≡ true → (t : SpokenTurn) × SenderWatched
         SpokeAndHeard station.old (L.talk line.old, L.transmissions line.old)
         station.new (L.talk line.new, L.transmissions line.new) t) }
@@ -157,10 +148,6 @@ pub fn receive_all<'a, L: Line, S: Store, W: Watch>(
         station.old (L.talk line.old, L.transmissions line.old)
         station.new (L.talk line.new, L.transmissions line.new)) }
     ensures fault { IfErr result (BreaksOff station.old station.new) }
-    ensures cause { IfErr result (IsBreak (λ f. L.last_fault line.new ≡ Some f)
-        (ReceivesToBabble station.old (L.talk line.old, L.transmissions line.old)
-        station.new (L.talk line.new))
-        (station.old.over ≡ true)) }
     ensures status { IfErr result (λ broken. IsFailing (status_of (of_broken_off broken))) }
     ensures names { IfErr result (λ broken.
         NamesWritten keeper.old.file.into.jobs.now (of_broken_off broken)) }
@@ -193,10 +180,6 @@ fn hear_out<'a, L: Line, S: Store, W: Watch>(
         station.old (L.talk line.old, L.transmissions line.old)
         station.new (L.talk line.new, L.transmissions line.new)) }
     ensures fault { IfErr result (BreaksOff station.old station.new) }
-    ensures cause { IfErr result (IsBreak (λ f. L.last_fault line.new ≡ Some f)
-        (ReceivesToBabble station.old (L.talk line.old, L.transmissions line.old)
-        station.new (L.talk line.new))
-        (station.old.over ≡ true)) }
     ensures status { IfErr result (λ broken. IsFailing (status_of (of_broken_off broken))) }
     ensures names { IfErr result (λ broken.
         NamesWritten keeper.old.file.into.jobs.now (of_broken_off broken)) }
@@ -251,13 +234,9 @@ fn hear_keep_and_speak<'a, L: Line, S: Store, W: Watch>(
         × (L.transmissions line.new ≡ with_answer t (L.transmissions line.old))) }
     ensures over { IfOk result (λ goes_on. goes_on ≡ false → station.new.over ≡ true) }
     ensures fault { IfErr result (BreaksOffNow station.old station.new) }
-    ensures cause { IfErr result (IsBreak (λ f. L.last_fault line.new ≡ Some f)
-        (BabblesToReceiver station.old (L.talk line.old) station.new (L.talk line.new))
-        (station.old.over ≡ true)) }
     ensures gave { OnOk result ((t : SpokenTurn) × ReceiverWatched
         HeardAndReplied station.old (L.talk line.old, L.transmissions line.old)
         station.new (L.talk line.new, L.transmissions line.new) t) }
-    ensures goes_on { IfOk result (λ goes_on. goes_on ≡ true → station.new.over ≡ false) }
     ensures kept { OnOk result (GoesOnKeeping keeper.old keeper.new station.old.jobs
         station.new.jobs (S.files store.old) (S.files store.new)) }
     ensures status { IfErr result (λ broken. IsFailing (status_of (of_broken_off broken))) }
@@ -303,11 +282,7 @@ pub fn take_turns<N: Line, F: Line, W: Watch>(
 ) -> Result<(), StationFault>
     ensures took { OnOk result (BothToEnd sender.old sender.new receiver.old receiver.new) }
     ensures fault { IfErr result (BothToFault sender.old sender.new receiver.old receiver.new) }
-    ensures cause { IfErr result (IsLineBreak (λ f. (N.last_fault near.new ≡ Some f)
-        ⊎ (F.last_fault far.new ≡ Some f)) (BothToBabble sender.old receiver.old
-        (N.talk near.old, N.transmissions near.old) (F.talk far.old, F.transmissions far.old)
-        sender.new receiver.new (N.talk near.new) (F.talk far.new))
-        (receiver.new.over ≡ true)) }
+    ensures status { IfErr result (λ fault. IsFailing (status_of (of_station fault))) }
     ensures told { OnOk result ((turns : List Turn) × BothWatchedAll W.saw_both
         sender.old receiver.old watch.old sender.new receiver.new watch.new turns) }
 {
@@ -330,14 +305,7 @@ fn take_turn<N: Line, F: Line>(
     ensures takes { IfOk result (λ spoken.
         BothTake spoken sender.old sender.new receiver.old receiver.new) }
     ensures fault { IfErr result (BothFail sender.old sender.new receiver.old receiver.new) }
-    ensures cause { IfErr result (IsLineBreak (λ f. (N.last_fault near.new ≡ Some f)
-        ⊎ (F.last_fault far.new ≡ Some f))
-        (BabblesToSender sender.old (N.talk near.old) sender.new (N.talk near.new)
-        ⊎ BabblesToReceiver receiver.old (F.talk far.old) receiver.new (F.talk far.new))
-        (receiver.new.over ≡ true)) }
-    ensures gave { IfOk result (λ spoken. IfSome spoken (BothSpoke
-        ((N.talk near.old, N.transmissions near.old), (F.talk far.old, F.transmissions far.old))
-        ((N.talk near.new, N.transmissions near.new), (F.talk far.new, F.transmissions far.new)))) }
+    ensures status { IfErr result (λ fault. IsFailing (status_of (of_station fault))) }
 {
     let said = match sender.speak(near) {
         Ok(said) => said,

@@ -1,15 +1,10 @@
-use Rattle.std.proofs.Common.{rules, ◌≡◌, true, Some, inl, inr, refl}
-use Rattle.rje_station.specs.declared.line_fault.LineFault.{LineFault}
+use Rattle.std.proofs.Common.{rules, inl, inr, refl}
 use Rattle.rje_sockets.specs.declared.broken_off.BrokenOff.{BrokenOff}
 use Rattle.rje_sockets.specs.BothFiles.{BreaksBoth}
-use Rattle.rje_sockets.specs.LineBreak.{IsBreak}
 use Rattle.rje_sockets.proofs.BothFiles.{breaks_others, breaks_own, ended_jobs, goes_on_kept, goes_on_marked, holds_first, others_count, own_jobs, refusal_count, same_count}
 use Rattle.rje_sockets.proofs.BothWays.{ends_hung_up, ends_long, ends_over, fails_as, forty_quiet, forty_told, so_first, so_others, so_own, took}
 use Rattle.rje_sockets.proofs.LeavingBoth.{came_near, counted_on}
-use Rattle.rje_sockets.proofs.LineBreak.{breaks_on, line_breaks_on}
-use Rattle.rje_sockets.specs.Babble.{ExchangesToBabble}
 use Rattle.rje_sockets.specs.OverLine.{HeardAndReplied, SpokeAndHeard}
-use Rattle.rje_sockets.proofs.Live.{had_failed}
 use Rattle.rje_sockets.proofs.both_ways.exchange_all.Goals as goal
 
 pub loop-init : goal.loop-init
@@ -33,27 +28,6 @@ returns-in_err-take_own_turn-clause-broken g c =
     (breaks_own c.args.station.now c.loop.station c.take_own_turn.new.station c.loop.invariant.0.turns (took (λ _. g.W.Watch.saw_sender) (λ _. g.W.Watch.saw_receiver) c.args.station.now c.args.watch.now c.loop.station c.loop.station c.loop.watch c.loop.watch c.loop.counter c.loop.quiet c.loop.has_listened c.loop.invariant.0) c.args.marker.now c.loop.marker
     c.args.keeper.now c.loop.keeper (g.S.Store.files c.args.store.now) (g.S.Store.files c.loop.store) c.loop.invariant.1 fault c.take_own_turn.new.marker (g.S.Store.files c.take_own_turn.new.store) (search rules) (search rules)
     c.in_err-take_own_turn.ensures.fault)
-
-pub returns-in_err-take_own_turn-clause-cause : goal.returns-in_err-take_own_turn-clause-cause
-returns-in_err-take_own_turn-clause-cause g c =
-    let fault = c.in_err-take_own_turn.field-0.0 in
-    let Failed : LineFault → Type 0 = λ f. g.L.Line.last_fault c.take_own_turn.new.line ≡ Some f in
-    let Babbled = ExchangesToBabble c.args.station.now (g.L.Line.talk c.args.line.now, g.L.Line.transmissions c.args.line.now) c.take_own_turn.new.station (g.L.Line.talk c.take_own_turn.new.line) in
-    let past = c.loop.invariant.3 in
-    fails_as c.from_residual.result (BrokenOff.Line fault) (IsBreak Failed Babbled (c.args.station.now.failed ≡ true)) c.from_residual.ensures.1
-    (line_breaks_on fault Failed _ Babbled ⊥ (c.args.station.now.failed ≡ true) (λ babbles. (past.turns, c.loop.station, (g.L.Line.talk c.loop.line, g.L.Line.transmissions c.loop.line), past.watched, inl babbles)) (λ never. absurd never)
-    c.in_err-take_own_turn.ensures.cause)
-
-pub returns-in_err-take_others_turn-clause-cause : goal.returns-in_err-take_others_turn-clause-cause
-returns-in_err-take_others_turn-clause-cause g c =
-    let broken = c.in_err-take_others_turn.field-0.0 in
-    let Failed : LineFault → Type 0 = λ f. g.L.Line.last_fault c.take_others_turn.new.line ≡ Some f in
-    let Babbled = ExchangesToBabble c.args.station.now (g.L.Line.talk c.args.line.now, g.L.Line.transmissions c.args.line.now) c.take_others_turn.new.station (g.L.Line.talk c.take_others_turn.new.line) in
-    let past = c.loop.invariant.3 in
-    fails_as c.from_residual-in_err-take_others_turn.result broken (IsBreak Failed Babbled (c.args.station.now.failed ≡ true)) (search rules)
-    (breaks_on broken Failed _ Babbled _ (c.args.station.now.failed ≡ true) (λ babbles. (past.turns, c.loop.station, (g.L.Line.talk c.loop.line, g.L.Line.transmissions c.loop.line), past.watched, inr babbles))
-    (had_failed c.args.station.now c.loop.station c.loop.invariant.0.turns (took (λ _. g.W.Watch.saw_sender) (λ _. g.W.Watch.saw_receiver) c.args.station.now c.args.watch.now c.loop.station c.loop.station c.loop.watch c.loop.watch c.loop.counter c.loop.quiet c.loop.has_listened c.loop.invariant.0)
-    (c.is_over.ensures.goes_on c.if-is_over.false) (c.is_own_turn.ensures.hears c.if-is_own_turn.false)) c.in_err-take_others_turn.ensures.cause)
 
 pub loop-preserved-then-is_own_turn : goal.loop-preserved-then-is_own_turn
 loop-preserved-then-is_own_turn g c = let takes = c.in_ok-take_own_turn.ensures.takes in (

@@ -7,7 +7,6 @@ use Rattle.rje_station.specs.Receiving.{Receiving}
 use Rattle.rje_sockets.specs.OverLine.{HeardAndReplied}
 use Rattle.rje_sockets.proofs.Failing.{line_fails}
 use Rattle.rje_sockets.proofs.Keeping.{turn_kept}
-use Rattle.rje_sockets.proofs.LineBreak.{breaks}
 use Rattle.rje_sockets.proofs.NamedFiles.{station_names}
 use Rattle.rje_sockets.proofs.OverLine.{last_passed, over_owes, reply_passed}
 use Rattle.rje_sockets.proofs.Watched.{last_watched, reply_watched}
@@ -79,9 +78,7 @@ returns-in-Err-speak g c =
       takes = tt;
       over = tt;
       fault = search rules;
-      cause = breaks fault _ _ _ _ _ _ _ _ _ c.in-Err-speak.ensures.cause (λ g same. same) (λ is never. absurd never) (λ over. search rules);
       gave = tt;
-      goes_on = tt;
       kept = tt;
       status = line_fails fault _ _ _ c.in-Err-speak.ensures.cause;
       names = station_names fault _ _;

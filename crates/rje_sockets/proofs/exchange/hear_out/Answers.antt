@@ -1,7 +1,6 @@
-use Rattle.std.proofs.Common.{rules, ◌≡◌, true, Err, refl, [], ◌∷◌}
+use Rattle.std.proofs.Common.{rules, ◌≡◌, Err, refl, [], ◌∷◌}
 use Rattle.rje_sockets.proofs.Answering.{none_answered, one_answered, ends, ends_here, breaks}
 use Rattle.rje_sockets.proofs.Keeping.{goes_nowhere, goes_on_twice}
-use Rattle.rje_sockets.proofs.LineBreak.{breaks_on}
 use Rattle.rje_sockets.proofs.Patience.{hears_first, hears_on, hears_end, hears_quiet, hears_long, hears_fault}
 use Rattle.rje_sockets.proofs.exchange.hear_out.Goals as goal
 
@@ -11,7 +10,6 @@ loop-init g c = (
   none_answered c.args.station.now (g.L.Line.transmissions c.args.line.now),
   goes_nowhere c.args.keeper.now c.args.station.now.jobs (g.S.Store.files c.args.store.now),
   ([], (refl, refl)),
-  λ over. over,
 )
 
 pub returns-in_err-hear_keep_and_speak-clause-fault : goal.returns-in_err-hear_keep_and_speak-clause-fault
@@ -25,13 +23,6 @@ returns-in_err-hear_keep_and_speak-clause-broken g c =
     rw told (breaks c.args.station.now c.loop.station c.hear_keep_and_speak.new.station c.args.keeper.now c.loop.keeper c.hear_keep_and_speak.new.keeper
     (g.L.Line.transmissions c.args.line.now) (g.L.Line.transmissions c.loop.line) (g.L.Line.transmissions c.hear_keep_and_speak.new.line)
     (g.S.Store.files c.args.store.now) (g.S.Store.files c.loop.store) (g.S.Store.files c.hear_keep_and_speak.new.store) c.loop.invariant.1 c.loop.invariant.2 _ c.in_err-hear_keep_and_speak.ensures.broken)
-
-pub returns-in_err-hear_keep_and_speak-clause-cause : goal.returns-in_err-hear_keep_and_speak-clause-cause
-returns-in_err-hear_keep_and_speak-clause-cause g c =
-    let told : c.from_residual.result ≡ Err c.in_err-hear_keep_and_speak.field-0.0 = search rules in
-    let past = c.loop.invariant.0 in
-    rw told (breaks_on c.in_err-hear_keep_and_speak.field-0.0 _ _ _ _ (c.args.station.now.over ≡ true) (λ babbles. (past.history, c.loop.station, (g.L.Line.talk c.loop.line, g.L.Line.transmissions c.loop.line), past.took, babbles)) c.loop.invariant.4
-    c.in_err-hear_keep_and_speak.ensures.cause)
 
 pub returns-then-not-branch-clause-heard : goal.returns-then-not-branch-clause-heard
 returns-then-not-branch-clause-heard g c =
@@ -82,7 +73,6 @@ loop-preserved g c = (
     c.in_ok-hear_keep_and_speak.ensures.told.0 ∷ c.loop.invariant.3.0,
     (c.loop.station, c.loop.watch, c.loop.invariant.3.1, c.in_ok-hear_keep_and_speak.ensures.told.1),
   ),
-  λ over. let on = c.in_ok-hear_keep_and_speak.ensures.goes_on (search rules) in absurd cc,
 )
 
 pub returns-clause-heard : goal.returns-clause-heard

@@ -1,4 +1,3 @@
-use Rattle.std.specs.Prelude.{◌≡◌, true}
 use Rattle.bsc_history.specs.History.{History}
 use Rattle.rje_sockets.specs.Answering.{Answered}
 use Rattle.rje_sockets.specs.Keeping.{GoesOnKeeping}
@@ -12,4 +11,3 @@ invariant-loop g l =
     × Answered l.initial.station l.station (g.L.Line.transmissions l.initial.line) (g.L.Line.transmissions l.line)
     × GoesOnKeeping l.initial.keeper l.keeper l.initial.station.jobs l.station.jobs (g.S.Store.files l.initial.store) (g.S.Store.files l.store)
     × ((h : History) × ReceiverWatchedAll (λ _. g.W.Watch.saw_receiver) l.initial.station l.initial.watch l.station l.watch h)
-    × (l.station.over ≡ true → l.initial.station.over ≡ true)

@@ -1,7 +1,6 @@
 use Rattle.std.proofs.Common.{rules, ◌≡◌, refl, ap, sym, subst, inl, Err, [], ◌∷◌}
 use Rattle.bsc_history.specs.History.{History}
 use Rattle.line_world.specs.AnyLines.{SenderTook}
-use Rattle.rje_sockets.proofs.LineBreak.{line_breaks_on}
 use Rattle.rje_sockets.proofs.Marked.{counts_on, marks_nothing, marks_on}
 use Rattle.rje_sockets.proofs.OverLine.{sends_fault, sends_long, sends_on, sends_over, so_far_took}
 use Rattle.rje_sockets.proofs.exchange.send_all.Goals as goal
@@ -18,13 +17,6 @@ pub returns-in_err-speak_hear_and_mark-clause-fault : goal.returns-in_err-speak_
 returns-in_err-speak_hear_and_mark-clause-fault g c =
     let told : c.from_residual.result ≡ Err c.in_err-speak_hear_and_mark.field-0.0 = search rules in
     rw told (sends_fault c.args.station.now c.loop.station c.speak_hear_and_mark.new.station (g.L.Line.talk c.args.line.now, g.L.Line.transmissions c.args.line.now) (g.L.Line.talk c.loop.line, g.L.Line.transmissions c.loop.line) c.loop.counter _ c.loop.invariant.turns c.in_err-speak_hear_and_mark.ensures.fault)
-
-pub returns-in_err-speak_hear_and_mark-clause-cause : goal.returns-in_err-speak_hear_and_mark-clause-cause
-returns-in_err-speak_hear_and_mark-clause-cause g c =
-    let told : c.from_residual.result ≡ Err c.in_err-speak_hear_and_mark.field-0.0 = search rules in
-    let past = c.loop.invariant.turns in
-    rw told (line_breaks_on c.in_err-speak_hear_and_mark.field-0.0 _ _ _ _ _ (λ babbles. (past.0, c.loop.station, (g.L.Line.talk c.loop.line, g.L.Line.transmissions c.loop.line), past.1, babbles)) (λ never. never)
-    c.in_err-speak_hear_and_mark.ensures.cause)
 
 pub returns-in_err-speak_hear_and_mark-clause-broken : goal.returns-in_err-speak_hear_and_mark-clause-broken
 returns-in_err-speak_hear_and_mark-clause-broken g c =

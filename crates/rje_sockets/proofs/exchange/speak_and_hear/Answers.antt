@@ -1,11 +1,8 @@
-use Rattle.std.proofs.Common.{rules, ◌≡◌, ◌∙◌, Err, ap, refl}
+use Rattle.std.proofs.Common.{rules, ◌≡◌, ◌∙◌, refl}
 use Rattle.bsc_link.specs.declared.say.Say.{Say}
 use Rattle.bsc_link.specs.declared.sound.Sound.{Sound}
 use Rattle.bsc_link.specs.Sender.{say_in}
-use Rattle.rje_station.specs.declared.station_fault.StationFault.TheVariants as babble
-use Rattle.rje_station.specs.Sending.{after_refusal}
 use Rattle.rje_sockets.specs.OverLine.{SpokeAndHeard}
-use Rattle.rje_sockets.proofs.LineBreak.{breaks}
 use Rattle.rje_sockets.proofs.OverLine.{end_passed, said_more, spoke_as, turn_passed}
 use Rattle.rje_sockets.proofs.Watched.{end_watched, turn_watched}
 use Rattle.rje_sockets.proofs.exchange.speak_and_hear.Goals as goal
@@ -25,7 +22,6 @@ returns-in_ok-heard-in-Ok g c = record {
   over = λ is. absurd cc;
   fault = tt;
   status = tt;
-  cause = tt;
   gave =
       let said = c.in-Ok.said in
       let more = said_more c.args.station.now c.speak.new.self said (search rules) (search rules) (search rules) in
@@ -38,15 +34,6 @@ returns-in_ok-heard-in-Ok g c = record {
       (search rules) (search rules) (search rules) (search rules) (search rules) c.sender_took-in-Ok.ensures.saw;
   untold = λ is. absurd cc;
 }
-
-pub returns-in_err-heard-in-Ok-clause-cause : goal.returns-in_err-heard-in-Ok-clause-cause
-returns-in_err-heard-in-Ok-clause-cause g c =
-    let fault = c.in_err-heard-in-Ok.field-0.0 in
-    let told : c.from_residual.result ≡ Err fault = search rules in
-    let hears = c.in_err-heard-in-Ok.ensures in
-    rw told (breaks fault _ _ _ _ _ _ _ _ _ hears.cause (λ f same. same)
-    (λ is babbled. (g.L.Line.talk c.speak.new.line, c.in-Ok.ensures.sent, babbled, hears.kept ∙ ap (λ f. after_refusal f c.speak.new.self) is ∙ ap (after_refusal babble.Babble) c.in-Ok.ensures.state))
-    (λ over. search rules))
 
 pub returns-in-Err : goal.returns-in-Err
 returns-in-Err g c = search rules

@@ -1,7 +1,6 @@
 use Rattle.std.proofs.Common.{List}
 use Rattle.line_world.specs.declared.spoken.Spoken.{Spoken}
 use Rattle.line_world.proofs.TurnsOverLines.{BothSoFar}
-use Rattle.rje_sockets.specs.OverLine.{BothSpoke}
 use Rattle.rje_sockets.specs.Watching.{BothWatchedAll}
 use Rattle.rje_sockets.proofs.exchange.take_turns.Given as goal
 
@@ -9,6 +8,4 @@ abbrev pub invariant-loop : goal.invariant-loop
 invariant-loop g l = record {
   turns : BothSoFar l.initial.sender l.initial.receiver l.counter l.sender l.receiver;
   told : (turns : List Spoken) × BothWatchedAll g.W.Watch.saw_both l.initial.sender l.initial.receiver l.initial.watch l.sender l.receiver l.watch turns;
-  gave : (turns : List Spoken) × BothWatchedAll BothSpoke l.initial.sender l.initial.receiver ((g.N.Line.talk l.initial.near, g.N.Line.transmissions l.initial.near), (g.F.Line.talk l.initial.far, g.F.Line.transmissions l.initial.far))
-      l.sender l.receiver ((g.N.Line.talk l.near, g.N.Line.transmissions l.near), (g.F.Line.talk l.far, g.F.Line.transmissions l.far)) turns;
 }
