@@ -56,6 +56,10 @@ class Case:
                 file.write(b"RJ37\0\1" + len(self.given).to_bytes(8, "big"))
                 file.write(b"".join(job.entry()[9:11] + b"\1" + job.entry()[11:] for job in self.given))
 
+    def in_front(self):
+        """The jobs that stay in the file that it receives into."""
+        return in_state(OLD, [WAITING]) if "--append" in self.words else []
+
     def run(self, folder, left=JOBS, **further):
         """How it ended, what came of what it sends, of which these jobs are left, and how many were counted of what it receives."""
         if self.listens:
@@ -81,6 +85,7 @@ CASES = [
     Case("send", ["send", "pay.job"], sends="pay.job"),
     Case("send of version 1", ["send", "pay.job"], sends="pay.job", version=1),
     Case("receive", ["receive", "got"], receives="got", listens=True),
+    Case("receive --append", ["receive", "got", "--append"], receives="got", listens=True),
     Case("exchange --to", ["exchange", "pay.job", "got"], sends="pay.job", receives="got"),
     Case("exchange --listen", ["exchange", "pay.job", "got"], sends="pay.job", receives="got", listens=True),
 ]
@@ -138,6 +143,9 @@ def receiver_faults(case, folder, before, end, counted):
         return faults
     jobs = jobs_of(folder.at(case.receives))
     assert isinstance(jobs, list), jobs
+    front = case.in_front()
+    faults.differs("what the file held", jobs[: len(front)], front)
+    jobs = jobs[len(front) :]
     whole = [job for job in jobs if job[0] == WHOLE]
     faults.differs("what was received", whole, received(case.comes)[: len(whole)])
     more = 0 if told == f"rje: can't write {case.receives}\n" else 1
@@ -162,8 +170,7 @@ def deck_faults(case, folder, before, end):
 
 def second_faults(case, folder, marked):
     """What is wrong with a further run: it isn't refused, and sends what is left."""
-    if not (case.sends or case.receives):
-        there = jobs_of(folder.at("held")) if "--append" in case.words else []
+    there = jobs_of(folder.at(case.receives or "held")) if "--append" in case.words else []
     faults, left = Faults(), JOBS[marked:]
     end, came, counted = case.run(folder, left)
     printed = ""
@@ -173,7 +180,7 @@ def second_faults(case, folder, marked):
         faults.differs("then marked", jobs_of(folder.at(case.sends)), in_state(JOBS, [SENT] * len(JOBS)))
     if case.receives:
         printed += f"handed {len(case.comes)} jobs, {len(case.comes)} whole\n"
-        faults.differs("then received", (counted, jobs_of(folder.at(case.receives))), (len(case.comes), received(case.comes)))
+        faults.differs("then received", (counted, jobs_of(folder.at(case.receives))), (len(case.comes), [*there, *received(case.comes)]))
     if not printed:
         printed = "1 cards\n"
         faults.differs("then made", jobs_of(folder.at("held")), [*there, *in_state(DECK, [WAITING])])
