@@ -49,14 +49,15 @@ pub record AreTaken {V : Type 0} (view : List Row → V) (words : List Text) (na
   pub found : seen view (subcommand_of rje_app words) ≡ Some (name, value)
 
 module _ {V : Type 0} (view : List Row → V) (word : Text) (words : List Text) (name : Text) (value : V) (taken : AreTaken view (word ∷ words) name value) where
-  pub only_memory : (bytes_eq name (codes "cards") ≡ false) → (bytes_eq name (codes "exchange") ≡ false) → ((rows : List Row) → IsFaultOf name rows BadAddress → ⊥)
-      → ((rows : List Row) → IsFaultOf name rows NewAndAppend → ⊥) → (fault : WordsFault) → IsWordsFault (word ∷ words) fault → IsWantOfMemory fault
-  only_memory two place bad choice (Refused error) h = memory_only error (subst (λ kinds. HasKind kinds error) taken.faultless h)
-  only_memory two place bad choice TwoDevices h = let r = as_seen view _ name value (λ n rows. IsFaultOf n rows TwoDevices) taken.found h.1 in absurd (apart _ _ r.2.0 two)
-  only_memory two place bad choice BadName h = let r = as_seen view _ name value (λ n rows. IsFaultOf n rows BadName) taken.found h.1 in absurd (apart _ _ r.2.0 two)
-  only_memory two place bad choice BadAddress h = let r = as_seen view _ name value (λ n rows. IsFaultOf n rows BadAddress) taken.found h.1 in absurd (bad r.0 r.2)
-  only_memory two place bad choice NoMeeting h = let r = as_seen view _ name value (λ n rows. IsFaultOf n rows NoMeeting) taken.found h.1 in absurd (apart _ _ r.2.0 place)
-  only_memory two place bad choice NewAndAppend h = let r = as_seen view _ name value (λ n rows. IsFaultOf n rows NewAndAppend) taken.found h.1 in absurd (choice r.0 r.2)
+  -- nothing is told but want of memory, where what was seen leaves no other fault
+  pub only_memory : ((rows : List Row) → view rows ≡ value → (fault : WordsFault) → IsFaultOf name rows fault → ⊥)
+      → (fault : WordsFault) → IsWordsFault (word ∷ words) fault → IsWantOfMemory fault
+  only_memory none (Refused error) h = memory_only error (subst (λ kinds. HasKind kinds error) taken.faultless h)
+  only_memory none TwoDevices h = let r = as_seen view _ name value (λ n rows. IsFaultOf n rows TwoDevices) taken.found h.1 in absurd (none r.0 r.1 TwoDevices r.2)
+  only_memory none BadName h = let r = as_seen view _ name value (λ n rows. IsFaultOf n rows BadName) taken.found h.1 in absurd (none r.0 r.1 BadName r.2)
+  only_memory none BadAddress h = let r = as_seen view _ name value (λ n rows. IsFaultOf n rows BadAddress) taken.found h.1 in absurd (none r.0 r.1 BadAddress r.2)
+  only_memory none NoMeeting h = let r = as_seen view _ name value (λ n rows. IsFaultOf n rows NoMeeting) taken.found h.1 in absurd (none r.0 r.1 NoMeeting r.2)
+  only_memory none NewAndAppend h = let r = as_seen view _ name value (λ n rows. IsFaultOf n rows NewAndAppend) taken.found h.1 in absurd (none r.0 r.1 NewAndAppend r.2)
 
   pub only_order : (P : Order → Type 0) → ((rows : List Row) → view rows ≡ value → (order : Order) → IsOrderOf name rows order → P order)
       → (order : Order) → AsksFor (word ∷ words) order → P order
@@ -226,16 +227,18 @@ try_read jobs script rows e (Files (Try order)) h = (h.1.jobs ∙ ap (λ f. f.jo
 try_read jobs script rows e (Files _) h = absurd (apart _ _ h.0 refl)
 try_read jobs script rows e (Sockets order) h = absurd (no_socket (codes "try") rows order refl refl refl refl h)
 
-pub no_address : (name : Text) (rows : List Row) → bytes_eq name (codes "send") ≡ false → bytes_eq name (codes "receive") ≡ false → bytes_eq name (codes "exchange") ≡ false
-    → IsFaultOf name rows BadAddress → ⊥
-no_address name rows send receive exchange (inl e) = apart _ _ e.0 send
-no_address name rows send receive exchange (inr (inl e)) = apart _ _ e.0 receive
-no_address name rows send receive exchange (inr (inr e)) = apart _ _ e.0 exchange
-
-pub no_destination : (name : Text) (rows : List Row) → bytes_eq name (codes "receive") ≡ false → bytes_eq name (codes "exchange") ≡ false
-    → IsFaultOf name rows NewAndAppend → ⊥
-no_destination name rows receive exchange (inl e) = apart _ _ e.0 receive
-no_destination name rows receive exchange (inr e) = apart _ _ e.0 exchange
+-- only the values of these commands can be such that they can't be carried out
+no_fault : (name : Text) (rows : List Row) → bytes_eq name (codes "cards") ≡ false → bytes_eq name (codes "send") ≡ false
+    → bytes_eq name (codes "receive") ≡ false → bytes_eq name (codes "exchange") ≡ false → (fault : WordsFault) → IsFaultOf name rows fault → ⊥
+no_fault name rows cards send receive exchange (Refused error) h = h
+no_fault name rows cards send receive exchange TwoDevices h = apart _ _ h.0 cards
+no_fault name rows cards send receive exchange BadName h = apart _ _ h.0 cards
+no_fault name rows cards send receive exchange BadAddress (inl e) = apart _ _ e.0 send
+no_fault name rows cards send receive exchange BadAddress (inr (inl e)) = apart _ _ e.0 receive
+no_fault name rows cards send receive exchange BadAddress (inr (inr e)) = apart _ _ e.0 exchange
+no_fault name rows cards send receive exchange NoMeeting h = apart _ _ h.0 exchange
+no_fault name rows cards send receive exchange NewAndAppend (inl e) = apart _ _ e.0 receive
+no_fault name rows cards send receive exchange NewAndAppend (inr e) = apart _ _ e.0 exchange
 
 module _ {V : Type 0} (view : List Row → V) (word : Text) (words : List Text) (name : Text) (value : V) (P : Order → Type 0) where
   ask_only : fault_of rje_app (word ∷ words) ≡ [] → seen view (subcommand_of rje_app (word ∷ words)) ≡ Some (name, value)
@@ -243,8 +246,7 @@ module _ {V : Type 0} (view : List Row → V) (word : Text) (words : List Text) 
       → bytes_eq name (codes "exchange") ≡ false → ((rows : List Row) → view rows ≡ value → (order : Order) → IsOrderOf name rows order → P order) → AskOnlyFor (word ∷ words) P
   ask_only none found cards send receive exchange reads = let taken : AreTaken view (word ∷ words) name value = record { faultless = none; found = found } in record {
     order = only_order view word words name value taken P reads;
-    fault = only_memory view word words name value taken cards exchange (λ rows. no_address name rows send receive exchange)
-        (λ rows. no_destination name rows receive exchange);
+    fault = only_memory view word words name value taken (λ rows _. no_fault name rows cards send receive exchange);
   }
 
 pub blocks_asked : BlocksAsked

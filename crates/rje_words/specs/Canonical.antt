@@ -1,18 +1,14 @@
 -- What canonical words ask for (own profile).
-use Rattle.std.specs.Prelude.{◌≡◌, ◌⊎◌, true, false, List, [], ◌∷◌, None, Some, Option, codes}
-use Rattle.std.specs.List.{flat_map}
+use Rattle.std.specs.Prelude.{◌≡◌, Bool, true, false, List, [], ◌∷◌, ◌++◌, None, Some, Option, codes}
+use Rattle.std.specs.List.{AllByRecursion}
 use Rattle.clap.specs.Words.{Text}
-use Rattle.clap.specs.declared.error.kind.ErrorKind.TheVariants.{ArgumentConflict}
-use Rattle.rje_files.specs.Entry.{IsNameOf}
 use Rattle.rje_orders.specs.declared.device.Device.{Device}
 use Rattle.rje_orders.specs.declared.order.Order.{Order}
 use Rattle.rje_words.specs.declared.words_fault.WordsFault.{WordsFault}
-use Rattle.rje_words.specs.declared.words_fault.WordsFault.TheVariants.{TwoDevices, BadName}
 use Rattle.rje_words.specs.Asking.{AsksFor, IsGivenName, IsWordsFault}
-use Rattle.rje_words.specs.CardsWords.{CardsWord, HaveFiles, HaveName, adds_among, device_among, has_each_once, words_typed}
 use Rattle.rje_words.specs.CommandLine.{is_file, names_file}
 use Rattle.rje_words.specs.Orders.{IsBlocks, IsCards, IsShow, IsCheck, IsPrint, IsTry}
-use Rattle.rje_words.specs.WordsFault.{IsRefusedFor, IsWantOfMemory}
+use Rattle.rje_words.specs.WordsFault.{IsWantOfMemory}
 
 -- each order that the words ask for is such a one, and nothing is told of them but want of memory
 pub record AskOnlyFor (words : List Text) (IsOne : Order → Type 0) : Type 0 where
@@ -40,34 +36,36 @@ abbrev pub TryAsked : Type 0
 TryAsked =
     (jobs script : Text) → names_file jobs ≡ true → names_file script ≡ true → AskOnlyFor (codes "try" ∷ jobs ∷ script ∷ []) (IsTry jobs script)
 
--- `cards` with a deck, a job file, options and a name among them, each at most once, asks for a job file of this deck for the device that
--- the options choose, with this name; with `--append` its job is added to those of the file
+-- the words that choose a device
+abbrev pub device_words : Device → List Text
+device_words Device.Default = []
+device_words Device.Printer = codes "--printer" ∷ []
+device_words Device.Punch = codes "--punch" ∷ []
+device_words Device.Transparent = codes "--transparent" ∷ []
+
+-- the words that give a name
+abbrev pub name_words : Option Text → List Text
+name_words None = []
+name_words (Some text) = codes "--name" ∷ text ∷ []
+
+-- the words that ask that a job is added to those of the file
+abbrev pub append_words : Bool → List Text
+append_words false = []
+append_words true = codes "--append" ∷ []
+
+-- three lists behind each other, in each order
+abbrev pub in_each_order : {X : Type 0} → (a b c : List X) → List (List X)
+in_each_order a b c =
+    (a ++ (b ++ c)) ∷ (a ++ (c ++ b)) ∷ (b ++ (a ++ c)) ∷ (b ++ (c ++ a)) ∷ (c ++ (a ++ b)) ∷ (c ++ (b ++ a)) ∷ []
+
+-- the options of `cards` for this device and this name, and the one to add the job where it is asked for: each once, in each order
+abbrev pub cards_options : Device → Option Text → Bool → List (List Text)
+cards_options device given adds = in_each_order (device_words device) (name_words given) (append_words adds)
+
+-- `cards DECK JOBS` and then its options, each at most once and in any order, asks for a job file of this deck for this device, with this
+-- name; with `--append` its job is added to those of the file
 abbrev pub CardsAsked : Type 0
 CardsAsked =
-    (words : List CardsWord) (deck jobs : Text) (given : Option Text) (device : Device) (name : Text) → HaveFiles words deck jobs → HaveName words given
-    → has_each_once words ≡ true → device_among words ≡ Some device → IsGivenName given (Some name)
-    → AskOnlyFor (codes "cards" ∷ flat_map words_typed words) (IsCards deck jobs device name (adds_among words))
-
--- the words ask for no order, and nothing is told of them but such a fault, or want of memory
-pub record TellOnly (words : List Text) (IsOne : WordsFault → Type 0) : Type 0 where
-  pub order : (order : Order) → AsksFor words order → ⊥
-  pub fault : (fault : WordsFault) → IsWordsFault words fault → IsOne fault ⊎ IsWantOfMemory fault
-
--- where they choose more than one device, this is told
-abbrev pub TwoDevicesTold : Type 0
-TwoDevicesTold =
-    (words : List CardsWord) (deck jobs : Text) (given : Option Text) → HaveFiles words deck jobs → HaveName words given → has_each_once words ≡ true
-    → device_among words ≡ None → TellOnly (codes "cards" ∷ flat_map words_typed words) (λ fault. fault ≡ TwoDevices)
-
--- where they choose one device, and the name is none, this is told
-abbrev pub BadNameTold : Type 0
-BadNameTold =
-    (words : List CardsWord) (deck jobs given : Text) (device : Device) → HaveFiles words deck jobs → HaveName words (Some given)
-    → has_each_once words ≡ true → device_among words ≡ Some device → IsNameOf given None
-    → TellOnly (codes "cards" ∷ flat_map words_typed words) (λ fault. fault ≡ BadName)
-
--- where an option for a device, or `--append`, stands twice, clap refuses the words
-abbrev pub RepeatedRefused : Type 0
-RepeatedRefused =
-    (words : List CardsWord) (deck jobs : Text) (given : Option Text) → HaveFiles words deck jobs → HaveName words given → has_each_once words ≡ false
-    → TellOnly (codes "cards" ∷ flat_map words_typed words) (IsRefusedFor ArgumentConflict)
+    (deck jobs : Text) (device : Device) (given : Option Text) (name : Text) (adds : Bool) → is_file deck ≡ true → names_file jobs ≡ true
+    → IsGivenName given (Some name)
+    → AllByRecursion (λ options. AskOnlyFor (codes "cards" ∷ deck ∷ jobs ∷ options) (IsCards deck jobs device name adds)) (cards_options device given adds)

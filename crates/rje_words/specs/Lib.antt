@@ -2,7 +2,6 @@ pub mod Address
 pub mod Orders
 pub mod WordsFault
 pub mod CommandLine
-pub mod CardsWords
 pub mod Asking
 pub mod Canonical
 pub use Rattle.clap.specs.Words
