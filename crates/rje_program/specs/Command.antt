@@ -57,10 +57,6 @@ IsRefused words files input =
 abbrev pub AsksForNoFiles : List (List ℕ) → Type 0
 AsksForNoFiles words = AreMistaken words ⊎ ((order : SocketOrder) × AsksFor words (Sockets order))
 
--- so they ask for no command over files
-abbrev pub NoFilesAreAsked : Type 0
-NoFilesAreAsked = (words : List (List ℕ)) (order : FileOrder) → AsksForNoFiles words → AsksFor words (Files order) → ⊥
-
 -- the exit statuses of a command over files
 abbrev pub IsStatus : ℕ → Type 0
 IsStatus status = (status ≡ 0) ⊎ ((status ≡ 1) ⊎ ((status ≡ 2) ⊎ ((status ≡ 3) ⊎ ((status ≡ 5) ⊎ (status ≡ 141)))))

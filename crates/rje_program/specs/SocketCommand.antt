@@ -32,10 +32,6 @@ RefusesAsAsked words files =
 abbrev pub AsksForNoSockets : List (List ℕ) → Type 0
 AsksForNoSockets words = AreMistaken words ⊎ ((order : FileOrder) × AsksFor words (Files order))
 
--- so they ask for no command over sockets
-abbrev pub NoSocketsAreAsked : Type 0
-NoSocketsAreAsked = (words : List (List ℕ)) (order : SocketOrder) → AsksForNoSockets words → AsksFor words (Sockets order) → ⊥
-
 -- the exit statuses of a command over sockets
 abbrev pub IsSocketStatus : ℕ → Type 0
 IsSocketStatus status = (status ≡ 0) ⊎ ((status ≡ 4) ⊎ ((status ≡ 1) ⊎ ((status ≡ 2) ⊎ IsFailing status)))
