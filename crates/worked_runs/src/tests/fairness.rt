@@ -1,11 +1,6 @@
-//! Fair lines, and how many turns are enough on them.
-use super::schedules::{
-    AGAIN_ACK0, ASK_ACK1, ASK_LOST, BID, BLOCK_ACK1, BLOCK_LOST, END, GOOD, HOLD, Line, PAUSE,
-    Place, TURN, Way, assert_report, assert_same_jobs, job_of, schedule, unfit_job,
-};
-use bsc_link::{Outcome, Say, Sound};
+//! Fair lines, and how many turns are enough on them. What becomes of jobs on them stands in talks/fair.
+use super::schedules::{GOOD, HOLD, PAUSE, Place, TURN, Way, job_of, schedule, unfit_job};
 use line_world::{is_fair, turns_needed};
-use rje_jobs::Job;
 use std::alloc::AllocGlobal;
 use std::process::Abort;
 use std::test::Fail;
@@ -16,102 +11,10 @@ const LOST: Place = Place {
     ..GOOD
 };
 
-const BID_LOST: Line = Line(Say::Bid, Sound::Quiet, None, Sound::Quiet);
-
-const END_LOST: Line = Line(Say::End, Sound::Quiet, None, Sound::Quiet);
-
 /// Whether this schedule is fair is told so.
 fn assert_fair(rt: &(impl Abort + AllocGlobal), places: &[Place], fair: bool) -> Result<(), Fail> {
     let turns = schedule(rt.alloc(), places)?;
     assert!(rt; is_fair(&turns) == fair);
-    Ok(())
-}
-
-// THE BOUND
-
-/// For these jobs so many turns are enough on a fair line, as many as are given or fewer, and whether it is fair.
-fn assert_bound(
-    rt: &(impl Abort + AllocGlobal),
-    jobs: &[Job],
-    places: &[Place],
-    needed: u64,
-    fair: bool,
-) -> Result<(), Fail> {
-    assert!(rt; turns_needed(jobs) == Some(needed));
-    assert!(rt; needed <= places.len() as u64);
-    assert_fair(rt, places, fair)
-}
-
-static FIVE_LOST: &[Place] = &[
-    LOST, LOST, LOST, LOST, LOST, GOOD, GOOD, LOST, LOST, LOST, LOST, LOST, GOOD, GOOD, LOST, LOST,
-    LOST, LOST, LOST, GOOD, GOOD,
-];
-
-static AFTER_FIVE_LOST: &[Line] = &[
-    BID_LOST, BID_LOST, BID_LOST, BID_LOST, BID_LOST, BID, BLOCK_ACK1, BLOCK_LOST, ASK_LOST,
-    ASK_LOST, ASK_LOST, ASK_LOST, ASK_ACK1, AGAIN_ACK0, END_LOST,
-];
-
-#[test]
-fn five_lost_turns_and_two_good_ones_thrice_are_enough_for_two_blocks(
-    rt: HostRuntime,
-) -> Result<(), Fail> {
-    let jobs = [job_of(&rt, 1, 1)?, job_of(&rt, 1, 2)?];
-    assert_bound(&rt, &jobs, FIVE_LOST, 21, true)?;
-    let done = Some(Outcome::Done);
-    let report = assert_report(&rt, &jobs, FIVE_LOST, AFTER_FIVE_LOST, 2, done)?;
-    assert_same_jobs(&rt, report.handed.as_slice(), &jobs);
-    Ok(())
-}
-
-static SEVEN_LOST: &[Place] = &[
-    LOST, LOST, LOST, LOST, LOST, LOST, LOST, GOOD, GOOD, GOOD, GOOD, GOOD, GOOD, GOOD,
-];
-
-static AFTER_SEVEN_LOST: &[Line] = &[
-    BID_LOST, BID_LOST, BID_LOST, BID_LOST, BID_LOST, BID_LOST, BID_LOST, END,
-];
-
-#[test]
-fn after_seven_lost_turns_the_sender_gives_up(rt: HostRuntime) -> Result<(), Fail> {
-    let jobs = [job_of(&rt, 1, 1)?];
-    assert_bound(&rt, &jobs, SEVEN_LOST, 14, false)?;
-    let gave_up = Some(Outcome::GaveUp);
-    let report = assert_report(&rt, &jobs, SEVEN_LOST, AFTER_SEVEN_LOST, 0, gave_up)?;
-    assert!(rt; report.handed.is_empty());
-    Ok(())
-}
-
-/// Whether all arrives at this place, and nothing else happens.
-fn is_good(place: &Place) -> bool {
-    matches!((place.up, place.down), (Way::Arrives, Way::Arrives))
-}
-
-/// Whether two neighbouring places of these are good.
-fn has_good_pair(places: &[Place]) -> bool {
-    places.windows(2).any(|pair| pair.iter().all(is_good))
-}
-
-static SIX_LOST: &[Place] = &[
-    GOOD, GOOD, LOST, LOST, LOST, LOST, LOST, LOST, GOOD, GOOD, LOST, LOST, LOST, LOST, LOST, LOST,
-    GOOD, GOOD, LOST, LOST, LOST, LOST, LOST, LOST,
-];
-
-// The seventh turn after the first block is an inquiry, whose answer is that block's acknowledgement again.
-static AFTER_SIX_LOST: &[Line] = &[
-    BID, BLOCK_ACK1, BLOCK_LOST, ASK_LOST, ASK_LOST, ASK_LOST, ASK_LOST, ASK_LOST, ASK_ACK1, END,
-];
-
-#[test]
-fn a_good_pair_in_each_nine_turns_is_not_enough(rt: HostRuntime) -> Result<(), Fail> {
-    let jobs = [job_of(&rt, 1, 1)?, job_of(&rt, 1, 2)?];
-    for nine in SIX_LOST.windows(9) {
-        assert!(rt; has_good_pair(nine));
-    }
-    assert_bound(&rt, &jobs, SIX_LOST, 21, false)?;
-    let gave_up = Some(Outcome::GaveUp);
-    let report = assert_report(&rt, &jobs, SIX_LOST, AFTER_SIX_LOST, 1, gave_up)?;
-    assert_same_jobs(&rt, report.handed.as_slice(), &jobs[..1]);
     Ok(())
 }
 
@@ -198,9 +101,22 @@ static PAIRS: Cases = &[
     (&[GOOD, LOST, GOOD, LOST, GOOD, LOST, GOOD, LOST], false),
 ];
 
+// The schedules of the first and the third table of talks/fair.
+static FIVE_LOST: &[Place] = &[
+    LOST, LOST, LOST, LOST, LOST, GOOD, GOOD, LOST, LOST, LOST, LOST, LOST, GOOD, GOOD, LOST, LOST,
+    LOST, LOST, LOST, GOOD, GOOD,
+];
+
+static SIX_LOST: &[Place] = &[
+    GOOD, GOOD, LOST, LOST, LOST, LOST, LOST, LOST, GOOD, GOOD, LOST, LOST, LOST, LOST, LOST, LOST,
+    GOOD, GOOD, LOST, LOST, LOST, LOST, LOST, LOST,
+];
+
 #[test]
 fn two_neighbouring_turns_in_which_all_arrives_are_a_good_pair(
     rt: HostRuntime,
 ) -> Result<(), Fail> {
-    assert_each(&rt, PAIRS)
+    assert_each(&rt, PAIRS)?;
+    assert_fair(&rt, FIVE_LOST, true)?;
+    assert_fair(&rt, SIX_LOST, false)
 }

@@ -1,7 +1,7 @@
 //! Schedules, jobs and printed turns, for the tests of runs.
 use arrayvec::ArrayVec;
-use bsc_link::{Outcome, Reply, Say, Sound, Wish};
-use line_world::{Fate, Report, Spoken, Turn, run};
+use bsc_link::{Reply, Say, Sound, Wish};
+use line_world::{Fate, Spoken, Turn};
 use pair_world::{Bids, PairTurn};
 use rje_jobs::Job;
 use rje_text::{Action, Mode, Record, Records, Select};
@@ -209,17 +209,11 @@ pub(super) const BLOCK_UNHEARD: Line = Line(
 
 pub(super) const BLOCK_LOST: Line = Line(Say::Block, Sound::Quiet, None, Sound::Quiet);
 
-pub(super) const AGAIN_ACK0: Line = Line(Say::Again, Sound::Block, Some(Reply::Ack0), Sound::Ack0);
-
-pub(super) const AGAIN_ACK1: Line = Line(Say::Again, Sound::Block, Some(Reply::Ack1), Sound::Ack1);
-
 pub(super) const ASK_ACK1: Line = Line(Say::Ask, Sound::Enq, Some(Reply::Ack1), Sound::Ack1);
 
 pub(super) const ASK_UNHEARD: Line = Line(Say::Ask, Sound::Enq, Some(Reply::Ack1), Sound::Quiet);
 
 pub(super) const ASK_LOST: Line = Line(Say::Ask, Sound::Quiet, None, Sound::Quiet);
-
-pub(super) const DELAY: Line = Line(Say::Delay, Sound::Ttd, Some(Reply::Nak), Sound::Nak);
 
 pub(super) const END: Line = Line(Say::End, Sound::Eot, None, Sound::Quiet);
 
@@ -241,21 +235,4 @@ pub(super) fn assert_turn(rt: &impl Abort, turn: &Spoken, line: &Line) {
         heard: line.3,
     };
     assert!(rt; *turn == printed, "{turn:?} at {line:?}");
-}
-
-/// A report of what is printed, in which so many jobs were counted, and it ended so.
-pub(super) fn assert_report(
-    rt: &(impl Abort + AllocGlobal),
-    jobs: &[Job],
-    places: &[Place],
-    lines: &[Line],
-    counted: usize,
-    outcome: Option<Outcome>,
-) -> Result<Report, Fail> {
-    let turns = schedule(rt.alloc(), places)?;
-    let report = run(rt.alloc(), jobs, &turns)?;
-    assert_turns(rt, &report.turns, lines);
-    assert!(rt; report.counted == counted);
-    assert!(rt; report.outcome == outcome);
-    Ok(report)
 }
