@@ -23,7 +23,7 @@ TransmitsAsAsked status words files made before after =
     ((order : SocketOrder) × (ending : Ending) × AsksFor words (Sockets order) × (status ≡ ending_status ending) × Transmits order ending files made before after)
     ⊎ ((status ≡ 0) × AsksForHelp words)
 
--- the words ask for a command over sockets, and the job file that it sends is refused
+-- the words ask for a command over sockets, and a job file that it sends or receives into is refused
 abbrev pub RefusesAsAsked : List (List ℕ) → Option FileMap → Type 0
 RefusesAsAsked words files =
     (order : SocketOrder) × (fault : CommandFault) × AsksFor words (Sockets order) × Refuses order files fault × (status_of fault ≡ 1)

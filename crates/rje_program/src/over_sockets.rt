@@ -31,7 +31,7 @@ pub fn is_for_sockets(words: &[&str]) -> bool
 }
 
 /// Runs the command over sockets that these words ask for, and answers its exit status: 0 where all was sent and received (or it gave help or
-/// the version), 4 where some was not, 1 where the job file that it sends is refused, 2 where the words ask for no command over sockets, 3
+/// the version), 4 where some was not, 1 where a job file that it sends or receives into is refused, 2 where the words ask for no command over sockets, 3
 /// where a file, a line or an output failed, 5 where there was no memory, 141 where nobody reads `out` any more. What the command gives goes
 /// to `out`, and why it fails to `err`, and its turns as they happen where that is asked for.
 pub fn socket_command<R: Net + Clock, S: Store, O: Write, E: Write>(
