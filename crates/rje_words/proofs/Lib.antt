@@ -3,3 +3,4 @@ pub mod Commands
 pub mod FileWords
 pub mod CardsLevel
 pub mod CardsWords
+pub mod ReceiveWords

@@ -5,7 +5,11 @@ use Rattle.clap.specs.Words.{Text}
 use Rattle.rje_orders.specs.declared.device.Device.{Device}
 use Rattle.rje_orders.specs.declared.order.Order.{Order}
 use Rattle.rje_words.specs.declared.words_fault.WordsFault.{WordsFault}
-use Rattle.rje_words.specs.Asking.{AsksFor, IsGivenName, IsWordsFault}
+use Rattle.rje_orders.specs.declared.order.Existing.{Existing}
+use Rattle.rje_orders.specs.declared.order.Order.TheVariants.{Sockets}
+use Rattle.rje_orders.specs.declared.order.SocketOrder.TheVariants.{Receive}
+use Rattle.rje_words.specs.Address.{IsAddressOf}
+use Rattle.rje_words.specs.Asking.{AsksFor, IsGivenName, IsSomeAddress, IsTimeoutOf, IsWordsFault}
 use Rattle.rje_words.specs.CommandLine.{is_file, names_file}
 use Rattle.rje_words.specs.Orders.{IsBlocks, IsCards, IsShow, IsCheck, IsPrint, IsTry}
 use Rattle.rje_words.specs.WordsFault.{IsWantOfMemory}
@@ -69,3 +73,23 @@ CardsAsked =
     (deck jobs : Text) (device : Device) (given : Option Text) (name : Text) (adds : Bool) → is_file deck ≡ true → names_file jobs ≡ true
     → IsGivenName given (Some name)
     → AllByRecursion (λ options. AskOnlyFor (codes "cards" ∷ deck ∷ jobs ∷ options) (IsCards deck jobs device name adds)) (cards_options device given adds)
+
+-- the words that choose what becomes of the jobs that the file which is received into holds already
+abbrev pub existing_words : Existing → List Text
+existing_words Existing.Replace = []
+existing_words Existing.Refuse = codes "--new" ∷ []
+existing_words Existing.Append = codes "--append" ∷ []
+
+-- the order is to receive into this file, at this address, with this choice for the jobs that it holds already, with the usual time-out and
+-- without a trace
+abbrev pub IsReceive : (jobs address : Text) → Existing → Order → Type 0
+IsReceive jobs address existing (Sockets (Receive order)) =
+    (order.into.jobs.now ≡ jobs) × IsAddressOf address (Some order.address) × (order.into.existing ≡ existing)
+    × IsTimeoutOf (Some (codes "3000")) order.timeout × (order.trace ≡ false)
+IsReceive jobs address existing _ = ⊥
+
+-- `receive JOBS --listen ADDR`, with `--new`, with `--append` or with neither, asks to receive into the job file so
+abbrev pub ReceiveAsked : Type 0
+ReceiveAsked =
+    (jobs address : Text) (existing : Existing) → names_file jobs ≡ true → names_file address ≡ true → IsSomeAddress address
+    → AskOnlyFor (codes "receive" ∷ jobs ∷ codes "--listen" ∷ address ∷ existing_words existing) (IsReceive jobs address existing)

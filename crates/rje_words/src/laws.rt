@@ -1,11 +1,12 @@
 //! What words promise beyond the calls: laws of the definitions that `parse` cites.
 ghost use Rattle.rje_words.specs.Canonical.{BlocksAsked, ShowAsked, CheckAsked, PrintAsked};
-ghost use Rattle.rje_words.specs.Canonical.{TryAsked, CardsAsked};
+ghost use Rattle.rje_words.specs.Canonical.{TryAsked, CardsAsked, ReceiveAsked};
 
 /// A command's name and the files that it takes, in their order, ask for this command over these
 /// files: nothing is told of them but want of memory. A file's word has no hyphen in front; a deck
 /// may be `-`. After the files of `cards` its options may stand, each at most once and in any order:
-/// for a device, for a name, and `--append`.
+/// for a device, for a name, and `--append`. Behind the file and the address of `receive` `--new` or
+/// `--append` may stand.
 pub fn words_ask_for_orders()
     ensures blocks { BlocksAsked }
     ensures show { ShowAsked }
@@ -13,4 +14,5 @@ pub fn words_ask_for_orders()
     ensures print { PrintAsked }
     ensures attempt { TryAsked }
     ensures cards { CardsAsked }
+    ensures receive { ReceiveAsked }
 {}
