@@ -15,7 +15,7 @@ use Rattle.rje_orders.specs.declared.order.FileOrder.TheVariants.{Cards}
 use Rattle.rje_words.specs.declared.words_fault.WordsFault.{WordsFault}
 use Rattle.rje_words.specs.declared.words_fault.WordsFault.TheVariants.{Refused, TwoDevices, BadName, BadAddress, NoMeeting, NewAndAppend}
 use Rattle.rje_words.specs.Asking.{IsFaultOf, IsGivenName, IsOrderOf}
-use Rattle.rje_words.specs.Canonical.{AskOnlyFor, CardsAsked, in_each_order}
+use Rattle.rje_words.specs.Canonical.{AskOnlyFor, CardsWithOptionsAsked, in_each_order}
 use Rattle.rje_words.specs.Orders.{IsCards}
 use Rattle.rje_words.proofs.CardsLevel.{ArePlain, IsPlain, Part, Seen, Summary, append_parts, are_seen, cards_in, cards_parts, cards_taken, deck_plain, device_parts, flag, jobs_plain, name_parts, named, part_words, summary, unhyphened}
 use Rattle.rje_words.proofs.FileWords.{AreTaken, apart, no_socket, only_memory, only_order}
@@ -110,7 +110,7 @@ module _ (deck jobs : Text) (device : Device) (given : Option Text) (name : Text
       taken : AreTaken cards_in (codes "cards" ∷ deck ∷ jobs ∷ flat_map part_words parts) (codes "cards") value
       taken = cards_taken deck jobs h k parts p.0 value first
 
-pub cards_asked : CardsAsked
+pub cards_asked : CardsWithOptionsAsked
 cards_asked deck jobs device given name adds h k named_is =
     let seen = are_seen deck jobs device given adds in
     subst (AllByRecursion (λ options. AskOnlyFor (codes "cards" ∷ deck ∷ jobs ∷ options) (IsCards deck jobs device name adds))) seen.0

@@ -68,8 +68,8 @@ cards_options device given adds = in_each_order (device_words device) (name_word
 
 -- `cards DECK JOBS` and then its options, each at most once and in any order, asks for a job file of this deck for this device, with this
 -- name; with `--append` its job is added to those of the file
-abbrev pub CardsAsked : Type 0
-CardsAsked =
+abbrev pub CardsWithOptionsAsked : Type 0
+CardsWithOptionsAsked =
     (deck jobs : Text) (device : Device) (given : Option Text) (name : Text) (adds : Bool) → is_file deck ≡ true → names_file jobs ≡ true
     → IsGivenName given (Some name)
     → AllByRecursion (λ options. AskOnlyFor (codes "cards" ∷ deck ∷ jobs ∷ options) (IsCards deck jobs device name adds)) (cards_options device given adds)

@@ -1,6 +1,6 @@
 //! What words promise beyond the calls: laws of the definitions that `parse` cites.
 ghost use Rattle.rje_words.specs.Canonical.{BlocksAsked, ShowAsked, CheckAsked, PrintAsked};
-ghost use Rattle.rje_words.specs.Canonical.{TryAsked, CardsAsked, ReceiveAsked};
+ghost use Rattle.rje_words.specs.Canonical.{TryAsked, CardsWithOptionsAsked, ReceiveAsked};
 
 /// A command's name and the files that it takes, in their order, ask for this command over these
 /// files: nothing is told of them but want of memory. A file's word has no hyphen in front; a deck
@@ -13,6 +13,6 @@ pub fn words_ask_for_orders()
     ensures check { CheckAsked }
     ensures print { PrintAsked }
     ensures attempt { TryAsked }
-    ensures cards { CardsAsked }
+    ensures cards { CardsWithOptionsAsked }
     ensures receive { ReceiveAsked }
 {}
