@@ -51,7 +51,7 @@ impl Ends {
         pass(&mut self.far, &mut self.near, b"\x32\x32\x10\x70\xFF", &mut self.heard);
     }
 
-    /// Sends a block, and puts the records that came behind those that were there.
+    /// Sends a block, and puts the records that came after those that were there.
     fn send(&mut self, text: &[u8], closing: u8, records: &mut Vec<Vec<u8>>) {
         self.line.clear();
         self.line.extend_from_slice(b"\x32\x32\x02");

@@ -216,7 +216,7 @@ class Drawn:
 
 
 class Said(typing.NamedTuple):
-    """A thing that came to an end and isn't answered: when it was said; and until when the end hears on behind it, as it is spoiled."""
+    """A thing that came to an end and isn't answered: when it was said; and until when the end hears on after it, as it is spoiled."""
 
     moment: float
     hears_on: float
@@ -229,7 +229,7 @@ class Wire:
         self.loop, self.fates, self.ends, self.said, self.is_over = loop, fates, [None, None], [], False
         self.longest, self.is_hasty = 0.0, False
         # For each end: when its last message comes; what came to it and isn't answered; whether what was said to it last is a spoiled text,
-        # whose answer takes a time-out by itself; and when it said a thing behind which nothing has come.
+        # whose answer takes a time-out by itself; and when it said a thing after which nothing has come.
         self.last, self.unanswered, self.hears_spoiled, self.waits = [0.0, 0.0], [[], []], [False, False], [0.0, 0.0]
 
     def say(self, end, message, moment):
@@ -265,7 +265,7 @@ class Wire:
         self.ends[end].hear(message)
 
     def await_answer(self, end, message, said):
-        """What comes while the end hears on behind a spoiled text is heard with it, and both have one answer."""
+        """What comes while the end hears on after a spoiled text is heard with it, and both have one answer."""
         now, unanswered = time.monotonic(), self.unanswered[end]
         is_with = bool(unanswered) and now < unanswered[-1].hears_on
         if is_with:
@@ -274,7 +274,7 @@ class Wire:
         unanswered.append(Said(said, now + TIMEOUT if is_spoiled else 0.0))
 
     def leave(self, end):
-        """This end hangs up, and the other hears so behind what was said before."""
+        """This end hangs up, and the other hears so after what was said before."""
         self.last[end] = max(time.monotonic(), self.last[end])
         self.loop.at(self.last[end], self.bring_end, 1 - end)
 
@@ -401,7 +401,7 @@ class Receiver:
 
 class Habits(typing.NamedTuple):
     """What a scripted peer is like: what it sends, whether it awaits anything, which texts it refuses, how many seconds pass before a bid,
-    which answers it says twice, its time-out, what it says behind the other's EOT, and whether it stays then."""
+    which answers it says twice, its time-out, what it says after the other's EOT, and whether it stays then."""
 
     jobs: list = []
     receives: bool = True
@@ -923,11 +923,11 @@ def check_slow(checks, program, library):
 
 
 def check_behind(checks, program):
-    """An answer that comes behind EOT, up to the peer's hanging up, is told, and nothing else is."""
+    """An answer that comes after EOT, up to the peer's hanging up, is told, and nothing else is."""
     plans = []
     for command, said in itertools.product(("send", "exchange"), (ACK0, ACK1, NAK, WACK, RVI, b"")):
         ends = [End(command, FEW, 1.0), End(habits=Habits(behind=said))]
-        plans.append(Plan(f"{command}: '{said.hex()}' behind EOT", 0, ends, [Steady(), Steady(0.05)]))
+        plans.append(Plan(f"{command}: '{said.hex()}' after EOT", 0, ends, [Steady(), Steady(0.05)]))
     for outcome, _ in hold(program, plans):
         is_told = "''" not in outcome.plan.kind
         handed = "handed 0 jobs, 0 whole\n" if outcome.plan.ends[CALLER].command == "exchange" else ""

@@ -1,5 +1,5 @@
 #!/usr/bin/env python3
-"""What a disk may hold of a file when the power goes, behind each call of a record (record.c writes it).
+"""What a disk may hold of a file when the power goes, after each call of a record (record.c writes it).
 
     disk.py RECORD FILE OLD ACKNOWLEDGES STATES
 
@@ -10,7 +10,7 @@ place, with the others or without; and a file may have its name or not.
 Writes each content that the file may have into the folder STATES, under a number, and into STATES/list a line for each: the number, or
 '-' for no file; how many blocks were acknowledged by then, at most, and at least; how many were at most when something was last said; and
 whether the disk may hold it when the program has ended. Prints how many states there are, how many files among them, and how often FILE
-was replaced, and then a line for each file that was renamed, or behind which something was said, before it was on disk.
+was replaced, and then a line for each file that was renamed, or after which something was said, before it was on disk.
 """
 import os
 import re
@@ -132,7 +132,7 @@ class Disk:
 
 
 class Acknowledgements:
-    """How many blocks are acknowledged in the bytes so far: each answer that differs from the one before, behind that to the bid."""
+    """How many blocks are acknowledged in the bytes so far: each answer that differs from the one before, after that to the bid."""
 
     def __init__(self):
         self.bytes = b""

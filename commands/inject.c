@@ -1,6 +1,6 @@
 /* Loaded before the C library (LD_PRELOAD): counts the calls of the process on files, and at the one whose number INJECT_AT names, counted from
    1, does what INJECT says: KILL ends the process, and counts just the calls that change something; STOP stops it; EIO fails the call; FULL
-   fails it and all behind it for want of room, and counts just the calls that take some. Where INJECT_CALL is set, the calls of that name alone
+   fails it and all after it for want of room, and counts just the calls that take some. Where INJECT_CALL is set, the calls of that name alone
    count. The call that was met, and its file, are written into the file that INJECTED names. The system's own files and connections don't
    count. */
 #define _GNU_SOURCE

@@ -37,7 +37,7 @@ static void note(const unsigned char *bytes, ssize_t length, const char *words, 
     fclose(record);
 }
 
-/* A call of this name: what it does where it goes well comes behind it. */
+/* A call of this name: what it does where it goes well comes after it. */
 #define CALL(type, name, takes, gives, noted)                        \
     type name takes                                                  \
     {                                                                \

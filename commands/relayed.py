@@ -25,7 +25,7 @@ DECKS = {"A": "A\n", "B": "B\n", "C": "C 1\nC 2\n", "ALL": "".join(f"CARD {n:3} 
 
 class Relay:
     """A relay from a port of its own to another one. `fate` gives, of a message, its number from 1 and whether the caller says it, what is
-    passed on, how long that is held back, and whether the connection ends behind it."""
+    passed on, how long that is held back, and whether the connection ends after it."""
 
     def __init__(self, target, fate):
         self.target, self.fate, self.number, self.lock = target, fate, 0, threading.Lock()
@@ -89,7 +89,7 @@ def held_back(which, seconds):
 
 
 def damaged(message, chance):
-    """The message with another byte in the place of one behind its synchronization: no frame any more, or the same as it was."""
+    """The message with another byte in the place of one after its synchronization: no frame any more, or the same as it was."""
     place = chance.randrange(2, len(message))
     return message[:place] + b"\x00" + message[place + 1 :]
 
@@ -127,7 +127,7 @@ def jobs_of(path):
             found.append(data[at : at + size])
             at += size
         jobs.append((state, kind, found))
-    assert at == len(data), f"{path} goes on behind its jobs"
+    assert at == len(data), f"{path} goes on after its jobs"
     return jobs
 
 
@@ -247,9 +247,9 @@ def main(program, seeds=5):
         messages = pool.submit(check, "as it is", small, 1000, as_it_is, True).result()
         waits = [pool.submit(check, "as it is, of all kinds", large, 1000, as_it_is, True)]
         for count in range(1, 37):
-            waits.append(pool.submit(check, f"ended behind byte {count} of the caller", small, 1000, cut_behind(count, True)))
+            waits.append(pool.submit(check, f"ended after byte {count} of the caller", small, 1000, cut_behind(count, True)))
         for count in range(1, 28):
-            waits.append(pool.submit(check, f"ended behind byte {count} of the one called", small, 1000, cut_behind(count, False)))
+            waits.append(pool.submit(check, f"ended after byte {count} of the one called", small, 1000, cut_behind(count, False)))
         for which in range(1, messages + 1):
             waits.append(pool.submit(check, f"message {which} held back", small, 300, held_back(which, 0.6), is_late=True))
         waits += [pool.submit(check_patience) for _ in range(4)]
