@@ -23,11 +23,14 @@ use Rattle.rje_commands.specs.CommandFault.{IsFailing, of_station, status_of}
 use Rattle.rje_commands.specs.Commands.{OfFile}
 use Rattle.rje_commands.specs.NamedFile.{IsReadFault, IsWriteFault}
 use Rattle.rje_orders.specs.declared.order.Destination.{Destination}
+use Rattle.rje_orders.specs.declared.order.ExchangeOrder.{ExchangeOrder}
+use Rattle.rje_orders.specs.declared.order.SocketOrder.{SocketOrder}
 use Rattle.rje_orders.specs.declared.order.Existing.TheVariants.{Replace}
 use Rattle.rje_sockets.specs.Ending.{IsRefusedFile, IsUnsentFault}
 use Rattle.rje_sockets.specs.InFront.{IsDestinationFault, IsRefusedDestination, IsStandingFault, LooksInto}
 use Rattle.rje_sockets.specs.Inside.Sending.{IsExchangeFault, IsSendFault}
 use Rattle.rje_sockets.specs.NamedFiles.{NamesOne, NamesWritten}
+use Rattle.rje_sockets.specs.SocketCommand.{IsSocketFault}
 use Rattle.rje_sockets.proofs.NamedFiles.{names_more}
 use Rattle.rje_stores.specs.Store.{FileMap}
 use Rattle.rje_commands.proofs.Inputs.{of_file}
@@ -132,10 +135,10 @@ destination_status into files f status (inl (fails, names)) told = told_status f
 destination_status into files f status (inr (file, is, read)) told = told_status f status (standing_status into file f is) told
 
 pub destination_refuses : (into : Destination) (files : Option FileMap) (f : CommandFault) (status : ℕ) → IsDestinationFault into files f → (status ≡ 3) ⊎ (status ≡ status_of f)
-    → status ≡ 1 → OfFile into.jobs.now files (IsRefusedDestination into)
+    → status ≡ 1 → IsRefusedDestination into files
 destination_refuses into files f status is (inl three) one = absurd (omega (arith, three, one))
 destination_refuses into files f status (inl (fails, names)) (inr told) one = absurd (never_1 (status_of f) fails (sym told ∙ one))
-destination_refuses into files f status (inr (file, is, read)) (inr told) one = of_file (IsRefusedDestination into) file (f, is, sym told ∙ one) into.jobs.now files read
+destination_refuses into files f status (inr (file, is, read)) (inr told) one = (f, (file, is, read), sym told ∙ one)
 
 -- or what is sent
 pub exchange_status : (send : List ℕ) (into : Destination) (files : Option FileMap) (f : CommandFault) (status : ℕ) → IsExchangeFault send into files f → (status ≡ 3) ⊎ (status ≡ status_of f)
@@ -145,11 +148,11 @@ exchange_status send into files f status (inr (inl (file, is, read))) told = tol
 exchange_status send into files f status (inr (inr (file, is, read))) told = told_status f status (standing_status into file f is) told
 
 pub exchange_refuses : (send : List ℕ) (into : Destination) (files : Option FileMap) (f : CommandFault) (status : ℕ) → IsExchangeFault send into files f → (status ≡ 3) ⊎ (status ≡ status_of f)
-    → status ≡ 1 → OfFile send files IsRefusedFile ⊎ OfFile into.jobs.now files (IsRefusedDestination into)
+    → status ≡ 1 → OfFile send files IsRefusedFile ⊎ IsRefusedDestination into files
 exchange_refuses send into files f status is (inl three) one = absurd (omega (arith, three, one))
 exchange_refuses send into files f status (inl (fails, names)) (inr told) one = absurd (never_1 (status_of f) fails (sym told ∙ one))
 exchange_refuses send into files f status (inr (inl (file, is, read))) (inr told) one = inl (of_file IsRefusedFile file (f, is, sym told ∙ one) send files read)
-exchange_refuses send into files f status (inr (inr (file, is, read))) (inr told) one = inr (of_file (IsRefusedDestination into) file (f, is, sym told ∙ one) into.jobs.now files read)
+exchange_refuses send into files f status (inr (inr (file, is, read))) (inr told) one = inr (f, (file, is, read), sym told ∙ one)
 
 pub exchange_fails_so : {X : Type 0} (r : Result X CommandFault) (send : List ℕ) (into : Destination) (files : Option FileMap) → IfErr r (λ fault. IsFailing (status_of fault))
     → IfErr r (NamesOne (λ n. (n ≡ send) ⊎ LooksInto into n) (λ n. (n ≡ send) ⊎ (n ≡ into.jobs.now))) → IfErr r (IsExchangeFault send into files)
@@ -186,3 +189,27 @@ pub file_fails_so : (into : Destination) (files : Option FileMap) (bytes : List 
     → OfFile into.jobs.now files (λ read. bytes ≡ read) → IsDestinationFault into files (told.File f)
 file_fails_so into files bytes f other (inl memory) read = rw memory (inl (inr (inl refl), tt))
 file_fails_so into files bytes f other (inr is) read = inr (bytes, (other, is), read)
+
+-- WHY AN ORDER ISN'T CARRIED OUT
+
+-- a file that is refused is no file that fails
+unsent_names : (file : List ℕ) (f : CommandFault) (R W : List ℕ → Type 0) → IsUnsentFault file f → NamesOne R W f
+unsent_names file (told.File _) R W is = tt
+unsent_names file (told.BadJob number) R W is = tt
+unsent_names file _ R W is = absurd is
+
+standing_names : (into : Destination) (file : List ℕ) (f : CommandFault) (R W : List ℕ → Type 0) → IsStandingFault into file f → NamesOne R W f
+standing_names into file (told.File _) R W is = tt
+standing_names into file (told.HoldsJobs name) R W is = tt
+standing_names into file _ R W is = absurd is
+
+pub exchange_refused : (order : ExchangeOrder) (files : Option FileMap) (f : CommandFault) → IsExchangeFault order.send.now order.received files f → IsSocketFault (SocketOrder.Exchange order) files f
+exchange_refused order files f (inl (fails, names)) = inl (fails, names)
+exchange_refused order files f (inr (inl (file, is, read))) = elim (unsent_status file f is) [
+  | inl one ↦ inr (one, inl (of_file (λ file. IsUnsentFault file f) file is order.send.now files read))
+  | inr fails ↦ inl (fails, unsent_names file f _ _ is)
+]
+exchange_refused order files f (inr (inr (file, is, read))) = elim (standing_status order.received file f is) [
+  | inl one ↦ inr (one, inr (file, is, read))
+  | inr fails ↦ inl (fails, standing_names order.received file f _ _ is)
+]

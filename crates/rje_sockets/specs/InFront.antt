@@ -43,6 +43,10 @@ IsStandingFault into file (CommandFault.HoldsJobs name) =
     (into.existing ≡ Refuse) × (name.now ≡ into.jobs.now) × ((entries : List Entry) × HasEntries entries file × (entries ≢ []))
 IsStandingFault into file _ = ⊥
 
+-- so it is of the file of a destination: where the files are told, that of its name
+abbrev pub HasStandingFault : Destination → (files : Option FileMap) → CommandFault → Type 0
+HasStandingFault into files fault = (file : List ℕ) × IsStandingFault into file fault × OfFile into.jobs.now files (λ read. file ≡ read)
+
 -- the file that is received into is read where its jobs are not replaced
 abbrev pub LooksInto : Destination → (name : List ℕ) → Type 0
 LooksInto into name = (into.existing ≢ Replace) × (name ≡ into.jobs.now)
@@ -50,9 +54,8 @@ LooksInto into name = (into.existing ≢ Replace) × (name ≡ into.jobs.now)
 -- a line, an output, memory or that file fails, or the file isn't received into
 abbrev pub IsDestinationFault : Destination → (files : Option FileMap) → CommandFault → Type 0
 IsDestinationFault into files fault =
-    (IsFailing (status_of fault) × NamesOne (LooksInto into) (λ name. name ≡ into.jobs.now) fault)
-    ⊎ ((file : List ℕ) × IsStandingFault into file fault × OfFile into.jobs.now files (λ read. file ≡ read))
+    (IsFailing (status_of fault) × NamesOne (LooksInto into) (λ name. name ≡ into.jobs.now) fault) ⊎ HasStandingFault into files fault
 
 -- the file isn't received into, and it isn't for want of memory
-abbrev pub IsRefusedDestination : Destination → (file : List ℕ) → Type 0
-IsRefusedDestination into file = (fault : CommandFault) × IsStandingFault into file fault × (status_of fault ≡ 1)
+abbrev pub IsRefusedDestination : Destination → (files : Option FileMap) → Type 0
+IsRefusedDestination into files = (fault : CommandFault) × HasStandingFault into files fault × (status_of fault ≡ 1)

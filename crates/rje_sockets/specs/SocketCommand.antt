@@ -9,7 +9,7 @@ use Rattle.rje_sockets.specs.Answering.{KeepsAnswered}
 use Rattle.rje_sockets.specs.Ending.{IsUnsentFault, Receives, SendsLeft}
 use Rattle.rje_sockets.specs.Exchanging.{ExchangesLeft, rank_at}
 use Rattle.rje_sockets.specs.LeavingBoth.{LeavesExchange}
-use Rattle.rje_sockets.specs.InFront.{IsStandingFault, LooksInto}
+use Rattle.rje_sockets.specs.InFront.{HasStandingFault, LooksInto}
 use Rattle.rje_sockets.specs.Looping.{IsUnloopedFault, Loops}
 use Rattle.rje_sockets.specs.Marking.{MarksNoMore}
 use Rattle.rje_sockets.specs.NamedFiles.{NamesOne}
@@ -43,9 +43,9 @@ LeavesFiles (SocketOrder.Exchange order) files made =
 abbrev pub Refuses : SocketOrder → Option FileMap → CommandFault → Type 0
 Refuses (SocketOrder.Loop order) files fault = OfFile order.jobs.now files (λ file. IsUnloopedFault file fault)
 Refuses (SocketOrder.Send order) files fault = OfFile order.jobs.now files (λ file. IsUnsentFault file fault)
-Refuses (SocketOrder.Receive order) files fault = OfFile order.into.jobs.now files (λ file. IsStandingFault order.into file fault)
+Refuses (SocketOrder.Receive order) files fault = HasStandingFault order.into files fault
 Refuses (SocketOrder.Exchange order) files fault =
-    OfFile order.send.now files (λ file. IsUnsentFault file fault) ⊎ OfFile order.received.jobs.now files (λ file. IsStandingFault order.received file fault)
+    OfFile order.send.now files (λ file. IsUnsentFault file fault) ⊎ HasStandingFault order.received files fault
 
 -- the order reads the file of this name
 abbrev pub ReadsFile : SocketOrder → List ℕ → Type 0

@@ -9,7 +9,7 @@ use Rattle.rje_commands.specs.Commands.{OfFile}
 use Rattle.rje_sockets.specs.declared.marker.Marker.{Marker}
 use Rattle.rje_sockets.specs.Ending.{IsUnsentFault}
 use Rattle.rje_orders.specs.declared.order.Destination.{Destination}
-use Rattle.rje_sockets.specs.InFront.{IsStandingFault, LooksInto}
+use Rattle.rje_sockets.specs.InFront.{HasStandingFault, LooksInto}
 use Rattle.rje_sockets.specs.NamedFiles.{NamesOne}
 use Rattle.rje_stores.specs.Store.{FileMap}
 
@@ -32,5 +32,4 @@ IsSendFault Written name files fault =
 abbrev pub IsExchangeFault : (send : List ℕ) → (into : Destination) → Option FileMap → CommandFault → Type 0
 IsExchangeFault send into files fault =
     (IsFailing (status_of fault) × NamesOne (λ name. (name ≡ send) ⊎ LooksInto into name) (λ name. (name ≡ send) ⊎ (name ≡ into.jobs.now)) fault)
-    ⊎ (((file : List ℕ) × IsUnsentFault file fault × OfFile send files (λ read. file ≡ read))
-    ⊎ ((file : List ℕ) × IsStandingFault into file fault × OfFile into.jobs.now files (λ read. file ≡ read)))
+    ⊎ (((file : List ℕ) × IsUnsentFault file fault × OfFile send files (λ read. file ≡ read)) ⊎ HasStandingFault into files fault)

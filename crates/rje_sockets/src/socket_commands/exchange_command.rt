@@ -112,8 +112,7 @@ pub fn exchange_over<L: Line, S: Store, O: Write, E: Write>(
         (O.contents out.old) (O.contents out.new) }
     ensures status { (result ≡ 0) ⊎ ((result ≡ 4) ⊎ ((result ≡ 1) ⊎ IsFailing result)) }
     ensures refused { result ≡ 1 → OfFile send.now (S.files store.old) IsRefusedFile
-        ⊎ OfFile received.entry.jobs.now (S.files store.old)
-        (IsRefusedDestination received.entry) }
+        ⊎ IsRefusedDestination received.entry (S.files store.old) }
     ensures files { IfSome (S.files store.old) (λ _. LeavesExchange (line.new ≡ line.old) rank
         send.now received.entry (S.files store.old) (S.files store.new)) }
     ensures files_kept { result ≡ 1 → Discloses (S.files store.old) (S.files store.new) IsSame }

@@ -4,7 +4,6 @@ ghost use Rattle.std.specs.Result.{IsOkAnd};
 ghost use Rattle.rje_files.specs.declared.entry.Entry.{Entry};
 ghost use Rattle.rje_sockets.specs.Answering.{KeepsAnswered};
 ghost use Rattle.rje_commands.specs.CommandFault.{IsFailing, status_of};
-ghost use Rattle.rje_commands.specs.Commands.{OfFile};
 ghost use Rattle.rje_commands.specs.declared.command_fault.CommandFault.TheVariants.{OutOfMemory};
 ghost use Rattle.rje_sockets.specs.BrokenOff.{of_broken_off};
 ghost use Rattle.rje_sockets.specs.Ending.{MakesJobFile, Receives, EndsReceiving};
@@ -80,8 +79,7 @@ pub fn receive_over<L: Line, S: Store, O: Write, E: Write>(
         (L.talk line.new, L.transmissions line.new) into.entry
         (S.files store.old) (S.files store.new) (O.contents out.old) (O.contents out.new) }
     ensures status { (result ≡ 0) ⊎ ((result ≡ 4) ⊎ ((result ≡ 1) ⊎ IsFailing result)) }
-    ensures refused { result ≡ 1 → OfFile into.entry.jobs.now (S.files store.old)
-        (IsRefusedDestination into.entry) }
+    ensures refused { result ≡ 1 → IsRefusedDestination into.entry (S.files store.old) }
     ensures kept { IfSome (S.files store.old) (λ _. KeepsAnswered into.entry
         (S.files store.old) (S.files store.new)
         (L.transmissions line.old) (L.transmissions line.new)) }
