@@ -119,7 +119,7 @@ class Job(typing.NamedTuple):
 
 
 def job_of(name, count=0):
-    """A job with this name as its first record; with a count it has so many more, of 120 letters each, and so two texts."""
+    """A job with this name as its first record; with a count it has that many more, of 120 letters each, and so two texts."""
     records = [name.encode("cp037"), *(f"{name}{number}".ljust(120, "X").encode("cp037") for number in range(count))]
     return Job([records[:4], records[4:]] if count else [records])
 
@@ -184,7 +184,7 @@ class Fate(typing.NamedTuple):
 
 
 class Steady:
-    """All messages take so many seconds, and come so many apart at least; the texts of these numbers are spoiled."""
+    """All messages take this many seconds, and come `apart` seconds apart at least; the texts of these numbers are spoiled."""
 
     def __init__(self, seconds=0.0, spoils=(), apart=0.0):
         self.seconds, self.spoils, self.apart, self.texts, self.spoiled_most = seconds, spoils, apart, 0, seconds
@@ -513,7 +513,7 @@ class Peer:
 
 
 class Starter:
-    """A process that starts those of the program, so that nobody who keeps times waits for a start. Their outputs go into files."""
+    """A process that starts those of the program, so that no end that keeps times waits for a start. Their outputs go into files."""
 
     def __init__(self, loop):
         self.loop, self.ends, self.numbers = loop, {}, itertools.count()
@@ -549,7 +549,7 @@ class Starter:
 
 
 def start_and_tell(channel):
-    """Starts or stops what is asked for over this channel and tells how each ended, until the channel is closed."""
+    """Starts or stops what is asked for over this channel and reports how each ended, until the channel is closed."""
     selector, handles = selectors.DefaultSelector(), {}
     selector.register(channel, selectors.EVENT_READ)
     while True:
@@ -583,7 +583,7 @@ def started(words, path, environment):
 
 
 def outputs_of(path):
-    """What a process printed, and the lines that it told, but for those about a time-out that is short."""
+    """What a process printed, and the lines that it reported, but for those about a time-out that is short."""
     with open(f"{path}.out") as out, open(f"{path}.err") as err:
         return out.read(), [line for line in err.read().splitlines() if " is short: " not in line]
 
@@ -615,7 +615,7 @@ class Plan(typing.NamedTuple):
 
 class Outcome(typing.NamedTuple):
     """What became of a conversation: the statuses of both ends (None: a peer), for each direction what is wrong with the jobs that came (or
-    None), other faults, what both printed and told, what was said, whether a round trip took too long, and whether an end spoke again too
+    None), other faults, what both printed and reported, what was said, whether a round trip took too long, and whether an end spoke again too
     soon, which is no fault of the machine."""
 
     plan: typing.Any
@@ -752,7 +752,7 @@ class Conversation:
 
 
 def hold(program, plans, at_once=AT_ONCE):
-    """Holds these conversations, so many at once, and gives their outcomes. What was too slow is held again, up to three times in all."""
+    """Holds these conversations, `at_once` at a time, and gives their outcomes. What was too slow is held again, up to three times in all."""
     starter, waiting, outcomes, is_open = Starter(Loop()), collections.deque((plan, 1) for plan in plans), [], [0]
 
     def done(count, outcome):
@@ -865,7 +865,7 @@ def figures(text):
 
 
 def clean_fault(outcome, label, ends_well=False):
-    """What is wrong with a conversation of which no sender may end with 0 where its jobs are lost or doubled."""
+    """What is wrong with a conversation in which no sender may end with 0 where its jobs are lost or doubled."""
     told = list(outcome.faults)
     for status, wrong in zip(outcome.statuses, outcome.wrong):
         if wrong and not status:
@@ -923,7 +923,7 @@ def check_slow(checks, program, library):
 
 
 def check_behind(checks, program):
-    """An answer that comes after EOT, up to the peer's hanging up, is told, and nothing else is."""
+    """An answer that comes after EOT, up to the peer's hanging up, is reported, and nothing else is."""
     plans = []
     for command, said in itertools.product(("send", "exchange"), (ACK0, ACK1, NAK, WACK, RVI, b"")):
         ends = [End(command, FEW, 1.0), End(habits=Habits(behind=said))]
@@ -983,7 +983,7 @@ def check_sayings(checks, program):
 
 
 def check_short(checks, program):
-    """The end that listens tells a time-out that is shorter than what its peer takes between an answer and its text, and tells it once."""
+    """The end that listens reports a time-out that is shorter than what its peer takes between an answer and its text, and reports it once."""
     folder, port = tempfile.mkdtemp(), free_port()
     words = [program, "receive", f"{folder}/got", "--listen", f"127.0.0.1:{port}", "--timeout", "20"]
     receiver = subprocess.Popen(words, stdin=subprocess.DEVNULL, stdout=subprocess.PIPE, stderr=subprocess.PIPE, text=True)
@@ -1033,7 +1033,7 @@ def ways_of(outcomes):
 
 
 def check_beyond(checks, kinds):
-    """Of the conversations of these kinds beyond the premise that are wrong, nine of ten are told by a status."""
+    """Of the conversations of these kinds beyond the premise that are wrong, nine of ten are reported by a status."""
     told = []
     for kind, outcomes in kinds.items():
         figures(f"{kind}: {len(outcomes)} conversations; {ways_of(outcomes)}")

@@ -13,7 +13,7 @@ from connected import ENQ, FOLDER, Receiver, Sender, job_of, jobs_in, length_of,
 import relayed  # noqa: E402
 from relayed import free_port, is_listening  # noqa: E402
 
-# So many seconds a command may take.
+# How many seconds a command may take.
 PATIENCE = 20.0
 JOBS = [job_of("ONE"), job_of("TWO", 6), job_of("THREE")]
 OLD = [job_of("OLD")]
@@ -87,7 +87,7 @@ class Folder:
 
 
 def peeked(process):
-    """What an ended process told, which `ended` gives too."""
+    """What an ended process reported, which `ended` gives too."""
     process.told = process.stderr.read()
     return process.told
 
@@ -103,7 +103,7 @@ def waits_for(is_so):
 
 
 def ended(process):
-    """The status of a process, and what it printed and told, but for a time-out that is short."""
+    """The status of a process, and what it printed and reported, but for a time-out that is short."""
     try:
         printed, told = process.communicate(timeout=PATIENCE)
     except subprocess.TimeoutExpired:

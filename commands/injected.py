@@ -30,7 +30,7 @@ from relayed import SENT, WAITING, WHOLE, counted_in  # noqa: E402
 WORKERS, MOST_CALLS, KILLED = 3, 1000, -9
 NOBODY = 65534
 DECK = OLD
-# The names of files in what is told.
+# The names of files in what is reported.
 KIND = re.compile(r"held|got|pay\.job|a\.deck")
 
 
@@ -61,7 +61,7 @@ class Case:
         return in_state(OLD, [WAITING]) if "--append" in self.words else []
 
     def run(self, folder, left=JOBS, **further):
-        """How it ended, what came of what it sends, of which these jobs are left, and how many were counted of what it receives."""
+        """How it ended, what came of the jobs that it sends, these of which are left, and how many were counted of what it receives."""
         if self.listens:
             process, port = folder.listening(*self.words, "--timeout", "5000", **further)
             counted, came = 0, []
@@ -92,7 +92,7 @@ CASES = [
 
 
 def told_lines(case):
-    """What may be told of its files."""
+    """What may be reported of its files."""
     names = [name for name in (case.sends, case.receives) if name] or ["held"]
     lines = [line for name in names for line in (f"can't write {name}", f"can't read {name}", f"{name} is written, but the disk may not have it")]
     return {f"rje: {line}\n" for line in [*lines, "can't read a.deck"]}
@@ -278,7 +278,7 @@ def sends_all_or_nothing(folder, name, label, given, words, room=None, **further
 
 
 def within_size(program, version, size):
-    """A sender whose files may have so many bytes."""
+    """A sender whose files may have `size` bytes."""
     with Folder(program) as folder:
         case = Case("", [], sends="pay.job", version=version, given=OTHERS)
         case.prepare(folder)
@@ -289,7 +289,7 @@ def within_size(program, version, size):
 
 
 def on_disk(program, options):
-    """A sender on a disk of these options: of so many bytes or files. None where none can be mounted."""
+    """A sender on a disk of these options, which limit its bytes or its files. None where none can be mounted."""
     with Folder(program) as folder:
         os.mkdir(folder.at("disk"))
         mount = ["mount", "-t", "tmpfs", "-o", options, "tmpfs", folder.at("disk")]
@@ -378,7 +378,7 @@ def in_mode(program, mode):
 
 
 def left_by_another(program):
-    """What another user's command leaves that was killed, whatever its mask, refuses nobody; and a file of a lock's name that isn't empty is none."""
+    """What another user's killed command leaves, whatever its mask, keeps no one out; and a file of a lock's name that isn't empty isn't a lock."""
     faults, is_root = Faults(), os.getuid() == 0
     with Folder(program) as folder:
         os.chmod(folder.path, 0o777)

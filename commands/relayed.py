@@ -71,7 +71,7 @@ def as_it_is(message, number, is_caller):
 
 
 def cut_behind(count, of_caller):
-    """The connection ends once so many bytes of the one end have passed."""
+    """The connection ends once `count` bytes of the one end have passed."""
     left = [count]
 
     def fate(message, number, is_caller):
@@ -137,7 +137,7 @@ def counted_in(text):
 
 
 def lost_or_doubled(given, counted, came):
-    """What is wrong with the jobs that came, where so many of those given were counted; None where nothing is."""
+    """What is wrong with the jobs that came, where `counted` of those given were counted; None where nothing is."""
     whole = [job for job in came if job[0] == WHOLE]
     if [job[0] for job in came] not in ([WHOLE] * len(whole), [WHOLE] * len(whole) + [CUT]):
         return "a job that was cut is not the last one"

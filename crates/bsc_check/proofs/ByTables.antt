@@ -28,7 +28,7 @@ shifts_add (suc m) n x = let e : suc m + n ≡ suc (m + n) = omega arith in rw e
 more_shifts : (n x : ℕ) → shifts n (shifts 8 x) ≡ shifts (n + 8) x
 more_shifts n x = let e : 8 + n ≡ n + 8 = omega arith in sym (shifts_add 8 n x) ∙ ap (λ k. shifts k x) e
 
--- what is added to a register without carries goes through the shifts of all bytes behind it
+-- what is added to a register without carries goes through the shifts of all bytes after it
 after_xor : (x y : ℕ) (bs : List ℕ) → register_after (bit_xor x y) bs ≡ bit_xor (register_after x bs) (shifts (8 * length bs) y)
 unfolding shifts
 after_xor x y [] = refl
@@ -63,7 +63,7 @@ six d e f g h i =
     ∙ ap (λ x. bit_xor x (shifts 24 g)) (first h (i ∷ [])
     ∙ ap (λ x. bit_xor x (shifts 16 h)) (last i)))))
 
--- eight bytes, of which the first two meet the register
+-- eight bytes, the first two of which meet the register
 pub register_by_tables : (c a b d e f g h i : ℕ) → a < 256 → register_after c (a ∷ b ∷ d ∷ e ∷ f ∷ g ∷ h ∷ i ∷ [])
     ≡ bit_xor (bit_xor (bit_xor (bit_xor (bit_xor (bit_xor (bit_xor (shifts 8 i) (shifts 16 h)) (shifts 24 g)) (shifts 32 f)) (shifts 40 e)) (shifts 48 d)) (shifts 56 (bit_xor (c / 256) b))) (shifts 64 (bit_xor (c % 256) a))
 register_by_tables c a b d e f g h i ha =
@@ -86,7 +86,7 @@ eight_are (a ∷ b ∷ d ∷ e ∷ f ∷ g ∷ h ∷ []) n = absurd (omega arith
 eight_are (a ∷ b ∷ d ∷ e ∷ f ∷ g ∷ h ∷ i ∷ []) n = refl
 eight_are (a ∷ b ∷ d ∷ e ∷ f ∷ g ∷ h ∷ i ∷ x ∷ xs) n = absurd (omega arith)
 
--- the same of a list of eight bytes, and of the two bytes of a register
+-- likewise for a list of eight bytes, and for the two bytes of a register
 pub register_of_eight : (c : ℕ) (bs : List ℕ) → length bs ≡ 8 → c < 2 ^ 16 → get_or bs 0 0 < 256 → register_after c bs
     ≡ bit_xor (bit_xor (bit_xor (bit_xor (bit_xor (bit_xor (bit_xor (shifts 8 (get_or bs 7 0)) (shifts 16 (get_or bs 6 0))) (shifts 24 (get_or bs 5 0))) (shifts 32 (get_or bs 4 0))) (shifts 40 (get_or bs 3 0))) (shifts 48 (get_or bs 2 0))) (shifts 56 (bit_xor (c / 256 % 256) (get_or bs 1 0)))) (shifts 64 (bit_xor (c % 256) (get_or bs 0 0)))
 register_of_eight c bs n hc ha =

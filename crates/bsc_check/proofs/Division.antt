@@ -41,7 +41,7 @@ length-add_at_front [] p = refl
 length-add_at_front (x ∷ g) [] = refl
 length-add_at_front (x ∷ g) (y ∷ p) = ap suc (length-add_at_front g p)
 
--- what is added behind the coefficients that are cancelled may be added afterwards
+-- what is added after the coefficients that are cancelled may be added afterwards
 pub cancel-add_at_front : (n : ℕ) (s w : List Bool) → length s ≡ n + 16 → cancel n (add_at_front s (replicate n false ++ w)) ≡ add_at_front (cancel n s) w
 cancel-add_at_front zero s w h = refl
 cancel-add_at_front (suc n) [] w h = absurd (omega arith)
@@ -61,7 +61,7 @@ xor_false : (b : Bool) → plus b false ≡ b
 xor_false true = refl
 xor_false false = refl
 
--- a polynomial is its front with zeros behind, and the rest with zeros in front
+-- a polynomial is its front followed by zeros, and the rest with zeros in front
 pub split_front : (k : ℕ) (b v : List Bool) → b ++ v ≡ add_at_front (b ++ replicate k false) (replicate (length b) false ++ v)
 split_front k [] v = sym (add_zeros k v)
 split_front k (x ∷ b) v =
@@ -69,7 +69,7 @@ split_front k (x ∷ b) v =
     let f : plus x false ≡ x = xor_false x in
     cc
 
--- what is left of n coefficients after division goes on with what comes behind them
+-- what is left of n coefficients after division goes on with what comes after them
 pub cancel_behind : (b v : List Bool) → cancel (length b) (b ++ v) ≡ add_at_front (cancel (length b) (b ++ replicate 16 false)) v
 cancel_behind b v =
     ap (cancel (length b)) (split_front 16 b v)

@@ -10,7 +10,7 @@ use Rattle.bsc_check.specs.Check.{low_bits, from_bits, polynomial, check_of, IsC
 use Rattle.bsc_check.specs.Inside.Shifts.{shift, shifts, register_after}
 use Rattle.bsc_check.proofs.Division.{add_front_only, cancel_behind, cancel-add, length-cancel}
 
--- so many bits are so many
+-- the low `k` bits are `k` bits
 pub length-low_bits : (k n : ℕ) → length (low_bits k n) ≡ k
 length-low_bits zero n = refl
 length-low_bits (suc k) n = ap suc (length-low_bits k (n / 2))
@@ -74,7 +74,7 @@ unfolding shifts
 shifts_below zero c h = h
 shifts_below (suc n) c h = shifts_below n (shift c) (shift_below c h)
 
--- so many shifts cancel so many coefficients
+-- `n` shifts cancel `n` coefficients
 pub cancel_shifts : (n c : ℕ) (rest : List Bool) → c < 2 ^ 16 → cancel n (low_bits 16 c ++ (replicate n false ++ rest)) ≡ low_bits 16 (shifts n c) ++ rest
 unfolding shifts
 cancel_shifts zero c rest h = refl
@@ -88,11 +88,11 @@ cancel_shifts (suc n) c rest h =
 abbrev pub message : List ℕ → List Bool
 message bytes = flat_map (low_bits 8) bytes
 
--- the remainder of coefficients with sixteen zeros behind them
+-- the remainder of coefficients followed by sixteen zeros
 pub remainder_of : (b : List Bool) → remainder (b ++ replicate 16 false) ≡ cancel (length b) (b ++ replicate 16 false)
 remainder_of b = ap (λ n. cancel n (b ++ replicate 16 false)) (omega (arith, length-append b (replicate 16 false)))
 
--- the coefficients of one more byte come behind
+-- the coefficients of one more byte come last
 pub message_push : (bytes : List ℕ) (x : ℕ) → message (bytes ++ x ∷ []) ≡ message bytes ++ low_bits 8 x
 message_push [] x = append-nil (low_bits 8 x)
 message_push (y ∷ bytes) x = ap (λ v. low_bits 8 y ++ v) (message_push bytes x) ∙ sym (append_assoc (low_bits 8 y) (message bytes) (low_bits 8 x))

@@ -20,7 +20,7 @@ generator_tail =
     false ∷ false ∷ false ∷ false ∷ false ∷ true ∷ false ∷ true ∷ []
 
 -- long division by the generator: each of the first n coefficients that isn't zero is cancelled by
--- subtracting the generator there; what is left behind them
+-- subtracting the generator there; what is left after them
 abbrev pub cancel : ℕ → List Bool → List Bool
 cancel zero p = p
 cancel (suc n) [] = []

@@ -1,4 +1,4 @@
-//! Many bytes more, eight at once, by a table for each of their places: a byte goes through the shifts of those behind it too.
+//! Many bytes more, eight at once, by a table for each of their places: a byte goes through the shifts of those after it too.
 ghost use Rattle.std.specs.Prelude.{◌≡◌, ◌+◌, ◌*◌, ◌<◌};
 ghost use Rattle.bsc_check.specs.Inside.Shifts.{shifts, register_after};
 
@@ -190,7 +190,7 @@ const TABLES: [[u16; 256]; 7] = [
     ],
 ];
 
-/// What so many shifts and sixteen, eight for each of `more`, make of a byte.
+/// What a byte becomes by sixteen shifts, and by eight more for each of `more`.
 #[tactic(auto, using(crate::proofs::ByTables::entry_is))]
 fn later_entry(more: usize, byte: u8) -> u16
     requires { more < 7 }
@@ -226,7 +226,7 @@ pub(crate) fn register_after_all(register: u16, bytes: &[u8]) -> u16
     register
 }
 
-/// The register after eight bytes and eight more, as often as there are so many, and the bytes that are left.
+/// The register after eight bytes at a time, as long as there are eight, and the bytes that are left.
 fn after_eights(register: u16, bytes: &[u8]) -> (u16, &[u8])
     ensures { register_after result.0 result.1.now ≡ register_after register bytes.now }
 {

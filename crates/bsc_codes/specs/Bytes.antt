@@ -69,7 +69,7 @@ NAK = 0x3D
 abbrev pub BLANK : ℕ
 BLANK = 0x40
 
--- the pad that is written behind a transmission
+-- the pad that is written after a transmission
 abbrev pub PAD : ℕ
 PAD = 0xFF
 

@@ -36,7 +36,7 @@ pub const EOT: u8 = 0x37;
 pub const NAK: u8 = 0x3D;
 /// The blank of EBCDIC.
 pub const BLANK: u8 = 0x40;
-/// The pad that is written behind a transmission.
+/// The pad that is written after a transmission.
 pub const PAD: u8 = 0xFF;
 
 /// The bytes that control the line, and so can't stand in normal text.

@@ -15,7 +15,7 @@ append_step : (s t : List ℕ) (q : HeardSoFar) (n : Progress) → ((r : HeardSo
 append_step s t q (On r) more e = more r e
 append_step s t q (Got f) more e = absurd cc
 
--- more bytes behind those with which so much has come
+-- more bytes after those by which `q` was heard so far
 pub run-append : (p q : HeardSoFar) (s t : List ℕ) → run p s ≡ Waits q → run p (s ++ t) ≡ run q t
 run-append p q [] t e = let same : p ≡ q = cc in ap (λ r. run r t) same
 run-append p q (c ∷ s) t e = append_step s t q (next p c) (λ r. run-append r q s t) e

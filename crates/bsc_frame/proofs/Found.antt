@@ -92,7 +92,7 @@ leads_no_sync p c =
     cond_both (is_pad c) (On OnlyPads) (cond (eqb c SYN) (On OnlyPads) (On OnlyNoise)) (Leads p c) (λ e. λ f t h. absurd h)
     (λ e. cond_both (eqb c SYN) (On OnlyPads) (On OnlyNoise) (Leads p c) (λ d. λ f t h. absurd h) (λ d. λ f t h. absurd h))
 
--- a byte behind the first SYN
+-- a byte after the first SYN
 pub leads_one_syn : (c : ℕ) → Leads OneSyn c (next OneSyn c)
 leads_one_syn c =
     cond_both (eqb c SYN) (On Syns) (after_no_sync c) (Leads OneSyn c)
@@ -159,7 +159,7 @@ leads_syns c =
 second : (f : Frame) (c d : ℕ) → c ≡ d → Body f (DLE ∷ d ∷ []) → Body f (DLE ∷ c ∷ [])
 second f c d e h = subst (λ b. Body f (DLE ∷ b ∷ [])) (sym e) h
 
--- the byte behind a DLE in its first place
+-- the byte after a DLE in its first place
 pub leads_dle : (c : ℕ) → Leads Dle c (next Dle c)
 leads_dle c =
     let eot = cond (eqb c EOT) (Got frame.Eot) (On OnlyNoise) in
@@ -245,7 +245,7 @@ leads_transparent text c =
     (λ l. λ f t h. subst (λ s. TextRest true text f (s ++ t)) (let s : on_line true (Some c) ≡ c ∷ [] = rw e refl in s) (with_data true text c f t tt (ltb-true (length text) 512 l) h))
     (λ _. λ f t h. absurd h))
 
--- the byte behind a DLE there
+-- the byte after a DLE there
 pub leads_text_dle : (text : List ℕ) (c : ℕ) → Leads (TextDle text) c (next (TextDle text) c)
 leads_text_dle text c =
     let etx = cond (eqb c ETX) (closed true text Etx) (On BadText) in

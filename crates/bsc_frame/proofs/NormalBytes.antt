@@ -14,7 +14,7 @@ use Rattle.bsc_frame.specs.Inside.Listening.NormalText.{is_normal_text}
 abbrev pub Says : ℕ → Bool → Type 0
 Says byte b = MatchBool b (IsNormalText byte) (Contains control_bytes byte)
 
--- each byte is told rightly
+-- the test is right for each byte
 pub tested : (byte : ℕ) → Says byte (is_normal_text byte)
 tested byte = by_control (list_any (λ c. byte == c) control_bytes) refl
   where

@@ -1,4 +1,4 @@
--- What the plain listener answers where the line goes quiet.
+-- What the plain listener hears where the line goes quiet.
 use Rattle.std.proofs.Common.{◌≡◌, ℕ, List, ◌++◌, refl, ap, sym, ◌∙◌}
 use Rattle.bsc_frame.specs.Transmission.{HasNoFrame}
 use Rattle.bsc_frame.specs.Heard.{IsHeard}

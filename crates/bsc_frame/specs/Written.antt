@@ -1,4 +1,4 @@
--- The form in which a frame is written: one transmission of it, without pads in front and without fill, and one pad behind it.
+-- The form in which a frame is written: one transmission of it, without pads in front and without fill, and one pad after it.
 use Rattle.std.specs.Prelude.{ℕ, ◌≡◌, Bool, Some, List, [], ◌∷◌, ◌++◌}
 use Rattle.std.specs.List.{flat_map}
 use Rattle.bsc_codes.specs.Bytes.{STX, DLE, ENQ, SYN, EOT, NAK, PAD}

@@ -174,7 +174,7 @@ fn written_frames_are_heard_in_every_cutting(rt: HostRuntime) {
         if let [all @ .., 0xFF] = bytes {
             assert!(rt; is_heard_at_last(frame, all));
         }
-        // The pad behind a transmission isn't used.
+        // The pad after a transmission isn't used.
         let mut listener = Listener::new();
         let Fed { used, frame: heard } = listener.feed(bytes);
         assert!(rt; used < bytes.len() && used + 1 == bytes.len());
@@ -312,7 +312,7 @@ fn doubled_dles_fill_the_buffer(rt: HostRuntime) {
     let Fed { used, frame } = Listener::new().feed(out.as_slice());
     assert!(rt; used == 1032 && frame.as_ref() == Some(&largest));
 
-    // With a fill behind each pair it is the same block.
+    // With a fill after each pair it is the same block.
     let [first, second] = check_of(&[0x10; 512]);
     let mut listener = Listener::new();
     assert!(rt; makes_no_frame(&mut listener, &[0x32, 0x32, 0x10, 0x02]));

@@ -29,7 +29,7 @@ pub fn write_frame(
 ) -> Result<(), FrameFault>
     ensures ok { OnOk result (Written frame.now out.new.items) }
     ensures err { OnErr result (out.new.items ≡ out.old.items) }
-    // A refusal is told only where its cause holds, and always where one does.
+    // A refusal is reported only where its cause holds, and always where one does.
     ensures fault { IfErr result (λ fault. Refused frame.now fault) }
     ensures refused { (fault : FrameFault) → Refused frame.now fault → result ≡ Err fault }
 {

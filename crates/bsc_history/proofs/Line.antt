@@ -5,7 +5,8 @@ use Rattle.bsc_link.specs.declared.sound.Sound.{Sound}
 use Rattle.bsc_history.specs.declared.sound_fate.SoundFate.{SoundFate}
 use Rattle.bsc_history.specs.Fate.{after_fate, MayBeHeardAs}
 
--- by cases on what was said: a block never comes as an EOT, a TTD neither as a block nor as an EOT, and any other sound as itself or as none
+-- by cases on what was said: a block never comes as an EOT, a TTD neither as a block nor as an EOT, and any other sound as itself, as noise or
+-- as nothing
 abbrev pub ComesAs : Sound → Sound → Type 0
 ComesAs Sound.Quiet heard = heard ≡ Sound.Quiet
 ComesAs Sound.Block heard = heard ≢ Sound.Eot

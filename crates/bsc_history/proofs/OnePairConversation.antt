@@ -22,7 +22,7 @@ use Rattle.bsc_history.specs.PairSchedule.{PairPlace, IsVain, ArePartsAt, IsPair
 use Rattle.bsc_history.proofs.Line.{comes, lost-after}
 use Rattle.bsc_history.proofs.OneConversation.{same-fields, same-turn, broken-place, true-false}
 
--- ---- A turn of which nothing arrives.
+-- ---- A turn in which nothing arrives.
 
 -- silence isn't answered
 quiet-reply : (own : History) (refused : Bool) (wish : Wish) → replying own Sound.Quiet refused wish ≡ None
@@ -39,7 +39,7 @@ vain-reply bid_out plan gives_up past t f quiet = f.replied ∙ ap (λ x. replyi
 vain-heard : (bid_out : Bool) (plan : Plan) (gives_up : Bool) (past : History) (t : SpokenTurn) → Follows plan gives_up past (as_counted bid_out t) → t.arrived ≡ Sound.Quiet → t.heard ≡ Sound.Quiet
 vain-heard bid_out plan gives_up past t f quiet = comes Sound.Quiet t.heard (subst (λ r. MayBeHeardAs (sound_of_reply r) t.heard) (vain-reply bid_out plan gives_up past t f quiet) f.heard)
 
--- a turn of which nothing arrives and nothing is answered follows
+-- a turn in which nothing arrives and nothing is answered follows
 pub vain-follows : (bid_out : Bool) (plan : Plan) (gives_up : Bool) (past : History) (t : SpokenTurn) → is_over past ≡ false → t.said ≡ saying plan gives_up past → t.arrived ≡ Sound.Quiet → t.refused ≡ false → t.reply ≡ None → t.heard ≡ Sound.Quiet
     → Follows plan gives_up past (as_counted bid_out t)
 vain-follows bid_out plan gives_up past t goes said quiet refused reply heard =
@@ -53,7 +53,7 @@ vain-follows bid_out plan gives_up past t goes said quiet refused reply heard =
       heard = (SoundFate.Lost, ap (λ x. after_fate SoundFate.Lost (sound_of_reply x)) reply ∙ ap (λ x. Some x) (sym heard));
     }
 
--- two turns of which nothing arrives are the same at one place after one past
+-- two turns in which nothing arrives are the same at the same place after the same past
 same-vain : (bid_out : Bool) (plan : Plan) (gives_up : Bool) (past : History) (place : SoundTurn) (t u : SpokenTurn) → Follows plan gives_up past (as_counted bid_out t) → Follows plan gives_up past (as_counted bid_out u) → t.arrived ≡ Sound.Quiet → u.arrived ≡ Sound.Quiet
     → IsVain place t → IsVain place u → t ≡ u
 same-vain bid_out plan gives_up past place t u f g quiet still at on =

@@ -91,7 +91,7 @@ plain_rvi spoke Sound.Rvi noted p e = absurd p
 plain_rvi true _ noted p e = e
 plain_rvi false _ noted p e = e
 
--- nobody asks to wait
+-- neither end asks the other to wait
 unasked : (said : Say) (heard : Sound) → said ≢ Say.Delay → IsPlainSound heard → elim heard [ Sound.Wack ↦ true | Sound.Nak ↦ elim said [ Say.Delay ↦ true | _ ↦ false ] | _ ↦ false ] ≡ false
 unasked Say.Delay heard g p = absurd (g refl)
 unasked said Sound.Wack g p = absurd p

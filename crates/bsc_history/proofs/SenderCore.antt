@@ -228,7 +228,7 @@ line-is plan past b i j SenderPlace.Delay odd noted m n arrived refused reply he
 line-is plan past b i j (SenderPlace.End o) odd noted m n arrived refused reply heard wish pause p goes l = absurd l
 line-is plan past b i j (SenderPlace.Over o) odd noted m n arrived refused reply heard wish pause p goes l = absurd l
 
--- what the station above is told
+-- that a line of the table counts a block, as the station above is informed
 counts-line : (past : History) (t : SpokenTurn) (line : TableLine) → LineIs past t line → counts_block line ≡ is_counting past t
 counts-line past t TableLine.Progress is = sym is.1
 counts-line past t TableLine.Count is = sym is.1
@@ -281,7 +281,7 @@ sender-step plan past b i j s t begins p goes said done =
     subst (λ x. Matches plan (turn x t.arrived t.refused t.reply t.heard t.wish t.pause ∷ past) (is_enough i j) (tries_on i past (turn x t.arrived t.refused t.reply t.heard t.wish t.pause)) (holds_on j past (turn x t.arrived t.refused t.reply t.heard t.wish t.pause)) (sender_turn plan (known past) s (turn x t.arrived t.refused t.reply t.heard t.wish t.pause))) e
     (core-step plan past b i j s.place s.odd_counted s.rvi_noted s.tries s.holds t.arrived t.refused t.reply t.heard t.wish t.pause begins p goes (λ q. done (sym e ∙ q)) (rw p.says (saying-speaks plan (is_enough i j) past goes)))
 
--- what the core tells is what counts
+-- the core reports a block as counted where the rule counts it
 pub counts-step : (plan : Plan) (past : History) (b : Bool) (i j : ℕ) (s : SenderState) (t : SpokenTurn) → Matches plan past b i j s → is_over past ≡ false → t.said ≡ saying plan (is_enough i j) past
     → counts_block (line_for s t.heard t.pause) ≡ is_counting past t
 counts-step plan past b i j s t p goes said =

@@ -33,7 +33,7 @@ due-goes (b ∷ plan) gives_up own other e = elim (cases_Bool (is_open other)) [
   ]
 ]
 
--- the turn of a station of which nothing arrives
+-- a station's turn in which nothing arrives
 lost-turn : (bid_out : Bool) (plan : Plan) (gives_up : Bool) (past : History) (place : SoundTurn) → is_over past ≡ false → (t : SpokenTurn) × Follows plan gives_up past (as_counted bid_out t) × IsVain place t × (t.arrived ≡ Sound.Quiet)
 lost-turn bid_out plan gives_up past place goes =
     let t : SpokenTurn = turn (saying plan gives_up past) Sound.Quiet false None Sound.Quiet place.wish place.pause in

@@ -10,7 +10,7 @@ use Rattle.bsc_history.specs.ReplyRule.{replying}
 use Rattle.bsc_history.specs.SayingRule.{saying}
 use Rattle.bsc_history.specs.Fate.{sound_of, sound_of_reply, after_fate, MayBeHeardAs}
 
--- the turn may follow the past, by both rules and the line; a refusal is told of a block alone
+-- the turn may follow the past, by both rules and the line; only a block can be refused
 pub record Follows (plan : Plan) (gives_up : Bool) (past : History) (t : SpokenTurn) : Type 0 where
   pub goes_on : is_over past ≡ false
   pub said : t.said ≡ saying plan gives_up past
@@ -54,7 +54,7 @@ pub record IsSpokenOver (plan : Plan) (places : List SoundTurn) (h : History) : 
   pub conversation : IsConversation plan h
   pub placed : AreAt places h
 
--- the conversation of these blocks over this schedule: with no blocks there is none, and else it goes on until the schedule ends or it
+-- the conversation of these blocks over this schedule: without blocks there are no turns, and else it goes on until the schedule ends or it
 -- is over
 pub record IsConversationOver (plan : Plan) (places : List SoundTurn) (h : History) : Type 0 where
   pub empty : plan ≡ [] → h ≡ []

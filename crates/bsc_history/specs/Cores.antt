@@ -65,7 +65,7 @@ SenderCoreSays =
 abbrev pub SenderCoreKeeps : Type 0
 SenderCoreKeeps = (plan : Plan) (h : History) → BeginsWithJob plan → IsSpoken plan h → KeepsSender h (sender_after plan h)
 
--- it tells that a block was counted just in the counting turns
+-- it reports a block as counted in the counting turns, and in no others
 abbrev pub SenderCoreCounts : Type 0
 SenderCoreCounts =
     (plan : Plan) (t : SpokenTurn) (past : History) → BeginsWithJob plan → IsSpoken plan (t ∷ past)

@@ -1,5 +1,5 @@
 -- What the line does to what is said: it brings it, loses it or damages it. Own profile: no damage passes for a block or an EOT, and a
--- damaged control sequence other than TTD is heard as none.
+-- damaged control sequence other than TTD isn't heard as one.
 use Rattle.std.specs.Prelude.{◌≡◌, Bool, true, false, if◌then◌else◌, Option, Some, None}
 use Rattle.bsc_link.specs.declared.sound.Sound.{Sound}
 use Rattle.bsc_link.specs.declared.say.Say.{Say}

@@ -1,5 +1,5 @@
--- The reply rule: what a receiver answers after a history. IBM GA27-3004; that it makes one RVI at most, that it answers NAK to a TTD,
--- and silence on noise are own profile.
+-- The reply rule: what a receiver replies after a history. IBM GA27-3004; that it makes one RVI at most, that it replies NAK to a TTD,
+-- and nothing to noise are own profile.
 use Rattle.std.specs.Prelude.{ℕ, ◌+◌, Bool, true, false, if◌then◌else◌, [], ◌∷◌, length, Option, Some, None}
 use Rattle.bsc_link.specs.declared.sound.Sound.{Sound}
 use Rattle.bsc_link.specs.declared.wish.Wish.{Wish}

@@ -17,7 +17,7 @@ pub fn ends_agree()
 {}
 
 /// The bridge to the link cores. After every history the sender's core that heard its sounds is due to say what the saying rule says,
-/// ends as the outcome says, keeps the parity, the RVI, the tries and the holds of the history, and tells just the counting turns. While
+/// ends as the outcome says, keeps the parity, the RVI, the tries and the holds of the history, and reports just the counting turns. While
 /// the conversation goes on the receiver's core replies by the reply rule to whatever arrives, accepts just the blocks that are brought,
 /// and keeps the place, the parity, the last reply and the RVI of the history.
 pub fn cores_keep_rules()

@@ -4,7 +4,7 @@ ghost use Rattle.bsc_history.specs.Fate.{is_damage_of};
 
 use bsc_link::Sound;
 
-/// What the line does to what is said, told by what is heard of it.
+/// What the line does to what is said, as the sound that is heard of it.
 #[derive(Clone, Copy, Debug, PartialEq, Eq)]
 pub enum SoundFate {
     /// What was said is heard.

@@ -2,7 +2,7 @@
 use crate::SoundFate;
 use bsc_link::Wish;
 
-/// One turn of a schedule: what the line will do, and what both ends are told.
+/// One turn of a schedule: what the line will do, and what both ends are asked to do.
 #[derive(Clone, Copy, Debug, PartialEq, Eq)]
 pub struct SoundTurn {
     /// What the line does to what the sender says.

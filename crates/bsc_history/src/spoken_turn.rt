@@ -1,7 +1,7 @@
 //! One turn of a conversation.
 use bsc_link::{Reply, Say, Sound, Wish};
 
-/// One turn of a conversation: what was said and replied, what of it came through, and what both ends were told.
+/// One turn of a conversation: what was said and replied, what of it came through, and what both ends were asked to do.
 #[derive(Clone, Copy, Debug, PartialEq, Eq)]
 pub struct SpokenTurn {
     /// What the sender said.

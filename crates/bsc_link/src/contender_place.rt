@@ -3,7 +3,7 @@
 /// Where one of two stations that both have jobs stands.
 #[derive(Clone, Copy, Debug, PartialEq, Eq)]
 pub enum ContenderPlace {
-    /// Nobody's bid was granted.
+    /// No bid was granted.
     Free,
     /// Its own bid was granted.
     Sending,

@@ -1,6 +1,6 @@
-//! What a receiver answers.
+//! What a receiver replies.
 
-/// What the receiver answers.
+/// What the receiver replies.
 #[derive(Clone, Copy, Debug, PartialEq, Eq)]
 pub enum Reply {
     /// An even number of blocks was accepted; the bid is granted.

@@ -41,10 +41,10 @@ ghost use Rattle.bsc_link.specs.Sender.{line_at_bid, line_at_block, line_at_ask,
 use crate::{Next, Outcome, Say, SenderNews, SenderPlace, Sound, TableLine};
 use std::marker::Model;
 
-/// So many tries without progress make the sender give up.
+/// How many tries without progress make the sender give up.
 const MAX_TRIES: u8 = 7;
 
-/// So many holds without progress make the sender give up.
+/// How many holds without progress make the sender give up.
 const MAX_HOLDS: u16 = 300;
 
 /// The sender of one transmission, from the bid to the end.

@@ -1,4 +1,4 @@
--- What an end that awaits answers gives its station, and when it awaits none any more.
+-- What an end that awaits answers gives its station, and when it no longer awaits one.
 use Rattle.std.proofs.Common.{◌≡◌, refl, ap, subst, Bool, true, false, ◌&&◌, not, Option, Some, None, [], ◌∷◌, ◌⊎◌, inl, inr, arith}
 use Rattle.std.proofs.lemmas.Bool.{cases_Bool}
 use Rattle.std.proofs.lemmas.Option.{none-some}
@@ -8,7 +8,7 @@ use Rattle.rje_answers.specs.declared.rest.Rest.{Rest}
 use Rattle.rje_answers.specs.Awaiting.{Kept, after_answer, after_vain, given_at, has_answer, is_over, kept_after, settled, takes_bid}
 use Rattle.rje_answers.specs.Law.{Answer, Events, kept_of}
 
--- the station is given nothing, and awaits an answer as before; or it awaited one, is given something, and awaits none any more
+-- the station is given nothing, and awaits an answer as before; or it awaited one, is given something, and no longer awaits one
 abbrev pub Settles : Event Answer → Kept Answer → (Given Answer → Type 0) → Type 0
 Settles e k Ends =
     ((given_at e k ≡ Given.Nothing) × (has_answer (kept_after e k).said ≡ has_answer k.said))

@@ -141,7 +141,7 @@ receives rank jobs (Own (InVain rest) ∷ past) s (mid, went, listens) = subst (
 receives rank jobs (Crosses c ∷ past) s (mid, went, listens) = subst (FarWent (others_of past)) (sym (listened_aside _ mid s listens)) (receives rank jobs past mid went)
 receives rank jobs (Others e ∷ past) s (mid, went, hears) = (mid.receiver, receives rank jobs past mid went, receiver_after_other (hearing_of e) mid s hears.1)
 
--- ---- What its end is told.
+-- ---- The events at its end.
 
 -- of a hearing of the other station
 reply_counts : (reply : Option Reply) (past : Events) → things (elim reply [ None ↦ past | Some x ↦ Event.Says Said.Reply ∷ past ]) ≡ things past

@@ -362,7 +362,7 @@ no_end : (r : Receiving) (what : Heard) (refused : Bool) (wish : Wish) → sound
 no_end r what refused wish none =
     goes_on_else r.core.place r.core.odd_accepted r.core.last_reply r.core.rvi_made (sound_taken what refused) wish (taken_no_end what refused none)
 
--- of what comes of EOT nothing is answered
+-- whatever comes of EOT, it isn't answered
 end_unanswered : (r : Receiving) (what : Heard) (refused : Bool) (wish : Wish) → MayRefuse what (begun_in r.jobs) refused → MayBeHeardAs Sound.Eot (sound_heard what)
     → (after_receiving r what refused wish).due ≡ None
 end_unanswered r what refused wish may comes_so = elim (comes Sound.Eot (sound_heard what) comes_so) [

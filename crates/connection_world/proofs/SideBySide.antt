@@ -78,7 +78,7 @@ module _ (T : Sending → Receiving → Type 0) (grows : Grows T) where
       no_block : (b : Block) → heard.Quiet ≡ heard.Frame (frame.Block b) → f ≡ frame.Block b
       no_block b is = absurd (true≢false (ap is_quiet is))
 
--- what may be heard now that so many things were said: what was replied to the last one, or nothing
+-- what may be heard after `n` things were said: the reply to the last one, or nothing
 abbrev pub MayBeGiven : ℕ → List AtReceiver → Sound → Type 0
 MayBeGiven n far sound = (sound ≡ Sound.Quiet) ⊎ ((a : Answer) × (a.thing + 1 ≡ n) × IsReplied a far × (sound ≡ sound_of_reply (Some a.reply)))
 
@@ -151,7 +151,7 @@ module _ (T : Sending → Receiving → Type 0) (grows : Grows T) (f : Frame) (p
 
 -- ---- What happens at the sending end.
 
--- after so many things: where no answer is awaited it holds of both stations; where one is, it does with whatever may be heard now
+-- after `n` things: where no answer is awaited it holds of both stations; where one is, it does with whatever may be heard now
 pub record Stand (T : Sending → Receiving → Type 0) (awaits : Bool) (n : ℕ) (s : Sending) (far : List AtReceiver) (r : Receiving) : Type 0 where
   pub settled : awaits ≡ false → T s r
   pub awaiting : awaits ≡ true → (sound : Sound) (pause : Bool) → MayBeGiven n far sound → T (after_hearing s sound pause) r

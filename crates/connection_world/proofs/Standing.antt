@@ -1,4 +1,4 @@
--- Where a sending and a receiving station stand that take turns, of which the sending one may give way to bids: as a conversation leaves them.
+-- Where a sending station, which may give way to bids, and a receiving one stand that take turns: as a conversation leaves them.
 use Rattle.std.proofs.Common.{◌≡◌, refl, sym, ap, ◌∙◌, subst, ℕ, ◌<◌, Bool, true, false, ◌&&◌, List, [], ◌∷◌, length, ◌⊎◌, inl, inr, arith}
 use Rattle.std.proofs.lemmas.Bool.{true≢false}
 use Rattle.bsc_codes.specs.declared.block.Block.{Block}
@@ -76,7 +76,7 @@ pub more_blocks : (jobs : List Job) (h : History) (b : Bool) (m n : ℕ) (s : Se
 more_blocks [] h b m n s p live = absurd (true≢false (sym p.over ∙ live))
 more_blocks (j ∷ jobs) h b m n s p live = (omega arith, sym (p.over ∙ rw (none_not j jobs) refl) ∙ live)
 
--- a refusal is told of a block alone
+-- only a block can be refused
 block_alone : (refused : Bool) (sound arrived : Sound) → refused ≡ (refused && is_block sound) → arrived ≡ sound → refused ≡ true → arrived ≡ Sound.Block
 block_alone refused Sound.Block arrived e same told = same
 block_alone true _ arrived e same told = absurd (true≢false e)

@@ -151,7 +151,7 @@ pub answering_same : (say : Say) (r : Receiving) → wordless (elim say [ Say.En
 answering_same Say.End r = refl
 answering_same _ r = refl
 
--- a core that hears what it passes over stays as it is, and answers nothing
+-- a core that hears what it passes over stays as it is, and replies nothing
 abbrev Idles : ReceiverState → Sound → Wish → Type 0
 Idles core sound wish = (receiver_hears core sound wish ≡ core) × ((receiver_news core sound wish).reply ≡ None)
 

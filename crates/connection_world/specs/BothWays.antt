@@ -18,7 +18,7 @@ use Rattle.connection_world.specs.Connection.{AtReceiver, AtSender, Says, Comes,
 
 -- AT EITHER END
 
--- what comes of the other end while an answer is awaited, and is none
+-- what comes from the other end while an answer is awaited, and is not an answer
 pub data Crossing : Type 0 where
   Bid : Crossing
   End : Crossing
@@ -42,7 +42,7 @@ others_of [] = []
 others_of (Others e ∷ past) = e ∷ others_of past
 others_of (_ ∷ past) = others_of past
 
--- what the end, which awaits answers, is told of it: of a hearing of the other station, that it replied
+-- the event that this is at the end, which awaits answers: a hearing of the other station is one where it replied
 abbrev pub event_of : Crossing → Event Answer
 event_of Bid = Event.Bid
 event_of End = Event.End
@@ -113,7 +113,7 @@ pub record IsExchange (ups downs : List Job) (near far : List AtEnd) (p s : Cont
   pub up : AreConnected Rank.Primary near far
   pub down : AreConnected Rank.Secondary far near
 
--- the headline, each way: of jobs that can be sent each station counts so many of its own, and these the other one hands out
+-- the headline, each way: of jobs that can be sent each station counts the first n of its own, and these the other one hands out
 abbrev pub OverExchanges : (ℕ → List Job → List Job → Type 0) → Type 0
 OverExchanges Holds =
     (ups downs : List Job) (near far : List AtEnd) (p s : Contending) → AllByRecursion JobFits ups → AllByRecursion JobFits downs

@@ -25,14 +25,14 @@ use Rattle.rje_station.specs.Sending.{Sending, after_hearing, after_speaking, fi
 
 -- AT THE SENDING END
 
--- What happens there: it says this; the answer to one of the things that it said comes; or a hearing is over in which no more came, and this was
+-- What happens there: it says this; the answer to one of the things that it said comes; or a hearing in which no more came is over, and this was
 -- heard in it.
 pub data AtSender : Type 0 where
   Says : Frame → AtSender
   Comes : Answer → AtSender
   InVain : Rest → AtSender
 
--- what its end, which awaits the answers, is told of it
+-- the event that this is at its end, which awaits the answers
 abbrev pub told_of : AtSender → Event Answer
 told_of (Says f) = Event.Says (said_in f)
 told_of (Comes a) = Event.Answer a
@@ -171,7 +171,7 @@ IsReplied a [] = ⊥
 IsReplied a (Arrives k h ∷ past) = ((k ≡ a.thing) × (h.reply ≡ Some a.reply)) ⊎ IsReplied a past
 IsReplied a (NothingArrives h ∷ past) = IsReplied a past
 
--- DOWN: an answer that comes is what was replied to its thing; one that is damaged reads as none, and none comes
+-- DOWN: an answer that comes is what was replied to its thing; one that is damaged isn't heard as an answer, and doesn't come
 abbrev pub ComeDown : List AtSender → List AtReceiver → Type 0
 ComeDown [] far = Unit {0}
 ComeDown (Comes a ∷ past) far = IsReplied a far × ComeDown past far
@@ -179,7 +179,7 @@ ComeDown (_ ∷ past) far = ComeDown past far
 
 -- ALL OF IT
 
--- Two new stations at the ends of a connection, of which the sending one was given these jobs and its end gives way to a bid or not; what has
+-- Two new stations at the ends of a connection: the sending one was given these jobs, and its end gives way to a bid or not; what has
 -- happened at each of them, and where they stand.
 pub record IsOverConnection (jobs : List Job) (gives_way : Bool) (near : List AtSender) (s : Sending) (far : List AtReceiver) (r : Receiving) : Type 0 where
   pub sends : SenderWent gives_way (first_sending jobs) near s

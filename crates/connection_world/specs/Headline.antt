@@ -15,7 +15,7 @@ use Rattle.connection_world.specs.Connection.{AtReceiver, AtSender, IsOverConnec
 abbrev pub but_for_notes : Sending → Sending
 but_for_notes s = record s { trace = [] }
 
--- The same turns of two new stations, in each of which the line keeps the headline's premises, that leave the sending one where s stands (but
+-- Turns of two new stations, in each of which the line keeps the headline's premises, that leave the sending one where s stands (but
 -- for what it notes; while it awaits an answer, only with as many jobs counted), and the receiving one where r does.
 pub record FaithfulTurns (jobs : List Job) (awaits : Bool) (s : Sending) (r : Receiving) : Type 0 where
   pub turns : History
@@ -47,7 +47,7 @@ MayBeConnections =
     (jobs : List Job) (gives_way : Bool) (h : History) (s : Sending) (r : Receiving) (sent : SenderTook (first_sending jobs) h s) (received : ReceiverTook first_receiving h r)
     → AreFaithful (first_sending jobs) s first_receiving r h sent received → OneConnection jobs gives_way s r
 
--- the headline over a connection: of jobs that can be sent the sending station counts so many, and these the receiving one hands out
+-- the headline over a connection: of jobs that can be sent the sending station counts the first n, and these the receiving one hands out
 abbrev pub OverConnections : (ℕ → List Job → List Job → Type 0) → Type 0
 OverConnections Holds =
     (jobs : List Job) (gives_way : Bool) (near : List AtSender) (s : Sending) (far : List AtReceiver) (r : Receiving)

@@ -62,7 +62,7 @@ fn held_number(rt: &HostRuntime) -> Option<File> {
     }
 }
 
-/// Tells why the words can't be had: there is no memory for them, or they are no text.
+/// Reports why the words can't be had: there is no memory for them, or they aren't text.
 fn told(rt: &HostRuntime, error: &io::Error) -> u8 {
     if error.kind() == io::ErrorKind::OutOfMemory {
         let _ = eprintln!(rt; "rje: {}", CommandFault::OutOfMemory);

@@ -1,4 +1,4 @@
--- No end is told the numbers of its answers.
+-- No end knows the numbers of its answers.
 use Rattle.std.proofs.Common.{◌≡◌, refl, true, false, ◌&&◌, not, Option, Some, None, inl, inr, ap, ◌+◌, nat_lt}
 use Rattle.std.proofs.lemmas.Bool.{cases_Bool}
 use Rattle.rje_answers.specs.declared.event.Event.{Event}

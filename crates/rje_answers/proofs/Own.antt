@@ -9,7 +9,7 @@ use Rattle.rje_answers.specs.declared.said.Said.{Said}
 use Rattle.rje_answers.specs.Awaiting.{Kept, given_at, has_answer, takes_bid, is_over, settled, after_saying, after_answer, after_end, after_last, after_vain, hearings}
 use Rattle.rje_answers.specs.Law.{Answer, Events, kept_of, things, vain_since, answered, AllHappen, GivesOwnAnswers, ComesWhereAwaited}
 
--- What an end keeps that has said n things, of which the first m can't be answered any more, with so many hearings in vain since each: only the
+-- What an end keeps that has said n things, the first m of which can't be answered any more, with `vains` hearings in vain since each: only the
 -- last one may still be answered, and then it is awaited and no answer is held.
 pub record Fits (s : Kept Answer) (n m : ℕ) (vains : ℕ → ℕ) : Type 0 where
   pub due : (k : ℕ) → m ≤ k → k < n → vains k < 2 → (k + 1 ≡ n) × (has_answer s.said ≡ true) × (s.held ≡ None)

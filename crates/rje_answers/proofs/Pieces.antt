@@ -22,14 +22,14 @@ pub taken_none : (l : HeardSoFar) (bytes : List ℕ) → HasTaken l bytes → Ha
 unfolding HasTaken
 taken_none l bytes taken = no_frame bytes l taken
 
--- the bytes in front of a place, and a part behind it
+-- the bytes in front of a place, and a part after it
 take_on : (before piece : List ℕ) (place count : ℕ) → (before ++ take place piece) ++ take count (drop place piece) ≡ before ++ take (place + count) piece
 take_on before piece place count = append_assoc before (take place piece) (take count (drop place piece)) ∙ ap (λ l. before ++ l) (sym (take-add place count piece))
 
 take_all : (before piece : List ℕ) (place : ℕ) → (before ++ take place piece) ++ drop place piece ≡ before ++ piece
 take_all before piece place = append_assoc before (take place piece) (drop place piece) ∙ ap (λ l. before ++ l) (take-append-drop place piece)
 
--- the invariant after a part of which nothing is given
+-- the invariant after a part from which nothing is given
 pub hears_on : (a mid : HeardAndKept) (piece : List ℕ) (place : ℕ) (taken : Taken) (b : HeardAndKept) → Hears a (take place piece) Given.Nothing mid
     → Takes mid (drop place piece) taken b → taken.given ≡ Given.Nothing → Hears a (take (place + taken.used) piece) Given.Nothing b
 hears_on a mid piece place taken b hears takes none = λ before has.

@@ -1,4 +1,4 @@
--- Of what is written for a station it hears what it is given.
+-- By what is written for it a station hears what it is given.
 use Rattle.std.proofs.Common.{refl, ℕ, List, [], ◌∷◌, false}
 use Rattle.bsc_codes.specs.Bytes.{PAD, STX, SYN}
 use Rattle.bsc_frame.specs.declared.frame.Frame.{Frame}

@@ -69,8 +69,8 @@ abbrev pub louder : Rest → Rest → Rest
 louder Rest.Quiet before = before
 louder heard before = heard
 
--- For so many hearings in vain an answer is awaited, and where one is held so many are quiet after it: things are said two hearings apart, or
--- three where a secondary listens before it bids again, and their answers may come as far apart.
+-- How many hearings in vain an answer is awaited for, and how many have to be quiet after one that is held: things are said two hearings apart,
+-- or three where a secondary listens before it bids again, and their answers may come as far apart.
 abbrev pub hearings : {A : Type 0} → Option A → ℕ
 hearings None = 2
 hearings (Some a) = 4

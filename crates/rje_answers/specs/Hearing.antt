@@ -37,8 +37,8 @@ rest_in heard.Bad = Rest.Bad
 rest_in heard.Noise = Rest.Noise
 rest_in _ = Rest.Quiet
 
--- these bytes came after those taken before: up to the end of a frame, of which the station is given what belongs to it; or all, and there is no
--- frame in them
+-- these bytes came after those taken before: up to the end of a frame, from which the station is given what belongs to it; or all, and there is
+-- no frame in them
 pub record TakesFrame (a : HeardAndKept) (before piece : List ℕ) (taken : Taken) (b : HeardAndKept) : Type 0 where
   pub what : Frame
   pub ends : Transmission what (before ++ take taken.used piece)
@@ -56,7 +56,7 @@ pub record TakesNoFrame (a : HeardAndKept) (before piece : List ℕ) (taken : Ta
 abbrev pub Takes : HeardAndKept → List ℕ → Taken → HeardAndKept → Type 0
 Takes a piece taken b = (before : List ℕ) → HasTaken a.listener before → TakesFrame a before piece taken b ⊎ TakesNoFrame a before piece taken b
 
--- a hearing is over: the station is given what belongs to a hearing in vain, in which this was heard of the bytes after the last frame
+-- a hearing is over: the station is given what belongs to a hearing in vain, in which the bytes after the last frame were heard as this
 abbrev pub GoesQuiet : HeardAndKept → Given Reply → HeardAndKept → Type 0
 GoesQuiet a given b = (before : List ℕ) → HasTaken a.listener before
     → ((what : Heard) × IsHeard before what × (given ≡ given_at (Event.Vain (rest_in what)) a.kept)
@@ -72,7 +72,7 @@ abbrev pub Happened : Kept Reply → List (Event Reply) → Kept Reply → Given
 Happened k [] k' given = (k' ≡ k) × (given ≡ Given.Nothing)
 Happened k (e ∷ past) k' given = (mid : Kept Reply) × Happened k past mid Given.Nothing × (k' ≡ kept_after e mid) × (given ≡ given_at e mid)
 
--- Of a piece that came after these bytes, its frames happened, one after another: up to the first of which the station is given something, or
+-- Of a piece that came after these bytes, its frames happened, one after another: up to the first that gives the station something, or
 -- all, and no frame is in the bytes that are left.
 pub record Heeds (a : HeardAndKept) (before piece : List ℕ) (given : Given Reply) (b : HeardAndKept) : Type 0 where
   pub frames : List Frame

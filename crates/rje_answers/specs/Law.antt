@@ -63,7 +63,7 @@ abbrev pub ComesWhereAwaited : Type 0
 ComesWhereAwaited = (gives_way : Bool) (past : Events) (a : Answer) → AllHappen gives_way past → MayHappen gives_way (Event.Answer a) past
     → (has_answer (kept_of gives_way past).said ≡ true) × (a.thing + 1 ≡ things past)
 
--- WITHOUT THE NUMBERS, which no end is told
+-- WITHOUT THE NUMBERS, which no end knows
 
 abbrev pub without_number : Event Answer → Event Reply
 without_number (Event.Says said) = Event.Says said
@@ -96,7 +96,7 @@ kept_without k = record {
   strayed = k.strayed;
 }
 
--- an end that isn't told the numbers keeps the same, and gives its station the same
+-- an end that doesn't know the numbers keeps the same, and gives its station the same
 abbrev pub TellsNoNumbers : Type 0
 TellsNoNumbers = (e : Event Answer) (k : Kept Answer)
     → (kept_after (without_number e) (kept_without k) ≡ kept_without (kept_after e k)) × (given_at (without_number e) (kept_without k) ≡ given_without (given_at e k))

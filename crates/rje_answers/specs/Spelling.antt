@@ -23,13 +23,13 @@ heard_of Rest.Quiet = heard.Quiet
 heard_of Rest.Noise = heard.Noise
 heard_of Rest.Bad = heard.Bad
 
--- a control sequence, of which no byte depends on a text
+-- a control sequence, whose bytes depend on no text
 abbrev pub IsControl : Frame → Type 0
 IsControl (frame.Block block) = ⊥
 IsControl frame.Abort = ⊥
 IsControl _ = Unit {0}
 
--- of these bytes is heard what a station is given
+-- by these bytes a station hears what it is given
 abbrev pub Spells : Given Reply → List ℕ → Type 0
 Spells Given.Nothing bytes = bytes ≡ []
 Spells (Given.Answer reply) bytes = IsHeard bytes (heard.Frame (frame_of reply))

@@ -12,7 +12,7 @@ use bsc_frame::{Fed, Frame, Heard, Listener};
 use bsc_link::Reply;
 use std::marker::Model;
 
-/// Hears what comes over a connection, and says what of it the station is given that awaits an answer. It takes no memory.
+/// Hears what comes over a connection, and says what of it is given to the station, which awaits an answer. It takes no memory.
 #[derive(Drop)]
 pub struct Answers {
     listener: Listener,
@@ -65,7 +65,7 @@ impl Answers {
         self.awaiting.has_ended()
     }
 
-    /// Whether an answer came after EOT was said: the answers weren't those to what they were taken for.
+    /// Whether an answer came after EOT was said: the answers were taken for those to something else.
     pub fn strayed(&self) -> bool
         ensures { result ≡ self.now.kept.strayed }
     {
@@ -85,7 +85,7 @@ impl Answers {
         Taken { used, given }
     }
 
-    /// Takes a piece that came, up to the end of the frame of which the station is given something, or all.
+    /// Takes a piece that came, up to the end of the first frame that gives the station something, or all.
     pub fn hear(&mut self, piece: &[u8]) -> Given<Reply>
         ensures { Hears self.old piece.now result self.new }
     {
@@ -105,7 +105,7 @@ impl Answers {
         Given::Nothing
     }
 
-    /// A hearing is over in which no more came.
+    /// A hearing in which no more came is over.
     pub fn quiet(&mut self) -> Given<Reply>
         ensures quiet { GoesQuiet self.old result self.new }
     {

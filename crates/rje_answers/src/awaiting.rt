@@ -8,10 +8,10 @@ use crate::{Event, Given, Rest, Said};
 use bsc_link::Reply;
 use std::marker::Model;
 
-/// For so many hearings in vain an answer is awaited.
+/// How many hearings in vain an answer is awaited for.
 const MAX_VAIN: u8 = 2;
 
-/// After a wait in vain so many hearings are quiet after an answer that counts: things are said two hearings apart, or three where a secondary
+/// After a wait in vain, how many hearings have to be quiet after an answer that counts: things are said two apart, or three where a secondary
 /// listens before it bids again, and their answers may come as far apart.
 const MAX_QUIET: u8 = 4;
 
@@ -80,7 +80,7 @@ impl Awaiting {
         self.has_ended
     }
 
-    /// Whether an answer came after EOT was said: the answers weren't those to what they were taken for.
+    /// Whether an answer came after EOT was said: the answers were taken for those to something else.
     pub(crate) fn strayed(&self) -> bool
         ensures { result ≡ self.now.strayed }
     {
@@ -157,7 +157,7 @@ impl Awaiting {
         }
     }
 
-    /// A hearing is over in which no more came than this.
+    /// A hearing in which no more than this came is over.
     fn hear_nothing(&mut self, heard: Rest) -> Given<Reply>
         ensures kept { self.new ≡ after_vain heard self.old }
         ensures given { result ≡ given_vain heard self.old }
@@ -173,7 +173,7 @@ impl Awaiting {
         self.wait_no_longer(heard)
     }
 
-    /// The last hearing is over in which no more came than this.
+    /// The last hearing, in which no more than this came, is over.
     fn wait_no_longer(&mut self, heard: Rest) -> Given<Reply>
         ensures kept { self.new ≡ after_last self.old }
         ensures given { result ≡ given_last heard self.old }
@@ -188,7 +188,7 @@ impl Awaiting {
         }
     }
 
-    /// For so many hearings in vain something more is awaited.
+    /// How many hearings in vain something more is awaited for.
     fn hearings(&self) -> u8
         ensures { result ≡ hearings self.now.held }
     {

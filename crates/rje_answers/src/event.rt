@@ -14,6 +14,6 @@ pub enum Event<A> {
     End,
     /// A text comes, or a delay of one, or a text that its sender broke off.
     Text,
-    /// A hearing is over in which no more came; after the last frame this was heard.
+    /// A hearing in which no more came is over; after the last frame this was heard.
     Vain(Rest),
 }

@@ -16,7 +16,7 @@ pub enum Handed {
     Nothing,
     /// The line is quiet.
     Quiet,
-    /// So many bytes, at the front of the slice that it gave.
+    /// This many bytes, at the front of the slice that it gave.
     Bytes(usize),
 }
 
@@ -25,7 +25,7 @@ pub enum Handed {
 pub struct Handover {
     is_quiet: bool,
     bytes: ArrayVec<u8, MAX_TRANSMISSION>,
-    // So many of them were handed on.
+    // How many of them were handed on.
     place: usize,
     is_quiet_after: bool,
 }

@@ -20,7 +20,7 @@ pub enum Said {
 }
 
 impl Said {
-    /// What a transmission says of which these are the bytes, as they are written.
+    /// What a transmission of these bytes says.
     pub fn of(bytes: &[u8]) -> Said
         ensures written { (f : Frame) → Written f bytes.now → result ≡ said_in f }
     {

@@ -11,7 +11,7 @@ use bsc_codes::{DLE, STX, SYN};
 use bsc_frame::{Frame, MAX_TRANSMISSION, write_frame};
 use bsc_link::Reply;
 
-/// Writes bytes of which is heard what a station is given, whatever the buffer held before.
+/// Writes the bytes by which a station hears what it is given, whatever the buffer held before.
 pub(crate) fn spell(given: Given<Reply>, out: &mut ArrayVec<u8, MAX_TRANSMISSION>)
     ensures { Spells given out.new.items }
 {
@@ -24,7 +24,7 @@ pub(crate) fn spell(given: Given<Reply>, out: &mut ArrayVec<u8, MAX_TRANSMISSION
     }
 }
 
-/// Writes bytes of which this is heard.
+/// Writes the bytes by which this is heard.
 #[tactic(auto, using(crate::proofs::Spelled::nothing_is_quiet))]
 fn spell_rest(rest: Rest, out: &mut ArrayVec<u8, MAX_TRANSMISSION>)
     ensures { IsHeard out.new.items (heard_of rest) }

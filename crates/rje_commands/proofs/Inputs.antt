@@ -57,7 +57,7 @@ of_files P first second (Some f) (Some g) a b holds one same two =
     of_known (λ x. IsSomeAnd (f second) (λ y. P x y)) a
     (of_known (P a) b holds (f second) (subst (λ (known : Option (List ℕ)). IsSomeAnd known (λ file. b ≡ file)) (same second) two)) (f first) one
 
--- what holds of a fault holds of it as it is told
+-- what holds of a fault holds of it as it is reported
 pub told_as : {T : Type 0} (result : Result T CommandFault) (fault : CommandFault) (P : CommandFault → Type 0)
     → IsErrAnd result (λ e. e ≡ fault) → P fault → IfErr result P
 told_as (Err e) fault P is holds = subst P (sym is) holds
@@ -152,7 +152,7 @@ pub done_both : {T E : Type 0} (result : Result T E) (P Q : Type 0) → OnOk res
 done_both (Ok x) P Q p q = (p, q)
 done_both (Err e) P Q p q = tt
 
--- the fault of a run is told as one of `try`
+-- the fault of a run is reported as one of `try`
 pub run_fault : (file script : List ℕ) (jobs : List Job) (turns : List Turn) (fault : WorldFault) → HasJobs jobs file → IsScript turns script
     → IsRunFault jobs turns fault → IsTryFault file script (of_world fault)
 run_fault file script jobs turns WorldFault.OutOfMemory has is h = tt
@@ -160,7 +160,7 @@ run_fault file script jobs turns (WorldFault.BadJob number) has is h = (jobs, tu
 run_fault file script jobs turns (WorldFault.NotDamage attempt turn) has is h = (attempt, (jobs, turns, has, is, h))
 run_fault file script jobs turns (WorldFault.BadCut attempt turn) has is h = (attempt, (jobs, turns, has, is, h))
 
--- what is so whatever is told
+-- what holds whatever fault is reported
 pub whatever : {T E : Type 0} (result : Result T E) (P : E → Type 0) (Q : Type 0) → Q → IfErr result (λ e. P e → Q)
 whatever (Ok x) P Q q = tt
 whatever (Err e) P Q q = λ _. q

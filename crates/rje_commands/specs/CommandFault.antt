@@ -10,7 +10,7 @@ use Rattle.line_world.specs.declared.world_fault.WorldFault.{WorldFault}
 use Rattle.rje_commands.specs.declared.command_fault.CommandFault.{CommandFault}
 use Rattle.rje_commands.specs.declared.command_fault.CommandFault.TheVariants.{OutOfMemory, Deck, File, BadJob, Script, NotDamage, BadCut, HoldsJobs, NoCommand, LineFailed, Babble, OutOfStep, CannotRead, CannotWrite, InUse, Unsynced, Output, Closed}
 
--- an input that is refused has status 1, want of memory 5
+-- an input that is refused has status 1, out of memory 5
 abbrev pub deck_status : DeckFault → ℕ
 deck_status DeckFault.OutOfMemory = 5
 deck_status (DeckFault.LongLine line) = 1
@@ -20,7 +20,7 @@ abbrev pub file_status : FileFault → ℕ
 file_status FileFault.OutOfMemory = 5
 file_status _ = 1
 
--- words that name no command over files or none over sockets have status 2, a file, a line or an output that fails 3, an output that nobody
+-- words that name no command over files, or none over sockets, have status 2, a file, a line or an output that fails 3, an output that nobody
 -- reads any more 141, which is that of a program that SIGPIPE ended
 abbrev pub status_of : CommandFault → ℕ
 status_of OutOfMemory = 5
@@ -53,7 +53,7 @@ is_of_output Output = true
 is_of_output Closed = true
 is_of_output _ = false
 
--- what the faults of the layers below are told as
+-- what the faults of the layers below are reported as
 abbrev pub of_script : ScriptFault → CommandFault
 of_script ScriptFault.OutOfMemory = OutOfMemory
 of_script (ScriptFault.NotATurn line) = Script line

@@ -1,4 +1,4 @@
--- What the commands over files do, and why they do nothing, by what files, input and output tell (own profile).
+-- What the commands over files do, and why they do nothing, by what files, input and output disclose (own profile).
 use Rattle.std.specs.Prelude.{◌≡◌, ◌≢◌, ◌≤◌, ◌⊎◌, ℕ, List, [], ◌∷◌, ◌++◌, codes, length, Option, None, Some, IfSome, true, false, ⊤}
 use Rattle.std.specs.Io.KnownBytes.{Appends}
 use Rattle.std.specs.Option.{IsSomeAnd}
@@ -29,11 +29,11 @@ use Rattle.rje_stores.specs.Store.{FileMap, Discloses, IsSame, Sets}
 
 -- WHAT A COMMAND READS
 
--- this holds of the file of this name: where files are told, there is such a file
+-- this holds of the file of this name: where the store discloses its files, there is such a file
 abbrev pub OfFile : List ℕ → Option FileMap → (List ℕ → Type 0) → Type 0
 OfFile name files P = IfSome files (λ known. IsSomeAnd (known name) P)
 
--- where the files are told, this is what this name has
+-- where the store discloses its files, this is what this name has
 abbrev pub IsThere : List ℕ → Option FileMap → Option (List ℕ) → Type 0
 IsThere name files found = IfSome files (λ known. known name ≡ found)
 
@@ -77,14 +77,14 @@ abbrev pub AreInFront : CardsOrder → Option FileMap → List Entry → Type 0
 AreInFront order files entries =
     (order.append ≡ true → IfSome files (λ known. AreEntriesOf (known order.jobs.now) entries)) × (order.append ≡ false → entries ≡ [])
 
--- the deck has no fault, and these are the bytes of the version 2 file of these entries and its job behind them, which are no more than are
+-- the deck has no fault, and these are the bytes of the version 2 file of these entries and, after them, its job, which are no more than are
 -- read of a file
 pub record IsCardFile (device : Device) (name deck : List ℕ) (front : List Entry) (bytes : List ℕ) : Type 0 where
   pub good : deck_fault deck ≡ None
   pub file : IsEntryFileOf Second (front ++ deck_entry device name deck ∷ []) bytes
   pub few : length bytes ≤ 16777216
 
--- the file that the order names became that of the deck's job, behind the entries in front of it, and no other file changed
+-- the file that the order names became that of the deck's job, after the entries in front of it, and no other file changed
 abbrev pub MakesFile : CardsOrder → (deck : List ℕ) → (files made : Option FileMap) → Type 0
 MakesFile order deck files made =
     (front : List Entry) × (bytes : List ℕ) × AreInFront order files front × IsCardFile order.device order.name deck front bytes
@@ -95,7 +95,7 @@ abbrev pub MakesCards : CardsOrder → (deck : List ℕ) → (files made : Optio
 MakesCards order deck files made before after =
     MakesFile order deck files made × Appends before after (cards_line (length (deck_job order.device deck).records))
 
--- these are the file of some jobs and a script of some turns, and this is the text of what a run of these jobs over these turns tells
+-- these are the file of some jobs and a script of some turns, and this is the text of the report of a run of these jobs over these turns
 pub record IsRunText (file script text : List ℕ) : Type 0 where
   pub jobs : List Job
   pub turns : List Turn
@@ -157,7 +157,7 @@ OfItsScript _ files P = ⊥
 abbrev pub IsFaultOfRun : WorldFault → (file script : List ℕ) → Type 0
 IsFaultOfRun fault file script = (jobs : List Job) × (turns : List Turn) × HasJobs jobs file × IsScript turns script × IsRunFault jobs turns fault
 
--- the file is one of jobs of which the one of this number is the first that can't be sent
+-- it is a job file, and the job of this number is the first in it that can't be sent
 abbrev pub HasBadJob : ℕ → List ℕ → Type 0
 HasBadJob number file = (jobs : List Job) × HasJobs jobs file × IsFirstUnfit jobs number
 

@@ -1,2 +1,2 @@
--- What private functions tell; no promise rests on it.
+-- What private functions cite; no promise rests on it.
 pub mod Commands

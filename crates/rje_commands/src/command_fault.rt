@@ -87,7 +87,7 @@ impl CommandFault<'_> {
     }
 
     /// The exit status: 1 for an input that is refused, 2 for words that ask for a command that isn't served here,
-    /// 3 for a file, a line or an output that fails, 5 for want of memory, 141 for an output that nobody reads any more.
+    /// 3 for a file, a line or an output that fails, 5 where memory ran out, 141 for an output that nobody reads any more.
     pub fn status(&self) -> u8
         ensures { result ≡ status_of self.now }
     {

@@ -1,11 +1,11 @@
-//! Why a command fails, told on standard error, and its exit status.
+//! Why a command fails, reported on standard error, and its exit status.
 ghost use Rattle.std.specs.Prelude.{◌≡◌, ◌≢◌, ◌⊎◌};
 ghost use Rattle.rje_commands.specs.CommandFault.{status_of};
 
 use crate::command_fault::CommandFault;
 use std::io::Write;
 
-/// Tells why the command fails, and answers its status, or 3 where that can't be told. Of an output that nobody reads any more it tells
+/// Reports why the command fails, and returns its status, or 3 where that can't be reported. Of an output that nobody reads any more it reports
 /// nothing.
 pub fn tell<E: Write>(fault: &CommandFault, err: &mut E) -> u8
     ensures failed { result ≢ 0 }

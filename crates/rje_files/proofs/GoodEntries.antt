@@ -27,7 +27,7 @@ IsGoodEntry e = is_entry e ≡ true
 abbrev pub AreGood : List Entry → Type 0
 AreGood es = AllByRecursion IsGoodEntry es
 
--- where each is good, none is told as bad
+-- where each is good, none is reported as bad
 pub none_bad : (k : ℕ) (es : List Entry) → AreGood es → bad_entry_from k es ≡ None
 none_bad k [] good = refl
 none_bad k (e ∷ es) good = ap (λ (b : Bool). if b then bad_entry_from (k + 1) es else Some k) good.0 ∙ none_bad (k + 1) es good.1
@@ -63,7 +63,7 @@ all_sent (suc n) (e ∷ es) pass good = elim (cases_Bool (is_sent e.state)) [
   | inr left ↦ subst AreGood (sym (made n e es left)) (good_sent e good.0 (pass.0 left).whole, all_sent n es pass.1 good.1)
 ]
 
--- of a file nothing is told but want of memory
+-- a file has no fault but out of memory
 file_alone : (file : List ℕ) → IsEntryFile file → IsFileFault IsEntryFile file OutOfMemory
 file_alone file is =
     let all : take (length file) file ≡ file = take-length file in (

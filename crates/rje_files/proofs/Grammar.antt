@@ -184,7 +184,7 @@ name_back (suc n) ended Rest (x ∷ xs) h =
       then = more.then;
     }
 
--- fields with any records behind them
+-- fields with any records after them
 pub record AreFieldsOf (v : FileVersion) (Rest : List ℕ → Type 0) (xs : List ℕ) : Type 0 where
   pub entry : List Record → Entry
   pub rest : List ℕ

@@ -31,7 +31,7 @@ bytes_of es = flat_map (entry_bytes Second) es
 abbrev pub marked : Entry → Entry
 marked e = record e { state = Sent }
 
--- what stands behind an entry's state
+-- what stands after an entry's state
 abbrev behind : Entry → List ℕ
 behind e = select_byte e.job.select ∷ mode_byte e.job.mode ∷ records_bytes e.job.records
 
@@ -80,7 +80,7 @@ spelled e = append_assoc e.name (state_byte e.state ∷ select_byte e.job.select
 as_long : (e : Entry) → length (entry_bytes Second (marked e)) ≡ length (entry_bytes Second e)
 as_long e = ap length (spelled (marked e)) ∙ length-append e.name (1 ∷ behind e) ∙ sym (length-append e.name (state_byte e.state ∷ behind e)) ∙ sym (ap length (spelled e))
 
--- an entry behind some bytes and in front of others
+-- an entry after some bytes and before others
 abbrev between : List ℕ → Entry → List ℕ → List ℕ
 between front e rest = front ++ (entry_bytes Second e ++ rest)
 
@@ -120,7 +120,7 @@ first_of x place xs e = cc
 longer : (front : List ℕ) (e : Entry) (k : ℕ) → length (entry_bytes Second e) ≡ k → length (front ++ entry_bytes Second e) ≡ length front + k
 longer front e k is = length-append front (entry_bytes Second e) ∙ ap (λ (m : ℕ). length front + m) is
 
--- the places behind an entry
+-- the places after an entry
 sent_at : (n place start : ℕ) (e : Entry) (es : List Entry) → is_sent e.state ≡ true → slice_get (marks_from start (e ∷ es)) n ≡ Some place
     → slice_get (marks_from (start + length (entry_bytes Second e)) es) n ≡ Some place
 sent_at n place start e es is at = rw is at at
@@ -232,7 +232,7 @@ adds xs i start next d x places longer all is less sent behind more e =
     ap (λ (ys : List ℕ). ys ++ rest) more ∙ append_assoc places ((start + 8) ∷ []) rest ∙ ap (λ (ys : List ℕ). places ++ ys) (sym step)
     ∙ ap (λ (ys : List Entry). places ++ marks_from start ys) (sym split) ∙ e
 
--- behind the last one all are there
+-- after the last one all are there
 pub all_there : (xs : List Entry) (i start : ℕ) (places : List ℕ) → length xs ≤ i → places ++ marks_from start (drop i xs) ≡ marks_from 14 xs → places ≡ marks_from 14 xs
 all_there xs i start places past e =
     sym (append-nil places) ∙ ap (λ (ys : List Entry). places ++ marks_from start ys) (sym (drop_all i xs past)) ∙ e

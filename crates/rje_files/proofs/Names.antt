@@ -5,7 +5,7 @@ use Rattle.rje_files.specs.Entry.{is_name_character, is_name_from, is_job_name, 
 use Rattle.rje_files.specs.Laws.{NamesArePadded}
 use Rattle.rje_text.proofs.Both.{both, together}
 
--- behind a blank there are blanks alone
+-- after a blank there are only blanks
 blanks : (cs : List ℕ) → is_name_from true cs ≡ true → cs ≡ replicate (length cs) 0x20
 blanks [] e = refl
 blanks (c ∷ cs) e = go (c == 0x20) refl (blanks cs) e

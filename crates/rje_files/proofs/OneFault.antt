@@ -1,4 +1,4 @@
--- At most one fault is told of bytes.
+-- At most one fault is reported for bytes.
 use Rattle.std.proofs.Common.{◌≡◌, ℕ, ◌+◌, ◌<◌, ◌≤◌, List, ◌++◌, length, take, drop, refl, ap, sym, ◌∙◌, subst, arith, Option, Some, None, ⊎_elim}
 use Rattle.std.proofs.lemmas.List.{append_assoc, take-append-drop, take-take}
 use Rattle.std.proofs.lemmas.Bool.{cases_lt}

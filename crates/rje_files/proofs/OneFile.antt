@@ -114,7 +114,7 @@ state_back_of Cut = refl
 same_state : (s t : State) → state_byte s ≡ state_byte t → s ≡ t
 same_state s t e = sym (state_back_of s) ∙ ap state_of e ∙ state_back_of t
 
--- a state tells whether its job is whole
+-- a state says whether its job is whole
 agreed : (t : State) (w : Bool) → agrees t w ≡ true → w ≡ state_whole t
 agreed Waiting w e = e
 agreed Sent w e = e

@@ -28,7 +28,7 @@ pub pass_sent : (xs all : List Entry) (i n : ℕ) (d : Entry) → i < length xs 
     → take i xs ++ with_sent n (drop i xs) ≡ all → take (i + 1) xs ++ with_sent n (drop (i + 1) xs) ≡ all
 pass_sent xs all i n d l s e = passed xs all i n d l (kept n (get_or xs i d) (drop (i + 1) xs) s) e
 
--- an entry behind the last that is made Sent
+-- an entry after the last that is made Sent
 pub pass_rest : (xs all : List Entry) (i n : ℕ) (d : Entry) → i < length xs → n ≡ 0
     → take i xs ++ with_sent n (drop i xs) ≡ all → take (i + 1) xs ++ with_sent n (drop (i + 1) xs) ≡ all
 pass_rest xs all i n d l z e =

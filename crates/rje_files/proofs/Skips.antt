@@ -7,7 +7,7 @@ use Rattle.rje_files.specs.Inside.Reading.Grammar.{AnyBytes, Records, Entries}
 use Rattle.rje_files.specs.Inside.Reading.Reader.{Expects, IsSound, IsSkip, data_left}
 use Rattle.rje_files.proofs.Steps.{at_due, from_due}
 
--- any bytes of which the first are these
+-- any bytes that begin with these
 bytes_on : (ys xs : List ℕ) (n : ℕ) (Rest : List ℕ → Type 0) → AnyBytes (length ys + n) Rest (ys ++ xs) → AnyBytes n Rest xs
 bytes_on [] xs n Rest h = let e : 0 + n ≡ n = omega arith in subst (λ (k : ℕ). AnyBytes k Rest xs) e h
 bytes_on (y ∷ ys) xs n Rest h =
@@ -36,7 +36,7 @@ data_is Action n l e = absurd (omega (arith, l, e))
 data_is Length n l e = absurd (omega (arith, l, e))
 data_is Nothing n l e = absurd (omega (arith, l, e))
 
--- what is left of a record's data and behind it
+-- what is left of a record's data, and what follows it
 abbrev Left : Reader → ℕ → List ℕ → Type 0
 Left d n = AnyBytes n (Records d.records (Entries d.version d.jobs))
 

@@ -8,7 +8,7 @@ use Rattle.rje_files.specs.Inside.Reading.Stored.{IsRecordHere, AreRecordsHere, 
 use Rattle.rje_files.proofs.ActionBytes.{action_read}
 use Rattle.rje_files.proofs.Collected.{record_here, record_rest}
 
--- so many records are there, and what is to follow them stands behind them
+-- `n` records are there, and what is to follow them stands after them
 pub records_here : (n : ℕ) (Rest : List ℕ → Type 0) (xs : List ℕ) → Records n Rest xs → AreRecordsHere n xs × Rest (behind_records n xs)
 records_here zero Rest xs h = (tt, h)
 records_here (suc n) Rest xs h =

@@ -14,7 +14,7 @@ is_name_character c = (nat_le 0x41 c && nat_le c 0x5A) || (nat_le 0x30 c && nat_
 abbrev pub may_stand : Bool → ℕ → Bool
 may_stand ended c = c == 0x20 || (not ended && is_name_character c)
 
--- these bytes may stand in a name from some place on; it has ended behind a blank
+-- these bytes may stand in a name from some place on; it has ended after a blank
 abbrev pub is_name_from : Bool → List ℕ → Bool
 is_name_from ended [] = true
 is_name_from ended (c ∷ cs) = may_stand ended c && is_name_from (c == 0x20) cs
@@ -31,7 +31,7 @@ blank_name = replicate 8 0x20
 abbrev pub is_name_text : List ℕ → Bool
 is_name_text text = list_all is_name_character text
 
--- a text with blanks behind it, up to eight bytes
+-- a text followed by blanks, up to eight bytes
 abbrev pub padded : List ℕ → List ℕ
 padded text = text ++ replicate (8 - length text) 0x20
 

@@ -15,10 +15,10 @@ pub record IsLongest (IsFile : List ℕ → Type 0) (bytes : List ℕ) (p : ℕ)
   pub begins : Begins IsFile (take p bytes)
   pub stops : p < length bytes → Begins IsFile (take (p + 1) bytes) → ⊥
 
--- what is told where that length is p.
--- OutOfMemory: of a file alone. NotJobFile: one of the first four bytes is not that of a file. Version: both bytes of the version are there,
--- and one of them is not that of a file. Truncated: all bytes begin a file and are none, or they stop behind the first byte of another version.
--- BadField: a later byte can't stand at its place. Trailing: a byte stands behind a whole file. BadEntry is told of entries, never of bytes.
+-- the fault where that length is p.
+-- OutOfMemory: for a file alone. NotJobFile: one of the first four bytes is not that of a file. Version: both bytes of the version are there,
+-- and one of them is not that of a file. Truncated: all bytes begin a file and aren't one, or they stop after the first byte of another version.
+-- BadField: a later byte can't stand at its place. Trailing: a byte stands after a whole file. BadEntry is a fault of entries, never of bytes.
 abbrev pub IsFaultAt : (List ℕ → Type 0) → List ℕ → ℕ → FileFault → Type 0
 IsFaultAt IsFile bytes p OutOfMemory = IsFile bytes
 IsFaultAt IsFile bytes p NotJobFile = (p < 4) × (p < length bytes)
@@ -28,11 +28,11 @@ IsFaultAt IsFile bytes p (BadField at) = (at ≡ p) × (5 < p) × (p < length by
 IsFaultAt IsFile bytes p (Trailing at) = (at ≡ p) × (5 < p) × (p < length bytes) × IsFile (take p bytes)
 IsFaultAt IsFile bytes p (BadEntry n) = ⊥
 
--- what is told of bytes of which no jobs are given
+-- the fault of bytes from which no jobs are given
 abbrev pub IsFileFault : (List ℕ → Type 0) → List ℕ → FileFault → Type 0
 IsFileFault IsFile bytes fault = (p : ℕ) × IsLongest IsFile bytes p × IsFaultAt IsFile bytes p fault
 
--- what is told of entries of which no file is given: the first that is none, and want of memory only where each is one
+-- the fault of entries for which no file is given: the first bad entry, and out of memory only where each is good
 abbrev pub IsEntryFault : List Entry → FileFault → Type 0
 IsEntryFault entries OutOfMemory = bad_entry entries ≡ None
 IsEntryFault entries NotJobFile = ⊥

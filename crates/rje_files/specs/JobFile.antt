@@ -78,7 +78,7 @@ file_of version entries = head ++ (version_byte version ∷ (big_bytes 8 (length
 abbrev pub HasRoom : Record → Type 0
 HasRoom r = length r.bytes.items ≤ 144
 
--- an entry of a version. Version 1 tells of a job neither name nor state.
+-- an entry of a version. Version 1 has neither the name nor the state of a job.
 abbrev pub IsOfVersion : FileVersion → Entry → Type 0
 IsOfVersion First e = e ≡ entry_of e.job
 IsOfVersion Second e = IsEntry e

@@ -23,19 +23,19 @@ abbrev pub ReadAlike : Type 0
 ReadAlike = (bytes : List ℕ) (jobs : List Job) (v : FileVersion) (entries : List Entry) → IsFileOf jobs bytes → IsEntryFileOf v entries bytes
     → (v ≡ First) × (entries ≡ map entry_of jobs)
 
--- at most one fault is told of bytes that are read as entries
+-- at most one fault is reported for bytes that are read as entries
 abbrev pub OneEntryFault : Type 0
 OneEntryFault = (bytes : List ℕ) (f g : FileFault) → IsFileFault IsEntryFile bytes f → IsFileFault IsEntryFile bytes g → f ≡ g
 
--- at most one fault is told of entries
+-- at most one fault is reported for entries
 abbrev pub OneRefusal : Type 0
 OneRefusal = (entries : List Entry) (f g : FileFault) → IsEntryFault entries f → IsEntryFault entries g → f ≡ g
 
--- at most one fault is told of bytes
+-- at most one fault is reported for bytes
 abbrev pub OneFileFault : Type 0
 OneFileFault = (bytes : List ℕ) (f g : FileFault) → IsFileFault IsJobFile bytes f → IsFileFault IsJobFile bytes g → f ≡ g
 
--- eight bytes are a name exactly where they are some text of at most eight characters with blanks behind it
+-- eight bytes are a name exactly where they are some text of at most eight characters followed by blanks
 abbrev pub NamesArePadded : Type 0
 NamesArePadded = (name : List ℕ) → length name ≡ 8 → (is_job_name name ≡ true)
     ↔ ((text : List ℕ) × (length text ≤ 8) × (is_name_text text ≡ true) × (name ≡ padded text))

@@ -14,7 +14,7 @@ AreMarks file places =
     → (place < length bytes) × IsSentFile file (n + 1) (set bytes place 1)
 
 -- each entry that was not sent has its place among these, in order: that of its state, which stands
--- behind the eight bytes of its name, and these where the version 2 file of the entries before it ends
+-- after the eight bytes of its name, and these where the version 2 file of the entries before it ends
 abbrev pub AreStatePlaces : List Entry → List ℕ → Type 0
 AreStatePlaces entries places =
     (before after : List Entry) (e : Entry) → entries ≡ before ++ e ∷ after → is_sent e.state ≡ false

@@ -53,7 +53,7 @@ IsLeft file jobs = (entries : List Entry) × HasEntries entries file × All CanP
 abbrev pub IsSentFile : List ℕ → ℕ → List ℕ → Type 0
 IsSentFile file n bytes = (entries : List Entry) × HasEntries entries file × IsEntryFileOf Second (with_sent n entries) bytes
 
--- why there is no such file: that file is none, or an entry that is made Sent is cut
+-- why there is no such file: the bytes aren't a file, or an entry that is to be made Sent is cut
 abbrev pub IsSentFault : List ℕ → ℕ → FileFault → Type 0
 IsSentFault file n fault =
     IsFileFault IsEntryFile file fault ⊎ ((entries : List Entry) × HasEntries entries file × IsEntryFault (with_sent n entries) fault)

@@ -28,7 +28,7 @@ impl<'a> Model for FileRecords<'a> {
 }
 
 impl<'a> FileRecords<'a> {
-    /// So many records at the front of these bytes.
+    /// The `count` records at the front of these bytes.
     pub(crate) fn new(bytes: &'a [u8], count: usize) -> Self
         requires { AreRecordsHere count bytes.now }
         ensures { result ≡ records_in count bytes.entry.now }
@@ -89,7 +89,7 @@ impl Iterator for FileRecords<'_> {
     }
 }
 
-/// What stands behind so many records.
+/// What stands after the first `count` records.
 pub(crate) fn behind_records_at(bytes: &[u8], count: usize) -> &[u8]
     requires { AreRecordsHere count bytes.now }
     ensures { result.now ≡ behind_records count bytes.now }
@@ -101,7 +101,7 @@ pub(crate) fn behind_records_at(bytes: &[u8], count: usize) -> &[u8]
     rest
 }
 
-/// What stands behind the record at the front.
+/// What stands after the record at the front.
 fn behind_record_at(bytes: &[u8]) -> &[u8]
     requires { IsRecordHere bytes.now }
     ensures { result.now ≡ behind_record bytes.now }

@@ -5,7 +5,7 @@
 //! | 0 | `52 4A 33 37`, RJ37 in ASCII |
 //! | 4 | the version, 2 bytes: `00 01` or `00 02` |
 //! | 6 | the number of jobs, 8 bytes |
-//! | 14 | the jobs, one after the other, and nothing behind them |
+//! | 14 | the jobs, one after the other, and nothing after them |
 //!
 //! A job of version 1: its selection (0 Unset, 1 Printer, 2 Punch), its mode (0 Normal, 1 Transparent), whether it is whole (0 or 1), each in a
 //! byte; the number of its records, 8 bytes; the records. A record: its action (0 for Plain, else the action's code) and the length of its data,
@@ -65,7 +65,7 @@ pub fn write_entries(alloc: Global, entries: &[Entry]) -> Result<Vec<u8>, FileFa
     }
 }
 
-/// How the version 2 file of so many jobs goes on with this received one, which has no name and is whole or cut.
+/// How the version 2 file of `count` jobs goes on with this received one, which has no name and is whole or cut.
 pub fn growth_of(alloc: Global, count: usize, job: &Job) -> Result<Growth, AllocError>
     requires { count < 2 ^ 64 - 1 }
     ensures grows { IfOk result (λ growth.

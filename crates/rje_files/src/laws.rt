@@ -21,13 +21,13 @@ pub fn names_are_padded()
     ensures names { NamesArePadded }
 {}
 
-/// At most one fault is told of bytes that are read as entries, and of entries that are not written.
+/// At most one fault is reported for bytes that are read as entries, and for entries that are not written.
 pub fn one_entry_fault()
     ensures read { OneEntryFault }
     ensures written { OneRefusal }
 {}
 
-/// At most one fault is told of bytes; want of memory, which is told of a file alone, is none beside it.
+/// At most one fault is reported for bytes; out of memory, which is reported for a file alone, is not a second one.
 pub fn one_file_fault()
     ensures one_fault { OneFileFault }
 {}

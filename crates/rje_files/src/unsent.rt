@@ -57,7 +57,7 @@ pub fn mark_sent(entries: &mut [Entry], count: usize)
 }
 
 /// The version 2 file of the same entries as this job file's, in which the first `count` of those that
-/// were not Sent are Sent. Where all of those can be sent, nothing but memory can be wanting.
+/// were not Sent are Sent. Where all of those can be sent, only memory can be missing.
 pub fn sent_file(alloc: Global, file: &[u8], count: usize) -> Result<Vec<u8>, FileFault>
     ensures file { IfOk result (λ bytes. IsSentFile file.now count bytes.items) }
     ensures told { IfErr result (λ fault. IsSentFault file.now count fault) }

@@ -1,4 +1,4 @@
--- The fault of a deck is never a want of memory.
+-- The fault of a deck is never out of memory.
 use Rattle.std.proofs.Common.{◌≡◌, ℕ, ◌+◌, Bool, true, false, cond, ltb, List, [], ◌∷◌, length, Option, Some, None}
 use Rattle.std.specs.List.{position}
 use Rattle.std.specs.Option.{option_map, option_or, is_none}
@@ -26,7 +26,7 @@ lines_are_not_memory number [] e = cc
 lines_are_not_memory number (line ∷ rest) e =
     either (line_fault number line) (first_fault (number + 1) rest) (line_is_not_memory number line) (lines_are_not_memory (number + 1) rest) e
 
--- a deck's fault is told
+-- a deck's fault is reported
 pub told : (deck : List ℕ) (fault : DeckFault) → deck_fault deck ≡ Some fault → IsDeckFault deck fault
 told deck OutOfMemory e = absurd (lines_are_not_memory 1 (lines deck) e)
 told deck (LongLine number) e = e

@@ -52,7 +52,7 @@ cards_of mode deck = map (card_of mode) (lines deck)
 abbrev pub job_of : Select → Mode → List ℕ → Job
 job_of select mode deck = record { select = deck_select select mode; mode = mode; records = cards_of mode deck; whole = true }
 
--- what is told of a deck that makes no job: its first fault, and memory only where it has none
+-- the fault of a deck that makes no job: its first fault, and memory only where it has none
 abbrev pub IsDeckFault : List ℕ → DeckFault → Type 0
 IsDeckFault deck OutOfMemory = deck_fault deck ≡ None
 IsDeckFault deck (LongLine number) = deck_fault deck ≡ Some (LongLine number)

@@ -23,7 +23,7 @@ abbrev pub with_records : Option Job → Unpacked → Bool → Job
 with_records None u whole = record { select = u.select; mode = u.mode; records = u.records; whole = whole }
 with_records (Some job) u whole = record job { records = job.records ++ u.records; whole = whole }
 
--- the jobs of the blocks behind a job that is begun; a job whose last block came is whole, and one of which blocks came and no last one
+-- the jobs of the blocks after a job that is begun; a job whose last block came is whole, and one of which blocks came but not the last one
 -- stands last, not whole. A block that can't be read, which no station accepts, is passed over.
 abbrev pub joined_behind : Option Job → List Block → List Job
 joined_behind begun [] = option_to_list begun

@@ -1,4 +1,4 @@
--- The listing of a job: its lines, each with what the carriage does behind it (own profile).
+-- The listing of a job: its lines, each with what the carriage does after it (own profile).
 use Rattle.std.specs.Prelude.{ℕ, List, [], ◌∷◌, ◌++◌, codes}
 use Rattle.std.specs.List.{flat_map}
 use Rattle.rje_text.specs.declared.action.Action.{Action}
@@ -11,7 +11,7 @@ use Rattle.rje_jobs.specs.Ascii.{ascii}
 abbrev pub channel : List ℕ → List ℕ
 channel number = 0x0A ∷ codes "[channel " ++ (number ++ (codes "]" ++ 0x0A ∷ []))
 
--- what is written behind a line: line feeds for spaces, a carriage return for none, a form feed for channel 1
+-- what is written after a line: line feeds for spaces, a carriage return for none, a form feed for channel 1
 abbrev pub carriage : Action → List ℕ
 carriage Plain = 0x0A ∷ []
 carriage Single = 0x0A ∷ []

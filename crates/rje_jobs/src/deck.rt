@@ -12,7 +12,7 @@ use rje_text::{Mode, Record, Records, Select};
 use std::alloc::{AllocError, Global};
 
 /// The job of a deck: a card for each line, in EBCDIC. A transparent job goes to the punch,
-/// its cards filled to 80 bytes. The first fault of the deck is told before any memory is taken.
+/// its cards filled to 80 bytes. The first fault of the deck is reported before any memory is taken.
 pub fn job_of_deck(alloc: Global, deck: &[u8], select: Select, mode: Mode) -> Result<Job, DeckFault>
     ensures job { IfOk result (λ job. (deck_fault deck.now ≡ None)
         × (job ≡ job_of select mode deck.now)) }
@@ -28,7 +28,7 @@ pub fn job_of_deck(alloc: Global, deck: &[u8], select: Select, mode: Mode) -> Re
     })
 }
 
-/// The cards of a deck, which the whole deck is checked for. Takes no memory, and so never tells of a want of it.
+/// The cards of a deck, once the whole deck is checked. Takes no memory, and so never runs out of it.
 pub fn cards_of_deck<'a>(deck: &'a [u8], mode: Mode) -> Result<Cards<'a>, DeckFault>
     ensures cards { IfOk result (λ cards. (deck_fault deck.entry.now ≡ None)
         × (cards ≡ cards_of mode deck.entry.now)) }
@@ -69,7 +69,7 @@ fn count_lines(deck: &[u8]) -> Result<usize, DeckFault>
     Ok(number)
 }
 
-/// Why this line, the so-many-th, makes no card, if it makes none.
+/// The fault of line `number`, if any.
 fn fault_in(line: &[u8], number: usize) -> Option<DeckFault>
     ensures { result ≡ line_fault number line.now }
 {

@@ -23,7 +23,7 @@ pub enum FileFault {
     /// A value that its field can't have: its place.
     #[error("job file has a bad field at byte {0}")]
     BadField(usize),
-    /// Bytes behind the last job: the place of the first of them.
+    /// Bytes after the last job: the place of the first of them.
     #[error("job file goes on at byte {0}")]
     Trailing(usize),
     /// An entry that has no name, or a state that its job can't have: its number, counted from 1.

@@ -31,7 +31,7 @@ impl Jobs {
         items
     }
 
-    /// Puts copies of other jobs behind these. Without memory for all of them nothing changes.
+    /// Adds copies of other jobs after these. Without memory for all of them nothing changes.
     pub fn extend_with_clones(&mut self, others: &[Job]) -> Result<(), AllocError>
         ensures ok { OnOk result (self.new ≡ self.old ++ others.now) }
         ensures err { OnErr result (self.new ≡ self.old) }

@@ -10,7 +10,7 @@ const LF: u8 = b'\n';
 /// Belongs to a line's end where it stands just before the LF.
 const CR: u8 = b'\r';
 
-/// The first line and what stands behind it; None where nothing stands there.
+/// The first line and what stands after it; `None` where there is nothing.
 pub(crate) fn next_line(rest: &[u8]) -> Option<(&[u8], &[u8])>
     ensures line { MatchOption result (rest.now ≡ [])
         (λ next. lines rest.now ≡ next.0.now ∷ lines next.1.now) }

@@ -18,7 +18,7 @@ pub fn list_job(alloc: Global, job: &Job) -> Result<Vec<u8>, FileFault>
     Ok(out)
 }
 
-/// Appends the listing of a job. Where memory runs out, a part of it may stand behind what was there.
+/// Appends the listing of a job. Where memory runs out, a part of it may stand after what was there.
 pub fn push_listing(job: &Job, out: &mut Vec<u8>) -> Result<(), FileFault>
     ensures listing { OnOk result (out.new.items ≡ out.old.items ++ listing job.now) }
     ensures front { StartsWith out.new.items out.old.items }
@@ -30,7 +30,7 @@ pub fn push_listing(job: &Job, out: &mut Vec<u8>) -> Result<(), FileFault>
     Ok(())
 }
 
-/// Appends the line of a record: its data in ASCII, and then its carriage control. Where memory runs out, a part of it may stand behind what
+/// Appends the line of a record: its data in ASCII, and then its carriage control. Where memory runs out, a part of it may stand after what
 /// was there.
 pub fn push_line(item: &Record, out: &mut Vec<u8>) -> Result<(), AllocError>
     ensures line { OnOk result (out.new.items ≡ out.old.items ++ line item.now) }
@@ -40,7 +40,7 @@ pub fn push_line(item: &Record, out: &mut Vec<u8>) -> Result<(), AllocError>
     out.extend_from_slice(carriage(item.action))
 }
 
-/// What is written behind a line.
+/// What is written after a line.
 fn carriage(action: Action) -> &'static [u8]
     ensures { result.now ≡ carriage_of action }
 {

@@ -29,7 +29,7 @@ pub fn punch_job(alloc: Global, job: &Job, form: Form) -> Result<Vec<u8>, FileFa
     Ok(out)
 }
 
-/// Appends the punched cards of a job. Where memory runs out, some of them may stand behind what was there.
+/// Appends the punched cards of a job. Where memory runs out, some of them may stand after what was there.
 pub fn push_cards(job: &Job, form: Form, out: &mut Vec<u8>) -> Result<(), FileFault>
     ensures cards { OnOk result (out.new.items ≡ out.old.items ++ punched form job.now) }
     ensures front { StartsWith out.new.items out.old.items }
@@ -41,7 +41,7 @@ pub fn push_cards(job: &Job, form: Form, out: &mut Vec<u8>) -> Result<(), FileFa
     Ok(())
 }
 
-/// Appends the card of a record. Where memory runs out, a part of it may stand behind what was there.
+/// Appends the card of a record. Where memory runs out, a part of it may stand after what was there.
 pub fn push_card(item: &Record, form: Form, out: &mut Vec<u8>) -> Result<(), AllocError>
     ensures card { OnOk result (out.new.items ≡ out.old.items ++ card form item.now) }
     ensures front { StartsWith out.new.items out.old.items }
@@ -59,7 +59,7 @@ pub fn push_card(item: &Record, form: Form, out: &mut Vec<u8>) -> Result<(), All
     }
 }
 
-/// Appends the blanks that fill a card of so many bytes.
+/// Appends the blanks that fill a card of `length` bytes.
 fn fill(length: usize, out: &mut Vec<u8>) -> Result<(), AllocError>
     ensures blanks { OnOk result (out.new.items ≡ out.old.items ++ replicate (80 - length) BLANK) }
     ensures front { StartsWith out.new.items out.old.items }

@@ -79,7 +79,7 @@ pub struct LoopOrder<'a> {
     pub jobs: &'a str,
     /// How long a hearing waits for more bytes, in milliseconds, 1 to 60000.
     pub timeout: u16,
-    /// Whether each turn is told on standard error as it happens.
+    /// Whether each turn is reported on standard error as it happens.
     pub trace: bool,
 }
 
@@ -92,7 +92,7 @@ pub struct SendOrder<'a> {
     pub address: SocketAddr,
     /// How long a hearing waits for more bytes, in milliseconds, 1 to 60000.
     pub timeout: u16,
-    /// Whether each turn is told on standard error as it happens.
+    /// Whether each turn is reported on standard error as it happens.
     pub trace: bool,
 }
 
@@ -105,7 +105,7 @@ pub struct ReceiveOrder<'a> {
     pub address: SocketAddr,
     /// How long a hearing waits for more bytes, in milliseconds, 1 to 60000.
     pub timeout: u16,
-    /// Whether each turn is told on standard error as it happens.
+    /// Whether each turn is reported on standard error as it happens.
     pub trace: bool,
 }
 
@@ -154,7 +154,7 @@ pub struct ExchangeOrder<'a> {
     pub place: Meeting,
     /// How long a hearing waits for more bytes, in milliseconds, 1 to 60000.
     pub timeout: u16,
-    /// Whether each turn is told on standard error as it happens.
+    /// Whether each turn is reported on standard error as it happens.
     pub trace: bool,
 }
 

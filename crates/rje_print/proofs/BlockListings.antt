@@ -71,7 +71,7 @@ begun all p rest text number so_far count reads_back packs fits small p_is rest_
       };
     }
 
--- what is read of the first block, and of those behind it
+-- what is read of the first block, and of those after it
 first_read : (so_far : Option Mode) (b : Block) (bs : List Block) (us : List Unpacked) → AreRead so_far (b ∷ bs) us
     → (u : Unpacked) × (rest : List Unpacked) × (us ≡ u ∷ rest) × IsRead b so_far u × AreRead (Some u.mode) bs rest
 first_read so_far b bs [] h = absurd h
@@ -160,7 +160,7 @@ pub record IsPrinting (before now : Option (List ℕ)) (all : List Record) (p : 
   pub way : IsOnTheWay all p rest (sent ++ held) (lines + 1) so_far count
   pub few : AreFewer all rest p lines
 
--- what is in hand behind what was written, when some of it and of a line was written
+-- what is in hand after what was written, when some of it and of a line was written
 pub put_on : (sent more held left line : List ℕ) → more ++ left ≡ held ++ line → (sent ++ more) ++ left ≡ (sent ++ held) ++ line
 put_on sent more held left line e = append_assoc sent more left ∙ ap (λ (zs : List ℕ). sent ++ zs) e ∙ sym (append_assoc sent held line)
 

@@ -83,7 +83,7 @@ pub only_place : (text : List ℕ) → Lacks 0x2C text → IsPlaces text → IsD
 only_place text none (place, [], fit, e) = (place, All-head IsPlace place [] fit, e)
 only_place text none (place, next ∷ places, fit, e) = absurd (no_split 0x2C text (decimal place) (places_text (next ∷ places)) none e)
 
--- in front of the first comma is a place, and behind it are more
+-- in front of the first comma is a place, and after it are more
 pub first_place : (text front behind : List ℕ) → IsSplit 0x2C text front behind → IsPlaces text → IsDecimal front × IsPlaces behind
 first_place text front behind split (place, [], fit, e) =
     let small = All-head IsPlace place [] fit in
@@ -102,7 +102,7 @@ damage_is_no_cut : (bytes text : List ℕ) → IsDamageWord bytes (codes "ok:" +
 damage_is_no_cut [] text h = h
 damage_is_no_cut (b ∷ bytes) text (hex, is_hex, e) = let first : 111 ≡ 98 = first_byte _ _ e in omega (arith, first)
 
--- what stands behind `ok:` in the word of a fate
+-- what stands after `ok:` in the word of a fate
 pub places_are : (text : List ℕ) → IsFate (codes "ok:" ++ text) → IsPlaces text
 places_are text (Fate.Arrives cuts, e, fit) = cuts_are cuts.items text fit e
 places_are text (Fate.Lost, e, fit) = let first : 111 ≡ 108 = first_byte _ _ e in absurd (omega (arith, first))
@@ -118,7 +118,7 @@ IsByte b = b < 2 ^ 8
 abbrev pub IsHexText : List ℕ → Type 0
 IsHexText text = (bytes : List ℕ) × All IsByte bytes × IsHexOf bytes text
 
--- behind the first pair is such a text again
+-- after the first pair comes such a text again
 pub hex_behind : (text rest : List ℕ) (b : ℕ) → IsFirstPair text b rest → IsHexText text → IsHexText rest
 hex_behind text rest b (high, low, e, is_high, is_low) ([], fit, h) = cc
 hex_behind (x ∷ y ∷ text) rest b (high, low, e, is_high, is_low) (v ∷ bytes, fit, h) =
@@ -152,7 +152,7 @@ cuts_are_no_damage : (cuts text : List ℕ) → codes "bad:" ++ text ≡ cuts_te
 cuts_are_no_damage [] text e = let first : 98 ≡ 111 = first_byte _ _ e in omega (arith, first)
 cuts_are_no_damage (place ∷ places) text e = let first : 98 ≡ 111 = first_byte _ _ e in omega (arith, first)
 
--- what stands behind `bad:` in the word of a fate
+-- what stands after `bad:` in the word of a fate
 pub hex_is : (text : List ℕ) → IsFate (codes "bad:" ++ text) → (0 < length text) × IsHexText text
 hex_is text (Fate.Arrives cuts, e, fit) = absurd (cuts_are_no_damage cuts.items text e)
 hex_is text (Fate.Lost, e, fit) = let first : 98 ≡ 108 = first_byte _ _ e in absurd (omega (arith, first))

@@ -6,7 +6,7 @@ use Rattle.std.proofs.lemmas.List.{append_assoc, append-nil}
 use Rattle.line_world.specs.declared.turn.Turn.{Turn}
 use Rattle.rje_print.specs.Script.{places_text, cuts_text, IsHexOf, IsDamageWord, IsFirstLine, IsTurnLine, IsScript}
 
--- each place with a comma behind it
+-- each place with a comma after it
 abbrev pub with_comma : ℕ → List ℕ
 with_comma place = decimal place ++ 0x2C ∷ []
 

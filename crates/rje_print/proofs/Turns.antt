@@ -65,7 +65,7 @@ two_blanks line up rest down more first second none h =
     let downs = split_is 0x20 rest down more t.down (t.wish ++ 0x20 ∷ t.pause) second (fate_lacks_blank t.down t.words.down_is) ups.1 in
     no_split 0x20 more t.wish t.pause none downs.1
 
--- the words of a turn's line stand in front of its blanks and behind the third
+-- the words of a turn's line stand in front of its blanks and after the third
 pub words_are : (line up rest down more wish pause : List ℕ) → IsSplit 0x20 line up rest → IsSplit 0x20 rest down more → IsSplit 0x20 more wish pause
     → IsTurn line → AreWords up down wish pause
 words_are line up rest down more wish pause first second third h =

@@ -13,7 +13,7 @@ hex_digit n = slice_index (codes "0123456789ABCDEF") n
 abbrev pub hex : List ℕ → List ℕ
 hex bytes = flat_map (λ b. hex_digit (b / 16) ∷ hex_digit (b % 16) ∷ []) bytes
 
--- bytes in hexadecimal, or a hyphen where there are none
+-- bytes in hexadecimal, or a hyphen for no bytes
 abbrev pub hex_or_hyphen : List ℕ → List ℕ
 hex_or_hyphen [] = codes "-"
 hex_or_hyphen (b ∷ bs) = hex (b ∷ bs)

@@ -7,7 +7,7 @@ use Rattle.bsc_link.specs.declared.sound.Sound.{Sound}
 use Rattle.line_world.specs.declared.spoken.Spoken.{Spoken}
 use Rattle.rje_jobs.specs.declared.job.Job.{Job}
 
--- how it is printed what a sender says
+-- how what a sender says is printed
 abbrev pub say_name : Say → List ℕ
 say_name Say.Bid = codes "bid"
 say_name Say.Block = codes "block"
@@ -33,7 +33,7 @@ sound_name Sound.Bad = codes "bad"
 sound_name Sound.Noise = codes "noise"
 sound_name Sound.Quiet = codes "quiet"
 
--- how it is printed what arrived: a block that was refused has a mark
+-- how what arrived is printed: a block that was refused has a mark
 abbrev pub arrived_name : Sound → Bool → List ℕ
 arrived_name arrived true = codes "block!"
 arrived_name arrived false = sound_name arrived
@@ -82,7 +82,7 @@ outcome_line outcome = codes "outcome " ++ outcome_name outcome ++ codes "\n"
 abbrev pub whole_jobs : List Job → ℕ
 whole_jobs jobs = count_by (λ job. job.whole) jobs
 
--- the text of a run of so many jobs: a line for each turn, and the three lines of the whole
+-- the text of a run of `given` jobs: a line for each turn, and the three lines of the whole
 abbrev pub run_text : ℕ → List Spoken → List Job → ℕ → Option Outcome → List ℕ
 run_text given turns handed counted outcome =
     turn_lines 1 turns ++ counted_line counted given ++ handed_line (length handed) (whole_jobs handed) ++ outcome_line outcome

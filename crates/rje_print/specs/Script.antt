@@ -16,7 +16,7 @@ IsHexOf [] text = text ≡ []
 IsHexOf (b ∷ bs) (high ∷ low ∷ text) = IsHexDigit (b / 16) high × IsHexDigit (b % 16) low × IsHexOf bs text
 IsHexOf (b ∷ bs) _ = ⊥
 
--- the first two digits are those of this byte, and this is behind them
+-- the first two digits are those of this byte, and this follows them
 abbrev pub IsFirstPair : List ℕ → ℕ → List ℕ → Type 0
 IsFirstPair text b rest = (high : ℕ) × (low : ℕ) × (text ≡ high ∷ low ∷ rest) × IsHexDigit (b / 16) high × IsHexDigit (b % 16) low
 
@@ -87,11 +87,11 @@ IsTurn line = (turn : Turn) × IsTurnLine turn line × TurnFits turn
 abbrev pub Lacks : ℕ → List ℕ → Type 0
 Lacks byte bytes = All (λ b. b ≢ byte) bytes
 
--- what stands in front of the first byte of this kind, and what stands behind it
+-- what stands in front of the first byte of this kind, and what stands after it
 abbrev pub IsSplit : ℕ → (bytes front behind : List ℕ) → Type 0
 IsSplit byte bytes front behind = (bytes ≡ front ++ byte ∷ behind) × Lacks byte front
 
--- what stands in front of and behind the first LF; where there is none all is in front
+-- what stands before and after the first LF; where there is none all is in front
 abbrev pub IsFirstLine : List ℕ → List ℕ → List ℕ → Type 0
 IsFirstLine bytes line rest = (bytes ≡ line ++ 0x0A ∷ rest) ⊎ ((bytes ≡ line) × (rest ≡ []))
 
@@ -100,13 +100,13 @@ abbrev pub IsScript : List Turn → List ℕ → Type 0
 IsScript [] bytes = bytes ≡ []
 IsScript (turn ∷ turns) bytes = (line : List ℕ) × (rest : List ℕ) × IsFirstLine bytes line rest × IsTurnLine turn line × IsScript turns rest
 
--- the next line of these bytes, and what is behind its LF: it has no LF itself, and the last LF may be left out; of no bytes there is none
+-- the next line of these bytes, and what is after its LF: it has no LF itself, and the last LF may be left out; no bytes have no line
 pub record IsNextLine (bytes line rest : List ℕ) : Type 0 where
   pub some : bytes ≢ []
   pub one : Lacks 0x0A line
   pub parts : IsFirstLine bytes line rest
 
--- so many lines from the first on are each that of a turn, and the next line is not
+-- the first n lines are each that of a turn, and the next line is not
 abbrev pub IsBadBehind : ℕ → List ℕ → Type 0
 IsBadBehind zero bytes = (line : List ℕ) × (rest : List ℕ) × IsNextLine bytes line rest × ¬ (IsTurn line)
 IsBadBehind (suc turns) bytes = (line : List ℕ) × (rest : List ℕ) × IsNextLine bytes line rest × IsTurn line × IsBadBehind turns rest
@@ -115,7 +115,7 @@ IsBadBehind (suc turns) bytes = (line : List ℕ) × (rest : List ℕ) × IsNext
 abbrev pub IsFirstBadLine : List ℕ → ℕ → Type 0
 IsFirstBadLine script number = (turns : ℕ) × (number ≡ turns + 1) × IsBadBehind turns script
 
--- what is told of a script that isn't read: want of memory, or the first line that is no turn's
+-- the fault of a script that isn't read: out of memory, or the first line that is no turn's
 abbrev pub IsScriptFault : List ℕ → ScriptFault → Type 0
 IsScriptFault script ScriptFault.OutOfMemory = ⊤
 IsScriptFault script (ScriptFault.NotATurn number) = IsFirstBadLine script number

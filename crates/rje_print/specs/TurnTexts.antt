@@ -1,4 +1,4 @@
--- What the program tells of a transmission as it happens (own profile).
+-- What the program reports of a transmission as it happens (own profile).
 use Rattle.std.specs.Prelude.{ℕ, ◌+◌, ◌/◌, ◌%◌, List, [], ◌∷◌, ◌++◌, Option, codes, decimal}
 use Rattle.std.specs.Net.Text.{socket_text}
 use Rattle.std.specs.declared.net.socket_addr.SocketAddr.{SocketAddr}
@@ -13,15 +13,15 @@ use Rattle.rje_print.specs.ReportTexts.{say_name, sound_name, arrived_name, repl
 abbrev pub three_digits : ℕ → List ℕ
 three_digits n = (48 + n / 100) ∷ (48 + n / 10 % 10) ∷ (48 + n % 10) ∷ []
 
--- a time of so many nanoseconds, in seconds with three decimals; what is left of a millisecond is dropped
+-- a time of `nanos` nanoseconds, in seconds with three decimals; what is left of a millisecond is dropped
 abbrev pub seconds_text : ℕ → List ℕ
 seconds_text nanos = decimal (nanos / 1_000_000_000) ++ codes "." ++ three_digits (nanos % 1_000_000_000 / 1_000_000)
 
--- a word behind others
+-- a word after others
 abbrev pub word_text : List ℕ → List ℕ
 word_text word = codes " " ++ word
 
--- the line that says who is connected, so many nanoseconds after the start
+-- the line that says who is connected, this many nanoseconds after the start
 abbrev pub peer_line : ℕ → SocketAddr → List ℕ
 peer_line nanos peer = seconds_text nanos ++ codes " connected " ++ socket_text peer ++ codes "\n"
 

@@ -42,7 +42,7 @@ fn closing_text(closing: Closing) -> &'static [u8]
     }
 }
 
-/// The bytes in hexadecimal, or a hyphen where there are none.
+/// The bytes in hexadecimal, or a hyphen for no bytes.
 fn push_hex(line: &mut PrintedLine, bytes: &[u8])
     requires room { length line.old.items + 2 * length bytes.now + 1 ≤ MAX_LINE }
     requires few { length bytes.now ≤ MAX_TEXT }

@@ -27,7 +27,7 @@ pub(crate) fn push_entry(line: &mut PrintedLine, number: usize, entry: &FileEntr
     push(line, b"\n");
 }
 
-/// Puts a blank and a name behind the bytes of a line, and nothing where the name has no character.
+/// Puts a blank and a name after the bytes of a line, and nothing where the name has no character.
 fn push_name(line: &mut PrintedLine, name: &JobName)
     requires { length line.old.items + 9 ≤ MAX_LINE }
     ensures name { line.new.items ≡ line.old.items ++ name_text (name_letters name.now) }

@@ -77,7 +77,7 @@ impl Listing {
         }
     }
 
-    /// Puts the line of the next block behind the others, and counts the block's records.
+    /// Puts the line of the next block after the others, and counts the block's records.
     fn add<O: Write>(&mut self, block: &Block, out: &mut O) -> IoResult<()>
         requires can { CanAdd block.now self.old.so_far self.old.count }
         requires few { self.old.lines + 1 < 2 ^ 64 }

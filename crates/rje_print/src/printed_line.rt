@@ -11,7 +11,7 @@ pub const MAX_LINE: usize = 1088;
 /// A line as it is printed, its LF included.
 pub type PrintedLine = ArrayVec<u8, MAX_LINE>;
 
-/// Puts bytes behind those of a line.
+/// Puts bytes after those of a line.
 pub(crate) fn push(line: &mut PrintedLine, bytes: &[u8])
     requires { length line.old.items + length bytes.now ≤ MAX_LINE }
     ensures { line.new.items ≡ line.old.items ++ bytes.now }
@@ -19,7 +19,7 @@ pub(crate) fn push(line: &mut PrintedLine, bytes: &[u8])
     line.try_extend_from_slice(bytes).unwrap();
 }
 
-/// Puts a number in decimal behind the bytes of a line.
+/// Puts a number in decimal after the bytes of a line.
 pub(crate) fn push_number(line: &mut PrintedLine, number: usize)
     requires { length line.old.items + 20 ≤ MAX_LINE }
     ensures digits { line.new.items ≡ line.old.items ++ decimal number }

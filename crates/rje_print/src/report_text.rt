@@ -7,7 +7,7 @@ use crate::report_lines::{counted_text, handed_text, outcome_text, push_turn};
 use line_world::{Report, Spoken};
 use std::alloc::{AllocError, Global};
 
-/// The text of a run of so many jobs: a line for each turn, and three lines of the whole.
+/// The text of a run of `given` jobs: a line for each turn, and three lines of the whole.
 pub fn run_text(alloc: Global, given: usize, report: &Report) -> Result<Vec<u8>, AllocError>
     ensures text { IfOk result (λ text. text.items
         ≡ text_of given report.now.turns.items

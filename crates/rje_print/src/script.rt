@@ -22,7 +22,7 @@ use line_world::Turn;
 use splitting::split_once;
 use std::alloc::{AllocError, Global};
 
-/// The turns of a script. The first line that isn't a turn is told by its number, from 1.
+/// The turns of a script. The first line that isn't a turn is reported by its number, from 1.
 pub fn read_script(alloc: Global, script: &[u8]) -> Result<Vec<Turn>, ScriptFault>
     ensures script { IfOk result (λ turns. IsScript turns.items script.now) }
     ensures told { IfErr result (IsScriptFault script.now) }
@@ -44,7 +44,7 @@ pub fn read_script(alloc: Global, script: &[u8]) -> Result<Vec<Turn>, ScriptFaul
     Ok(turns)
 }
 
-/// The first line, and what is behind its LF.
+/// The first line, and what is after its LF.
 fn first_line<'a>(bytes: &'a [u8]) -> Option<(&'a [u8], &'a [u8])>
     ensures line { MatchOption result (bytes.entry.now ≡ [])
         (λ p. IsNextLine bytes.entry.now p.0.now p.1.now) }

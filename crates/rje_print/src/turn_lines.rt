@@ -12,7 +12,7 @@ use std::io::{self, Write};
 use std::net::SocketAddr;
 use std::time::Duration;
 
-/// The line that says who is connected, so long after the start. Fails where the line has no room, which it has for every address.
+/// The line that says who is connected, this long after the start. Fails where the line has no room, which it has for every address.
 pub fn peer_text(after: Duration, peer: SocketAddr) -> io::Result<PrintedLine>
     ensures { IfOk result (λ line. line.items ≡ peer_line (as_nanos after) peer) }
 {
@@ -21,7 +21,7 @@ pub fn peer_text(after: Duration, peer: SocketAddr) -> io::Result<PrintedLine>
     Ok(line)
 }
 
-/// The line of a turn of a sending station, so long after the start: what it said, and what it heard.
+/// The line of a turn of a sending station, this long after the start: what it said, and what it heard.
 pub fn sender_text(after: Duration, said: Say, heard: Sound) -> PrintedLine
     ensures { result.items ≡ sender_line (as_nanos after) said heard }
 {
@@ -32,7 +32,7 @@ pub fn sender_text(after: Duration, said: Say, heard: Sound) -> PrintedLine
     line
 }
 
-/// The line of a turn of a receiving station, so long after the start: what arrived, and what it replied.
+/// The line of a turn of a receiving station, this long after the start: what arrived, and what it replied.
 pub fn receiver_text(after: Duration, arrival: Arrival, reply: Option<Reply>) -> PrintedLine
     ensures { result.items ≡ receiver_line (as_nanos after) arrival reply }
 {
@@ -43,7 +43,7 @@ pub fn receiver_text(after: Duration, arrival: Arrival, reply: Option<Reply>) ->
     line
 }
 
-/// The line of a turn of both, so long after the start: what was said, what arrived, what was replied, and what was heard.
+/// The line of a turn of both, this long after the start: what was said, what arrived, what was replied, and what was heard.
 pub fn both_text(after: Duration, turn: &Spoken) -> PrintedLine
     ensures { result.items ≡ both_line (as_nanos after) turn.now }
 {
@@ -80,7 +80,7 @@ fn digits(number: u32) -> [u8; 3]
     ]
 }
 
-/// Puts a blank and a word behind the bytes of a line.
+/// Puts a blank and a word after the bytes of a line.
 fn push_word(line: &mut PrintedLine, word: &[u8])
     requires { length line.old.items + 1 + length word.now ≤ MAX_LINE }
     ensures { line.new.items ≡ line.old.items ++ word_text word.now }

@@ -14,7 +14,7 @@ use rje_words::parse;
 use std::alloc::Global;
 use std::io::{Read, Write};
 
-/// Runs the command over files that these words ask for, which are those behind the program's name, and answers its exit status: 0 where
+/// Runs the command over files that these words ask for, which are those after the program's name, and returns its exit status: 0 where
 /// it did what it is for (or gave help or the version), 1 where what it reads is refused, 2 where the words ask for no command over files,
 /// 3 where the store, the reader or a writer failed, 5 where there was no memory, 141 where nobody reads `out` any more. What the command
 /// gives goes to `out`, and why it fails to `err`; with 141 nothing does.

@@ -19,7 +19,7 @@ use std::io::Write;
 use std::net::Net;
 use std::time::Clock;
 
-/// Whether these words, which are those behind the program's name, ask for a command over sockets: by the first of them.
+/// Whether these words, which are those after the program's name, ask for a command over sockets: by the first of them.
 pub fn is_for_sockets(words: &[&str]) -> bool
     ensures yes { result ≡ true → NamesSockets (map (λ word. word.now) words.now) }
     ensures no { result ≡ false → NamesSockets (map (λ word. word.now) words.now) → ⊥ }
@@ -30,7 +30,7 @@ pub fn is_for_sockets(words: &[&str]) -> bool
     }
 }
 
-/// Runs the command over sockets that these words ask for, and answers its exit status: 0 where all was sent and received (or it gave help or
+/// Runs the command over sockets that these words ask for, and returns its exit status: 0 where all was sent and received (or it gave help or
 /// the version), 4 where some was not, 1 where a job file that it sends or receives into is refused, 2 where the words ask for no command over sockets, 3
 /// where a file, a line or an output failed, 5 where there was no memory, 141 where nobody reads `out` any more. What the command gives goes
 /// to `out`, and why it fails to `err`, and its turns as they happen where that is asked for.

@@ -1,4 +1,4 @@
-//! Words that ask for no command, told, and their exit status.
+//! Words that ask for no command, reported, and their exit status.
 ghost use Rattle.std.specs.Prelude.{◌≡◌, ◌⊎◌};
 ghost use Rattle.clap.specs.Words.{kind_of};
 ghost use Rattle.rje_program.specs.Command.{IsHelp, IsHelpError, error_status, words_status};
@@ -9,7 +9,7 @@ use rje_commands::{CommandFault, tell};
 use rje_words::WordsFault;
 use std::io::Write;
 
-/// Gives the help or the version that was asked for, or tells why the words ask for nothing that can be done. Answers the exit status.
+/// Gives the help or the version that was asked for, or reports why the words ask for nothing that can be done. Returns the exit status.
 pub fn tell_words<O: Write, E: Write>(fault: &WordsFault, out: &mut O, err: &mut E) -> u8
     ensures help { result ≡ 0 → IsHelp fault.now }
     ensures status { (result ≡ words_status fault.now) ⊎ ((result ≡ 3) ⊎ (result ≡ 141)) }
@@ -32,7 +32,7 @@ pub fn tell_words<O: Write, E: Write>(fault: &WordsFault, out: &mut O, err: &mut
     }
 }
 
-/// Gives help, or tells why the words aren't taken.
+/// Gives help, or reports why the words aren't taken.
 fn tell_error<O: Write, E: Write>(error: &Error, out: &mut O, err: &mut E) -> u8
     ensures help { result ≡ 0 → IsHelpError error.now }
     ensures status { (result ≡ error_status (kind_of error.now))

@@ -64,7 +64,7 @@ push_last [] u w h = refl
 push_last (x ∷ []) u w h = rw (pick_none x x.whole h) refl
 push_last (x ∷ y ∷ js) u w h = ap (λ xs. x ∷ xs) (push_last (y ∷ js) u w h)
 
--- the mode tells whether a job is begun
+-- the mode says whether a job is begun
 pub no_mode : (o : Option Job) → is_some (mode_of_begun o) ≡ false → o ≡ None
 no_mode None h = refl
 no_mode (Some j) h = absurd cc

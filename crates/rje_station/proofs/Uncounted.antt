@@ -71,7 +71,7 @@ next_done [] closing place h e l = absurd h
 next_done (j ∷ []) closing place h e l = rw e refl
 next_done (j ∷ k ∷ js) closing place h e l = absurd (omega (arith, l))
 
--- ---- The first block of a job, and the block behind one.
+-- ---- The first block of a job, and the block after one.
 
 pub begins : (js rest : List Job) (j : Job) (b : Block) (to : ℕ) → js ≡ j ∷ rest → IsNextBlock j.select j.mode j.records 0 b to → b ∷ more_in js b.closing to ≡ blocks js
 begins js rest j b to e n = rw e (ap (λ x. x ++ blocks rest) (sym (cut_is j ∙ n.first)))

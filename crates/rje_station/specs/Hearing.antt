@@ -37,7 +37,7 @@ abbrev pub Ends : Heard → List ℕ → List ℕ → List ℕ → Type 0
 Ends (heard.Frame f) given left coming = left ≡ coming
 Ends h given left coming = (length given ≤ 8192) × (left ≡ [])
 
--- one hearing on a line that tells its bytes
+-- one hearing on a line that discloses its bytes
 pub record Hearing (t u : Talk) (h : Heard) : Type 0 where
   -- the bytes that the line gave, and those that it still had
   pub given : List ℕ

@@ -35,11 +35,11 @@ abbrev pub HearsJobs : Type 0
 HearsJobs = (accepted : List Block) (s : Receiving) (what : Heard) (refused : Bool) (wish : Wish) → s.jobs ≡ joined accepted
     → (after_receiving s what refused wish).jobs ≡ joined (accepted_after what (receiver_news s.core (sound_taken what refused) wish).accepted accepted)
 
--- what is noted behind a trace is noted behind all events that it stands for
+-- what is noted after a trace is noted after all events that it stands for
 abbrev pub TraceGoesOn : Type 0
 TraceGoesOn = (events more trace : List Event) → IsTraceOf events trace → IsTraceOf (events ++ more) (last_events (trace ++ more))
 
--- so many blocks of these jobs are counted, and as many jobs as they end
+-- the first n blocks of these jobs are counted, and as many jobs as they end
 pub record HasCounted (jobs : List Job) (n : ℕ) (s : Sending) : Type 0 where
   pub rest : s.rest ≡ drop n (blocks jobs)
   pub counted : s.counted ≡ ended_by (take n (blocks jobs))

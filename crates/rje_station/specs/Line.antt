@@ -9,7 +9,7 @@ pub record Talk : Type 0 where
   pub sent : List ℕ
   pub coming : List ℕ
 
--- on a line that tells its bytes P holds of what it tells before and after, and it goes on telling them
+-- on a line that discloses its bytes P holds of what it discloses before and after, and it goes on disclosing them
 abbrev pub Passes : Option Talk → Option Talk → (Talk → Talk → Type 0) → Type 0
 Passes None new P = ⊤
 Passes (Some t) None P = ⊥
@@ -23,7 +23,7 @@ Rose before after = before < 2 ^ 64 - 1 → before < after
 abbrev pub one_more : ℕ → ℕ
 one_more n = min (n + 1) (2 ^ 64 - 1)
 
--- what may fail after some calls might have failed before them, so many calls later
+-- what may fail after some calls might have failed before them, that many calls later
 abbrev pub Ages : (ℕ → ℕ → Type 0) → (ℕ → ℕ → Type 0) → Type 0
 Ages before after = (bytes calls : ℕ) → after bytes calls → (done : ℕ) × before bytes (done + calls)
 

@@ -25,7 +25,7 @@ use Rattle.rje_station.specs.Trace.{last_events}
 
 -- a receiving station
 pub record Receiving : Type 0 where
-  -- the jobs of the accepted blocks; one of which blocks came and no last one stands last, not whole
+  -- the jobs of the accepted blocks; one of which blocks came but not the last one stands last, not whole
   pub jobs : List Job
   pub core : ReceiverState
   -- the reply that is due
@@ -47,7 +47,7 @@ abbrev pub sound_taken : Heard → Bool → Sound
 sound_taken (heard.Frame f) refused = if refused then Sound.Bad else sound_heard (heard.Frame f)
 sound_taken h refused = sound_heard h
 
--- A whole block alone may be refused: where it doesn't read in the mode of the job that is begun, or for want of memory. One that isn't
+-- A whole block alone may be refused: where it doesn't read in the mode of the job that is begun, or where memory runs out. One that isn't
 -- refused reads.
 abbrev pub MayRefuse : Heard → Option Job → Bool → Type 0
 MayRefuse (heard.Frame (frame.Block b)) begun true = Unit {0}
@@ -79,7 +79,7 @@ after_receiving s h refused wish =
       trace = last_events (s.trace ++ event.Heard (sound_heard h) ∷ received_events news.accepted refused);
     }
 
--- one hearing: something was heard, of which this was told, and it was refused or not
+-- one hearing: something was heard, of which `IsTold` holds, and it was refused or not
 pub record Received (old new : Receiving) (wish : Wish) (reply : Option Reply) (IsTold : Heard → Type 0) : Type 0 where
   pub what : Heard
   pub refused : Bool

@@ -76,7 +76,7 @@ after_speaking s = record s {
 
 -- ---- Hearing.
 
--- what follows a block that ends so, with these blocks behind it
+-- what follows a block that ends so, with these blocks after it
 abbrev pub next_after : Closing → List Block → Next
 next_after closing [] = Next.Done
 next_after Etx (b ∷ bs) = Next.NewJob
@@ -87,7 +87,7 @@ abbrev pub next_in : List Block → Next
 next_in [] = Next.Done
 next_in (b ∷ bs) = next_after b.closing bs
 
--- what the core is told of what follows: while it bids, that the next block begins a job
+-- what the core is given of what follows: while it bids, that the next block begins a job
 abbrev pub next_for : Say → List Block → Next
 next_for Say.Bid rest = Next.NewJob
 next_for _ rest = next_in rest

@@ -138,7 +138,7 @@ after_other s what refused wish =
     }
     else record s { receiver = after_passing s.receiver }
 
--- one hearing of the other station: something was heard, of which this was told, and it was refused or not
+-- one hearing of the other station: something was heard, of which `IsTold` holds, and it was refused or not
 pub record HeardOther (old new : Contending) (wish : Wish) (reply : Option Reply) (IsTold : Heard → Type 0) : Type 0 where
   pub what : Heard
   pub refused : Bool

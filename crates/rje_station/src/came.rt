@@ -3,7 +3,7 @@
 /// What came of one call of `listen`.
 #[derive(Clone, Copy, Debug, PartialEq, Eq)]
 pub enum Came {
-    /// So many bytes, at the front of the slice.
+    /// This many bytes, at the front of the slice.
     Bytes(usize),
     /// Nothing came in time.
     Quiet,

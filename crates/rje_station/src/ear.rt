@@ -26,7 +26,7 @@ impl Ear {
         }
     }
 
-    /// Listens until a frame came or the line is quiet. Each piece goes to the listener as it comes, and bytes behind a frame are dropped.
+    /// Listens until a frame came or the line is quiet. Each piece goes to the listener as it comes, and bytes after a frame are dropped.
     pub(crate) fn hear<L: Line>(&mut self, line: &mut L) -> Result<Heard, HearFault>
         ensures grows { L.failures line.old ≤ L.failures line.new }
         ensures none { L.transmissions line.new ≡ L.transmissions line.old }

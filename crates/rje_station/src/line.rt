@@ -6,7 +6,7 @@ ghost use Rattle.rje_station.specs.declared.line_fault.LineFault.{LineFault as F
 use crate::{Came, LineFault};
 
 /// A half-duplex line. What it means is how many transmissions were begun on it, how many of its calls failed, the last fault and which calls may
-/// fail, and, where it tells its bytes, which it sent last and which come before it goes quiet.
+/// fail, and, where it discloses its bytes, which it sent last and which come before it goes quiet.
 pub trait Line {
     /// How many calls have failed. Nothing is said of a line where this is `u64::MAX`.
     ghost failures: { Self → ℕ };
@@ -17,10 +17,10 @@ pub trait Line {
     /// The last fault.
     ghost last_fault: { Self → Option Fault };
 
-    /// Whether a call may fail that sends so many bytes, or 0 where it listens, and comes after so many other calls.
+    /// Whether a call may fail that sends this many bytes, or listens where that is 0, and comes after that many other calls.
     ghost may_fail: { Self → ℕ → ℕ → Type 0 };
 
-    /// The bytes that were sent last, and those that come before the next Quiet. None: the line doesn't tell them.
+    /// The bytes that were sent last, and those that come before the next Quiet. `None`: the line doesn't disclose them.
     ghost talk: { Self → Option Talk };
 
     /// Sends these bytes.

@@ -69,7 +69,7 @@ impl ReceivingStation {
         })
     }
 
-    /// The jobs of the blocks that were accepted. One of which blocks came and no last one stands last, and isn't whole.
+    /// The jobs of the blocks that were accepted. One of which blocks came but not the last one stands last, and isn't whole.
     pub fn jobs(&self) -> &[Job]
         ensures { result.now ≡ self.now.jobs }
     {
@@ -144,7 +144,7 @@ impl ReceivingStation {
         self.over
     }
 
-    /// One hearing, of which nothing is made yet.
+    /// One hearing; what was heard isn't acted on yet.
     pub(crate) fn listen<L: Line>(&mut self, line: &mut L) -> Result<Heard, StationFault>
         ensures heard { IfOk result (λ what.
             Passes (L.talk line.old) (L.talk line.new) (λ t u. Hearing t u what)) }
@@ -249,7 +249,7 @@ impl ReceivingStation {
     }
 }
 
-/// Reads a whole block, joins it where the core will accept it, and tells whether it was refused.
+/// Reads a whole block, joins it where the core will accept it, and returns whether it was refused.
 fn refuses(jobs: &mut JoinedJobs, accepted: bool, heard: &Heard) -> bool
     ensures may { MayRefuse heard.now (begun_in jobs.old) result }
     ensures jobs { jobs.new ≡ jobs_after heard.now (accepted && not result) jobs.old }

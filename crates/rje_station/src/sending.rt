@@ -55,7 +55,7 @@ impl<'a> SendingStation<'a> {
         ensures ready { IfOk result (λ s. s ≡ first_sending jobs.now) }
         ensures fit { OnOk result (AllByRecursion JobFits jobs.now) }
 
-        // A job that can't be sent is told, the first by its number, and want of memory only of jobs that can be sent.
+        // A job that can't be sent is reported, the first by its number, and out of memory only where all jobs can be sent.
         ensures refused { IfErr result (λ fault. IsNewCause jobs.now fault) }
     {
         if let Some(number) = first_unfit(jobs) {
@@ -233,7 +233,7 @@ impl<'a> SendingStation<'a> {
         self.over = is_done(self.core.say());
     }
 
-    /// What the core is told of what follows: before the first block comes a new job.
+    /// What the core is given of what follows: before the first block comes a new job.
     fn next(&self) -> Next
         ensures { result ≡ next_for (say_in self.now.core.place) self.now.rest }
     {

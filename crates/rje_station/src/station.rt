@@ -47,7 +47,7 @@ impl<'a> Station<'a> {
         ensures ready { IfOk result (λ s. s ≡ first_contending rank jobs.now) }
         ensures fit { OnOk result (AllByRecursion JobFits jobs.now) }
 
-        // A job that can't be sent is told, the first by its number, and want of memory only of jobs that can be sent.
+        // A job that can't be sent is reported, the first by its number, and out of memory only where all jobs can be sent.
         ensures refused { IfErr result (λ fault. IsNewCause jobs.now fault) }
     {
         let sender = SendingStation::new(alloc, jobs)?;

@@ -43,14 +43,14 @@ impl Trace {
         self.ring.len()
     }
 
-    /// An event by its place, from 0, the oldest first; None behind the last.
+    /// An event by its place, from 0, the oldest first; `None` after the last.
     pub fn get(&self, place: usize) -> Option<Event>
         ensures { result ≡ slice_get self.now place }
     {
         self.ring.get(place).copied()
     }
 
-    /// Puts an event behind the others; the oldest goes where 64 were there.
+    /// Adds an event after the others; the oldest goes where there were 64.
     pub(crate) fn note(&mut self, event: Event)
         ensures { self.new ≡ last_events (self.old ++ event ∷ []) }
     {

@@ -1,4 +1,4 @@
--- What a store of files is: names with their bytes, where it tells them.
+-- What a store of files is: names with their bytes, where it discloses them.
 use Rattle.std.specs.Prelude.{◌≡◌, ℕ, ◌<◌, ◌≤◌, List, length, set, Option, Some, None, ⊤, bytes_eq, if◌then◌else◌}
 use Rattle.std.specs.Option.{IsSomeAnd}
 use Rattle.rje_files.specs.Growth.{grown}
@@ -8,7 +8,7 @@ use Rattle.rje_stores.specs.declared.reading.TheConstants.{MAX_INPUT}
 abbrev pub FileMap : Type 0
 FileMap = List ℕ → Option (List ℕ)
 
--- a store that tells its files goes on telling them, and this holds of the files before and after
+-- a store that discloses its files goes on disclosing them, and this holds of the files before and after
 abbrev pub Discloses : Option FileMap → Option FileMap → (FileMap → FileMap → Type 0) → Type 0
 Discloses None new P = ⊤
 Discloses (Some f) None P = ⊥
@@ -23,7 +23,7 @@ abbrev pub Sets : List ℕ → List ℕ → FileMap → FileMap → Type 0
 Sets name bytes f g = (other : List ℕ) → g other ≡ (if bytes_eq other name then Some bytes else f other)
 
 -- the file of this name was there and is no shorter than this piece; now it has the piece in front, in place of as many bytes, and another
--- behind, and each other name what it had
+-- at the end, and each other name what it had
 abbrev pub Extends : List ℕ → (front tail : List ℕ) → FileMap → FileMap → Type 0
 Extends name front tail f g = (bytes : List ℕ) × (f name ≡ Some bytes) × (length front ≤ length bytes) × Sets name (grown front tail bytes) f g
 
@@ -32,12 +32,12 @@ Extends name front tail f g = (bytes : List ℕ) × (f name ≡ Some bytes) × (
 abbrev pub SetsByte : List ℕ → (place byte : ℕ) → FileMap → FileMap → Type 0
 SetsByte name place byte f g = (bytes : List ℕ) × (f name ≡ Some bytes) × (place < length bytes) × Sets name (set bytes place byte) f g
 
--- where the files are told, this name has these bytes
+-- where the store discloses its files, this name has these bytes
 abbrev pub Has : Option FileMap → List ℕ → List ℕ → Type 0
 Has None name bytes = ⊤
 Has (Some f) name bytes = f name ≡ Some bytes
 
--- where the files are told, this name has none
+-- where the store discloses its files, there is none of this name
 abbrev pub IsMissing : Option FileMap → List ℕ → Type 0
 IsMissing None name = ⊤
 IsMissing (Some f) name = f name ≡ None
@@ -46,6 +46,6 @@ IsMissing (Some f) name = f name ≡ None
 abbrev pub IsTooLong : Option (List ℕ) → Type 0
 IsTooLong file = IsSomeAnd file (λ bytes. MAX_INPUT < length bytes)
 
--- there is such a file, and it has fewer bytes than so many
+-- there is such a file, and it has fewer than `count` bytes
 abbrev pub HasFewer : ℕ → Option (List ℕ) → Type 0
 HasFewer count file = IsSomeAnd file (λ bytes. length bytes < count)

@@ -15,7 +15,7 @@ use std::fs::{self, File, OpenFile, OpenOptions, Permissions};
 use std::io::{self, ErrorKind, Seek, SeekFrom, Write};
 use std::rt::Files;
 
-/// The system's files. It tells none of them. A file on disk is replaced whole or not at all, by way of a file beside it; a device or a
+/// The system's files. It discloses none of them. A file on disk is replaced whole or not at all, by way of a file beside it; a device or a
 /// pipe is written where it is. A file that it has for itself is locked, by way of another file beside it, until `release` or the end of
 /// the process.
 #[derive(Drop)]

@@ -8,7 +8,7 @@ use crate::store::{Place, Store, StoreFault, grown_bytes};
 use std::alloc::Global;
 use std::collections::BTreeMap;
 
-/// Files in memory. It tells its files, and fails only as it must.
+/// Files in memory. It discloses its files, and fails only as it must.
 #[derive(Drop)]
 pub struct MemoryStore {
     alloc: Global,

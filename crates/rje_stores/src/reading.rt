@@ -8,7 +8,7 @@ use std::io::Read;
 /// The most bytes of an input.
 pub const MAX_INPUT: usize = 16_777_216;
 
-/// So many bytes are read at once.
+/// How many bytes are read at once.
 const PIECE: usize = 65_536;
 
 /// All bytes of a reader, which has at most `MAX_INPUT`. Failed where it has more, and where a read fails,

@@ -21,7 +21,7 @@ pub enum StoreFault {
     /// Another process has it to change it.
     #[error("the file is in use")]
     InUse,
-    /// It is written, but the disk may not have it. Only a store that tells no files fails so.
+    /// It is written, but the disk may not have it. Only a store that discloses no files fails so.
     #[error("the file is written, but the disk may not have it")]
     Unsynced,
     /// It is too long, or the store fails.
@@ -58,9 +58,9 @@ pub enum Place {
     Once,
 }
 
-/// Files by name. A store that tells its files is known to keep them; one that tells none may answer anything.
+/// Files by name. A store that discloses its files is known to keep them; one that discloses none may return anything.
 pub trait Store {
-    /// The files, where the store tells them.
+    /// The files, where the store discloses them.
     ghost files: { Self → Option FileMap };
 
     /// The store has the file of this name for itself: nobody else changes it.
@@ -98,7 +98,7 @@ pub trait Store {
             (Sets name.now bytes.now)) }
         ensures same { OnErr result (Discloses (files self.old) (files self.new) IsSame) };
 
-    /// Looks how a file of this name can be written, if it can, and changes none. A store that tells its files lets them grow. A store
+    /// Looks how a file of this name can be written, if it can, and changes none. A store that discloses its files lets them grow. A store
     /// may fail at any time.
     fn look(&mut self, _name: &str) -> Result<Place, StoreFault>
         ensures grows { IfSome (files self.old) (λ _. IfOk result (λ place.
@@ -116,7 +116,7 @@ pub trait Store {
         Ok(one == other)
     }
 
-    /// Makes the file of this name begin with one piece, in place of as many bytes, and go on behind its end with another: all of it or
+    /// Makes the file of this name begin with one piece, in place of as many bytes, and go on after its end with another: all of it or
     /// nothing. A store may fail at any time, and does where there is no such file, or one with fewer bytes than the piece in front.
     fn extend(
         &mut self,
@@ -161,7 +161,7 @@ pub trait Store {
     {}
 }
 
-/// These bytes with one piece in front, in place of as many, and another behind. Failed where they are fewer than the piece in front.
+/// These bytes with one piece in front, in place of as many, and another at the end. Failed where they are fewer than the piece in front.
 pub fn grown_bytes(
     alloc: Global,
     bytes: &[u8],

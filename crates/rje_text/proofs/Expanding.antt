@@ -43,7 +43,7 @@ Stands-append {us} {vs} (count {c} {xs} {ys} h s) t =
 one_count : (c : ℕ) → is_count c ≡ true → Stands (IGS ∷ c ∷ []) (replicate (c - BLANK) BLANK)
 one_count c t = subst (λ zs. Stands (IGS ∷ c ∷ []) zs) (append-nil (replicate (c - BLANK) BLANK)) (count t nothing)
 
--- the data behind the first n bytes
+-- the data after the first n bytes
 drop-take_more : (text : List ℕ) (n i : ℕ) → n ≤ i → i < length text → drop n (take (i + 1) text) ≡ drop n (take i text) ++ get_or text i 0 ∷ []
 drop-take_more text n i m h =
     ap (drop n) (take_more text i 0 h) ∙ drop-append-le n (take i text) (get_or text i 0 ∷ []) (omega (arith, length-take-le i text (omega arith)))
@@ -120,7 +120,7 @@ record_with_room action ys h = rw (le-leb (length ys) 144 h) refl
 no_record_with : (action : Action) (ys : List ℕ) → 144 < length ys → record_with action ys ≡ None
 no_record_with action ys h = rw (lt-leb (length ys) 144 h) refl
 
--- below, the record's text has a head, and its first i bytes stand for ys behind that
+-- below, the record's text has a head, and its first i bytes stand for ys after that
 module _ (text ys : List ℕ) (n i : ℕ) (action : Action) (head : HasHead text n action) (behind : n ≤ i) where
   by_head : (k : ℕ) (zs : List ℕ) → n ≤ k → Stands (drop n (take k text)) zs → record_of (take k text) ≡ record_with action zs
   by_head k zs l s = head.reads k l ∙ ap (option_and_then (record_with action)) (expanded_is s)
@@ -162,7 +162,7 @@ module _ (text ys : List ℕ) (n i : ℕ) (action : Action) (head : HasHead text
         passes = rw width (prefix_passes (i + 1) _ (omega arith) long (stands_byte text ys n i behind h e s));
       }
 
--- nothing stands behind the head
+-- nothing stands after the head
 pub nothing_behind : (text : List ℕ) (n : ℕ) → n ≤ length text → Stands (drop n (take n text)) []
 nothing_behind text n h = subst (λ xs. Stands xs []) (sym (drop_all n (take n text) (omega (arith, length-take-le n text h)))) nothing
 

@@ -97,7 +97,7 @@ some_of (Some x) h = (x, refl)
 pub front_whole : (text : List ℕ) (start : ℕ) (rs : List Record) → length text ≤ start → IsFront (take start text) rs → records_in text ≡ Some rs
 front_whole text start rs h f = ap records_in (sym (take_all start text h)) ∙ front_all (take start text) rs f
 
--- nothing is left behind the end
+-- nothing is left after the end
 pub none_left : (text : List ℕ) (start : ℕ) (more : List Record) → length text ≤ start → records_in (drop start text) ≡ Some more → more ≡ []
 none_left text start more h e = same (sym e ∙ ap records_in (drop_all start text h) ∙ records_in-nil)
   where

@@ -18,7 +18,7 @@ width_positive text p = elim (eqb (get_or text p 0) IGS) as (λ b. 0 < cond b 2 
 no_count : (text : List ℕ) (p : ℕ) → p < length text → HasNoCount text p → is_count (get_or text p 0) ≡ false
 no_count text p l h = rw (slice_get-get_or text p 0 l) at h
 
--- the part stands at start in the text, which reads so far as the part does; behind the part no count stands
+-- the part stands at start in the text, which reads so far as the part does; after the part no count stands
 pub record IsPart (outer inner : List ℕ → Bool) (text part : List ℕ) (start : ℕ) : Type 0 where
   pub within : start + length part ≤ length text
   pub bytes : (k : ℕ) → k < length part → get_or part k 0 ≡ get_or text (start + k) 0
@@ -58,7 +58,7 @@ module _ (outer inner : List ℕ → Bool) (text part : List ℕ) (start : ℕ) 
         passes = rw width (ap (λ k. outer (take k text)) (add_assoc start q (width_at part q)) ∙ is.reads (q + width_at part q) h.within ∙ h.passes);
       }
 
-  -- the part's fault, told at a place in the whole
+  -- the part's fault, reported at a place in the whole
   pub lift_fault : (base : ℕ) (f : TextFault) → IsFaultFrom inner (base + start) part f → IsFaultFrom outer base text f
   lift_fault base OutOfMemory h = absurd h
   lift_fault base (BadCount p) h = (start + h.0, h.1 ∙ add_assoc base start h.0, lift_lacks h.0 h.2)
@@ -66,7 +66,7 @@ module _ (outer inner : List ℕ → Bool) (text part : List ℕ) (start : ℕ) 
   lift_fault base CardsNot80 h = absurd h
   lift_fault base MixedModes h = absurd h
 
--- the rest of a text behind its first n bytes is a part of it
+-- the rest of a text after its first n bytes is a part of it
 pub rest_is_part : (outer inner : List ℕ → Bool) (text : List ℕ) (n : ℕ) → n ≤ length text
     → ((k : ℕ) → n ≤ k → outer (take k text) ≡ inner (drop n (take k text))) → IsPart outer inner text (drop n text) n
 rest_is_part outer inner text n l reads =

@@ -102,7 +102,7 @@ pub record PackedSo (select : Select) (mode : Mode) (text : List ℕ) (records :
 taken_cut : (mode : Mode) (text : List ℕ) (r : Record) (rs : List Record) → room_for mode text r ≡ true → cut_behind mode text (r ∷ rs) ≡ cut_behind mode (text ++ spelling mode r) rs
 taken_cut mode text r rs h = rw h refl
 
--- the record at a place, and those behind it
+-- the record at a place, and those after it
 here_on : (records : List Record) (place : ℕ) (r : Record) → place < length records → r ≡ get_or records place r → drop place records ≡ r ∷ drop (place + 1) records
 here_on records place r l e = drop_more records place r l ∙ ap (λ x. x ∷ drop (place + 1) records) (sym e)
 

@@ -1,4 +1,4 @@
--- At most one fault is told of a block.
+-- At most one fault is reported for a block.
 use Rattle.std.proofs.Common.{◌≡◌, ◌≢◌, ◌⊎◌, inl, inr, ℕ, zero, suc, ◌+◌, ◌-◌, ◌<◌, ◌≤◌, Bool, true, false, List, [], ◌∷◌, ◌++◌, length, take, drop, get_or, Option, refl, ap, sym, ◌∙◌, subst, arith, ⊎_elim, IsSome, IfSome}
 use Rattle.std.proofs.lemmas.List.{take-append-drop, take-take, drop-take, take_all, take_more, get_or-drop, get_or_past}
 use Rattle.std.proofs.lemmas.Option.{slice_get-get_or}
@@ -33,7 +33,7 @@ first_dropped text n (suc m) h = (omega arith, by (drop n text) (get_or-drop n t
 
 -- a text that is cut well reads up to q; its byte at k stands before that
 module _ (reads : List ℕ → Bool) (well : CutsWell reads) (text : List ℕ) where
-  -- the text reads up to behind the byte at k, which is no IGS
+  -- the text reads up to and with the byte at k, which is not an IGS
   abbrev ReadsBehind : ℕ → Type 0
   ReadsBehind k = (reads (take (k + 1) text) ≡ true) × (get_or text k 0 ≢ IGS)
 
@@ -66,7 +66,7 @@ module _ (reads : List ℕ → Bool) (well : CutsWell reads) (text : List ℕ) w
       ⊎_elim (λ (w : ReadsBehind k). w.0)
       (λ (o : IsCounted k q). absurd (n o.0)) (cut_at k q l h e)
 
-  -- behind a fault the text doesn't read
+  -- after a fault the text doesn't read
   lacked : (p : ℕ) (h : LacksCount reads text p) (q : ℕ) → h.at < q → reads (take q text) ≡ true → ⊥
   lacked p h q l e =
       let counted = igs_counted h.at q l h.within h.igs e in

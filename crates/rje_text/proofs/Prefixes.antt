@@ -1,4 +1,4 @@
--- Beginnings of texts that read: a beginning reads too, unless it ends in an IGS, whose count then stands behind it.
+-- Beginnings of texts that read: a beginning reads too, unless it ends in an IGS, whose count then stands after it.
 use Rattle.std.proofs.Common.{◌≡◌, ◌≢◌, ◌⊎◌, inl, inr, ℕ, ◌+◌, ◌-◌, ◌<◌, ◌≤◌, Bool, true, false, cond, eqb, List, [], ◌∷◌, ◌++◌, length, replicate, get_or, Option, Some, None, refl, ap, sym, ◌∙◌, subst, arith, ⊎_elim, is_some}
 use Rattle.std.specs.Option.{option_map, option_and_then, option_map_or}
 use Rattle.std.proofs.lemmas.List.{append_assoc, length-append, length-replicate}
@@ -17,7 +17,7 @@ use Rattle.rje_text.proofs.Fronts.{LacksIrs, one_first, records_in-more, records
 use Rattle.std.proofs.lemmas.Option.{none-some}
 use Rattle.bsc_codes.proofs.Tables.{mapped}
 
--- the last byte, and 0 where there is none
+-- the last byte, or 0 if there is no byte
 abbrev pub last_of : List ℕ → ℕ
 last_of [] = 0
 last_of (x ∷ []) = x
@@ -278,7 +278,7 @@ pub is_some-map : {X Y : Type 0} (f : X → Y) (o : Option X) → is_some (optio
 is_some-map f None = refl
 is_some-map f (Some x) = refl
 
--- the text behind the selection is read
+-- the text after the selection is read
 selected_reads : (o : Option Select) (x : ℕ) (t : List ℕ) → is_some (selected o (x ∷ t)) ≡ option_map_or (λ s. reads_records t) o (reads_records (x ∷ t))
 selected_reads None x t = is_some-map _ (records_in (x ∷ t))
 selected_reads (Some s) x t = is_some-map _ (records_in t)

@@ -240,7 +240,7 @@ body_selects_not job (r ∷ rs) h =
 
 -- blocks of one job
 
--- behind this front a block's text of whole records is read, and gives this selection
+-- after this front a block's text of whole records is read, and gives this selection
 abbrev Reads : Select → Mode → Option Mode → List ℕ → Select → Type 0
 Reads job mode so_far front select = (rs : List Record) (closing : Closing) → AreSent job mode rs → length (text_of mode front rs) ≤ 510
     → IsRead (block mode closing (text_of mode front rs)) so_far (record { select = select; mode = mode; records = rs })

@@ -78,7 +78,7 @@ punches x n (inr e) = rw e refl
 pub selects_nothing : (x : ℕ) → x ≢ DC1 → x ≢ DC2 → x ≢ DC3 → select_byte x ≡ None
 selects_nothing x n m k = rw (not_equal x DC1 n, not_equal x DC2 m, not_equal x DC3 k) refl
 
--- below, the normal text has a front of n bytes, and rest stands behind it
+-- below, the normal text has a front of n bytes, and rest stands after it
 module _ (so_far : Option Mode) (text rest : List ℕ) (n : ℕ) (select : Select) (front : HasFront so_far text n select) (rest_is : rest ≡ drop n text) where
   pub whole_reading : normal_reading so_far text ≡ option_map (unpacked select) (records_in rest)
   whole_reading =

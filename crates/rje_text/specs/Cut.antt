@@ -18,7 +18,7 @@ is_transparent Transparent = true
 abbrev pub block : Mode → Closing → List ℕ → Block
 block mode closing text = record { text = record { items = text }; closing = closing; transparent = is_transparent mode }
 
--- the text of a run of records, behind what stands in front of it
+-- the text of a run of records, after what stands in front of it
 abbrev pub text_of : Mode → List ℕ → List Record → List ℕ
 text_of mode front run = front ++ flat_map (spelling mode) run
 

@@ -57,7 +57,7 @@ CutIsCut = (select : Select) (mode : Mode) (records : List Record) → RecordsFi
 abbrev pub CutIsTheOnlyOne : Type 0
 CutIsTheOnlyOne = (select : Select) (mode : Mode) (records : List Record) (blocks : List Block) → IsCut select mode records blocks → blocks ≡ cut select mode records
 
--- at most one fault is told of a block
+-- at most one fault is reported for a block
 abbrev pub OneFault : Type 0
 OneFault = (b : Block) (so_far : Option Mode) (f g : TextFault) → IsTextFault b so_far f → IsTextFault b so_far g → f ≡ g
 
@@ -65,7 +65,7 @@ OneFault = (b : Block) (so_far : Option Mode) (f g : TextFault) → IsTextFault 
 abbrev pub PackingIsTheCut : Type 0
 PackingIsTheCut = (select : Select) (mode : Mode) (records : List Record) → packed (new_packing select mode) records ≡ cut select mode records
 
--- no blocks are before the first record, and the block that begins behind whole blocks is the cut's next one
+-- no blocks are before the first record, and the block that begins after whole blocks is the cut's next one
 abbrev pub BlocksAreOfTheCut : Type 0
 BlocksAreOfTheCut = (select : Select) (mode : Mode) (records : List Record) → AreBlocksBefore select mode records 0 []
     × ((from to : ℕ) (before : List Block) (block : Block) → AreBlocksBefore select mode records from before

@@ -21,7 +21,7 @@ front_at select mode (suc from) = []
 abbrev pub cut_from : Select → Mode → List Record → ℕ → List Block
 cut_from select mode records from = cut_behind mode (front_at select mode from) (drop from records)
 
--- the blocks after one that ends the job, or after one that doesn't and behind which this record comes
+-- the blocks after one that ends the job, or after one that doesn't and is followed by this record
 abbrev pub blocks_after : Select → Mode → List Record → Closing → ℕ → List Block
 blocks_after select mode records Etx to = []
 blocks_after select mode records Etb to = cut_from select mode records to

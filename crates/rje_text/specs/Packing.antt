@@ -1,4 +1,4 @@
--- What a packer holds, and what it answers.
+-- What a packer holds, and what it returns.
 use Rattle.std.specs.Prelude.{◌≡◌, ℕ, Bool, true, false, List, [], ◌∷◌, ◌++◌, length, None, Some, Result, Ok, Err, nat_le, if◌then◌else◌}
 use Rattle.bsc_codes.specs.declared.block.Block.{Block}
 use Rattle.bsc_codes.specs.declared.block.Closing.TheVariants.{Etb, Etx}
@@ -30,7 +30,7 @@ has_room p r = nat_le (length (p.text ++ spelling p.mode r)) 510
 abbrev pub with_record : Packing → Record → Packing
 with_record p r = record p { text = p.text ++ spelling p.mode r }
 
--- what a push of r to p answers, and the packer after it
+-- what a push of r to p returns, and the packer after it
 abbrev pub Pushes : Packing → Record → Result Pushed PackFault → Packing → Type 0
 Pushes p r (Err fault) q = (pack_fault p.select p.mode r ≡ Some fault) × (q ≡ p)
 Pushes p r (Ok Taken) q = (pack_fault p.select p.mode r ≡ None) × (has_room p r ≡ true) × (q ≡ with_record p r)
@@ -45,7 +45,7 @@ abbrev pub after_close : Packing → Bool → Packing
 after_close p true = new_packing p.select p.mode
 after_close p false = record p { text = [] }
 
--- the blocks of records that are pushed one after another: a record that finds the block in hand full is pushed again behind
+-- the blocks of records that are pushed one after another: a record that finds the block in hand full is pushed again after
 -- a close(false), and at the end comes a close(true)
 abbrev pub packed : Packing → List Record → List Block
 packed p [] = block_in_hand p true ∷ []

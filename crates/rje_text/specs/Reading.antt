@@ -57,7 +57,7 @@ abbrev pub all_records : List (List ℕ) → Option (List Record)
 all_records [] = Some []
 all_records (t ∷ ts) = option_and_then (λ r. option_map (λ rs. r ∷ rs) (all_records ts)) (record_of t)
 
--- the records of a normal text behind its selection
+-- the records of a normal text after its selection
 unfoldable pub records_in : List ℕ → Option (List Record)
 records_in text = all_records (record_texts text)
 
@@ -67,7 +67,7 @@ selection_in (Some mode) text = None
 selection_in None [] = None
 selection_in None (x ∷ xs) = if x == DC1 then Some Printer else if (x == DC2 || x == DC3) then Some Punch else None
 
--- a normal text behind the selection that was made
+-- a normal text after the selection that was made
 abbrev pub selected : Option Select → List ℕ → Option Unpacked
 selected None text = option_map (λ rs. record { select = Unset; mode = Normal; records = rs }) (records_in text)
 selected (Some s) text = option_map (λ rs. record { select = s; mode = Normal; records = rs }) (records_in (drop 1 text))

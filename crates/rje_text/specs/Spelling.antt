@@ -30,7 +30,7 @@ abbrev pub runs_of : List ℕ → List Run
 runs_of [] = []
 runs_of (x ∷ xs) = if x == BLANK then with_blank (runs_of xs) else Byte x ∷ runs_of xs
 
--- so many full counts, each for 63 blanks
+-- `n` full counts, each for 63 blanks
 abbrev pub full_counts : ℕ → List ℕ
 full_counts zero = []
 full_counts (suc n) = IGS ∷ 0x7F ∷ full_counts n

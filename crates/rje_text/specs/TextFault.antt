@@ -1,4 +1,4 @@
--- Why a block's text isn't read. A fault is told where the text stops reading: it reads up to here, and no longer.
+-- Why a block's text isn't read. A fault is reported where the text stops reading: it reads up to here, and no further.
 -- Below, reads says of a text whether it reads: a record's, a block's, or a part of one.
 use Rattle.std.specs.Prelude.{◌≡◌, ℕ, ◌+◌, ◌<◌, ◌≤◌, Bool, true, false, List, length, take, IsSome, IsNone, IfSome, is_some, slice_get, slice_index, ◌==◌, if◌then◌else◌, Option}
 use Rattle.bsc_codes.specs.Bytes.{IGS}
@@ -12,7 +12,7 @@ use Rattle.rje_text.specs.Reading.{is_count, normal_reading, card_reading, readi
 abbrev pub HasNoCount : List ℕ → ℕ → Type 0
 HasNoCount text p = IfSome (slice_get text p) (λ c. is_count c ≡ false)
 
--- the text reads up to an IGS, and right behind it, at p, no count stands
+-- the text reads up to an IGS, and right after it, at p, no count stands
 pub record LacksCount (reads : List ℕ → Bool) (text : List ℕ) (p : ℕ) : Type 0 where
   pub at : ℕ
   pub behind : p ≡ at + 1
@@ -36,7 +36,7 @@ pub record PassesLimit (reads : List ℕ → Bool) (text : List ℕ) (p : ℕ) :
 abbrev pub reads_normal : Option Mode → List ℕ → Bool
 reads_normal so_far text = is_some (normal_reading so_far text)
 
--- what is told of a block that isn't read; a text that reads is refused for its mode, and else for want of memory alone
+-- the fault of a block that isn't read; a text that reads is refused for its mode, and else only where memory runs out
 abbrev pub IsTextFault : Block → Option Mode → TextFault → Type 0
 IsTextFault block so_far (BadCount p) = (block.transparent ≡ false) × LacksCount (reads_normal so_far) block.text.items p
 IsTextFault block so_far (RecordTooLong p) = (block.transparent ≡ false) × PassesLimit (reads_normal so_far) block.text.items p

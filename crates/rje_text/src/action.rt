@@ -52,7 +52,7 @@ const CODED: [Action; 16] = [
 impl Action {
     ghost use Rattle.rje_text.specs.Action.{code_of, action_of};
 
-    /// The action that this byte asks for behind an ESC; None for a byte that is no action's code.
+    /// The action that this byte asks for after an ESC; `None` for a byte that is no action's code.
     #[tactic(auto, unfolding(crate::specs::Action::action_of))]
     pub fn of(code: u8) -> Option<Action>
         ensures { result ≡ action_of code }
@@ -60,7 +60,7 @@ impl Action {
         with_code(&CODED, code)
     }
 
-    /// The byte that stands for this action behind an ESC; Plain has none.
+    /// The byte that stands for this action after an ESC; Plain has none.
     pub fn code(self) -> Option<u8>
         ensures { result ≡ code_of self }
     {

@@ -34,7 +34,7 @@ pub fn cut_reads_back()
     ensures { CutReadsBack }
 {}
 
-/// At most one fault is told of a block.
+/// At most one fault is reported for a block.
 pub fn one_fault()
     ensures { OneFault }
 {}

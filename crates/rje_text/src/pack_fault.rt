@@ -19,7 +19,7 @@ pub enum PackFault {
     /// A normal text can't carry this byte of the data; its place counts from 0.
     #[error("no text byte at {0}")]
     BadByte(usize),
-    /// A card of so many bytes: a transparent job's have 80, a punch job's 80 at most.
+    /// A card of this many bytes: a transparent job's have 80, a punch job's 80 at most.
     #[error("a card of {0} bytes")]
     CardLength(usize),
     /// Carriage control in a job of cards.

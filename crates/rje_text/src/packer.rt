@@ -105,7 +105,7 @@ ghost use Rattle.bsc_codes.specs.declared.block.Closing.TheVariants.{Etb, Etx};
 ghost use Rattle.rje_text.specs.Spelling.{selection, spelling};
 ghost use Rattle.rje_text.specs.Cut.{is_transparent as transparent};
 
-/// Puts behind a text how a record stands in it, if there is room for it; else the text stays as it was.
+/// Appends a record to a text as it stands there, if there is room for it; else the text stays as it was.
 pub(crate) fn take(text: &mut TextInHand, mode: Mode, item: &Record) -> bool
     requires { length text.old.items ≤ 510 }
     ensures room { result ≡ nat_le (length (text.old.items ++ spelling mode item.now)) 510 }

@@ -40,7 +40,7 @@ impl Records {
         items
     }
 
-    /// Puts a record behind these. Without memory for it nothing changes.
+    /// Adds a record after these. Without memory for it nothing changes.
     pub fn push(&mut self, item: Record) -> Result<(), AllocError>
         ensures ok { OnOk result (self.new ≡ self.old ++ item ∷ []) }
         ensures err { OnErr result (self.new ≡ self.old) }
@@ -49,7 +49,7 @@ impl Records {
         Ok(())
     }
 
-    /// Puts other records behind these. Without memory for all of them nothing changes.
+    /// Adds other records after these. Without memory for all of them nothing changes.
     pub fn append(&mut self, others: Records) -> Result<(), AllocError>
         ensures ok { OnOk result (self.new ≡ self.old ++ others) }
         ensures err { OnErr result (self.new ≡ self.old) }

@@ -18,7 +18,7 @@ pub(crate) type TextInHand = ArrayVec<u8, MAX_IN_HAND>;
 
 const MAX_IN_HAND: usize = MAX_TEXT_SENT + MAX_SPELLING;
 
-/// Puts behind the text how a record stands in a text of this mode.
+/// Appends a record to the text as it stands in a text of this mode.
 pub(crate) fn spell(item: &Record, mode: Mode, text: &mut TextInHand)
     requires { array_vec_len text.old ≤ MAX_TEXT_SENT }
     ensures text { text.new.items ≡ text.old.items ++ spelling mode item.now }

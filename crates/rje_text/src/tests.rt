@@ -120,7 +120,7 @@ fn two_bytes_select_the_punch_in_a_first_text(rt: HostRuntime) -> Result<(), Fai
         assert!(rt; read.mode == Mode::Normal);
         assert!(rt; read.records.as_slice() == [record(&rt, Action::Plain, &[0xC1])].as_slice());
 
-        // Behind the first text both are data.
+        // After the first text both are data.
         let later = unpack(rt.alloc(), &block(&rt, &text, false), Some(Mode::Normal))?;
         assert!(rt; later.select == Select::Unset);
         assert!(rt;

@@ -7,7 +7,7 @@ pub enum TextFault {
     /// The text reads, but there is no memory for its records.
     #[error("out of memory")]
     OutOfMemory,
-    /// An IGS without a count: the place behind it.
+    /// An IGS without a count: the place after it.
     #[error("no count of blanks at {0}")]
     BadCount(usize),
     /// The byte, or the IGS, with which a record passes 144 data bytes.

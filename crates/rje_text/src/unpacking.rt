@@ -24,7 +24,7 @@ pub fn unpack(alloc: Global, block: &Block, so_far: Option<Mode>) -> Result<Unpa
     }
 }
 
-/// What a block's text stands for, its records only counted. It tells the same faults as `unpack` but want of memory, for it takes none.
+/// What a block's text stands for, its records only counted. It reports the same faults as `unpack` but out of memory, for it takes none.
 pub fn count_records(block: &Block, so_far: Option<Mode>) -> Result<Counted, TextFault>
     ensures counted { IfOk result (λ counted. IsCounted block.now so_far counted) }
     ensures told { IfErr result (λ fault. IsTextFault block.now so_far fault) }
@@ -147,7 +147,7 @@ fn check(text: &[u8], base: usize) -> Result<usize, TextFault>
     Ok(count)
 }
 
-/// The records of a text that has so many, in just the memory that they take.
+/// The `count` records of a text, in just the memory that they take.
 fn collect(alloc: Global, text: &[u8], count: usize) -> Result<Vec<Record>, AllocError>
     requires { HasRecords count text.now }
     ensures { IfOk result (λ records. records_in text.now ≡ Some records.items) }

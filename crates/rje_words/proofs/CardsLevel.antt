@@ -1,4 +1,4 @@
--- What clap makes of `cards`, its two files and its options behind them.
+-- What clap makes of `cards`, its two files and its options after them.
 use Rattle.std.proofs.Common.{ℕ, List, [], ◌∷◌, ◌++◌, ◌≡◌, ◌==◌, arith, Option, Some, None, Bool, true, false, refl, codes, ap, ap₂, ◌∙◌, sym, append_assoc, append-nil}
 use Rattle.std.specs.Prelude.{unwrap_or, is_some, find, fold, map, slice_get}
 use Rattle.std.specs.List.{flat_map}
@@ -92,7 +92,7 @@ flag_turn punch h position = refl
 flag_turn transparent h position = refl
 flag_turn append h position = refl
 
--- the walk behind the option for a name, whose value comes next
+-- the walk after the option for a name, whose value comes next
 abbrev asked : Held → ℕ → Walk
 asked h position = record {
   held = record (settled rules h) { pending = Some (codes "name", []) };
@@ -102,7 +102,7 @@ asked h position = record {
   stopped = None;
 }
 
--- and behind that
+-- and after that
 abbrev with_name : Text → Held → Held
 with_name text h = record h { rows = (settled rules h).rows; pending = Some (codes "name", text ∷ []) }
 
@@ -133,13 +133,13 @@ abbrev pub part_words : Part → List Text
 part_words (flag f) = flag_text f ∷ []
 part_words (named text) = codes "--name" ∷ text ∷ []
 
--- what is held behind them
+-- what is held after them
 abbrev pub held_after : List Part → Held → Held
 held_after [] h = h
 held_after (flag f ∷ parts) h = held_after parts (reacted rules (rule_of_flag f) [] h)
 held_after (named text ∷ parts) h = held_after parts (with_name text h)
 
--- what is told of them
+-- the kinds that are found of them
 abbrev pub told_of : List Part → Held → Kinds
 told_of [] h = []
 told_of (flag f ∷ parts) h = or_else (or_else (react_fault rules false (rule_of_flag f) [] h) []) (told_of parts (reacted rules (rule_of_flag f) [] h))
@@ -167,7 +167,7 @@ parts_told (named text ∷ parts) h p =
     ap₂ or_else (name_turn h 3) (ap (λ w. or_else (turn_fault cards [] w text) (walk_fault cards [] (walked rules [] w text) (flat_map part_words parts))) (name_walked h 3)
     ∙ ap₂ or_else (value_turn text h 3 p.0) (ap (λ w. walk_fault cards [] w (flat_map part_words parts)) (value_walked text h 3 p.0) ∙ parts_told parts _ p.1))
 
--- what is held behind the two files
+-- what is held after the two files
 abbrev pub files_held : (deck jobs : Text) → Held
 files_held deck jobs = positional_held rules (rule_at 1) jobs (positional_held rules (rule_at 0) deck nothing_held)
 
@@ -180,7 +180,7 @@ module _ (deck jobs : Text) (h : IsPlain deck) (k : IsPlain jobs) (words : List 
   unfolding clap_on_literals
   files_told = rw (h.0, h.1, h.2) rw (k.0, k.1, k.2) refl
 
--- what is told behind the words
+-- the kinds that are found after the words
 abbrev told_behind : Held → Kinds
 told_behind h = or_else (settle_fault rules false h) (or_else (defaults_fault (settled rules h).rows rules) (check_fault cards (finished rules h) false))
 
@@ -211,7 +211,7 @@ unfolding walk_fault walked
 entered_quiet s ns name before [] = refl
 entered_quiet s ns name before (w ∷ ws) = entered_quiet s ns name (before ++ w ∷ []) ws
 
--- the program's walk over the command's name and the words behind it
+-- the program's walk over the command's name and the words after it
 top_walk : (words : List Text) → walk top.rules names nothing_held (codes "cards" ∷ words) ≡ entered_walk (codes "cards") words
 unfolding clap_on_literals
 top_walk words = entered_on top.rules names (codes "cards") [] words
@@ -246,7 +246,7 @@ Seen = Text × Text × Option Device × Option Text × Bool
 abbrev pub cards_in : List Row → Seen
 cards_in rows = (word_in (codes "DECK") rows, word_in (codes "JOBS") rows, device_in rows, first_of (codes "name") rows, is_on (codes "append") rows)
 
--- what is told of these options behind the files, and what is seen
+-- the kinds that are found of these options after the files, and what is seen
 abbrev pub Summary : Type 0
 Summary = Kinds × Kinds × Seen
 
@@ -290,7 +290,7 @@ append_parts true = flag append ∷ []
 abbrev pub cards_parts : Device → Option Text → Bool → List (List Part)
 cards_parts device given adds = in_each_order (device_parts device) (name_parts given) (append_parts adds)
 
--- each of them is these words, is told nothing of, and gives these values
+-- each of them is these words, has no kind found of it, and gives these values
 abbrev AreSeen : (deck jobs : Text) → Device → Option Text → Bool → Type 0
 AreSeen deck jobs device given adds =
     (map (flat_map part_words) (cards_parts device given adds) ≡ cards_options device given adds)

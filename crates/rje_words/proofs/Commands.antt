@@ -11,7 +11,7 @@ use Rattle.clap.specs.Faults.{level_fault, other_fault, step_fault, walk_fault, 
 use Rattle.clap.specs.Walk.{Held, Names, Outcome, Step, Waiting, Walk, after_flag, after_step, answers_to, arg_by_index, done, idle, long_or_other, next, nothing_held, option, plain, plain_word, positional, refused, short_or_plain, subcommand, subcommand_met, subcommand_or_other, to_positional, trailing, value, waits, walk_from, walked, walked_from, word_met}
 use Rattle.rje_words.specs.CommandLine.{IsOneOf, command_names, rje_app}
 
--- NO FAULT OF A LEVEL IS NONE OF ITS PARTS
+-- A LEVEL WITHOUT A FAULT HAS NONE IN ITS PARTS
 
 or_else-nil : (a b : Kinds) → or_else a b ≡ [] → (a ≡ []) × (b ≡ [])
 or_else-nil [] b h = (refl, h)

@@ -43,13 +43,13 @@ memory_only error (inr h) = absurd h
 pub apart : (a b : Text) → a ≡ b → bytes_eq a b ≡ false → ⊥
 apart a b e h = true≢false (sym ((bytes_eq-Decides a b).1 e) ∙ h)
 
--- words of which clap finds no fault, and what is seen of the command that they name
+-- words in which clap finds no fault, and what is seen of the command that they name
 pub record AreTaken {V : Type 0} (view : List Row → V) (words : List Text) (name : Text) (value : V) : Type 0 where
   pub faultless : fault_of rje_app words ≡ []
   pub found : seen view (subcommand_of rje_app words) ≡ Some (name, value)
 
 module _ {V : Type 0} (view : List Row → V) (word : Text) (words : List Text) (name : Text) (value : V) (taken : AreTaken view (word ∷ words) name value) where
-  -- nothing is told but want of memory, where what was seen leaves no other fault
+  -- no fault but out of memory, where what was seen leaves no other
   pub only_memory : ((rows : List Row) → view rows ≡ value → (fault : WordsFault) → IsFaultOf name rows fault → ⊥)
       → (fault : WordsFault) → IsWordsFault (word ∷ words) fault → IsWantOfMemory fault
   only_memory none (Refused error) h = memory_only error (subst (λ kinds. HasKind kinds error) taken.faultless h)

@@ -1,4 +1,4 @@
--- What clap finds of any command, and what is told of it.
+-- What clap finds of any command, and the faults of it.
 use Rattle.std.proofs.Common.{ℕ, List, [], ◌∷◌, Option, Some, None, Bool, true, false, ◌≡◌, ◌≢◌, refl, sym, ap, ◌∙◌, codes, subst, length}
 use Rattle.std.specs.Prelude.{option_map, unwrap_or, map, Result, Ok, Err, IfOk, IfErr, IsErrAnd, ◌==◌}
 use Rattle.std.specs.Option.{IsSomeAnd, option_map_or}
@@ -75,7 +75,7 @@ some_and : {X : Type 0} (o : Option X) (x : X) (P : X → Type 0) → o ≡ Some
 some_and None x P e h = cc
 some_and (Some y) x P e h = let is : y ≡ x = cc in subst P (sym is) h
 
--- WHAT IS ASKED AND TOLD
+-- WHAT IS ASKED FOR, AND THE FAULTS
 
 pub refused_kind : (app : App) (words : List Text) (error : Error) → app ≡ rje_app
     → (is_simple_and_free app ≡ true → HasKind (fault_of app words) error) → HasKind (fault_of rje_app words) error

@@ -7,7 +7,7 @@ use Rattle.std.specs.declared.net.socket_addr.SocketAddr.TheVariants.{V4, V6}
 use Rattle.std.specs.declared.net.socket_addr.SocketAddrV4.{SocketAddrV4}
 use Rattle.clap.specs.Words.{Text}
 
--- what stands behind the first colon, and nothing where there is none
+-- what stands after the first colon, and nothing where there is no colon
 abbrev pub port_text : Text → Text
 port_text = after_first (λ c. c == 58)
 

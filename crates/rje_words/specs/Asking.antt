@@ -54,7 +54,7 @@ pub record IsCardsOrderOf (rows : List Row) (order : CardsOrder) : Type 0 where
   pub name : IsGivenName (first_of (codes "name") rows) (Some order.name)
   pub append : order.append ≡ is_on (codes "append") rows
 
--- the options that were found choose two devices, or they choose one and the name is none
+-- the options that were found choose two devices, or they choose one and the name is not a name
 abbrev pub IsCardsFaultOf : List Row → WordsFault → Type 0
 IsCardsFaultOf rows TwoDevices = device_in rows ≡ None
 IsCardsFaultOf rows BadName = (device_in rows ≢ None) × IsGivenName (first_of (codes "name") rows) None
@@ -70,20 +70,20 @@ abbrev pub IsTimeoutOf : Option Text → ℕ → Type 0
 IsTimeoutOf (Some text) timeout = let digits = without_leading_plus text in IsNumeral 10 digits → digits_value 10 digits < 2 ^ 16 → timeout ≡ digits_value 10 digits
 IsTimeoutOf None timeout = timeout ≡ 3000
 
--- the order has the job file and the time-out that were found, and tells each turn where that option was
+-- the order has the job file and the time-out that were found, and reports each turn where that option was
 pub record IsLoopOrderOf (rows : List Row) (order : LoopOrder) : Type 0 where
   pub jobs : order.jobs.now ≡ word_in (codes "JOBS") rows
   pub timeout : IsTimeoutOf (one_of (codes "timeout") rows) order.timeout
   pub trace : order.trace ≡ is_on (codes "trace") rows
 
--- the order has the job file, the address of the receiver and the time-out that were found, and tells each turn where that option was
+-- the order has the job file, the address of the receiver and the time-out that were found, and reports each turn where that option was
 pub record IsSendOrderOf (rows : List Row) (order : SendOrder) : Type 0 where
   pub jobs : order.jobs.now ≡ word_in (codes "JOBS") rows
   pub address : IsAddressOf (word_in (codes "to") rows) (Some order.address)
   pub timeout : IsTimeoutOf (one_of (codes "timeout") rows) order.timeout
   pub trace : order.trace ≡ is_on (codes "trace") rows
 
--- the address of the receiver that was found is none
+-- the address of the receiver that was found is not an address
 abbrev pub IsSendFaultOf : List Row → WordsFault → Type 0
 IsSendFaultOf rows BadAddress = IsAddressOf (word_in (codes "to") rows) None
 IsSendFaultOf rows _ = ⊥
@@ -97,7 +97,7 @@ pub record IsDestinationOf (id : Text) (rows : List Row) (into : Destination) : 
   pub jobs : into.jobs.now ≡ word_in id rows
   pub existing : existing_in rows ≡ Some into.existing
 
--- the order has the job file with the choice for its jobs, the address to listen at and the time-out that were found, and tells each turn
+-- the order has the job file with the choice for its jobs, the address to listen at and the time-out that were found, and reports each turn
 -- where that option was
 pub record IsReceiveOrderOf (rows : List Row) (order : ReceiveOrder) : Type 0 where
   pub into : IsDestinationOf (codes "JOBS") rows order.into
@@ -109,14 +109,14 @@ pub record IsReceiveOrderOf (rows : List Row) (order : ReceiveOrder) : Type 0 wh
 abbrev pub IsSomeAddress : Text → Type 0
 IsSomeAddress text = (address : SocketAddr) × IsAddressOf text (Some address)
 
--- the address to listen at that was found is none, or it is one and both options for the jobs of the file were given
+-- the address to listen at that was found is not an address, or it is one and both options for the jobs of the file were given
 abbrev pub IsReceiveFaultOf : List Row → WordsFault → Type 0
 IsReceiveFaultOf rows BadAddress = IsAddressOf (word_in (codes "listen") rows) None
 IsReceiveFaultOf rows NewAndAppend = IsSomeAddress (word_in (codes "listen") rows) × (existing_in rows ≡ None)
 IsReceiveFaultOf rows _ = ⊥
 
 -- the other end is called at the address of the one option, or the call is awaited at that of the other one, by the texts that were
--- found for them: of which there is just one
+-- found for them: just one of the two was
 abbrev pub IsMeetingOf : (to listen : Option Text) → Meeting → Type 0
 IsMeetingOf (Some text) None (Calls address) = IsAddressOf text (Some address)
 IsMeetingOf None (Some text) (Listens address) = IsAddressOf text (Some address)
@@ -135,7 +135,7 @@ abbrev pub IsSomeMeeting : (to listen : Option Text) → Type 0
 IsSomeMeeting to listen = (place : Meeting) × IsMeetingOf to listen place
 
 -- the order has the two job files, the second with the choice for its jobs, and the time-out that were found, calls or is called so, and
--- tells each turn where that option was
+-- reports each turn where that option was
 pub record IsExchangeOrderOf (rows : List Row) (order : ExchangeOrder) : Type 0 where
   pub send : order.send.now ≡ word_in (codes "SEND") rows
   pub received : IsDestinationOf (codes "RECEIVED") rows order.received
@@ -161,7 +161,7 @@ IsOrderOf name rows (Sockets (Send order)) = (name ≡ codes "send") × IsSendOr
 IsOrderOf name rows (Sockets (Receive order)) = (name ≡ codes "receive") × IsReceiveOrderOf rows order
 IsOrderOf name rows (Sockets (Exchange order)) = (name ≡ codes "exchange") × IsExchangeOrderOf rows order
 
--- the values that were found for the command of this name are none that can be carried out
+-- the values that were found for the command of this name can't be carried out
 abbrev pub IsFaultOf : Text → List Row → WordsFault → Type 0
 IsFaultOf name rows (Refused error) = ⊥
 IsFaultOf name rows TwoDevices = (name ≡ codes "cards") × IsCardsFaultOf rows TwoDevices
@@ -182,8 +182,8 @@ abbrev pub AsksFor : List Text → Order → Type 0
 AsksFor [] order = IsBlocks (codes "-") order
 AsksFor (word ∷ words) order = IsFound (word ∷ words) (λ name rows. IsOrderOf name rows order)
 
--- this is why the words ask for nothing that can be done: clap refuses them, memory ran out, or they choose two devices, a name or an
--- address that is none, or both a new file and one that is added to
+-- this is why the words ask for nothing that can be done: clap refuses them, memory ran out, or they choose two devices, a bad name or
+-- a bad address, or both a new file and one that is added to
 abbrev pub IsWordsFault : List Text → WordsFault → Type 0
 IsWordsFault [] fault = ⊥
 IsWordsFault words (Refused error) = HasKind (fault_of rje_app words) error

@@ -14,7 +14,7 @@ use Rattle.rje_words.specs.CommandLine.{is_file, names_file}
 use Rattle.rje_words.specs.Orders.{IsBlocks, IsCards, IsShow, IsCheck, IsPrint, IsTry}
 use Rattle.rje_words.specs.WordsFault.{IsWantOfMemory}
 
--- each order that the words ask for is such a one, and nothing is told of them but want of memory
+-- each order that the words ask for is such a one, and they have no fault but out of memory
 pub record AskOnlyFor (words : List Text) (IsOne : Order → Type 0) : Type 0 where
   pub order : (order : Order) → AsksFor words order → IsOne order
   pub fault : (fault : WordsFault) → IsWordsFault words fault → IsWantOfMemory fault
@@ -57,7 +57,7 @@ abbrev pub append_words : Bool → List Text
 append_words false = []
 append_words true = codes "--append" ∷ []
 
--- three lists behind each other, in each order
+-- three lists one after another, in each order
 abbrev pub in_each_order : {X : Type 0} → (a b c : List X) → List (List X)
 in_each_order a b c =
     (a ++ (b ++ c)) ∷ (a ++ (c ++ b)) ∷ (b ++ (a ++ c)) ∷ (b ++ (c ++ a)) ∷ (c ++ (a ++ b)) ∷ (c ++ (b ++ a)) ∷ []

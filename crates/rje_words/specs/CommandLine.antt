@@ -1,4 +1,4 @@
--- The command line that clap is told of, and the words that name files and devices.
+-- The command line that clap is given, and the words that name files and devices.
 use Rattle.std.specs.Prelude.{◌≡◌, ◌⊎◌, [], ◌∷◌, List, Some, Bool, true, false, not, codes, pos, ◌==◌}
 use Rattle.clap.specs.Words.{App, Rule, Text, app_of, new_app, new_rule, rule_of, with_rule, with_subcommand}
 use Rattle.clap.specs.Simple.{on_top}
@@ -46,7 +46,7 @@ timeout_rule = record (new_rule (codes "timeout")) {
   defaults = codes "3000" ∷ [];
 }
 
--- the option to tell each turn
+-- the option to report each turn
 abbrev pub trace_rule : Rule
 trace_rule = flag_rule (codes "trace")
 

@@ -18,7 +18,7 @@ pub fn address_of(text: &str) -> Option<SocketAddr>
     }
 }
 
-/// What stands behind the first colon, and nothing where there is none.
+/// What stands after the first colon, and nothing where there is no colon.
 fn port_of(text: &str) -> &str
     ensures { result.now ≡ port_text text.now }
 {

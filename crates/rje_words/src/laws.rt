@@ -3,9 +3,9 @@ ghost use Rattle.rje_words.specs.Canonical.{BlocksAsked, ShowAsked, CheckAsked, 
 ghost use Rattle.rje_words.specs.Canonical.{TryAsked, CardsWithOptionsAsked, ReceiveAsked};
 
 /// A command's name and the files that it takes, in their order, ask for this command over these
-/// files: nothing is told of them but want of memory. A file's word has no hyphen in front; a deck
+/// files: they have no fault but out of memory. A file's word has no hyphen in front; a deck
 /// may be `-`. After the files of `cards` its options may stand, each at most once and in any order:
-/// for a device, for a name, and `--append`. Behind the file and the address of `receive` `--new` or
+/// for a device, for a name, and `--append`. After the file and the address of `receive` `--new` or
 /// `--append` may stand.
 pub fn words_ask_for_orders()
     ensures blocks { BlocksAsked }

@@ -20,7 +20,7 @@ use rje_orders::{
 };
 use std::alloc::Global;
 
-/// What these words, which are those behind the program's name, ask for. No words ask for the
+/// What these words, which are those after the program's name, ask for. No words ask for the
 /// blocks of the deck on standard input.
 pub fn parse<'a>(alloc: Global, words: &'a [&'a str]) -> Result<Order<'a>, WordsFault>
     ensures asked { IfOk result (AsksFor (map (λ word. word.now) words.entry.now)) }
@@ -34,7 +34,7 @@ pub fn parse<'a>(alloc: Global, words: &'a [&'a str]) -> Result<Order<'a>, Words
     order_of(command, inner)
 }
 
-/// What the command of this name asks for, of which clap found this.
+/// What the command of this name asks for, with what clap found for it.
 fn order_of<'a>(command: &str, matches: &ArgMatches<'a>) -> Result<Order<'a>, WordsFault>
     requires known { IsOneOf command.now command_names }
     ensures asked { IfOk result (IsOrderOf command.now (rows_of (found_of matches.now))) }
@@ -83,7 +83,7 @@ fn cards_order<'a>(matches: &ArgMatches<'a>) -> Result<CardsOrder<'a>, WordsFaul
     }
 }
 
-/// The name that was found for a job, which is blank where none was; None where it is none.
+/// The name that was found for a job, which is blank where none was; `None` if it is not a name.
 fn name_in(matches: &ArgMatches) -> Option<JobName>
     ensures { IsGivenName (first_of (codes "name") (rows_of (found_of matches.now))) result }
 {
@@ -204,7 +204,7 @@ fn timeout_of(matches: &ArgMatches) -> u16
     matches.get_one::<u16>("timeout").unwrap_or(3000)
 }
 
-/// Whether each turn is to be told.
+/// Whether each turn is to be reported.
 fn has_trace(matches: &ArgMatches) -> bool
     ensures { result ≡ is_on (codes "trace") (rows_of (found_of matches.now)) }
 {

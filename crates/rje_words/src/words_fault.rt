@@ -9,7 +9,7 @@ use thiserror::Error;
 /// Why the words ask for nothing that can be done.
 #[derive(Debug, Drop, Error)]
 pub enum WordsFault {
-    /// clap's: no command of this form, want of memory, or help or the version that was asked for.
+    /// clap's: no command of this form, out of memory, or help or the version that was asked for.
     #[error("{0}")]
     Refused(clap::Error),
     /// More than one device for a deck's job.
@@ -18,7 +18,7 @@ pub enum WordsFault {
     /// A name for a deck's job that isn't one to eight of A to Z and 0 to 9.
     #[error("bad name")]
     BadName,
-    /// An address that is none.
+    /// Not an address.
     #[error("bad address")]
     BadAddress,
     /// Both of the options for an address, or none of them.

@@ -20,7 +20,7 @@ fn buffer<const N: usize>(rt: &impl Abort, bytes: &[u8]) -> ArrayVec<u8, N> {
     buffer
 }
 
-/// A record of so many bytes C1.
+/// A record of `length` bytes C1.
 fn record_of(rt: &impl Abort, length: usize) -> Record {
     let bytes = [0xC1; 144];
     assert!(rt; length <= bytes.len());
@@ -39,7 +39,7 @@ fn block(rt: &impl Abort, text: &[u8], transparent: bool) -> Block {
     }
 }
 
-/// A whole, normal job of this many records of so many bytes C1 for the default device.
+/// A whole, normal job of this many records of `length` bytes C1 for the default device.
 fn job_of(rt: &(impl Abort + AllocGlobal), records: usize, length: usize) -> Result<Job, Fail> {
     let mut job = Job {
         select: Select::Unset,

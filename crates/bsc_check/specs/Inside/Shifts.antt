@@ -6,7 +6,7 @@ use Rattle.std.specs.Prelude.{ℕ, suc, zero, ◌/◌, ◌%◌, ◌==◌, List, 
 abbrev pub shift : ℕ → ℕ
 shift register = if register % 2 == 1 then bit_xor (register / 2) 0xA001 else register / 2
 
--- so many shifts
+-- `n` shifts
 unfoldable pub shifts : ℕ → ℕ → ℕ
 shifts zero register = register
 shifts (suc n) register = shifts n (shift register)

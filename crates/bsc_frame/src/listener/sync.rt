@@ -30,7 +30,7 @@ pub(crate) fn after_pads(byte: u8) -> Stage
     }
 }
 
-/// The stage after a byte behind the first SYN.
+/// The stage after a byte that follows the first SYN.
 pub(crate) fn after_one_syn(byte: u8) -> Stage
     ensures next { (text : List ℕ) → On (so_far_of result text) ≡ next OneSyn byte }
     ensures runs { (text : List ℕ) (check : ℕ) → CheckRuns result text check }
@@ -81,7 +81,7 @@ pub(crate) fn at_body(
     None
 }
 
-/// Takes the byte behind a DLE in a body's first place.
+/// Takes the byte after a DLE in a body's first place.
 pub(crate) fn at_dle(
     stage: &mut Stage,
     text: &mut ArrayVec<u8, MAX_TEXT>,

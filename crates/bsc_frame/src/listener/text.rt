@@ -70,7 +70,7 @@ pub(crate) fn at_transparent(
     }
 }
 
-/// Takes the byte behind a DLE in transparent text.
+/// Takes the byte after a DLE in transparent text.
 pub(crate) fn at_text_dle(
     stage: &mut Stage,
     text: &mut ArrayVec<u8, MAX_TEXT>,

@@ -39,7 +39,7 @@ const PRIMARY: &[Rank] = &[Rank::Primary];
 
 const SECONDARY: &[Rank] = &[Rank::Secondary];
 
-/// A line of the table: the ranks, the state, the call, the state that follows, and what the call answers.
+/// A line of the table: the ranks, the state, the call, the state that follows, and what the call returns.
 #[derive(Clone, Copy, Debug)]
 struct Line(&'static [Rank], State, Call, State, Option<bool>);
 
@@ -96,7 +96,7 @@ static TABLE: [Line; 26] = [
     Line(ANY, RECEIVING, Call::OtherEnd, FREE, None),
 ];
 
-/// Makes the call. What it answers, where it answers anything.
+/// Makes the call. What it returns, where it returns anything.
 fn make_call(contender: &mut Contender, call: Call) -> Option<bool> {
     match call {
         Call::SaidBid => contender.said_bid(),
@@ -195,7 +195,7 @@ static BEYOND_THE_BID: [(&'static [Heard], Say); 13] = [
     (&[HOLD, SILENCE, EOT], Say::Nothing),
 ];
 
-/// A bidding sender with so many tries and holds.
+/// A bidding sender after this many tries and holds.
 fn bidding(tries: usize, holds: usize) -> Sender {
     let mut sender = Sender::new();
     for _ in 0..tries {
@@ -207,7 +207,7 @@ fn bidding(tries: usize, holds: usize) -> Sender {
     sender
 }
 
-/// Hearing this sound so many times more makes the sender give up, and once less does not.
+/// Hearing this sound `times` more times makes the sender give up, and once less does not.
 fn assert_gives_up_at(rt: &impl Abort, bid: Sender, sound: Sound, times: usize) {
     let mut sender = bid;
     for time in 1..times {

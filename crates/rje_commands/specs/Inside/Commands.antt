@@ -1,4 +1,4 @@
--- Of what the private functions of the commands tell; no promise rests on it.
+-- What the private functions of the commands cite; no promise rests on it.
 use Rattle.std.specs.Prelude.{◌≡◌, ℕ, List, [], ◌∷◌, ◌++◌, Option, None, true, false, ⊤}
 use Rattle.std.specs.Option.{IsSomeAnd}
 use Rattle.rje_files.specs.FileFault.{IsFileFault}
@@ -23,11 +23,11 @@ IsHeld order files held = (order.append ≡ true → IsThere order.jobs.now file
 abbrev pub IsHeldFault : CardsOrder → CommandFault → Type 0
 IsHeldFault order fault = (order.append ≡ true) × IsReadFault order.jobs.now fault
 
--- these are the bytes of the version 2 file of what this file holds and, behind it, of this entry
+-- these are the bytes of the version 2 file of what this file holds and, after it, of this entry
 abbrev pub IsMade : (held : Option (List ℕ)) → Entry → (bytes : List ℕ) → Type 0
 IsMade held entry bytes = (front : List Entry) × AreEntriesOf held front × IsEntryFileOf Second (front ++ entry ∷ []) bytes
 
--- there is no memory for the file of what this file holds and a job behind it, or that is no job file
+-- there is no memory for the file of what this file holds and one more job, or this isn't a job file
 abbrev pub IsMadeFault : (held : Option (List ℕ)) → CommandFault → Type 0
 IsMadeFault held CommandFault.OutOfMemory = ⊤
 IsMadeFault held (CommandFault.File fault) = IsSomeAnd held (λ file. IsFileFault IsEntryFile file fault)

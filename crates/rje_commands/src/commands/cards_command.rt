@@ -22,7 +22,7 @@ use rje_stores::Store;
 use std::alloc::Global;
 use std::io::{Read, Write};
 
-/// Writes a job file of a deck's job, behind the jobs that the file holds where the order adds to them, and prints how many cards the job
+/// Writes a job file of a deck's job, after the jobs that the file holds where the order adds to them, and prints how many cards the job
 /// has. It has the file for itself from before it reads it. Nothing is written before the new file is made; a fault but that of the output,
 /// which comes after the file, leaves all files as they were.
 pub fn cards<'a, S: Store, I: Read, O: Write>(
@@ -80,7 +80,7 @@ fn held_file<'a, S: Store>(
     read_if_there(alloc, order.jobs, store)
 }
 
-/// The job file of what is held and, behind it, this entry.
+/// The job file of what is held and, after it, this entry.
 fn longer_file<'a>(
     alloc: Global,
     held: Option<Vec<u8>>,

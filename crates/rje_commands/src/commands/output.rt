@@ -118,8 +118,8 @@ pub fn look_beside<'a, S: Store>(
     }
 }
 
-/// Makes the file of this name go on, where it has so many bytes, and no more come of it than are read of a file.
-/// Answers how many it has then.
+/// Makes the file of this name go on, where it has `long` bytes, and it grows to no more than are read of a file.
+/// Returns how many it has then.
 pub fn extend_file<'a, S: Store>(
     alloc: Global,
     name: &'a str,

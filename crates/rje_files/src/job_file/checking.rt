@@ -8,7 +8,7 @@ use super::reader::Reader;
 use super::version::FileVersion;
 use rje_jobs::FileFault;
 
-/// What is told of bytes that are no job file; None for a job file of this version or an older one.
+/// The fault of bytes that are not a job file; `None` for a job file of this version or an older one.
 pub(super) fn first_fault(newest: FileVersion, bytes: &[u8]) -> Option<FileFault>
     ensures fault { IfSome result (λ fault. IsFileFault (IsFileUpTo newest) bytes.now fault) }
     ensures file { IfNone result (IsFileUpTo newest bytes.now) }
@@ -36,7 +36,7 @@ pub(super) fn first_fault(newest: FileVersion, bytes: &[u8]) -> Option<FileFault
     }
 }
 
-/// What is told where a file stops being one at this place.
+/// The fault of a file that stops being one at this place.
 fn fault_at(newest: FileVersion, bytes: &[u8], place: usize, reader: Reader) -> FileFault
     requires within { place < length bytes.now }
     requires read { HasRead (IsFileUpTo newest) (take place bytes.now) reader }

@@ -82,7 +82,7 @@ fn front_at<'a>(newest: FileVersion, bytes: &'a [u8]) -> (FileVersion, u64, &'a 
     (version, count, items)
 }
 
-/// The entry at the front, where so many are left behind it, and the bytes behind it.
+/// The entry at the front, which `left` more follow, and the bytes after it.
 fn entry_at(version: FileVersion, bytes: &[u8], left: u64) -> (FileEntry<'_>, &[u8])
     requires { Entries version (suc left) bytes.now }
     ensures { IsFirst version bytes.now left result.0 result.1.now }
@@ -93,7 +93,7 @@ fn entry_at(version: FileVersion, bytes: &[u8], left: u64) -> (FileEntry<'_>, &[
     (entry_with(version, front, records), rest)
 }
 
-/// So many records at the front, where so many entries are left behind them, and the bytes behind them.
+/// The `count` records at the front, which `left` entries follow, and the bytes after them.
 fn records_at(version: FileVersion, bytes: &[u8], count: u64, left: u64) -> (FileRecords<'_>, &[u8])
     requires { Records count (Entries version left) bytes.now }
     ensures { IsRecords version bytes.now count left result.0 result.1.now }
@@ -151,7 +151,7 @@ fn second_entry<'a>(front: &[u8], records: FileRecords<'a>) -> FileEntry<'a>
     )
 }
 
-/// The number at the front, and the bytes behind it.
+/// The number at the front, and the bytes after it.
 fn number_at<'a>(bytes: &'a [u8]) -> (u64, &'a [u8])
     requires { Number 8 0 AnyRest bytes.now }
     ensures { bytes.now ≡ big_bytes 8 result.0 ++ result.1.now }

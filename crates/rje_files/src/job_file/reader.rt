@@ -9,7 +9,7 @@ use super::name::may_stand;
 use super::version::FileVersion;
 use rje_text::{Action, MAX_RECORD};
 
-/// What comes next in a job file. Numbers, names and data have so many bytes left; a number's bytes so far make a value,
+/// What comes next in a job file. Of a number, a name or data so many bytes are left; a number's bytes so far make a value,
 /// and a name has ended or not.
 #[derive(Clone, Copy)]
 pub(crate) enum Due {
@@ -29,7 +29,7 @@ pub(crate) enum Due {
 }
 
 /// A place in a job file: what comes next, and how many jobs, and records of the job in hand, come after it. The version is the newest that is
-/// read, and behind the version's bytes the file's.
+/// read, and after the version's bytes the file's.
 #[derive(Clone, Copy)]
 pub(crate) struct Reader {
     due: Due,
@@ -75,7 +75,7 @@ impl Reader {
         }
     }
 
-    /// Behind the byte, if it may come.
+    /// After the byte, if it may come.
     pub(super) fn step(&self, byte: u8) -> Option<Reader>
         requires { IsSound self.now }
         ensures step { IfSome result (λ next. IsStep self.now byte next) }
@@ -132,7 +132,7 @@ impl Reader {
         }
     }
 
-    /// Behind so many data bytes, of those that are due.
+    /// After `count` of the data bytes that are due.
     pub(super) fn behind_data(&self, count: usize) -> Reader
         requires some { 0 < count }
         requires within { count ≤ data_due_in self.now }
@@ -191,7 +191,7 @@ impl Reader {
         }
     }
 
-    /// Behind a mode: whether the job is whole, in the first version.
+    /// After a mode: whether the job is whole, in the first version.
     fn after_mode(&self) -> Reader
         ensures sound { IsSound result }
         ensures there { (xs : List ℕ)
@@ -314,7 +314,7 @@ fn version_at(newest: FileVersion, byte: u8) -> Option<FileVersion>
     }
 }
 
-/// A number of which so many bytes are left, with one byte more.
+/// A number of which `left` bytes are missing, with one byte more.
 fn with_byte(so_far: u64, left: usize, byte: u8) -> u64
     requires more { 0 < left }
     requires left { left ≤ 8 }

@@ -42,7 +42,7 @@ pub(super) fn write_all_entries(entries: &[Entry], out: &mut Vec<u8>) -> Result<
     Ok(())
 }
 
-/// Appends what stands before the first of so many jobs.
+/// Appends what stands before the first of `count` jobs.
 fn write_front(version: FileVersion, count: usize, out: &mut Vec<u8>) -> Result<(), AllocError>
     ensures { OnOk result ((tail : List ℕ) → out.new.items ++ tail
         ≡ out.old.items ++ (head ++ (version_byte version ∷ (big_bytes 8 count ++ tail)))) }
@@ -100,7 +100,7 @@ fn write_parts(name: &JobName, state: State, job: &Job, out: &mut Vec<u8>) -> Re
     write_records(job.records.as_slice(), out)
 }
 
-/// Appends to `front` and `tail` how the version 2 file of so many entries goes on with this received job.
+/// Appends to `front` and `tail` how the version 2 file of `count` entries goes on with this received job.
 pub(super) fn write_growth(
     count: usize,
     job: &Job,

@@ -139,7 +139,7 @@ fn counts_take_no_memory(rt: HostRuntime) {
     assert!(rt; fault_of(&rt, &records) == Some(FileFault::Truncated(28)));
 }
 
-/// What is told of the file with 00 in place of this byte, which is another.
+/// The fault of the file with 00 in place of this byte, which is another.
 fn with_zero(place: usize) -> Option<FileFault> {
     match place {
         0..4 => Some(FileFault::NotJobFile),
@@ -151,7 +151,7 @@ fn with_zero(place: usize) -> Option<FileFault> {
     }
 }
 
-/// What is told of the file with FF in place of this byte.
+/// The fault of the file with FF in place of this byte.
 fn with_ff(place: usize) -> Option<FileFault> {
     match place {
         0..4 => Some(FileFault::NotJobFile),

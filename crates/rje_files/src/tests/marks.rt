@@ -24,7 +24,7 @@ fn entry(rt: &(impl Abort + AllocGlobal), state: State, data: &[&[u8]]) -> Resul
     })
 }
 
-/// Four jobs, of which the second was sent.
+/// Four jobs, the second of which was sent.
 fn four_jobs(rt: &(impl Abort + AllocGlobal)) -> Result<Vec<Entry>, Fail> {
     let mut entries = Vec::new(rt.alloc());
     entries.push(entry(rt, State::Waiting, &[b"A"])?)?;

@@ -1,4 +1,4 @@
-//! Calls that take memory, in ample memory and in memory of which a growth is refused: the script refusals/run runs these tests with
+//! Calls that take memory, with ample memory and with a growth of memory refused: the script refusals/run runs these tests with
 //! each growth refused in turn.
 use super::entries::{FILE, OLD_FILE};
 use crate::{entries_in, growth_of, read_entries, read_jobs, sent_file, write_entries, write_jobs};
@@ -28,7 +28,7 @@ fn entries_are_read_or_find_no_memory(rt: HostRuntime) {
         Err(fault) => assert!(rt; fault == FileFault::OutOfMemory),
     }
 
-    // A fault of the bytes is told whatever memory there is.
+    // A fault of the bytes is reported whatever memory there is.
     let told = read_entries(rt.alloc(), &FILE[..35]).err();
     assert!(rt; told == Some(FileFault::Truncated(35)));
 }

@@ -1,4 +1,4 @@
-//! Calls that take memory, in ample memory and in memory of which a growth is refused: the script refusals/run runs these tests with
+//! Calls that take memory, with ample memory and with a growth of memory refused: the script refusals/run runs these tests with
 //! each growth refused in turn.
 use crate::{DeckFault, FileFault, Form, job_of_deck, list_job, punch_job};
 use rje_text::{Mode, Select};
@@ -11,7 +11,7 @@ fn a_deck_makes_a_job_or_finds_no_memory(rt: HostRuntime) {
         Err(fault) => assert!(rt; fault == DeckFault::OutOfMemory),
     }
 
-    // A fault of the deck is told whatever memory there is.
+    // A fault of the deck is reported whatever memory there is.
     let told = job_of_deck(rt.alloc(), b"A\n\t\n", Select::Unset, Mode::Normal).err();
     assert!(rt; told == Some(DeckFault::BadCharacter(2, 1)));
 }

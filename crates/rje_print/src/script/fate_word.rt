@@ -7,7 +7,7 @@ use itoa::Buffer;
 use line_world::Fate;
 use std::alloc::{AllocError, Global};
 
-/// The fate of a word; None where it is none.
+/// The fate of a word; `None` if the word is not a fate.
 pub fn fate_of(alloc: Global, word: &[u8]) -> Result<Option<Fate>, AllocError>
     ensures { IfOk result (λ fate. MatchOption fate (¬ (IsFate word.now))
         (λ f. IsFateWord f word.now × FitsMachine f)) }
@@ -84,7 +84,7 @@ fn damage_of(alloc: Global, digits: &[u8]) -> Result<Option<Fate>, AllocError>
     Ok(Some(Fate::Damaged { bytes }))
 }
 
-/// The byte of the first two digits, and what is behind them; None where they are no digits.
+/// The byte of the first two digits, and what is after them; `None` where they are not digits.
 fn first_byte(digits: &[u8]) -> Option<(u8, &[u8])>
     ensures byte { MatchOption result (¬ (HasFirstPair digits.now))
         (λ p. IsFirstPair digits.now p.0 p.1.now × (p.0 < 2 ^ 8)) }

@@ -2,7 +2,7 @@
 ghost use Rattle.std.specs.Prelude.{◌<◌, length, IfSome, MatchOption};
 ghost use Rattle.rje_print.specs.Script.{IsSplit, Lacks};
 
-/// What stands in front of the first such byte, and what stands behind it; None where there is none.
+/// What stands before the first such byte, and what stands after it; `None` if there is no such byte.
 pub fn split_once<'a>(bytes: &'a [u8], byte: u8) -> Option<(&'a [u8], &'a [u8])>
     ensures parts { MatchOption result (Lacks byte bytes.entry.now)
         (λ p. IsSplit byte bytes.entry.now p.0.now p.1.now) }

@@ -1,4 +1,4 @@
--- The blocks that aren't counted yet, as a sending station keeps them: one block, and the place of the record behind it. Private
+-- The blocks that aren't counted yet, as a sending station keeps them: one block, and the place of the record after it. Private
 -- functions cite this; no promise rests on it.
 use Rattle.std.specs.Prelude.{ℕ, Bool, List, [], ◌∷◌, ◌++◌, length, drop}
 use Rattle.std.specs.List.{AllByRecursion}
@@ -27,17 +27,17 @@ all_uncounted jobs = record { jobs = jobs; rest = blocks jobs; counted = 0 }
 abbrev pub after_count : Bool → Remaining → Remaining
 after_count counted r = record r { rest = rest_after counted r.rest; counted = counted_after counted r.rest r.counted }
 
--- the blocks behind one of the first of these jobs, where this record comes next
+-- the blocks after one of the first of these jobs, where this record comes next
 abbrev pub more_in : List Job → Closing → ℕ → List Block
 more_in [] closing place = []
 more_in (j ∷ js) closing place = blocks_after j.select j.mode j.records closing place ++ blocks js
 
--- the outstanding block, which is one of the first of these jobs, and those behind it; no block is outstanding where it is another frame
+-- the outstanding block, which is one of the first of these jobs, and those after it; no block is outstanding where it is another frame
 abbrev pub rest_in : List Job → Frame → ℕ → List Block
 rest_in jobs (frame.Block b) place = b ∷ more_in jobs b.closing place
 rest_in jobs _ place = []
 
--- the record behind the outstanding block is one of the job's, or its end
+-- the record after the outstanding block is one of the job's, or its end
 abbrev pub IsPlace : List Job → Closing → ℕ → Type 0
 IsPlace [] closing place = ⊥
 IsPlace (j ∷ js) closing place = IsEnd closing place (length j.records)

@@ -9,7 +9,7 @@ use rje_text::{Mode, Unpacked};
 use std::alloc::{AllocError, Global};
 use std::marker::Model;
 
-/// The jobs that accepted blocks are joined to. A job of which blocks came and no last one stands last, and isn't whole.
+/// The jobs that accepted blocks are joined to. A job of which blocks came but not the last one stands last, and isn't whole.
 #[derive(Drop)]
 pub(crate) struct JoinedJobs {
     items: Vec<Job>,

@@ -15,15 +15,15 @@ use rje_text::next_block;
 use std::marker::Model;
 
 /// The blocks of some jobs that aren't counted yet. It keeps the outstanding one, which is the first of them, and the place of the record
-/// behind it; each further block is made when it becomes outstanding.
+/// after it; each further block is made when it becomes outstanding.
 #[derive(Drop)]
 pub(crate) struct Uncounted<'a> {
     jobs: &'a [Job],
-    // The jobs whose last block is counted: the outstanding block is one of the job behind them.
+    // The jobs whose last block is counted: the outstanding block is one of the job after them.
     counted: usize,
     // The outstanding block; EOT where every block is counted.
     outstanding: Frame,
-    // The record behind the outstanding block.
+    // The record after the outstanding block.
     place: usize,
 }
 
@@ -110,7 +110,7 @@ impl<'a> Uncounted<'a> {
     }
 }
 
-/// The first block of a job and the place behind its last record; EOT where there is no such job.
+/// The first block of a job and the place after its last record; EOT where there is no such job.
 fn begin_job(jobs: &[Job], at: usize) -> (Frame, usize)
     requires fit { AllByRecursion JobFits jobs.now }
     ensures rest { rest_in (drop at jobs.now) result.0 result.1 ≡ blocks (drop at jobs.now) }
@@ -125,7 +125,7 @@ fn begin_job(jobs: &[Job], at: usize) -> (Frame, usize)
     }
 }
 
-/// What becomes outstanding behind a block that is counted: the block, the place behind its last record, and its job.
+/// What becomes outstanding after a block that is counted: the block, the place after its last record, and its job.
 fn after_block(jobs: &[Job], at: usize, closing: Closing, place: usize) -> (Frame, usize, usize)
     requires fit { AllByRecursion JobFits jobs.now }
     requires within { IsPlace (drop at jobs.now) closing place }

@@ -6,7 +6,7 @@ use std::io::{self, ErrorKind, Write};
 use std::os::unix::fs::MetadataExt;
 use std::rt::Files;
 
-/// So many names are tried for a file beside another.
+/// How many names are tried for a file beside another.
 const MAX_NAMES: u32 = 1000;
 
 /// A file beside another: open and empty, under a name of its own.
@@ -156,7 +156,7 @@ pub(super) fn open_folder<R: Files>(rt: &R, path: &str) -> io::Result<R::File> {
     fs::open(rt, folder)
 }
 
-/// Has the names in this folder on disk, of which one has just been given to another file.
+/// Puts the names in this folder on disk, one of which has just been given to another file.
 pub(super) fn sync_folder<F: OpenFile>(folder: &F) -> Result<(), StoreFault> {
     match folder.sync_all() {
         Ok(()) => Ok(()),

@@ -85,8 +85,8 @@ impl<F: Read + Write + Seek + OpenFile + Drop> Growing<F> {
         }
     }
 
-    /// The file with one piece in front, in place of as many bytes, and another behind. Where that fails, the file is as it was; but where it is
-    /// unsynced it has them, and the disk may not.
+    /// The file with one piece in front, in place of as many bytes, and another at the end. Where that fails, the file is as it was; but where it
+    /// is unsynced it has them, and the disk may not.
     pub(super) fn extended<R: Files<File = F>>(
         self,
         rt: &R,
@@ -146,7 +146,7 @@ fn first_copy<R: Files>(rt: &R, alloc: Global, path: &str) -> io::Result<Older<R
     Ok(Older { file, path, len: 0 })
 }
 
-/// Gives the copy beside the file its name, on disk. The file, where it is our own, stays by a second name, which is answered; where it
+/// Gives the copy beside the file its name, on disk. The file, where it is our own, stays by a second name, which is returned; where it
 /// gets none, the next growth copies it whole.
 fn put_in_place<R: Files>(
     rt: &R,

@@ -11,7 +11,7 @@ use std::io::{self, ErrorKind};
 use std::os::unix::fs::{MetadataExt, PermissionsExt};
 use std::rt::Files;
 
-/// So many times a file beside another is locked that somebody removes.
+/// How many times to lock the file beside another anew where it was removed meanwhile.
 const MAX_TRIES: u32 = 1000;
 
 /// The lock of the file of a name.
@@ -26,7 +26,7 @@ pub(super) struct FileLock {
 }
 
 impl FileLock {
-    /// The lock of the file of this name; missing where neither that nor the file beside can be. None where a device or a pipe stands there,
+    /// The lock of the file of this name; missing where neither that nor the file beside can be. `None` where a device or a pipe stands there,
     /// which is never replaced, or a folder, which is never written.
     pub(super) fn take<R: Files<File = File>>(
         rt: &R,
@@ -74,8 +74,8 @@ impl FileLock {
         self.name.as_str() == name
     }
 
-    /// Removes the file beside, unless somebody has done so, and the name may be another one's. It is locked until this value is let go, so
-    /// whoever opened it before finds that it has no name any more.
+    /// Removes the file beside, unless another process has done so: then the name may be another file's. It is locked until this value is let
+    /// go, so whoever opened it before finds that it has no name any more.
     pub(super) fn remove<R: Files>(&self, rt: &R) {
         if is_there(&self.lock) {
             let _ = rt.remove_file(self.beside.as_str());
@@ -100,7 +100,7 @@ fn open_to_lock<R: Files<File = File>>(rt: &R, path: &str) -> Option<File> {
 }
 
 /// The file of this path, made where there is none, and locked. Whoever gives up its lock removes it first, so one that has no name any
-/// more when it is locked is somebody's who has gone: then there is another one, or none.
+/// more when it is locked was left by a process that has gone: then there is another one, or none.
 fn lock_of<R: Files<File = File>>(rt: &R, path: &str) -> Result<File, StoreFault> {
     for _ in 0..MAX_TRIES {
         let file = open_lock(rt, path)?;
@@ -120,7 +120,7 @@ fn is_there(file: &File) -> bool {
     }
 }
 
-/// A lock's file, which is empty, and which anybody may read: so one that was left refuses nobody. Somebody else's can perhaps only be read.
+/// A lock's file, which is empty, and which any user may read: so one that was left keeps no one out. Another user's can perhaps only be read.
 fn open_lock<R: Files<File = File>>(rt: &R, path: &str) -> io::Result<File> {
     let opened = OpenOptions::new()
         .read(true)

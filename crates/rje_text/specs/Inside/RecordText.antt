@@ -1,4 +1,4 @@
--- A text taken apart: what private functions say of a record's text and of a text behind its selection. No public clause cites it.
+-- A text taken apart: what private functions say of a record's text and of a text after its selection. No public clause cites it.
 use Rattle.std.specs.Prelude.{◌≡◌, ℕ, ◌+◌, ◌≤◌, Bool, List, length, take, drop, Option, option_map, option_and_then, Some, is_some, IsSome, IsNone}
 use Rattle.rje_text.specs.declared.mode.Mode.TheVariants.{Normal, Transparent}
 use Rattle.rje_text.specs.declared.mode.Mode.{Mode}
@@ -25,11 +25,11 @@ pub record HasFront (so_far : Option Mode) (text : List ℕ) (n : ℕ) (select :
   pub within : n ≤ length text
   pub reads : (k : ℕ) → n ≤ k → normal_reading so_far (take k text) ≡ option_map (unpacked select) (records_in (drop n (take k text)))
 
--- the text is that of so many records
+-- the text is that of `count` records
 abbrev pub HasRecords : ℕ → List ℕ → Type 0
 HasRecords count text = (records : List Record) × (records_in text ≡ Some records) × (length records ≡ count)
 
--- a normal text that reads in its job's mode: the selection that it makes, and the text of its records, so many
+-- a normal text that reads in its job's mode: the selection that it makes, and the text of its `count` records
 pub record HasParts (so_far : Option Mode) (text : List ℕ) (select : Select) (rest : List ℕ) (count : ℕ) : Type 0 where
   pub reading : normal_reading so_far text ≡ option_map (unpacked select) (records_in rest)
   pub records : HasRecords count rest
@@ -49,7 +49,7 @@ IsFaultFrom reads start text (RecordTooLong p) = (q : ℕ) × (p ≡ start + q) 
 IsFaultFrom reads start text CardsNot80 = ⊥
 IsFaultFrom reads start text MixedModes = ⊥
 
--- what is told of a normal text
+-- the fault of a normal text
 abbrev pub IsNormalFault : Option Mode → List ℕ → TextFault → Type 0
 IsNormalFault so_far text (BadCount p) = LacksCount (reads_normal so_far) text p
 IsNormalFault so_far text (RecordTooLong p) = PassesLimit (reads_normal so_far) text p
@@ -57,7 +57,7 @@ IsNormalFault so_far text CardsNot80 = ⊥
 IsNormalFault so_far text MixedModes = IsSome (normal_reading so_far text) × (Agrees Normal so_far → ⊥)
 IsNormalFault so_far text OutOfMemory = IsSome (normal_reading so_far text) × Agrees Normal so_far
 
--- what is told of a transparent text
+-- the fault of a transparent text
 abbrev pub IsCardFault : Option Mode → List ℕ → TextFault → Type 0
 IsCardFault so_far text (BadCount p) = ⊥
 IsCardFault so_far text (RecordTooLong p) = ⊥

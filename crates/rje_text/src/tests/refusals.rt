@@ -1,4 +1,4 @@
-//! Texts that are read, in ample memory and in memory of which a growth is refused: the script refusals/run runs these tests with each
+//! Texts that are read, with ample memory and with a growth of memory refused: the script refusals/run runs these tests with each
 //! growth refused in turn.
 use super::{CARD, block, record};
 use crate::{Action, Mode, Select, TextFault, Unpacked, unpack};
@@ -6,7 +6,7 @@ use bsc_codes::Block;
 use std::process::Abort;
 use std::test::Fail;
 
-/// What a block stands for that reads, where there is memory for it; else it is refused for want of memory, and says so.
+/// What a block that reads stands for, where there is memory for it; else it is refused as out of memory, and the script is told so.
 fn read_or_no_memory(
     rt: &(impl Abort + AllocGlobal),
     block: &Block,
@@ -57,7 +57,7 @@ fn cards_are_read_or_find_no_memory(rt: HostRuntime) -> Result<(), Fail> {
     Ok(())
 }
 
-/// A fault of the text is told whatever memory there is, also one behind records that read.
+/// A fault of the text is reported whatever memory there is, also one after records that read.
 #[test]
 fn a_text_that_does_not_read_needs_no_memory(rt: HostRuntime) {
     for (text, transparent, so_far, fault) in [

@@ -1,4 +1,4 @@
-//! The command line that clap is told of.
+//! The command line that clap is given.
 ghost use Rattle.std.specs.Prelude.{◌≡◌, codes, IfOk};
 ghost use Rattle.clap.specs.Words.{App, Rule, with_rule, with_subcommand};
 ghost use Rattle.rje_words.specs.CommandLine.{IsArg, IsApp, file_rule, flag_rule, name_rule, address_rule};
@@ -13,7 +13,7 @@ use std::alloc::{AllocError, Global};
 /// The program's version.
 const VERSION: &str = "1.0.0";
 
-/// What stands behind the commands where help is given.
+/// What stands after the commands where help is given.
 const AFTER_HELP: &str = "\
 No words do what `rje blocks -` does: they read a deck from standard input.
 `rje COMMAND --help` tells the words of a command.
@@ -255,7 +255,7 @@ fn with_devices<'a>(alloc: Global, command: Command<'a>) -> Result<Command<'a>, 
     with_arg(command, transparent)
 }
 
-/// A command over a job file, of which this help tells what becomes of it.
+/// A command over a job file; this help says what becomes of the file.
 fn of_jobs<'a>(
     alloc: Global,
     name: &'a str,

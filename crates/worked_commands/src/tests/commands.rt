@@ -103,7 +103,7 @@ fn what_cannot_be_read_is_named(rt: HostRuntime) {
     );
 }
 
-/// The command of these words is none that the program has.
+/// These words name no command of the program.
 fn assert_no_command(rt: &(impl Abort + AllocGlobal), words: &[&str]) {
     let mut store = MemoryStore::new(rt.alloc());
     let mut input: &[u8] = b"";
@@ -175,7 +175,7 @@ fn the_version_is_printed(rt: HostRuntime) {
     }
 }
 
-/// A reader that gives so many bytes, and then fails.
+/// A reader that gives this many bytes, and then fails.
 #[derive(Drop)]
 struct Failing {
     left: usize,

@@ -159,7 +159,7 @@ fn a_job_has_a_name(rt: HostRuntime) -> Result<(), Fail> {
     Ok(())
 }
 
-/// What stands in a version 2 file of one job, default device, normal, of one record `A`, behind its state.
+/// What stands in a version 2 file of one job, default device, normal, of one record `A`, after its state.
 const REST: &[u8] = b"\x00\x00\x00\x00\x00\x00\x00\x00\x00\x01\x00\x01\xC1";
 
 #[test]

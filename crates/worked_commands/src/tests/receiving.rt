@@ -50,7 +50,7 @@ pub(super) fn assert_receives(
     assert!(rt; err.as_slice() == told);
 }
 
-/// The receiver of what is told, in which no job is, ends with this status, and its answers stand so on the line.
+/// The receiver of these transmissions, which bring no job, ends with this status, and these are its answers on the line.
 fn assert_answers(rt: &(impl Abort + AllocGlobal), told: &[&[u8]], status: u8, answers: &[u8]) {
     let mut line = ToldLine::new(told);
     let mut store = MemoryStore::new(rt.alloc());
@@ -59,7 +59,7 @@ fn assert_answers(rt: &(impl Abort + AllocGlobal), told: &[&[u8]], status: u8, a
     assert!(rt; line.sent.as_slice() == answers);
 }
 
-/// So many quiet hearings, this, as many again, and the end.
+/// This many quiet hearings, these, as many quiet ones again, and the end.
 fn between(
     rt: &(impl Abort + AllocGlobal),
     count: usize,
@@ -116,7 +116,7 @@ fn a_transmission_is_received_into_a_job_file(rt: HostRuntime) -> Result<(), Fai
 const ADDED: &[u8] =
     b"RJ37\x00\x02\x00\x00\x00\x00\x00\x00\x00\x02        \x02\x00\x00\x00\x00\x00\x00\x00\x00\x00\x01\x00\x01\xC1        \x02\x00\x00\x00\x00\x00\x00\x00\x00\x00\x01\x00\x01\xC1";
 
-/// The transmission is received into the file `got`, which holds a job, and so that this becomes of that job: it ends with this status, tells
+/// The transmission is received into the file `got`, which holds a job, with this choice for that job: it ends with this status, reports
 /// this, and leaves this file.
 fn assert_receives_beside(
     rt: &(impl Abort + AllocGlobal),
@@ -212,7 +212,7 @@ const TWO_JOBS: [&[u8]; 4] = [
     b"\x32\x32\x37",
 ];
 
-/// Files in memory of which some can be written, and then no more.
+/// Files in memory, some of which can be written, and then no more.
 #[derive(Drop)]
 pub(super) struct FillingStore {
     files: MemoryStore,
@@ -220,7 +220,7 @@ pub(super) struct FillingStore {
 }
 
 impl FillingStore {
-    /// These files, of which one more can be written.
+    /// These files; one more can be written.
     pub(super) fn new(files: MemoryStore) -> FillingStore {
         FillingStore { files, room: 1 }
     }

@@ -247,9 +247,9 @@ fn a_file_that_cannot_be_written_back_is_told_behind_the_lines(
 #[derive(Drop)]
 struct Watched {
     file: Written,
-    /// So many files were written whole.
+    /// How many files were written whole.
     written: u32,
-    /// So many bytes were set.
+    /// How many bytes were set.
     set: u32,
     /// No byte can be set.
     is_stiff: bool,
@@ -312,7 +312,7 @@ impl Store for Watched {
     }
 }
 
-/// Three jobs are sent of a store like this, over a line that ends after so many answers. Answers what became of it.
+/// Three jobs are sent of a store like this, over a line that ends after this many answers. Returns what became of it.
 fn sent_in(
     rt: &(impl Abort + AllocGlobal),
     mut store: Watched,

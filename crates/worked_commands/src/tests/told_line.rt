@@ -1,4 +1,4 @@
-//! A line of the tests' own, on which it is told beforehand what each listening gives.
+//! A line of the tests' own that is given beforehand what comes in each hearing.
 ghost use Rattle.std.specs.Prelude.{◌+◌, ◌-◌, ◌^◌, min, Some, None, ⊤};
 
 use arrayvec::ArrayVec;

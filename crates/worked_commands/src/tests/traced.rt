@@ -1,4 +1,4 @@
-//! What `--trace` tells: its lines by hand, and those of a `loop` by a clock of the tests' own.
+//! What `--trace` writes: its lines by hand, and those of a `loop` by a clock of the tests' own.
 use super::{FILE, Written};
 use bsc_link::{Reply, Say, Sound};
 use line_world::Spoken;
@@ -96,7 +96,7 @@ impl<R> Clock for Ticking<'_, R> {
     }
 }
 
-/// A loop of these words, by a clock that fails after so many looks, is done, prints what it always does, and tells this.
+/// A loop of these words, by a clock that fails after this many looks, is done, prints what it always does, and reports this.
 fn assert_loop<R: Net + Abort + AllocGlobal>(
     rt: &R,
     words: &[&str],

@@ -389,7 +389,7 @@ fn other_words_for_jobs_are_refused(rt: HostRuntime) {
     );
 }
 
-/// Whether a command over sockets is asked to tell its turns, where one is asked for.
+/// Whether a command over sockets is asked to report its turns, where one is asked for.
 fn traces<'a>(rt: &impl AllocGlobal, words: &'a [&'a str]) -> Option<bool> {
     match parse(rt.alloc(), words) {
         Ok(Order::Sockets(SocketOrder::Loop(order))) => Some(order.trace),

@@ -11,7 +11,7 @@ const LOST: Place = Place {
     ..GOOD
 };
 
-/// Whether this schedule is fair is told so.
+/// This schedule is found to be fair, or not.
 fn assert_fair(rt: &(impl Abort + AllocGlobal), places: &[Place], fair: bool) -> Result<(), Fail> {
     let turns = schedule(rt.alloc(), places)?;
     assert!(rt; is_fair(&turns) == fair);
@@ -20,7 +20,7 @@ fn assert_fair(rt: &(impl Abort + AllocGlobal), places: &[Place], fair: bool) ->
 
 // HOW MANY TURNS
 
-/// For jobs of so many records of 80 bytes each so many turns are enough.
+/// For jobs of these numbers of records of 80 bytes, this many turns are enough.
 fn assert_needed(rt: &(impl Abort + AllocGlobal), sizes: &[usize], turns: u64) -> Result<(), Fail> {
     let mut jobs = Vec::new(rt.alloc());
     for records in sizes {
@@ -51,7 +51,7 @@ fn a_job_that_cannot_be_sent_has_no_number_of_turns(rt: HostRuntime) -> Result<(
 /// Schedules, and whether each is fair.
 type Cases = &'static [(&'static [Place], bool)];
 
-/// Whether each of these schedules is fair is told so.
+/// Each of these schedules is found to be fair, or not.
 fn assert_each(rt: &(impl Abort + AllocGlobal), cases: Cases) -> Result<(), Fail> {
     for (places, fair) in cases {
         assert_fair(rt, places, *fair)?;

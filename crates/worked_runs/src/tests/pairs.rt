@@ -143,7 +143,7 @@ fn assert_side(rt: &impl Abort, side: &Side, fares: Fares<'_>) {
     assert!(rt; side.outcome == fares.2);
 }
 
-/// Over this schedule both calls tell the turns that are printed, and this becomes of the jobs of the primary and of the secondary.
+/// Over this schedule both calls report the turns that are printed, and this becomes of the jobs of the primary and of the secondary.
 fn assert_pair(
     rt: &(impl Abort + AllocGlobal),
     shows: &str,
@@ -316,7 +316,7 @@ fn assert_one_way(rt: &impl Abort, pair: &PairReport, report: &Report) {
     }
 }
 
-/// By each call, over this schedule the pair tells what a run of the primary's jobs does, or the same fault.
+/// By each call, over this schedule the pair reports what a run of the primary's jobs does, or the same fault.
 fn assert_is_a_run(
     rt: &(impl Abort + AllocGlobal),
     jobs: &[Job],
@@ -379,7 +379,7 @@ fn with_no_jobs_or_no_schedule_nothing_is_said(rt: HostRuntime) -> Result<(), Fa
 
 // JOBS
 
-/// On a clean line all these jobs are sent, in so many turns.
+/// On a clean line all these jobs are sent, in this many turns.
 fn assert_all_sent(
     rt: &(impl Abort + AllocGlobal),
     ups: &[Job],
@@ -511,7 +511,7 @@ fn where_one_speaks_the_first_broken_fate_is_told(rt: HostRuntime) -> Result<(),
     assert_refused(&rt, &[BOTH, (s, cut(&[4]))], bad_cut)?;
     let places = [BOTH, (s, answered(Way::Cut(&[0]))), (p, TEXT)];
     assert_refused(&rt, &places, WorldFault::NotDamage(1, 3))?;
-    // The acknowledgement has five bytes. Where both fates break a rule, that of the block is told.
+    // The acknowledgement has five bytes. Where both fates break a rule, the fault of the block's is reported.
     let down = answered(Way::Cut(&[5]));
     assert_refused(&rt, &[S, (p, down)], bad_cut)?;
     let up = Way::Damaged(&[0x32, 0x32, 0x37]);

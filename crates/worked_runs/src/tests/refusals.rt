@@ -1,4 +1,4 @@
-//! Calls that take memory, in ample memory and in memory of which a growth is refused: the script refusals/run runs these tests with each
+//! Calls that take memory, with ample memory and with a growth of memory refused: the script refusals/run runs these tests with each
 //! growth refused in turn.
 use super::pairs::{Call, report_by};
 use super::schedules::{GOOD, TURN, assert_same_jobs, pair_schedule, record_of, schedule};
@@ -11,7 +11,7 @@ use std::alloc::AllocError;
 use std::process::Abort;
 use std::test::Fail;
 
-/// A job of so many records, at most 1,000, whose memory is taken in one growth.
+/// A job of `count` records, at most 1,000, whose memory is taken in one growth.
 fn job_of(rt: &(impl Abort + AllocGlobal), count: usize) -> Result<Job, AllocError> {
     let mut records = Vec::with_capacity(rt.alloc(), 1000)?;
     for _ in 0..count {

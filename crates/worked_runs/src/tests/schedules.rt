@@ -125,7 +125,7 @@ pub(super) fn pair_schedule(
     Ok(turns)
 }
 
-/// A record of so many bytes C1.
+/// A record of `length` bytes C1.
 pub(super) fn record_of(rt: &impl Abort, length: usize) -> Record {
     let given = [0xC1; 144];
     assert!(rt; length <= given.len());
@@ -137,7 +137,7 @@ pub(super) fn record_of(rt: &impl Abort, length: usize) -> Record {
     }
 }
 
-/// A whole, normal job of this many records of so many bytes C1 for the default device.
+/// A whole, normal job of this many records of `length` bytes C1 for the default device.
 pub(super) fn job_of(
     rt: &(impl Abort + AllocGlobal),
     records: usize,

@@ -30,7 +30,7 @@ fn schedules(alloc: Global, attempts: &[&[Place]]) -> Result<Vec<Vec<Turn>>, All
     Ok(schedules)
 }
 
-/// The runs of these jobs over these schedules, which count so many jobs.
+/// The runs of these jobs over these schedules, which count this many jobs.
 fn assert_series(
     rt: &(impl Abort + AllocGlobal),
     jobs: &[Job],
@@ -98,7 +98,7 @@ fn assert_twice(rt: &impl Abort, handed: &[Job], jobs: &[Job]) {
 
 #[test]
 fn a_job_that_was_cut_off_is_given_again(rt: HostRuntime) -> Result<(), Fail> {
-    // Seven records of 80 bytes are two blocks, of which the first has six.
+    // Seven records of 80 bytes are two blocks, the first of six.
     let jobs = [job_of(&rt, 7, 80)?, job_of(&rt, 1, 1)?];
     let clean = [GOOD, GOOD, GOOD, GOOD, GOOD];
     let series = assert_series(&rt, &jobs, &[&CUT_OFF, &clean], 2)?;

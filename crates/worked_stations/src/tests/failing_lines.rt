@@ -1,4 +1,4 @@
-//! Which call answers where a call of the line fails, and lines that are closed.
+//! What the calls return where a call of the line fails, and lines that are closed.
 ghost use Rattle.std.specs.Prelude.{◌+◌, ◌-◌, ◌^◌, min, Some, None, ⊤};
 
 use super::job_of;
@@ -24,7 +24,7 @@ const EOT: [u8; 4] = [0x32, 0x32, 0x37, 0xFF];
 
 const OVER: Option<StationFault> = Some(StationFault::Over);
 
-/// A line in memory on which these come, one in each hearing, and of which this call fails, or none where it is 0.
+/// A line in memory on which these come, one in each hearing, and whose call of this number fails, or none where it is 0.
 fn line_of(alloc: Global, pieces: &[&[u8]], failing: u64) -> Result<MemoryLine, Fail> {
     let mut put = Vec::new(alloc);
     for piece in pieces {
@@ -71,7 +71,7 @@ fn well(failing: u64) -> u64 {
     }
 }
 
-/// What the call of this number answers where this one of the line fails.
+/// What the call of this number returns where this one of the line fails.
 fn answer(call: u64, failing: u64) -> Option<StationFault> {
     if call <= well(failing) {
         None
@@ -220,7 +220,7 @@ fn a_closed_line_is_told_as_closed(rt: HostRuntime) -> Result<(), Fail> {
     Ok(())
 }
 
-/// What a sender that bid hears of so many SYN and then an ACK0.
+/// What a sender that bid hears of this many SYN and then an ACK0.
 fn hear_after_syns(
     rt: &(impl Abort + AllocGlobal),
     count: usize,

@@ -10,7 +10,7 @@ use std::test::Fail;
 /// The block of the record C1 that ends its job.
 const BLOCK: [u8; 9] = [0x32, 0x32, 0x02, 0xC1, 0x1E, 0x03, 0x18, 0x5D, 0xFF];
 
-/// Transmissions, without the pad behind them; how many bytes of each are quiet, and from how many on it is a text that is spoiled.
+/// Transmissions, without the pad after them; how many bytes of each are quiet, and from how many on it is a text that is spoiled.
 const TRANSMISSIONS: [(&[u8], usize, usize); 6] = [
     (&[0x32, 0x32, 0x2D], 2, 3),
     (&[0x32, 0x32, 0x10, 0x70], 2, 4),

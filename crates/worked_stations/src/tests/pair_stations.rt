@@ -128,7 +128,7 @@ impl<'a> End<'a> {
         self.line.fail_at(call);
     }
 
-    /// It bids so many times and hears nothing.
+    /// It bids this many times and hears nothing.
     fn bid_in_vain(&mut self, alloc: Global, times: usize) -> Result<(), StationFault> {
         for _ in 0..times {
             self.speak()?;
@@ -143,7 +143,7 @@ fn end_of<'a>(rt: &(impl Abort + AllocGlobal), rank: Rank, jobs: &'a [Job]) -> E
     End::new(rt.alloc(), rank, jobs).expect(rt, "no memory")
 }
 
-/// Nothing is due, and every call answers so and touches no line: the call of the line that is to fail is still to come.
+/// Nothing is due, and every call returns that and touches no line: the call of the line that is to fail is still to come.
 fn assert_over(rt: &impl Abort, end: &mut End<'_>) {
     end.fail_at(1);
     assert!(rt; end.due() == Say::Nothing);
@@ -223,9 +223,9 @@ fn each_station_sends_and_then_receives(rt: HostRuntime) -> Result<(), Fail> {
     Ok(())
 }
 
-// A LINE OF WHICH A CALL FAILS
+// A LINE WHOSE CALL FAILS
 
-/// So many of a station's jobs are counted, and so many are handed out by the other.
+/// Of a station's jobs, `counted` are counted, and `handed` are handed out by the other.
 fn assert_sent(
     rt: &impl Abort,
     sender: &End<'_>,
@@ -353,7 +353,7 @@ fn assert_nothing_is_due(rt: &(impl Abort + AllocGlobal), end: &mut End<'_>) {
     assert_untouched(rt, &mut end.line);
 }
 
-/// Nothing was done with a line that sent 1, 2, on which 3 comes next, and of which the next call fails.
+/// Nothing was done with a line that sent 1, 2, on which 3 comes next, and whose next call fails.
 fn assert_untouched(rt: &impl Abort, line: &mut MemoryLine) {
     assert!(rt; line.sent() == [1, 2].as_slice());
     assert!(rt; line.transmit(&[4]).err() == Some(LineFault::Failed));
@@ -404,7 +404,7 @@ fn assert_ended(rt: &(impl Abort + AllocGlobal), rank: Rank) -> Result<(), Fail>
     Ok(())
 }
 
-// An EOT for an answer ends the own transmission, and then the bid is no longer out.
+// An EOT for an answer ends its own transmission, and then the bid is no longer out.
 #[test]
 fn after_an_eot_for_an_answer_nothing_is_due(rt: HostRuntime) -> Result<(), Fail> {
     for rank in RANKS {

@@ -1,4 +1,4 @@
-//! Calls that take memory, in ample memory and in memory of which a growth is refused: the script refusals/run runs these tests with each
+//! Calls that take memory, with ample memory and with a growth of memory refused: the script refusals/run runs these tests with each
 //! growth refused in turn.
 use super::{buffer, record_of};
 use arrayvec::ArrayVec;
@@ -13,7 +13,7 @@ use std::alloc::{AllocError, Global};
 use std::process::Abort;
 use std::test::Fail;
 
-/// A job of so many records, at most 1,000, whose memory is taken in one growth.
+/// A job of `count` records, at most 1,000, whose memory is taken in one growth.
 fn job_of(rt: &(impl Abort + AllocGlobal), count: usize) -> Result<Job, AllocError> {
     let mut records = Vec::with_capacity(rt.alloc(), 1000)?;
     for _ in 0..count {
@@ -27,7 +27,7 @@ fn job_of(rt: &(impl Abort + AllocGlobal), count: usize) -> Result<Job, AllocErr
     })
 }
 
-/// A station for a job of so many records is made, or there is no memory for it.
+/// A station for a job of `count` records is made, or there is no memory for it.
 fn assert_made_or_no_memory(rt: &(impl Abort + AllocGlobal), count: usize) {
     let Ok(job) = job_of(rt, count) else {
         return;
@@ -118,7 +118,7 @@ fn a_receiver_without_memory_answers_nak_and_keeps_its_jobs(rt: HostRuntime) {
 /// A job that came: whether it is whole, and the one byte of each of its records.
 type Came = (bool, &'static [u8]);
 
-/// A block of one record, the reply to it, the jobs before and after it, and what is told where it found no memory at first.
+/// A block of one record, the reply to it, the jobs before and after it, and what is said to the script where it found no memory at first.
 struct Step {
     byte: u8,
     closing: Closing,
@@ -196,7 +196,7 @@ fn hear_step(
     Ok(refused)
 }
 
-/// A receiver hears the blocks of two jobs, of which one may find no memory at first: what came of it, for the script.
+/// A receiver hears the blocks of two jobs, one of which may find no memory at first: what came of it, for the script.
 fn try_blocks(rt: &(impl Abort + AllocGlobal)) -> Result<&'static str, StationFault> {
     let mut station = ReceivingStation::new(rt.alloc())?;
     hear_bid(rt, &mut station)?;

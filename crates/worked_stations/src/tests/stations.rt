@@ -111,7 +111,7 @@ fn assert_one_job(rt: &impl Abort, jobs: &[Job], records: usize, bytes: &[u8]) {
     }
 }
 
-/// A bid, a block of which the acknowledgement is lost, a question for it, and what is said then.
+/// A bid, a block whose acknowledgement is lost, an inquiry after it, and what is said then.
 fn lose_acknowledgement(ends: &mut Ends<'_>, alloc: Global) -> Result<Say, StationFault> {
     ends.go_up(alloc, Wish::Go)?;
     ends.go_down(alloc)?;
@@ -308,7 +308,7 @@ fn one_hearing_has_8192_bytes(rt: HostRuntime) -> Result<(), Fail> {
     Ok(())
 }
 
-/// So many pieces of one SYN each.
+/// This many pieces of one SYN each.
 fn single_syns(alloc: Global, count: usize) -> Result<Vec<Vec<u8>>, AllocError> {
     let mut pieces = Vec::new(alloc);
     for _i in 0..count {
@@ -317,7 +317,7 @@ fn single_syns(alloc: Global, count: usize) -> Result<Vec<Vec<u8>>, AllocError> 
     Ok(pieces)
 }
 
-/// What a new receiver answers to 8,192 pieces of one SYN each, on a line of which this call fails.
+/// What a new receiver replies to 8,192 pieces of one SYN each, on a line of which this call fails.
 fn hear_single_syns(alloc: Global, call: u64) -> Result<Option<Reply>, StationFault> {
     let mut line = MemoryLine::new(alloc);
     line.put(single_syns(alloc, MAX_HEARD)?);
@@ -388,7 +388,7 @@ pub(super) const FAILED: Option<StationFault> = Some(StationFault::Line(LineFaul
 /// What is counted and how many jobs were handed out, by the call of a line that fails.
 const COUNTS: [(usize, usize); 5] = [(0, 0), (0, 0), (0, 0), (0, 1), (1, 1)];
 
-/// So many jobs are counted, with which the transmission is done, and so many were handed out, each of them the one job.
+/// The transmission is done with `counted` jobs counted, and `handed` were handed out, each of them the one job.
 fn assert_counts(rt: &impl Abort, ends: &Ends<'_>, counted: usize, handed: usize) {
     assert!(rt; ends.sender.counted() == counted);
     assert!(rt; ends.sender.outcome().is_some() == (counted == 1));

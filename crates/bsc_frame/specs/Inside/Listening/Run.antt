@@ -4,7 +4,7 @@ use Rattle.std.specs.Prelude.{ℕ, List, [], ◌∷◌}
 use Rattle.bsc_frame.specs.declared.frame.Frame.{Frame}
 use Rattle.bsc_frame.specs.Inside.Listening.HeardSoFar.{HeardSoFar, On, Got, next}
 
--- what a whole list of bytes does: what has come then, or the first frame and the bytes behind it
+-- what a whole list of bytes does: what has come then, or the first frame and the bytes after it
 pub data Run : Type 0 where
   Waits : HeardSoFar → Run
   Hears : Frame → List ℕ → Run

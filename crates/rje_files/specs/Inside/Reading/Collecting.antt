@@ -33,7 +33,7 @@ pub record IsFirst (version : FileVersion) (bytes : List ℕ) (left : ℕ) (entr
   pub fit : FitsFields version entry
   pub entries : Entries version left rest
 
--- an entry's fields, and nothing behind them
+-- an entry's fields, and nothing after them
 abbrev pub AreFields : FileVersion → List ℕ → Type 0
 AreFields version xs = Fields version (λ ys. ys ≡ []) xs
 

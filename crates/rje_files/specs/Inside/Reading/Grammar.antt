@@ -34,11 +34,11 @@ AnyBytes (suc n) Rest (x ∷ xs) = AnyBytes n Rest xs
 abbrev pub is_action_byte : ℕ → Bool
 is_action_byte byte = byte == 0 || is_some (action_of byte)
 
--- behind an action: a length and so many bytes
+-- after an action: a length and as many bytes
 abbrev pub AfterAction : (List ℕ → Type 0) → List ℕ → Type 0
 AfterAction Rest = OneByte (λ n. n ≤ 144) (λ n. AnyBytes n Rest)
 
--- so many records
+-- `n` records
 abbrev pub Records : ℕ → (List ℕ → Type 0) → List ℕ → Type 0
 Records zero Rest xs = Rest xs
 Records (suc r) Rest xs = OneByte (λ a. is_action_byte a ≡ true) (λ a. AfterAction (Records r Rest)) xs
@@ -49,7 +49,7 @@ Name zero ended Rest xs = Rest xs
 Name (suc n) ended Rest [] = ⊥
 Name (suc n) ended Rest (x ∷ xs) = (may_stand ended x ≡ true) × Name n (x == 0x20) Rest xs
 
--- behind an entry's mode: whether it is whole, in version 1
+-- after an entry's mode: whether it is whole, in version 1
 abbrev pub AfterMode : FileVersion → (List ℕ → Type 0) → List ℕ → Type 0
 AfterMode First Rest = OneByte (λ w. w < 2) (λ w. Rest)
 AfterMode Second Rest = Rest
@@ -68,11 +68,11 @@ abbrev pub Fields : FileVersion → (List ℕ → Type 0) → List ℕ → Type 
 Fields First Rest = FromSelect First Rest
 Fields Second Rest = Name 8 false (FromState Second Rest)
 
--- behind an entry's fields
+-- after an entry's fields
 abbrev pub Counted : (ℕ → List ℕ → Type 0) → List ℕ → Type 0
 Counted Rest = Number 8 0 Rest
 
--- so many entries, and nothing behind them
+-- `n` entries, and nothing after them
 abbrev pub Entries : FileVersion → ℕ → List ℕ → Type 0
 Entries version zero xs = xs ≡ []
 Entries version (suc j) xs = Fields version (Counted (λ r. Records r (Entries version j))) xs
@@ -82,7 +82,7 @@ abbrev pub version_read : FileVersion → ℕ → Option FileVersion
 version_read First byte = if byte == 1 then Some First else None
 version_read Second byte = if byte == 1 then Some First else (if byte == 2 then Some Second else None)
 
--- behind a version's byte
+-- after a version's byte
 abbrev pub AfterVersion : Option FileVersion → List ℕ → Type 0
 AfterVersion None xs = ⊥
 AfterVersion (Some version) xs = Counted (Entries version) xs

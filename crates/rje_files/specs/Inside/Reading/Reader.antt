@@ -9,12 +9,12 @@ use Rattle.rje_files.specs.declared.job_file.version.FileVersion.TheVariants.{Fi
 use Rattle.rje_files.specs.JobFile.{head}
 use Rattle.rje_files.specs.Inside.Reading.Grammar.{TheseBytes, Number, AnyBytes, AfterAction, Records, Name as NameBytes, AfterMode, AfterSelect, FromSelect, FromState, FromVersion, Counted, Entries}
 
--- what may follow an entry's fields, with so many records and entries behind it
+-- what may follow an entry's fields, with this many records and entries after it
 abbrev pub Rest : FileVersion → ℕ → List ℕ → Type 0
 Rest v j = Counted (λ q. Records q (Entries v j))
 
--- what may follow where this is due, with so many entries and records behind it. Up to the version's byte v is the newest version that is read,
--- and behind it the file's.
+-- what may follow where this is due, with this many entries and records after it. Up to the version's byte v is the newest version that is read,
+-- and after it the file's.
 abbrev pub Follows : Due → FileVersion → ℕ → ℕ → List ℕ → Type 0
 Follows (Head k) v j r xs = TheseBytes (drop k head) (FromVersion v) xs
 Follows Version v j r xs = FromVersion v xs
@@ -56,13 +56,13 @@ IsSoundDue d = Unit {0}
 abbrev pub IsSound : Reader → Type 0
 IsSound reader = IsSoundDue reader.due
 
--- after the byte, next expects what this reader expects behind it
+-- after the byte, next expects what this reader expects after it
 pub record IsStep (reader : Reader) (byte : ℕ) (next : Reader) : Type 0 where
   pub sound : IsSound next
   pub there : (xs : List ℕ) → Expects reader (byte ∷ xs) → Expects next xs
   pub back : (xs : List ℕ) → Expects next xs → Expects reader (byte ∷ xs)
 
--- after so many bytes, whatever they are, next expects what this reader expects behind them
+-- after `count` bytes, whatever they are, next expects what this reader expects after them
 pub record IsSkip (reader : Reader) (count : ℕ) (next : Reader) : Type 0 where
   pub sound : IsSound next
   pub there : (ys xs : List ℕ) → length ys ≡ count → Expects reader (ys ++ xs) → Expects next xs

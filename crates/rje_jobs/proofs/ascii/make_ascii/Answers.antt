@@ -2,7 +2,7 @@ use Rattle.std.proofs.Common.{◌≡◌, ℕ, zero, suc, ◌+◌, ◌<◌, List,
 use Rattle.rje_jobs.specs.Ascii.{shown, ascii}
 use Rattle.rje_jobs.proofs.ascii.make_ascii.Goals as goal
 
--- the bytes, of which so many are characters already
+-- the bytes, the first `n` of which are characters already
 abbrev half : ℕ → List ℕ → List ℕ
 half n bytes = ascii (take n bytes) ++ drop n bytes
 
