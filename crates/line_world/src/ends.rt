@@ -21,6 +21,8 @@ pub(crate) struct Ends<'a> {
     receiver: ReceivingStation,
     sending_line: MemoryLine,
     receiving_line: MemoryLine,
+    ghost sending_calm: { sending_line.until_failure ≡ 0 },
+    ghost receiving_calm: { receiving_line.until_failure ≡ 0 },
 }
 
 impl<'a> Ends<'a> {
@@ -32,8 +34,6 @@ impl<'a> Ends<'a> {
     ) -> Ends<'a>
         ensures sender { result.sender ≡ sender.entry }
         ensures receiver { result.receiver ≡ receiver }
-        ensures sending { result.sending_line.until_failure ≡ 0 }
-        ensures receiving { result.receiving_line.until_failure ≡ 0 }
     {
         Ends {
             sender,
@@ -68,11 +68,7 @@ impl<'a> Ends<'a> {
         alloc: Global,
         turn: &Turn,
     ) -> Result<Option<Spoken>, TurnFault>
-        requires sending { self.old.sending_line.until_failure ≡ 0 }
-        requires receiving { self.old.receiving_line.until_failure ≡ 0 }
         requires live { self.old.sender.over ≡ false → self.old.receiver.over ≡ false }
-        ensures sending { OnOk result (self.new.sending_line.until_failure ≡ 0) }
-        ensures receiving { OnOk result (self.new.receiving_line.until_failure ≡ 0) }
         ensures taken { IfOk result (λ spoken.
             Takes spoken turn.now self.old.sender self.new.sender self.old.receiver
             self.new.receiver) }
@@ -104,10 +100,8 @@ impl<'a> Ends<'a> {
         said: Say,
         turn: &Turn,
     ) -> Result<(Arrival, Option<Reply>), TurnFault>
-        requires receiving { self.old.receiving_line.until_failure ≡ 0 }
         requires live { self.old.receiver.over ≡ false }
         ensures sending { OnOk result (self.new.sending_line ≡ self.old.sending_line) }
-        ensures receiving { OnOk result (self.new.receiving_line.until_failure ≡ 0) }
         ensures owes { OnOk result (self.new.receiver.over ≡ true → self.new.receiver.due ≡ None) }
         ensures up { IfOk result (λ a. GoesUp turn.now
             (up_sound said) self.old.sending_line.sent self.old.receiver self.new.receiver a.0.sound
@@ -129,12 +123,8 @@ impl<'a> Ends<'a> {
 
     /// The reply that is due comes to the sender, which takes one step.
     fn go_down(&mut self, alloc: Global, turn: &Turn) -> Result<Sound, TurnFault>
-        requires sending { self.old.sending_line.until_failure ≡ 0 }
-        requires receiving { self.old.receiving_line.until_failure ≡ 0 }
         requires live { self.old.sender.over ≡ false }
         requires owes { self.old.receiver.over ≡ true → self.old.receiver.due ≡ None }
-        ensures sending { OnOk result (self.new.sending_line.until_failure ≡ 0) }
-        ensures receiving { OnOk result (self.new.receiving_line.until_failure ≡ 0) }
         ensures down { IfOk result (λ heard.
             GoesDown turn.now self.old.sender self.new.sender self.old.receiver
             self.new.receiver heard) }

@@ -126,8 +126,6 @@ fn take_turns<'a>(
 ) -> Result<Driven<'a>, WorldFault>
     requires sender { ends.sender ≡ first_sending ends.sender.jobs }
     requires receiver { ends.receiver ≡ first_receiving }
-    requires sending_line { ends.sending_line.until_failure ≡ 0 }
-    requires receiving_line { ends.receiving_line.until_failure ≡ 0 }
     ensures run { IfOk result (λ driven.
         IsRun ends.entry.sender.jobs turns.now driven.turns.items driven.receiver.jobs
         driven.sender.counted (outcome_of driven.sender)) }

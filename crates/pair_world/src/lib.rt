@@ -2,6 +2,7 @@
 #![tactic(auto)]
 
 mod laws;
+mod pair_end;
 mod pair_ends;
 mod pair_report;
 mod pair_spoken;
@@ -10,7 +11,6 @@ mod paired;
 mod pairing;
 mod side;
 mod speaking;
-mod unfailing;
 
 pub use bsc_history::Bids;
 pub use laws::{

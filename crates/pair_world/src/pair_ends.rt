@@ -1,62 +1,51 @@
-//! Both ends of a line on which both stations have jobs: each station at its own line in memory.
-ghost use Rattle.std.specs.Prelude.{◌≡◌, ◌≢◌, ◌∷◌, [], true, false, IfOk, OnOk, IfErr, Some, None};
+//! Both ends of a line on which both stations have jobs.
+ghost use Rattle.std.specs.Prelude.{◌≡◌, ◌≢◌, true, false, None, IfOk, OnOk, IfErr};
 ghost use Rattle.bsc_link.specs.declared.say.Say.TheVariants as said;
 ghost use Rattle.bsc_history.specs.Fate.{sound_of as up_sound};
 ghost use Rattle.line_world.specs.Inside.Driving.{IsReplyFault};
 ghost use Rattle.line_world.specs.Carrying.{IsFateFault};
 ghost use Rattle.rje_station.specs.Station.{due_at, is_deaf};
-ghost use Rattle.pair_world.specs.Inside.PairDriving.{GoesAcross, ComesBack, SpeaksAlone, IsAloneFault, Collides, SpeaksInVain, after_end_of, TakesPair, IsPairTurnFault};
+ghost use Rattle.pair_world.specs.Inside.PairDriving.{GoesAcross, ComesBack, SpeaksAlone, IsAloneFault, Collides, TakesPair, IsPairTurnFault};
 
+use crate::pair_end::PairEnd;
 use crate::speaking::speaks;
-use crate::unfailing::{hear_across, hear_back, reply_back, say_due};
 use crate::{PairSpoken, PairTurn, Paired};
 use bsc_history::{sound_of, sound_of_reply};
 use bsc_link::{Reply, Say, Sound};
-use line_world::{MemoryLine, Spoken, Turn, TurnFault, carry, check_damage};
+use line_world::{Spoken, Turn, TurnFault, carry, check_damage};
 use rje_station::{Arrival, Station};
 use std::alloc::Global;
 
 /// Both ends of a line.
 #[derive(Drop)]
 pub(crate) struct PairEnds<'a> {
-    primary: Station<'a>,
-    secondary: Station<'a>,
-    primary_line: MemoryLine,
-    secondary_line: MemoryLine,
+    primary: PairEnd<'a>,
+    secondary: PairEnd<'a>,
 }
 
 impl<'a> PairEnds<'a> {
     /// Two stations, and lines on which nothing comes.
     pub(crate) fn new(alloc: Global, primary: Station<'a>, secondary: Station<'a>) -> PairEnds<'a>
-        ensures primary { result.primary ≡ primary.entry }
-        ensures secondary { result.secondary ≡ secondary.entry }
-        ensures primary_line { result.primary_line.until_failure ≡ 0 }
-        ensures secondary_line { result.secondary_line.until_failure ≡ 0 }
+        ensures primary { result.primary.station ≡ primary.entry }
+        ensures secondary { result.secondary.station ≡ secondary.entry }
     {
         PairEnds {
-            primary,
-            secondary,
-            primary_line: MemoryLine::new(alloc),
-            secondary_line: MemoryLine::new(alloc),
+            primary: PairEnd::new(alloc, primary),
+            secondary: PairEnd::new(alloc, secondary),
         }
     }
 
     /// The stations, and what was spoken.
     pub(crate) fn paired(self, turns: Vec<PairSpoken>) -> Paired<'a>
         ensures turns { result.turns.items ≡ turns.items }
-        ensures primary { result.primary ≡ self.entry.primary }
-        ensures secondary { result.secondary ≡ self.entry.secondary }
+        ensures primary { result.primary ≡ self.entry.primary.station }
+        ensures secondary { result.secondary ≡ self.entry.secondary.station }
     {
-        let PairEnds {
-            primary,
-            secondary,
-            primary_line: _,
-            secondary_line: _,
-        } = self;
+        let PairEnds { primary, secondary } = self;
         Paired {
             turns,
-            primary,
-            secondary,
+            primary: primary.into_station(),
+            secondary: secondary.into_station(),
         }
     }
 
@@ -66,22 +55,18 @@ impl<'a> PairEnds<'a> {
         alloc: Global,
         turn: &PairTurn,
     ) -> Result<Option<PairSpoken>, TurnFault>
-        requires primary_line { self.old.primary_line.until_failure ≡ 0 }
-        requires secondary_line { self.old.secondary_line.until_failure ≡ 0 }
-        requires primary_hears { due_at self.old.secondary ≢ said.Nothing
-            → is_deaf self.old.primary ≡ false }
-        requires secondary_hears { due_at self.old.primary ≢ said.Nothing
-            → is_deaf self.old.secondary ≡ false }
-        ensures primary_line { OnOk result (self.new.primary_line.until_failure ≡ 0) }
-        ensures secondary_line { OnOk result (self.new.secondary_line.until_failure ≡ 0) }
+        requires primary_hears { due_at self.old.secondary.station ≢ said.Nothing
+            → is_deaf self.old.primary.station ≡ false }
+        requires secondary_hears { due_at self.old.primary.station ≢ said.Nothing
+            → is_deaf self.old.secondary.station ≡ false }
         ensures taken { IfOk result (λ spoken.
-            TakesPair spoken turn.now self.old.primary self.new.primary self.old.secondary
-            self.new.secondary) }
-        ensures fault { IfErr result (IsPairTurnFault turn.now self.old.primary
-            self.old.secondary) }
+            TakesPair spoken turn.now self.old.primary.station self.new.primary.station
+            self.old.secondary.station self.new.secondary.station) }
+        ensures fault { IfErr result (IsPairTurnFault turn.now self.old.primary.station
+            self.old.secondary.station) }
     {
-        let up = self.primary.due();
-        let down = self.secondary.due();
+        let up = self.primary.station.due();
+        let down = self.secondary.station.due();
         let primary_speaks = speaks(up, down, turn.bids.lets_primary());
         let secondary_speaks = speaks(down, up, turn.bids.lets_secondary());
         match (primary_speaks, secondary_speaks) {
@@ -91,9 +76,7 @@ impl<'a> PairEnds<'a> {
                     alloc,
                     &turn.turn,
                     &mut self.primary,
-                    &mut self.primary_line,
                     &mut self.secondary,
-                    &mut self.secondary_line,
                 )?;
                 Ok(Some(PairSpoken {
                     primary: Some(spoken),
@@ -105,9 +88,7 @@ impl<'a> PairEnds<'a> {
                     alloc,
                     &turn.turn,
                     &mut self.secondary,
-                    &mut self.secondary_line,
                     &mut self.primary,
-                    &mut self.primary_line,
                 )?;
                 Ok(Some(PairSpoken {
                     primary: None,
@@ -120,19 +101,15 @@ impl<'a> PairEnds<'a> {
 
     /// Both speak, and neither is heard.
     fn collide(&mut self, alloc: Global, pause: bool) -> PairSpoken
-        requires primary_line { self.old.primary_line.until_failure ≡ 0 }
-        requires secondary_line { self.old.secondary_line.until_failure ≡ 0 }
-        requires primary { due_at self.old.primary ≢ said.Nothing }
-        requires secondary { due_at self.old.secondary ≢ said.Nothing }
-        ensures primary_line { self.new.primary_line.until_failure ≡ 0 }
-        ensures secondary_line { self.new.secondary_line.until_failure ≡ 0 }
-        ensures collide { Collides pause self.old.primary self.new.primary self.old.secondary
-            self.new.secondary result }
+        requires primary { due_at self.old.primary.station ≢ said.Nothing }
+        requires secondary { due_at self.old.secondary.station ≢ said.Nothing }
+        ensures collide { Collides pause self.old.primary.station self.new.primary.station
+            self.old.secondary.station self.new.secondary.station result }
     {
-        let first = speak_in_vain(alloc, pause, &mut self.primary, &mut self.primary_line);
-        let second = speak_in_vain(alloc, pause, &mut self.secondary, &mut self.secondary_line);
-        end_of(&mut self.primary, second.said);
-        end_of(&mut self.secondary, first.said);
+        let first = self.primary.speak_in_vain(alloc, pause);
+        let second = self.secondary.speak_in_vain(alloc, pause);
+        self.primary.end_of(second.said);
+        self.secondary.end_of(first.said);
         PairSpoken {
             primary: Some(first),
             secondary: Some(second),
@@ -144,28 +121,24 @@ impl<'a> PairEnds<'a> {
 fn speak_alone<'a>(
     alloc: Global,
     turn: &Turn,
-    speaker: &mut Station<'a>,
-    near: &mut MemoryLine,
-    listener: &mut Station<'a>,
-    far: &mut MemoryLine,
+    speaker: &mut PairEnd<'a>,
+    listener: &mut PairEnd<'a>,
 ) -> Result<Spoken, TurnFault>
-    requires near { near.old.until_failure ≡ 0 }
-    requires far { far.old.until_failure ≡ 0 }
-    requires due { due_at speaker.old ≢ said.Nothing }
-    requires hears { is_deaf listener.old ≡ false }
-    ensures near { OnOk result (near.new.until_failure ≡ 0) }
-    ensures far { OnOk result (far.new.until_failure ≡ 0) }
+    requires due { due_at speaker.old.station ≢ said.Nothing }
+    requires hears { is_deaf listener.old.station ≡ false }
     ensures spoke { IfOk result (λ spoken.
-        SpeaksAlone turn.now speaker.old speaker.new listener.old listener.new spoken) }
-    ensures fault { IfErr result (IsAloneFault turn.now speaker.old listener.old) }
+        SpeaksAlone turn.now speaker.old.station speaker.new.station listener.old.station
+        listener.new.station spoken) }
+    ensures fault { IfErr result (IsAloneFault turn.now speaker.old.station
+        listener.old.station) }
 {
-    let said = say_due(speaker, near);
-    let (arrival, reply) = go_across(alloc, turn, said, near, listener, far)?;
+    let said = speaker.say();
+    let (arrival, reply) = go_across(alloc, turn, said, speaker, listener)?;
     let heard = match said {
         Say::End => Sound::Quiet,
-        _ => come_back(alloc, turn, speaker, near, listener, far)?,
+        _ => come_back(alloc, turn, speaker, listener)?,
     };
-    end_of(listener, said);
+    listener.end_of(said);
     Ok(Spoken {
         said,
         arrived: arrival.sound,
@@ -175,28 +148,26 @@ fn speak_alone<'a>(
     })
 }
 
-/// What was sent on one line comes to the other station, which takes one step.
+/// What one station sent comes to the other, which takes one step.
 fn go_across(
     alloc: Global,
     turn: &Turn,
     said: Say,
-    near: &MemoryLine,
-    listener: &mut Station<'_>,
-    far: &mut MemoryLine,
+    speaker: &PairEnd<'_>,
+    listener: &mut PairEnd<'_>,
 ) -> Result<(Arrival, Option<Reply>), TurnFault>
-    requires far { far.old.until_failure ≡ 0 }
-    requires hears { is_deaf listener.old ≡ false }
-    ensures far { OnOk result (far.new.until_failure ≡ 0) }
-    ensures live { OnOk result (listener.new.failed ≡ false) }
-    ensures owes { OnOk result (listener.new.receiver.over ≡ true
-        → listener.new.receiver.due ≡ None) }
+    requires hears { is_deaf listener.old.station ≡ false }
+    ensures live { OnOk result (listener.new.station.failed ≡ false) }
+    ensures owes { OnOk result (listener.new.station.receiver.over ≡ true
+        → listener.new.station.receiver.due ≡ None) }
     ensures across { IfOk result (λ a.
-        GoesAcross turn.now (up_sound said) near.now.sent listener.old listener.new a.0.sound
-        a.0.refused a.1) }
-    ensures fault { IfErr result (IsFateFault turn.now.up (up_sound said) near.now.sent) }
+        GoesAcross turn.now (up_sound said) speaker.now.line.sent listener.old.station
+        listener.new.station a.0.sound a.0.refused a.1) }
+    ensures fault { IfErr result (IsFateFault turn.now.up (up_sound said)
+        speaker.now.line.sent) }
 {
-    carry(alloc, &turn.up, near, far)?;
-    let (arrival, reply) = hear_across(listener, far, turn.wish);
+    carry(alloc, &turn.up, &speaker.line, &mut listener.line)?;
+    let (arrival, reply) = listener.hear_other(turn.wish);
     check_damage(&turn.up, sound_of(said), arrival.sound)?;
     Ok((arrival, reply))
 }
@@ -205,66 +176,24 @@ fn go_across(
 fn come_back(
     alloc: Global,
     turn: &Turn,
-    speaker: &mut Station<'_>,
-    near: &mut MemoryLine,
-    listener: &mut Station<'_>,
-    far: &mut MemoryLine,
+    speaker: &mut PairEnd<'_>,
+    listener: &mut PairEnd<'_>,
 ) -> Result<Sound, TurnFault>
-    requires near { near.old.until_failure ≡ 0 }
-    requires far { far.old.until_failure ≡ 0 }
-    requires due { due_at speaker.old ≢ said.Nothing }
-    requires live { listener.old.failed ≡ false }
-    requires owes { listener.old.receiver.over ≡ true → listener.old.receiver.due ≡ None }
-    ensures near { OnOk result (near.new.until_failure ≡ 0) }
-    ensures far { OnOk result (far.new.until_failure ≡ 0) }
+    requires due { due_at speaker.old.station ≢ said.Nothing }
+    requires live { listener.old.station.failed ≡ false }
+    requires owes { listener.old.station.receiver.over ≡ true
+        → listener.old.station.receiver.due ≡ None }
     ensures back { IfOk result (λ heard.
-        ComesBack turn.now speaker.old speaker.new listener.old listener.new heard) }
-    ensures fault { IfErr result (IsReplyFault turn.now.down listener.old.receiver.due) }
+        ComesBack turn.now speaker.old.station speaker.new.station listener.old.station
+        listener.new.station heard) }
+    ensures fault { IfErr result (IsReplyFault turn.now.down listener.old.station.receiver.due) }
 {
-    let Some(reply) = reply_back(listener, far) else {
-        near.put(Vec::new(alloc));
-        return Ok(hear_back(speaker, near, turn.pause));
+    let Some(reply) = listener.reply() else {
+        speaker.line.put(Vec::new(alloc));
+        return Ok(speaker.hear_answer(turn.pause));
     };
-    carry(alloc, &turn.down, far, near)?;
-    let heard = hear_back(speaker, near, turn.pause);
+    carry(alloc, &turn.down, &listener.line, &mut speaker.line)?;
+    let heard = speaker.hear_answer(turn.pause);
     check_damage(&turn.down, sound_of_reply(Some(reply)), heard)?;
     Ok(heard)
-}
-
-/// A station speaks, and hears nothing.
-fn speak_in_vain(
-    alloc: Global,
-    pause: bool,
-    station: &mut Station<'_>,
-    line: &mut MemoryLine,
-) -> Spoken
-    requires calm { line.old.until_failure ≡ 0 }
-    requires due { due_at station.old ≢ said.Nothing }
-    ensures calm { line.new.until_failure ≡ 0 }
-    ensures vain { SpeaksInVain pause station.old station.new result }
-{
-    let said = say_due(station, line);
-    let heard = match said {
-        Say::End => Sound::Quiet,
-        _ => {
-            line.put(Vec::new(alloc));
-            hear_back(station, line, pause)
-        }
-    };
-    Spoken {
-        said,
-        arrived: Sound::Quiet,
-        refused: false,
-        reply: None,
-        heard,
-    }
-}
-
-/// Tells a station that the other one's transmission ended, where it did.
-fn end_of(station: &mut Station<'_>, said: Say)
-    ensures { station.new ≡ after_end_of said station.old }
-{
-    if let Say::End = said {
-        station.other_ended();
-    }
 }

@@ -9,8 +9,6 @@ use Rattle.line_world.proofs.running.take_turns.Goals as goal
 pub loop-turn-init : goal.loop-turn-init
 loop-turn-init c = record {
   running = running_first c.args.ends.sender.jobs c.args.turns.now _ _ _ c.new-spoken.ensures.items (c.requires.sender) (c.requires.receiver);
-  sending = c.requires.sending_line;
-  receiving = c.requires.receiving_line;
 }
 
 pub returns-in-Ok-None-clause-drive : goal.returns-in-Ok-None-clause-drive
@@ -51,7 +49,7 @@ loop-turn-preserved c =
     let here : slice_get c.args.turns.now c.loop-turn.turn-index ≡ Some c.turn-item.result = slice_get_read _ _ _ _ refl c.loop-turn-test.true c.turn-item.is in
     let taken = c.in-Ok-Some.ensures.taken in
     let took : TakesTurn c.turn-item.result c.loop-turn.ends.sender c.take_turn.new.self.sender c.loop-turn.ends.receiver c.take_turn.new.self.receiver c.in-Ok-Some.one = rw c.in-Ok-Some.field-0-is at taken in
-    record { running = running_more laws _ _ _ _ _ _ _ _ _ c.turn-item.result c.in-Ok-Some.one running here took (search rules); sending = c.in-Ok-Some.ensures.sending; receiving = c.in-Ok-Some.ensures.receiving }
+    record { running = running_more laws _ _ _ _ _ _ _ _ _ c.turn-item.result c.in-Ok-Some.one running here took (search rules) }
 
 pub returns-clause-drive : goal.returns-clause-drive
 returns-clause-drive c =

@@ -6,6 +6,4 @@ use Rattle.line_world.proofs.running.take_turns.Given as goal
 abbrev pub invariant-loop-turn : goal.invariant-loop-turn
 invariant-loop-turn l = record {
   running : Running l.fn.ends.sender.jobs l.turns l.turn-index l.spoken.items l.ends.sender l.ends.receiver;
-  sending : l.ends.sending_line.until_failure ≡ 0;
-  receiving : l.ends.receiving_line.until_failure ≡ 0;
 }

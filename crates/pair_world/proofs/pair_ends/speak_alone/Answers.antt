@@ -9,10 +9,8 @@ pub returns-in_err-heard-in_default : goal.returns-in_err-heard-in_default
 returns-in_err-heard-in_default c =
     let told : c.from_residual-in_err-heard-in_default.result ≡ Err c.in_err-heard-in_default.field-0.0 = search rules in
     let across = c.in_ok-arrival.ensures.across in
-    let written : IsWrittenOf (due_at c.args.speaker.now) c.args.speaker.now.sender.rest c.say_due-said.new.line.sent = search rules in
+    let written : IsWrittenOf (due_at c.args.speaker.now.station) c.args.speaker.now.station.sender.rest c.say-said.new.self.line.sent = search rules in
     rw told (record {
-      near = tt;
-      far = tt;
       spoke = tt;
-      fault = fault_back c.args.turn.now c.args.speaker.now c.args.listener.now c.go_across.new.listener c.say_due-said.new.line.sent c.in_ok-arrival.arrival.sound c.in_ok-arrival.arrival.refused c.in_ok-arrival.reply _ written (rw c.say_due-said.ensures.said at across) c.in_err-heard-in_default.ensures.fault;
+      fault = fault_back c.args.turn.now c.args.speaker.now.station c.args.listener.now.station c.go_across.new.listener.station c.say-said.new.self.line.sent c.in_ok-arrival.arrival.sound c.in_ok-arrival.arrival.refused c.in_ok-arrival.reply _ written (rw c.say-said.ensures.said at across) c.in_err-heard-in_default.ensures.fault;
     })

@@ -10,8 +10,6 @@ use Rattle.pair_world.proofs.pairing.take_turns.Goals as goal
 pub loop-turn-init : goal.loop-turn-init
 loop-turn-init c = record {
   running = pair_first c.args.primary.sender.jobs c.args.secondary.sender.jobs c.args.turns.now _ _ _ c.new-spoken.ensures.items (search rules) (search rules);
-  primary_line = search rules;
-  secondary_line = search rules;
 }
 
 pub returns-in-Ok-None-clause-drive : goal.returns-in-Ok-None-clause-drive
@@ -20,7 +18,7 @@ returns-in-Ok-None-clause-drive c =
     let running = c.loop-turn.invariant.running in
     let here : slice_get c.args.turns.now c.loop-turn.turn-index ≡ Some c.turn-item.result = slice_get_read _ _ _ _ refl c.loop-turn-test.true c.turn-item.is in
     let taken = c.in-Ok-None.ensures.taken in
-    let over : TakesPair None c.turn-item.result c.loop-turn.ends.primary c.take_turn.new.self.primary c.loop-turn.ends.secondary c.take_turn.new.self.secondary = rw c.in-Ok-None.field-0-is at taken in
+    let over : TakesPair None c.turn-item.result c.loop-turn.ends.primary.station c.take_turn.new.self.primary.station c.loop-turn.ends.secondary.station c.take_turn.new.self.secondary.station = rw c.in-Ok-None.field-0-is at taken in
     rw (c.paired.ensures.turns, c.paired.ensures.primary, c.paired.ensures.secondary) (pair_over laws _ _ _ _ _ _ _ _ _ c.turn-item.result running here over)
 
 pub returns-in-Ok-None-clause-run : goal.returns-in-Ok-None-clause-run
@@ -29,7 +27,7 @@ returns-in-Ok-None-clause-run c =
     let running = c.loop-turn.invariant.running in
     let here : slice_get c.args.turns.now c.loop-turn.turn-index ≡ Some c.turn-item.result = slice_get_read _ _ _ _ refl c.loop-turn-test.true c.turn-item.is in
     let taken = c.in-Ok-None.ensures.taken in
-    let over : TakesPair None c.turn-item.result c.loop-turn.ends.primary c.take_turn.new.self.primary c.loop-turn.ends.secondary c.take_turn.new.self.secondary = rw c.in-Ok-None.field-0-is at taken in
+    let over : TakesPair None c.turn-item.result c.loop-turn.ends.primary.station c.take_turn.new.self.primary.station c.loop-turn.ends.secondary.station c.take_turn.new.self.secondary.station = rw c.in-Ok-None.field-0-is at taken in
     rw (c.paired.ensures.turns, c.paired.ensures.primary, c.paired.ensures.secondary) (pair_over laws _ _ _ _ _ _ _ _ _ c.turn-item.result running here over).run
 
 pub returns-in-Err-clause-fault : goal.returns-in-Err-clause-fault
@@ -46,12 +44,8 @@ loop-turn-preserved c =
     let running = c.loop-turn.invariant.running in
     let here : slice_get c.args.turns.now c.loop-turn.turn-index ≡ Some c.turn-item.result = slice_get_read _ _ _ _ refl c.loop-turn-test.true c.turn-item.is in
     let taken = c.in-Ok-Some.ensures.taken in
-    let took : TakesPair (Some c.in-Ok-Some.one) c.turn-item.result c.loop-turn.ends.primary c.take_turn.new.self.primary c.loop-turn.ends.secondary c.take_turn.new.self.secondary = rw c.in-Ok-Some.field-0-is at taken in
-    record {
-      running = pair_more laws _ _ _ _ _ _ _ _ _ _ c.turn-item.result c.in-Ok-Some.one running here took (search rules);
-      primary_line = c.in-Ok-Some.ensures.primary_line;
-      secondary_line = c.in-Ok-Some.ensures.secondary_line;
-    }
+    let took : TakesPair (Some c.in-Ok-Some.one) c.turn-item.result c.loop-turn.ends.primary.station c.take_turn.new.self.primary.station c.loop-turn.ends.secondary.station c.take_turn.new.self.secondary.station = rw c.in-Ok-Some.field-0-is at taken in
+    record { running = pair_more laws _ _ _ _ _ _ _ _ _ _ c.turn-item.result c.in-Ok-Some.one running here took (search rules) }
 
 pub returns-clause-drive : goal.returns-clause-drive
 returns-clause-drive c =

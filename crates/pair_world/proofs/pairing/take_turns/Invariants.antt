@@ -5,7 +5,5 @@ use Rattle.pair_world.proofs.pairing.take_turns.Given as goal
 
 abbrev pub invariant-loop-turn : goal.invariant-loop-turn
 invariant-loop-turn l = record {
-  running : PairRunning l.fn.primary.sender.jobs l.fn.secondary.sender.jobs l.turns l.turn-index l.spoken.items l.ends.primary l.ends.secondary;
-  primary_line : l.ends.primary_line.until_failure ≡ 0;
-  secondary_line : l.ends.secondary_line.until_failure ≡ 0;
+  running : PairRunning l.fn.primary.sender.jobs l.fn.secondary.sender.jobs l.turns l.turn-index l.spoken.items l.ends.primary.station l.ends.secondary.station;
 }
