@@ -23,7 +23,8 @@ use Rattle.line_world.specs.Damage.{Tells, Fits, HasBadCut, IsNoDamage}
 use Rattle.bsc_history.specs.Fate.{is_damage_of, sound_of, sound_of_reply, after_fate}
 use Rattle.line_world.specs.Plan.{plan_of}
 use Rattle.bsc_history.specs.SayingRule.{saying}
-use Rattle.line_world.specs.Run.{TellsTurn, TellsSchedule, FitsReply, FitsTurn, AllFit, IsConversationOn, BreaksTurn, BreaksFirst, as_it_is, NoDamageNoConversation, BadCutNoConversation}
+use Rattle.line_world.specs.Run.{TellsTurn, FitsReply, FitsTurn, FitsAtItsPlace, IsConversationOn, BreaksTurn, BreaksFirst, as_it_is, NoDamageNoConversation, BadCutNoConversation}
+use Rattle.line_world.proofs.Telling.{telling}
 use Rattle.bsc_history.proofs.ForRuns.{same-history, rest, goes-on-within, no-longer, true-false, saying-speaks}
 
 -- ---- Bytes that are sent are one.
@@ -71,37 +72,25 @@ damage_kept one (Fate.Damaged bytes) said sent told x n fits (y, heard, is) afte
 
 -- ---- The turn that stands where a fate breaks a rule.
 
-record FittingTurn (blocks : List Block) (turns : List Turn) (places : List SoundTurn) (past : History) : Type 0 where
-  t : SpokenTurn
-  spoken : IsSpokenOver (plan_of blocks) places (t ∷ past)
-  turn : Turn
-  here : slice_get turns (length past) ≡ Some turn
-  fits : FitsTurn blocks (gives_up_now past) past t turn
+pub record FittingTurn {X T : Type 0} (Fits : List T → T → X → Type 0) (turns : List X) (IsSpoken : List T → Type 0) (past : List T) : Type 0 where
+  pub t : T
+  pub spoken : IsSpoken (t ∷ past)
+  pub turn : X
+  pub here : slice_get turns (length past) ≡ Some turn
+  pub fits : Fits past t turn
 
-fits_within : (blocks : List Block) (turns : List Turn) (places : List SoundTurn) (h g : History) → IsSpokenOver (plan_of blocks) places h → IsSpokenOver (plan_of blocks) places g → AllFit blocks turns g → length h < length g
-    → FittingTurn blocks turns places h
-fits_within blocks turns places h [] s r fits less = absurd (omega (arith, less))
-fits_within blocks turns places h (u ∷ g) s r fits less = elim (cases_order (length h) (length g)) [
+-- of two histories that may be spoken and are one where they are as long, the longer one has a turn where the shorter one ends
+pub fits_within : {X T : Type 0} (Fits : List T → T → X → Type 0) (turns : List X) (IsSpoken : List T → Type 0) → ((t : T) (past : List T) → IsSpoken (t ∷ past) → IsSpoken past)
+    → ((h g : List T) → IsSpoken h → IsSpoken g → length h ≡ length g → h ≡ g)
+    → (h g : List T) → IsSpoken h → IsSpoken g → FitsAtItsPlace Fits turns g → length h < length g → FittingTurn Fits turns IsSpoken h
+fits_within Fits turns IsSpoken before one h [] s r fits less = absurd (omega (arith, less))
+fits_within Fits turns IsSpoken before one h (u ∷ g) s r fits less = elim (cases_order (length h) (length g)) [
   | inl same ↦
-      let e : g ≡ h = sym (same-history (plan_of blocks) places h g s (rest (plan_of blocks) places u g r) same) in
-      subst (FittingTurn blocks turns places) e (record { t = u; spoken = r; turn = fits.0.0; here = fits.0.1; fits = fits.0.2 })
-  | inr (inl shorter) ↦ fits_within blocks turns places h g s (rest (plan_of blocks) places u g r) fits.1 shorter
+      let e : g ≡ h = sym (one h g s (before u g r) same) in
+      subst (FittingTurn Fits turns IsSpoken) e (record { t = u; spoken = r; turn = fits.0.0; here = fits.0.1; fits = fits.0.2 })
+  | inr (inl shorter) ↦ fits_within Fits turns IsSpoken before one h g s (before u g r) fits.1 shorter
   | inr (inr longer) ↦ absurd (omega (arith, less, longer))
 ]
-
-told_at : (turns : List Turn) (places : List SoundTurn) (k : ℕ) (turn : Turn) (place : SoundTurn) → TellsSchedule turns places → slice_get turns k ≡ Some turn → slice_get places k ≡ Some place → TellsTurn turn place
-told_at [] [] zero turn place t e f = absurd cc
-told_at [] [] (suc k) turn place t e f = absurd cc
-told_at [] (p ∷ ps) k turn place t e f = absurd t
-told_at (x ∷ xs) [] k turn place t e f = absurd t
-told_at (x ∷ xs) (p ∷ ps) zero turn place t e f =
-    let a : x ≡ turn = cc in
-    let b : p ≡ place = cc in
-    subst (λ y. TellsTurn y place) a (subst (λ q. TellsTurn x q) b t.0)
-told_at (x ∷ xs) (p ∷ ps) (suc k) turn place t e f = told_at xs ps k turn place t.1 e f
-
-same_turn : (x y : Turn) → Some x ≡ Some y → x ≡ y
-same_turn x y e = cc
 
 speaks_some : (say : Say) → say ≢ Say.Nothing → sound_of say ≢ Sound.Quiet
 speaks_some Say.Bid n = λ e. cc
@@ -159,12 +148,12 @@ no_turn Breaks keeps counts blocks gives_up past turn place t u f k at fits tell
 
 module _ (Breaks : Fate → Sound → List ℕ → Type 0) (keeps : Keeps Breaks) (blocks : List Block) (turns : List Turn) (places : List SoundTurn) (h : History) (n : ℕ)
     (c : IsConversationOn blocks turns places h) (b : BreaksFirst Breaks blocks turns places n) where
-  stands_there : FittingTurn blocks turns places b.past → ⊥
+  stands_there : FittingTurn (λ past t turn. FitsTurn blocks (gives_up_now past) past t turn) turns (IsSpokenOver (plan_of blocks) places) b.past → ⊥
   stands_there g =
-      let turn : g.turn ≡ b.turn = same_turn _ _ (sym g.here ∙ b.here) in
+      let turn : g.turn ≡ b.turn = same_Some _ _ (sym g.here ∙ b.here) in
+      let tells : TellsTurn b.turn b.place = telling TellsTurn turns places (length b.past) b.turn b.place b.told b.here b.there in
       let place : g.spoken.placed.0.0 ≡ b.place = same_Some _ _ (sym g.spoken.placed.0.1 ∙ b.there) in
-      no_turn Breaks keeps as_it_is blocks (gives_up_now b.past) b.past b.turn b.place g.t g.t g.spoken.conversation.0 (as_said g.t) (subst (λ x. IsAt x g.t) place g.spoken.placed.0.2) (subst (FitsTurn blocks (gives_up_now b.past) b.past g.t) turn g.fits)
-      (told_at turns places (length b.past) b.turn b.place b.told b.here b.there) b.breaks
+      no_turn Breaks keeps as_it_is blocks (gives_up_now b.past) b.past b.turn b.place g.t g.t g.spoken.conversation.0 (as_said g.t) (subst (λ x. IsAt x g.t) place g.spoken.placed.0.2) (subst (FitsTurn blocks (gives_up_now b.past) b.past g.t) turn g.fits) tells b.breaks
 
   plan_none : plan_of blocks ≡ [] → blocks ≡ []
   plan_none = none_planned blocks
@@ -180,7 +169,7 @@ module _ (Breaks : Fate → Sound → List ℕ → Type 0) (keeps : Keeps Breaks
               absurd (omega (arith, long, within, same))
           | inr (inr over) ↦ true-false (is_over h) over (ap is_over (sym e) ∙ b.goes_on)
         ]
-    | inr (inl shorter) ↦ stands_there (fits_within blocks turns places b.past h b.spoken c.conversation.spoken c.fits shorter)
+    | inr (inl shorter) ↦ stands_there (fits_within _ turns _ (rest (plan_of blocks) places) (same-history (plan_of blocks) places) b.past h b.spoken c.conversation.spoken c.fits shorter)
     | inr (inr longer) ↦ let more = goes-on-within (plan_of blocks) places h b.past c.conversation.spoken b.spoken longer in no-longer (plan_of blocks) places h more.0 c.conversation (λ none. b.some_block (plan_none none)) more.1
   ]
 

@@ -16,19 +16,19 @@ use Rattle.bsc_history.specs.Conversation.{AreAt, IsConversationOver}
 use Rattle.line_world.specs.Fairness.{HasGoodPair, IsFair, FairLineIsEnough}
 use Rattle.line_world.specs.GoodTurn.{IsGood}
 use Rattle.line_world.specs.Plan.{plan_of}
-use Rattle.line_world.specs.Run.{TellsSchedule}
+use Rattle.line_world.specs.Run.{TellsTurn, TellsSchedule}
 use Rattle.line_world.proofs.AllKnown.{all_counted, known_if_some}
 use Rattle.bsc_history.proofs.ForRuns.{HasCleanPair, IsFairNow, AreFair, known_in_time, IsClean, ArePlain}
-use Rattle.line_world.proofs.GoodTurn.{AreUnrefused, all_at, clean_turn, told_at, unrefused}
+use Rattle.line_world.proofs.GoodTurn.{AreUnrefused, all_at, clean_turn, unrefused}
 use Rattle.line_world.proofs.Numbered.{plan_length}
-use Rattle.line_world.proofs.Telling.{told_length}
+use Rattle.line_world.proofs.Telling.{told_length, told_at}
 
 -- ---- The turns are plain.
 
 plain : (turns : List Turn) (places : List SoundTurn) (h : History) → TellsSchedule turns places → IsFair turns → AreAt places h → AreUnrefused h → ArePlain h
 plain turns places [] t f a u = tt
 plain turns places (x ∷ past) t f a u =
-    let told = told_at turns places (length past) a.0.0 t a.0.1 in (
+    let told = told_at TellsTurn turns places (length past) a.0.0 t a.0.1 in (
       record {
         goes = a.0.2.wish ∙ told.2.wish ∙ all_at (λ turn. turn.wish ≡ Wish.Go) turns (length past) told.0 f.goes told.1;
         unpaused = a.0.2.pause ∙ told.2.pause ∙ all_at (λ turn. turn.pause ≡ false) turns (length past) told.0 f.unpaused told.1;
@@ -84,7 +84,7 @@ IsCleanAt (t ∷ past) m = (length past ≡ m → IsClean t) × IsCleanAt past m
 clean_at : (turns : List Turn) (places : List SoundTurn) (h : History) (m : ℕ) (turn : Turn) → TellsSchedule turns places → AreAt places h → AreUnrefused h → slice_get turns m ≡ Some turn → IsGood turn → IsCleanAt h m
 clean_at turns places [] m turn t a u e g = tt
 clean_at turns places (x ∷ past) m turn t a u e g =
-    let told = told_at turns places (length past) a.0.0 t a.0.1 in (
+    let told = told_at TellsTurn turns places (length past) a.0.0 t a.0.1 in (
       (λ l. let same : turn ≡ told.0 = (let f : slice_get turns m ≡ Some told.0 = same_place turns (length past) m told.0 l told.1 in cc) in
           clean_turn told.0 a.0.0 x (subst IsGood same g) told.2 a.0.2 u.0),
       clean_at turns places past m turn t a.1 u.1 e g,
@@ -114,7 +114,7 @@ fair_now : (turns : List Turn) (places : List SoundTurn) (t : SpokenTurn) (past 
 fair_now turns places t past told f a u eight =
     let h = t ∷ past in
     let i = length h - 8 in
-    let within : length h ≤ length turns = omega (arith, long_enough places t past a, told_length turns places told) in
+    let within : length h ≤ length turns = omega (arith, long_enough places t past a, told_length TellsTurn turns places told) in
     let p = pair_at (take 8 (drop i turns)) (f.good i (omega (arith, within, eight))) in
     let m = i + p.0 in
     let last : suc p.0 < 8 = omega (arith, slice_get_within (take 8 (drop i turns)) (suc p.0) p.1.next p.1.there, length-take 8 (drop i turns)) in
@@ -142,7 +142,7 @@ fair_line_is_enough back jobs turns spoken handed counted ending fit fairness en
     let h = run.history in
     let c = run.conversation.conversation in
     let told = run.conversation.told in
-    let room : 7 + 7 * length plan ≤ length run.places = omega (arith, enough, plan_length (blocks jobs), told_length turns run.places told) in
+    let room : 7 + 7 * length plan ≤ length run.places = omega (arith, enough, plan_length (blocks jobs), told_length TellsTurn turns run.places told) in
     let u : AreUnrefused h = unrefused h (subst (AllByRecursion (λ t. t.refused ≡ false)) run.spoken_is quiet) in
     let p = plain turns run.places h told fairness c.spoken.placed u in
     let f = fair turns run.places h told fairness c.spoken.placed u in

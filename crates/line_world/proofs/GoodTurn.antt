@@ -40,14 +40,6 @@ clean_turn turn place t good told at unrefused = record {
 
 -- ---- The turn of the schedule that tells a place.
 
-pub told_at : (turns : List Turn) (places : List SoundTurn) (k : ℕ) (place : SoundTurn) → TellsSchedule turns places → slice_get places k ≡ Some place → (turn : Turn) × (slice_get turns k ≡ Some turn) × TellsTurn turn place
-told_at [] [] zero place t e = absurd cc
-told_at [] [] (suc k) place t e = absurd cc
-told_at [] (p ∷ ps) k place t e = absurd t
-told_at (x ∷ xs) [] k place t e = absurd t
-told_at (x ∷ xs) (p ∷ ps) zero place t e = let same : p ≡ place = cc in (x, refl, subst (TellsTurn x) same t.0)
-told_at (x ∷ xs) (p ∷ ps) (suc k) place t e = told_at xs ps k place t.1 e
-
 pub all_at : (P : Turn → Type 0) (turns : List Turn) (k : ℕ) (turn : Turn) → AllByRecursion P turns → slice_get turns k ≡ Some turn → P turn
 all_at P [] zero turn a e = absurd cc
 all_at P [] (suc k) turn a e = absurd cc

@@ -20,6 +20,7 @@ use Rattle.bsc_history.proofs.ForRuns.{at_most_one_more, in_order, conversations
 use Rattle.line_world.proofs.FirstJobs.{hands_first}
 use Rattle.line_world.proofs.Numbered.{plan_length, numbered_first}
 use Rattle.bsc_history.proofs.ForRuns.{stays_within_plan}
+use Rattle.line_world.proofs.Telling.{drop_one}
 
 -- ---- One block more ends one job more, or none.
 
@@ -70,12 +71,6 @@ records_append xs ys = flat_map-append (λ job. job.records) xs ys
 
 split : (w : ℕ) (xs : List Job) → records_of xs ≡ records_of (take w xs) ++ records_of (drop w xs)
 split w xs = ap records_of (sym (take-append-drop w xs)) ∙ records_append (take w xs) (drop w xs)
-
-drop_one : (w : ℕ) (xs : List Job) (x : Job) → slice_get xs w ≡ Some x → drop w xs ≡ x ∷ drop (suc w) xs
-drop_one zero [] x e = absurd cc
-drop_one (suc w) [] x e = absurd cc
-drop_one zero (y ∷ xs) x e = let same : y ≡ x = cc in ap (λ z. z ∷ xs) same
-drop_one (suc w) (y ∷ xs) x e = drop_one w xs x e
 
 -- what is begun is a prefix of what is left
 begun_prefix : (w : ℕ) (given rest : List Job) → IsBegun (slice_get given w) rest → IsPrefixOf (records_of rest) (records_of (drop w given))

@@ -35,7 +35,7 @@ use Rattle.line_world.proofs.Planned.{begins}
 use Rattle.bsc_history.proofs.ForRuns.{conversations_are_spoken, sender_core_says}
 use Rattle.line_world.proofs.ReceivingTurns.{refused_block}
 use Rattle.line_world.proofs.RunTurns.{Laws, StandsRun, turn_of, turn_more, due_is, sent_is, goes_on, answer_is}
-use Rattle.line_world.proofs.Telling.{told_length, told_append, told_any, get_seam, spoken_longer}
+use Rattle.line_world.proofs.Telling.{told_turn, told_length, told_any, told_whole, told_with, get_seam, spoken_longer}
 
 pub plan_some : (jobs : List Job) → 0 < length jobs → plan_of (blocks jobs) ≡ [] → ⊥
 plan_some jobs l e = let b = blocks_begun jobs l in let f : plan_of (b.first ∷ b.more) ≡ [] = ap plan_of (sym b.is) ∙ e in absurd cc
@@ -63,11 +63,10 @@ no_jobs jobs l none = omega (arith, l, ap length none)
 whole_run : Laws → (jobs : List Job) (turns : List Turn) (h : History) (s : Sending) (r : Receiving) → 0 < length jobs → StandsRun jobs turns h s r → (length h ≡ length turns) ⊎ (is_over h ≡ true)
     → IsDrive jobs turns (spoken_turns h) s r
 whole_run laws jobs turns h s r l p whole =
-    let rest = told_any laws.every (drop (length h) turns) in
+    let rest = told_any TellsTurn (told_turn laws.every) (drop (length h) turns) in
     let places = p.before ++ rest.0 in
-    let told : TellsSchedule turns places =
-    subst (λ xs. TellsSchedule xs places) (take-append-drop (length h) turns) (told_append (take (length h) turns) (drop (length h) turns) p.before rest.0 p.told rest.1) in
-    let ended : (length h ≡ length places) ⊎ (is_over h ≡ true) = elim whole [ inl long ↦ inl (long ∙ told_length turns places told) | inr over ↦ inr over ] in
+    let told : TellsSchedule turns places = told_whole TellsTurn turns (length h) p.before p.told rest.0 rest.1 in
+    let ended : (length h ≡ length places) ⊎ (is_over h ≡ true) = elim whole [ inl long ↦ inl (long ∙ told_length TellsTurn turns places told) | inr over ↦ inr over ] in
     record {
       run = record {
         history = h;
@@ -88,7 +87,7 @@ whole_run laws jobs turns h s r l p whole =
 -- with no jobs nothing is said
 empty_run : Laws → (turns : List Turn) → IsDrive [] turns [] (first_sending []) first_receiving
 empty_run laws turns =
-    let told = told_any laws.every turns in
+    let told = told_any TellsTurn (told_turn laws.every) turns in
     record {
       run = record {
         history = [];
@@ -104,30 +103,21 @@ empty_run laws turns =
 
 -- ---- A broken rule.
 
-pub drop_one : {X : Type 0} (n : ℕ) (xs : List X) (x : X) → slice_get xs n ≡ Some x → drop n xs ≡ x ∷ drop (suc n) xs
-drop_one zero [] x e = absurd cc
-drop_one (suc n) [] x e = absurd cc
-drop_one zero (y ∷ xs) x e = let same : y ≡ x = cc in ap (λ z. z ∷ xs) same
-drop_one (suc n) (y ∷ xs) x e = drop_one n xs x e
-
 module _ (laws : Laws) (jobs : List Job) (turns : List Turn) (h : History) (s : Sending) (r : Receiving) (turn : Turn) (l : 0 < length jobs) (p : StandsRun jobs turns h s r) (here : slice_get turns (length h) ≡ Some turn) where
-  -- the schedule that is told, with this place
-  abbrev places_with : SoundTurn → List SoundTurn
-  places_with place = p.before ++ place ∷ (told_any laws.every (drop (suc (length h)) turns)).0
+  -- what the schedule tells after this turn
+  abbrev rest_told : (places : List SoundTurn) × TellsSchedule (drop (suc (length h)) turns) places
+  rest_told = told_any TellsTurn (told_turn laws.every) (drop (suc (length h)) turns)
 
-  told_with : (place : SoundTurn) → TellsTurn turn place → TellsSchedule turns (places_with place)
-  told_with place tells =
-      let rest = told_any laws.every (drop (suc (length h)) turns) in
-      let joined : take (length h) turns ++ turn ∷ drop (suc (length h)) turns ≡ turns = ap (λ xs. take (length h) turns ++ xs) (sym (drop_one (length h) turns turn here)) ∙ take-append-drop (length h) turns in
-      subst (λ xs. TellsSchedule xs (places_with place)) joined (told_append (take (length h) turns) (turn ∷ drop (suc (length h)) turns) p.before (place ∷ rest.0) p.told (tells, rest.1))
+  abbrev places_with : SoundTurn → List SoundTurn
+  places_with place = p.before ++ place ∷ rest_told.0
 
   first_with : (Breaks : Fate → Sound → List ℕ → Type 0) (place : SoundTurn) → TellsTurn turn place → s.over ≡ false → BreaksTurn Breaks as_it_is (blocks jobs) (gives_up_now h) h turn place → BreaksFirst Breaks (blocks jobs) turns (places_with place) (length h + 1)
   first_with Breaks place tells live breaks = record {
-    told = told_with place tells;
+    told = told_with TellsTurn turns (length h) p.before p.told turn place rest_told.0 here tells rest_told.1;
     past = h;
     before = refl;
     some_block = blocks_some jobs l;
-    spoken = spoken_longer (plan_of (blocks jobs)) p.before (place ∷ (told_any laws.every (drop (suc (length h)) turns)).0) h p.spoken;
+    spoken = spoken_longer (plan_of (blocks jobs)) p.before (place ∷ rest_told.0) h p.spoken;
     fits = p.fits;
     goes_on = goes_on jobs turns h s r p live;
     turn = turn;

@@ -43,7 +43,7 @@ use Rattle.line_world.proofs.Planned.{begins}
 use Rattle.line_world.proofs.Noted.{turn_noted, hearing_noted, answer_noted}
 use Rattle.line_world.proofs.ReceivingTurns.{taken_is, refused_block, accepted_is}
 use Rattle.line_world.proofs.SendingTurns.{turn_ends, turn_hears, cases_end}
-use Rattle.line_world.proofs.Telling.{told_append, get_seam, spoken_longer, take_one}
+use Rattle.line_world.proofs.Telling.{told_on, get_seam, spoken_longer}
 
 -- the laws of the crates below
 pub record Laws : Type 0 where
@@ -208,9 +208,7 @@ module _ (laws : Laws) (jobs : List Job) (turns : List Turn) (h : History) (s s'
   spoken = spoken-more plan longer h place (turn_of turn t) (spoken_longer plan p.before (place ∷ []) h p.spoken) goes there is_at said replied
 
   tells : TellsSchedule (take (length (turn_of turn t ∷ h)) turns) longer
-  tells =
-      let one : TellsTurn turn place = record { up = up_told.tells; down = is_down.down.told.tells; wish = refl; pause = refl } in
-      subst (λ xs. TellsSchedule xs longer) (sym (take_one (length h) turns turn here)) (told_append (take (length h) turns) (turn ∷ []) p.before (place ∷ []) p.told (one, tt))
+  tells = told_on TellsTurn turns (length h) p.before p.told turn place here (record { up = up_told.tells; down = is_down.down.told.tells; wish = refl; pause = refl })
 
   may_be : MayBeSpoken plan (turn_of turn t ∷ h)
   may_be = conversations_may_be_spoken plan (turn_of turn t ∷ h) spoken.conversation

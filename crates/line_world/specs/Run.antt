@@ -39,12 +39,16 @@ pub record TellsTurn (turn : Turn) (place : SoundTurn) : Type 0 where
   pub wish : place.wish ≡ turn.wish
   pub pause : place.pause ≡ turn.pause
 
--- turn by turn
+-- turn by turn, and for each turn a place
+abbrev pub TurnByTurn : {X Y : Type 0} → (X → Y → Type 0) → List X → List Y → Type 0
+TurnByTurn Tells [] [] = Unit {0}
+TurnByTurn Tells [] (place ∷ places) = ⊥
+TurnByTurn Tells (turn ∷ turns) [] = ⊥
+TurnByTurn Tells (turn ∷ turns) (place ∷ places) = Tells turn place × TurnByTurn Tells turns places
+
+-- a schedule tells these turns of sounds
 abbrev pub TellsSchedule : List Turn → List SoundTurn → Type 0
-TellsSchedule [] [] = Unit {0}
-TellsSchedule [] (place ∷ places) = ⊥
-TellsSchedule (turn ∷ turns) [] = ⊥
-TellsSchedule (turn ∷ turns) (place ∷ places) = TellsTurn turn place × TellsSchedule turns places
+TellsSchedule turns places = TurnByTurn TellsTurn turns places
 
 -- THE FATES THAT ARE LOOKED AT
 
@@ -62,10 +66,14 @@ pub record FitsTurn (blocks : List Block) (gives_up : Bool) (past : History) (t 
   pub up : (sent : List ℕ) × IsDue blocks gives_up past sent × Fits turn.up sent
   pub down : FitsReply turn.down t.reply
 
--- those of every turn of the history, the oldest turn at the first of the schedule
+-- each turn of a history fits the turn at its place in a schedule, the oldest one the first
+abbrev pub FitsAtItsPlace : {X T : Type 0} → (List T → T → X → Type 0) → List X → List T → Type 0
+FitsAtItsPlace Fits turns [] = Unit {0}
+FitsAtItsPlace {X = X} Fits turns (t ∷ past) = ((turn : X) × (slice_get turns (length past) ≡ Some turn) × Fits past t turn) × FitsAtItsPlace Fits turns past
+
+-- the fates of every turn of the history fit
 abbrev pub AllFit : List Block → List Turn → History → Type 0
-AllFit blocks turns [] = Unit {0}
-AllFit blocks turns (t ∷ past) = ((turn : Turn) × (slice_get turns (length past) ≡ Some turn) × FitsTurn blocks (gives_up_now past) past t turn) × AllFit blocks turns past
+AllFit blocks turns h = FitsAtItsPlace (λ past t turn. FitsTurn blocks (gives_up_now past) past t turn) turns h
 
 -- THE CONVERSATION
 

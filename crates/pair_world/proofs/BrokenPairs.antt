@@ -1,6 +1,7 @@
 -- Where a looked-at fate breaks a rule there is no conversation of two stations that both have jobs.
-use Rattle.std.proofs.Common.{Bool, ◌≡◌, inl, inr, ℕ, zero, suc, ◌<◌, false, List, [], ◌∷◌, length, slice_get, Some, refl, sym, ◌∙◌, subst, arith}
+use Rattle.std.proofs.Common.{Bool, ◌≡◌, inl, inr, ℕ, false, List, ◌∷◌, length, refl, sym, ◌∙◌, subst}
 use Rattle.std.proofs.lemmas.Bool.{cases_order}
+use Rattle.std.proofs.lemmas.Option.{same_Some}
 use Rattle.bsc_codes.specs.declared.block.Block.{Block}
 use Rattle.bsc_frame.specs.Laws.{OneHearing}
 use Rattle.bsc_link.specs.declared.sound.Sound.{Sound}
@@ -14,45 +15,11 @@ use Rattle.line_world.specs.declared.fate.Fate.{Fate}
 use Rattle.pair_world.specs.declared.pair_turn.PairTurn.{PairTurn}
 use Rattle.line_world.specs.Damage.{HasBadCut, IsNoDamage}
 use Rattle.line_world.specs.Plan.{plan_of}
-use Rattle.pair_world.specs.PairRun.{TellsPair, TellsPairs, FitParts, AllPairsFit, IsPairConversationOn, BreaksPairFirst, NoDamageNoPair, BadCutNoPair}
+use Rattle.pair_world.specs.PairRun.{TellsPair, FitParts, IsPairConversationOn, BreaksPairFirst, NoDamageNoPair, BadCutNoPair}
 use Rattle.bsc_history.proofs.ForRuns.{IsPairOf, none-alone, parts-of, same-pair_place, same-pair_history, pair-rest, pair-goes-on-within, pair-no-longer, one-speaks, unfinished}
-use Rattle.line_world.proofs.ForPairs.{Keeps, cuts_kept, damage_kept, AsCounted, no_turn}
+use Rattle.line_world.proofs.ForPairs.{Keeps, cuts_kept, damage_kept, AsCounted, FittingTurn, fits_within, no_turn, telling}
 
 -- ---- The turn that stands where a fate breaks a rule.
-
-record FittingPair (ups downs : List Block) (turns : List PairTurn) (places : List PairPlace) (past : PairHistory) : Type 0 where
-  t : SpokenPair
-  spoken : IsPairSpokenOver (plan_of ups) (plan_of downs) places (t ∷ past)
-  turn : PairTurn
-  here : slice_get turns (length past) ≡ Some turn
-  fits : FitParts ups downs past turn.turn t.primary t.secondary
-
-fitting_within : (ups downs : List Block) (turns : List PairTurn) (places : List PairPlace) (h g : PairHistory) → IsPairSpokenOver (plan_of ups) (plan_of downs) places h → IsPairSpokenOver (plan_of ups) (plan_of downs) places g → AllPairsFit ups downs turns g → length h < length g
-    → FittingPair ups downs turns places h
-fitting_within ups downs turns places h [] s r fits less = absurd (omega (arith, less))
-fitting_within ups downs turns places h (u ∷ g) s r fits less =
-    let before = pair-rest (plan_of ups) (plan_of downs) places u g r in
-    elim (cases_order (length h) (length g)) [
-      | inl same ↦
-          let e : g ≡ h = sym (same-pair_history (plan_of ups) (plan_of downs) places h g s before same) in
-          subst (FittingPair ups downs turns places) e (record { t = u; spoken = r; turn = fits.0.0; here = fits.0.1; fits = fits.0.2 })
-      | inr (inl shorter) ↦ fitting_within ups downs turns places h g s before fits.1 shorter
-      | inr (inr longer) ↦ absurd (omega (arith, less, longer))
-    ]
-
-pair_told_at : (turns : List PairTurn) (places : List PairPlace) (k : ℕ) (turn : PairTurn) (place : PairPlace) → TellsPairs turns places → slice_get turns k ≡ Some turn → slice_get places k ≡ Some place → TellsPair turn place
-pair_told_at [] [] zero turn place t e f = absurd cc
-pair_told_at [] [] (suc k) turn place t e f = absurd cc
-pair_told_at [] (p ∷ ps) k turn place t e f = absurd t
-pair_told_at (x ∷ xs) [] k turn place t e f = absurd t
-pair_told_at (x ∷ xs) (p ∷ ps) zero turn place t e f =
-    let a : x ≡ turn = cc in
-    let b : p ≡ place = cc in
-    subst (λ y. TellsPair y place) a (subst (λ q. TellsPair x q) b t.0)
-pair_told_at (x ∷ xs) (p ∷ ps) (suc k) turn place t e f = pair_told_at xs ps k turn place t.1 e f
-
-same_pair_turn : (x y : PairTurn) → Some x ≡ Some y → x ≡ y
-same_pair_turn x y e = cc
 
 as_it_counts : (bid_out : Bool) (t : SpokenTurn) → AsCounted (sound_counted bid_out) t (as_counted bid_out t)
 as_it_counts bid_out t = record { said = refl; arrived = refl; refused = refl; reply = refl; wish = refl }
@@ -65,12 +32,12 @@ module _ (Breaks : Fate → Sound → List ℕ → Type 0) (keeps : Keeps Breaks
   abbrev q : Plan
   q = plan_of downs
 
-  stands_there : FittingPair ups downs turns places b.past → ⊥
+  stands_there : FittingTurn (λ past t turn. FitParts ups downs past turn.turn t.primary t.secondary) turns (IsPairSpokenOver p q places) b.past → ⊥
   stands_there g =
       let past = b.past in
-      let turn : g.turn ≡ b.turn = same_pair_turn _ _ (sym g.here ∙ b.here) in
+      let turn : g.turn ≡ b.turn = same_Some _ _ (sym g.here ∙ b.here) in
       let place : g.spoken.placed.0.0 ≡ b.place = same-pair_place _ _ (sym g.spoken.placed.0.1 ∙ b.there) in
-      let tells : TellsPair b.turn b.place = pair_told_at turns places (length past) b.turn b.place b.told b.here b.there in
+      let tells : TellsPair b.turn b.place = telling TellsPair turns places (length past) b.turn b.place b.told b.here b.there in
       let parts = parts-of p q past b.place g.t g.spoken.conversation.0 (subst (λ x. IsPairAt x g.t) place g.spoken.placed.0.2) in
       none-alone p q past b.turn.bids b.place.place (FitParts ups downs past b.turn.turn) _ _
       (λ t f at fits broken. no_turn Breaks keeps (sound_counted false) ups (gives_up_now (up past)) (up past) b.turn.turn b.place.place t t f (as_it_counts false t) at fits tells.tells broken)
@@ -83,7 +50,7 @@ module _ (Breaks : Fate → Sound → List ℕ → Type 0) (keeps : Keeps Breaks
     | inl same ↦
         let e : h ≡ b.past = sym (same-pair_history p q places b.past h b.spoken c.conversation.spoken same) in
         unfinished p q places b.past b.place b.turn.bids (subst (IsPairConversationOver p q places) e c.conversation) b.there (one-speaks _ _ _ _ b.breaks)
-    | inr (inl shorter) ↦ stands_there (fitting_within ups downs turns places b.past h b.spoken c.conversation.spoken c.fits shorter)
+    | inr (inl shorter) ↦ stands_there (fits_within _ turns _ (pair-rest p q places) (same-pair_history p q places) b.past h b.spoken c.conversation.spoken c.fits shorter)
     | inr (inr longer) ↦ let more = pair-goes-on-within p q places h b.past c.conversation.spoken b.spoken longer in pair-no-longer p q places h more.0 c.conversation more.1
   ]
 

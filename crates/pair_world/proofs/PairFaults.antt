@@ -1,6 +1,5 @@
 -- A fate that breaks a rule, in a turn of a run of two stations that both have jobs.
 use Rattle.std.proofs.Common.{◌≡◌, inl, inr, ℕ, suc, ◌+◌, Bool, true, false, not, ◌&&◌, List, ◌∷◌, ◌++◌, length, take, drop, slice_get, Some, None, refl, ap, sym, ◌∙◌, subst}
-use Rattle.std.proofs.lemmas.List.{take-append-drop}
 use Rattle.bsc_link.specs.declared.sound.Sound.{Sound}
 use Rattle.bsc_link.specs.Contender.{takes_enq}
 use Rattle.bsc_link.specs.Sender.{is_enough}
@@ -27,20 +26,20 @@ use Rattle.bsc_history.specs.ReplyRule.{replying}
 use Rattle.line_world.specs.Run.{TellsTurn, IsDue, BreaksTurn}
 use Rattle.bsc_history.specs.SayingRule.{saying}
 use Rattle.line_world.specs.Turns.{StandsReceiving}
-use Rattle.line_world.proofs.ForPairs.{Told, tell, get_seam, drop_one}
+use Rattle.line_world.proofs.ForPairs.{Told, tell, get_seam, told_any, told_with}
 use Rattle.pair_world.specs.declared.pair_spoken.PairSpoken.{PairSpoken}
 use Rattle.pair_world.specs.declared.pair_turn.PairTurn.{PairTurn}
 use Rattle.bsc_history.specs.Pair.{PairHistory, up, down, is_bid_out, is_something, sound_counted}
 use Rattle.bsc_history.specs.PairCount.{spent, down_gave_up}
 use Rattle.pair_world.specs.Inside.PairDriving.{BreaksAlone, BreaksBack, BreaksPair, IsPairTurnFault}
-use Rattle.pair_world.specs.PairRun.{TellsPairs, BreaksPairFirst, BreaksPairTurn, IsPairDriveFault}
+use Rattle.pair_world.specs.PairRun.{TellsPair, BreaksPairFirst, BreaksPairTurn, IsPairDriveFault}
 use Rattle.bsc_history.specs.PairSchedule.{PairPlace}
 use Rattle.pair_world.proofs.Alone.{Laws, replied, up_told, up_after, refused_is}
 use Rattle.pair_world.proofs.Contends.{primary_takes, secondary_takes}
 use Rattle.pair_world.proofs.PairLoop.{PairRunning}
 use Rattle.bsc_history.proofs.ForRuns.{and-left}
 use Rattle.pair_world.proofs.PairRuns.{StandsPairRun, due_open, due_saying, due_goes, may, up_speaks, down_speaks}
-use Rattle.pair_world.proofs.PairTelling.{pairs_append, pairs_any, pairs_longer}
+use Rattle.pair_world.proofs.PairTelling.{told_pair, pairs_longer}
 use Rattle.pair_world.proofs.Sends.{SendsBy}
 
 -- ---- One direction.
@@ -96,19 +95,14 @@ module _ (laws : Laws) (Breaks : Fate → Sound → List ℕ → Type 0) (jobs :
 
 module _ (laws : Laws) (Breaks : Fate → Sound → List ℕ → Type 0) (ups downs : List Job) (turns : List PairTurn) (h : PairHistory) (a b : Contending) (turn : PairTurn) (t : PairSpoken)
     (p : StandsPairRun ups downs turns h a b) (here : slice_get turns (length h) ≡ Some turn) where
-  abbrev places_with : PairPlace → List PairPlace
-  places_with place = p.before ++ place ∷ (pairs_any laws.every (drop (suc (length h)) turns)).0
-
   first_with : (sounds : SoundTurn) → TellsTurn turn.turn sounds → BreaksPairTurn Breaks (blocks ups) (blocks downs) h turn sounds → (places : List PairPlace) × BreaksPairFirst Breaks (blocks ups) (blocks downs) turns places (length h + 1)
   first_with sounds tells breaks =
       let place : PairPlace = record { bids = turn.bids; place = sounds } in
-      let rest = pairs_any laws.every (drop (suc (length h)) turns) in
-      let joined : take (length h) turns ++ turn ∷ drop (suc (length h)) turns ≡ turns = ap (λ xs. take (length h) turns ++ xs) (sym (drop_one (length h) turns turn here)) ∙ take-append-drop (length h) turns in
-      let told : TellsPairs turns (places_with place) =
-      subst (λ xs. TellsPairs xs (places_with place)) joined (pairs_append (take (length h) turns) (turn ∷ drop (suc (length h)) turns) p.before (place ∷ rest.0) p.told (record { bids = refl; tells = tells }, rest.1)) in (
-        places_with place,
+      let rest = told_any TellsPair (told_pair laws.every) (drop (suc (length h)) turns) in
+      let places = p.before ++ place ∷ rest.0 in (
+        places,
         record {
-          told = told;
+          told = told_with TellsPair turns (length h) p.before p.told turn place rest.0 here (record { bids = refl; tells = tells }) rest.1;
           past = h;
           before = refl;
           spoken = pairs_longer (plan_of (blocks ups)) (plan_of (blocks downs)) p.before (place ∷ rest.0) h p.spoken;
@@ -116,7 +110,7 @@ module _ (laws : Laws) (Breaks : Fate → Sound → List ℕ → Type 0) (ups do
           turn = turn;
           here = here;
           place = place;
-          there = subst (λ k. slice_get (places_with place) k ≡ Some place) p.long (get_seam p.before place rest.0);
+          there = subst (λ k. slice_get places k ≡ Some place) p.long (get_seam p.before place rest.0);
           breaks = breaks;
         },
       )

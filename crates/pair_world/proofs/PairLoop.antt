@@ -1,6 +1,6 @@
 -- The loop of a run of two stations that both have jobs: the turns so far are those of a history, and both stations stand where it left them.
 use Rattle.std.proofs.Common.{Bool, ◌≡◌, ◌⊎◌, inl, inr, ℕ, ◌+◌, ◌==◌, false, List, [], ◌∷◌, ◌++◌, length, map, reverse, take, drop, slice_get, Option, Some, None, refl, ap, sym, ◌∙◌, subst, arith}
-use Rattle.std.proofs.lemmas.List.{take-append-drop, map-append, length-map, length-reverse, reverse-append}
+use Rattle.std.proofs.lemmas.List.{map-append, length-map, length-reverse, reverse-append}
 use Rattle.bsc_link.specs.declared.rank.Rank.{Rank}
 use Rattle.rje_jobs.specs.declared.job.Job.{Job}
 use Rattle.rje_jobs.specs.Blocks.{blocks}
@@ -21,13 +21,13 @@ use Rattle.bsc_history.specs.PairConversation.{down_outcome}
 use Rattle.pair_world.specs.Inside.PairDriving.{TakesPair}
 use Rattle.bsc_history.specs.PairSchedule.{NothingIsDue}
 use Rattle.pair_world.specs.PairDrive.{SendsAfter, ReceivesAfter, StandPair, IsPairDrive}
-use Rattle.pair_world.specs.PairRun.{TellsPairs, pair_of, spoken_pairs}
+use Rattle.pair_world.specs.PairRun.{TellsPair, TellsPairs, pair_of, spoken_pairs}
 use Rattle.pair_world.proofs.Alone.{Laws, Listens}
 use Rattle.pair_world.proofs.Contends.{contends_first}
 use Rattle.pair_world.proofs.PairRuns.{StandsPairRun, cases_jobs, primary_more, secondary_more, both_more, nothing_due}
-use Rattle.pair_world.proofs.PairTelling.{pairs_append, pairs_any, pairs_length, pairs_longer}
+use Rattle.pair_world.proofs.PairTelling.{told_pair, pairs_longer}
 use Rattle.pair_world.proofs.Sends.{SendsBy, sends_first}
-use Rattle.line_world.proofs.ForPairs.{plan_some, some_jobs}
+use Rattle.line_world.proofs.ForPairs.{plan_some, some_jobs, told_any, told_length, told_whole}
 
 pub record PairRunning (ups downs : List Job) (turns : List PairTurn) (n : ℕ) (spoken : List PairSpoken) (a b : Contending) : Type 0 where
   pub history : PairHistory
@@ -153,11 +153,10 @@ whole_pair : Laws → (ups downs : List Job) (turns : List PairTurn) (n : ℕ) (
 whole_pair laws ups downs turns n spoken a b p whole =
     let h = p.history in
     let s = p.stands in
-    let rest = pairs_any laws.every (drop (length h) turns) in
+    let rest = told_any TellsPair (told_pair laws.every) (drop (length h) turns) in
     let places = s.before ++ rest.0 in
-    let told : TellsPairs turns places =
-    subst (λ xs. TellsPairs xs places) (take-append-drop (length h) turns) (pairs_append (take (length h) turns) (drop (length h) turns) s.before rest.0 s.told rest.1) in
-    let long : length turns ≡ length places = pairs_length turns places told in
+    let told : TellsPairs turns places = told_whole TellsPair turns (length h) s.before s.told rest.0 rest.1 in
+    let long : length turns ≡ length places = told_length TellsPair turns places told in
     let whole_places : (length h ≡ length turns) ⊎ NothingIsDue (plan_of (blocks ups)) (plan_of (blocks downs)) h → (length h ≡ length places) ⊎ NothingIsDue (plan_of (blocks ups)) (plan_of (blocks downs)) h = λ w. elim w [ inl e ↦ inl (e ∙ long) | inr none ↦ inr none ] in
     record {
       run = record {

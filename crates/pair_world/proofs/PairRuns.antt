@@ -22,7 +22,7 @@ use Rattle.bsc_history.specs.Fate.{sound_of}
 use Rattle.line_world.specs.Traces.{sender_events}
 use Rattle.pair_world.specs.PairTraces.{primary_events, secondary_events}
 use Rattle.line_world.specs.Turns.{after_turn}
-use Rattle.line_world.proofs.ForPairs.{tell, turn_of, get_seam, take_one, plan_some}
+use Rattle.line_world.proofs.ForPairs.{turn_of, get_seam, told_on, plan_some}
 use Rattle.line_world.specs.Plan.{plan_of}
 use Rattle.bsc_history.specs.SayingRule.{saying}
 use Rattle.bsc_history.specs.declared.bids.Bids.{Bids}
@@ -40,7 +40,7 @@ use Rattle.pair_world.proofs.PairNoted.{alone_silent, alone_noted, vain_noted, e
 use Rattle.pair_world.proofs.PairVain.{vainly, vain_follows, vain_listens, end_contender, end_sender_kept}
 use Rattle.pair_world.proofs.Contends.{Contends, due-closed, closed-ungranted, primary_takes, secondary_takes, primary_alone, secondary_alone, both_speak}
 use Rattle.bsc_history.proofs.ForRuns.{and-left, counted-quiet, silent-says, lost-after, directions_may_be_spoken, pair_conversations_may_be_spoken}
-use Rattle.pair_world.proofs.PairTelling.{pairs_append, pairs_longer}
+use Rattle.pair_world.proofs.PairTelling.{told_pair, pairs_longer}
 use Rattle.pair_world.proofs.Sends.{SendsBy, sends_turn, sends_yielded, again, some_jobs}
 
 -- the turns so far were spoken over what the schedule tells of them, and both stations stand where they left them
@@ -181,9 +181,6 @@ module _ (laws : Laws) (ups downs : List Job) (turns : List PairTurn) (h : PairH
   fit_on : (x : SpokenPair) → FitParts (blocks ups) (blocks downs) h turn.turn x.primary x.secondary → AllPairsFit (blocks ups) (blocks downs) turns (x ∷ h)
   fit_on x fits = ((turn, here, fits), p.fits)
 
-  told_on : (place : PairPlace) (x : SpokenPair) → TellsPair turn place → TellsPairs (take (length (x ∷ h)) turns) (p.before ++ place ∷ [])
-  told_on place x tells = subst (λ xs. TellsPairs xs (p.before ++ place ∷ [])) (sym (take_one (length h) turns turn here)) (pairs_append (take (length h) turns) (turn ∷ []) p.before (place ∷ []) p.told (tells, tt))
-
   long_on : (place : PairPlace) (x : SpokenPair) → length (p.before ++ place ∷ []) ≡ length (x ∷ h)
   long_on place x = omega (arith, length-append p.before (place ∷ []), p.long)
 
@@ -219,7 +216,7 @@ module _ (laws : Laws) (ups downs : List Job) (turns : List PairTurn) (h : PairH
       let c : Contends (pair ∷ h) (own_turn u.said u.heard a.contender) (other_turn u.said u.arrived b.contender) = primary_alone up_plan down_plan h a.contender b.contender p.contends may.0 may.1 turn.bids (gives_up_now (up h)) u closed x.follows in
       record {
         before = p.before ++ place ∷ [];
-        told = told_on place pair tells;
+        told = told_on TellsPair turns (length h) p.before p.told turn place here tells;
         long = long_on place pair;
         fits = fit_on pair x.fits;
         spoken = longer place pair (record { bids = refl; parts = x.is_at })
@@ -267,7 +264,7 @@ module _ (laws : Laws) (ups downs : List Job) (turns : List PairTurn) (h : PairH
       let c : Contends (pair ∷ h) (other_turn u.said u.arrived a.contender) (own_turn u.said u.heard b.contender) = secondary_alone up_plan down_plan h a.contender b.contender p.contends may.0 may.1 turn.bids (down_gives_up h) u closed x.follows x.brought in
       record {
         before = p.before ++ place ∷ [];
-        told = told_on place pair tells;
+        told = told_on TellsPair turns (length h) p.before p.told turn place here tells;
         long = long_on place pair;
         fits = fit_on pair x.fits;
         spoken = longer place pair (record { bids = refl; parts = x.is_at })
@@ -312,10 +309,8 @@ module _ (laws : Laws) (ups downs : List Job) (turns : List PairTurn) (h : PairH
       let f : Follows up_plan (gives_up_now (up h)) (up h) u = vain_follows laws ups (up h) (gives_up_now (up h)) false a k.a_after turn.turn k.first p_goes p_says (some_thing (due_at a) p_some) k.primary in
       let d : Follows down_plan (down_gives_up h) (down h) v = vain_follows laws downs (down h) (down_gives_up h) bid_out b k.b_after turn.turn k.second q_goes q_says (some_thing (due_at b) q_some) k.secondary in
       let pair : SpokenPair = record { bids = turn.bids; primary = Some u; secondary = Some u2 } in
-      let up_told = tell laws.every turn.turn.up in
-      let down_told = tell laws.every turn.turn.down in
-      let place : PairPlace = record { bids = turn.bids; place = record { up = up_told.0; down = down_told.0; refused = false; wish = turn.turn.wish; pause = turn.turn.pause } } in
-      let tells : TellsPair turn place = record { bids = refl; tells = record { up = up_told.1; down = down_told.1; wish = refl; pause = refl } } in
+      let told = told_pair laws.every turn in
+      let place = told.0 in
       let c : Contends (pair ∷ h) (other_turn u2.said Sound.Quiet (own_turn u.said u.heard a.contender)) (other_turn u.said Sound.Quiet (own_turn u2.said u2.heard b.contender)) =
       both_speak up_plan down_plan h a.contender b.contender p.contends may.0 may.1 turn.bids (gives_up_now (up h)) (down_gives_up h) u u2 up_closed down_closed f d k.primary.arrived k.secondary.arrived in
       let a_contender : a'.contender ≡ other_turn u2.said Sound.Quiet (own_turn u.said u.heard a.contender) = ap (λ z. z.contender) k.a_ended ∙ end_contender k.second.said k.a_after ∙ ap (other_turn k.second.said Sound.Quiet) x.contender in
@@ -327,7 +322,7 @@ module _ (laws : Laws) (ups downs : List Job) (turns : List PairTurn) (h : PairH
       vain_listens (blocks downs) (down h) v k.a_after (counted-quiet bid_out u2 k.secondary.arrived) q_goes (subst (Listens (blocks downs) (down h)) (sym x.receiver) p.down_receives) in
       record {
         before = p.before ++ place ∷ [];
-        told = told_on place pair tells;
+        told = told_on TellsPair turns (length h) p.before p.told turn place here told.1;
         long = long_on place pair;
         fits = fit_on pair tt;
         spoken = longer place pair

@@ -1,35 +1,16 @@
 -- Schedules of pairs that tell schedules of sounds.
-use Rattle.std.proofs.Common.{◌≡◌, suc, List, [], ◌∷◌, ◌++◌, length, false, refl, ap}
+use Rattle.std.proofs.Common.{List, [], ◌∷◌, ◌++◌, length, refl}
 use Rattle.bsc_frame.specs.Laws.{EveryHearing}
-use Rattle.line_world.proofs.ForPairs.{tell, get_append}
+use Rattle.line_world.proofs.ForPairs.{told_turn, get_append}
 use Rattle.pair_world.specs.declared.pair_turn.PairTurn.{PairTurn}
 use Rattle.bsc_history.specs.History.{Plan}
 use Rattle.bsc_history.specs.Pair.{PairHistory}
 use Rattle.bsc_history.specs.PairSchedule.{PairPlace, ArePairsAt, IsPairSpokenOver}
-use Rattle.pair_world.specs.PairRun.{TellsPairs}
+use Rattle.pair_world.specs.PairRun.{TellsPair}
 
-pub pairs_length : (turns : List PairTurn) (places : List PairPlace) → TellsPairs turns places → length turns ≡ length places
-pairs_length [] [] t = refl
-pairs_length [] (p ∷ ps) t = absurd t
-pairs_length (x ∷ xs) [] t = absurd t
-pairs_length (x ∷ xs) (p ∷ ps) t = ap suc (pairs_length xs ps t.1)
-
-pub pairs_append : (turns more : List PairTurn) (places others : List PairPlace) → TellsPairs turns places → TellsPairs more others → TellsPairs (turns ++ more) (places ++ others)
-pairs_append [] more [] others t u = u
-pairs_append [] more (p ∷ ps) others t u = absurd t
-pairs_append (x ∷ xs) more [] others t u = absurd t
-pairs_append (x ∷ xs) more (p ∷ ps) others t u = (t.0, pairs_append xs more ps others t.1 u)
-
--- any schedule tells one
-pub pairs_any : EveryHearing → (turns : List PairTurn) → (places : List PairPlace) × TellsPairs turns places
-pairs_any every [] = ([], tt)
-pairs_any every (x ∷ xs) =
-    let up = tell every x.turn.up in
-    let down = tell every x.turn.down in
-    let rest = pairs_any every xs in (
-      record { bids = x.bids; place = record { up = up.0; down = down.0; refused = false; wish = x.turn.wish; pause = x.turn.pause } } ∷ rest.0,
-      (record { bids = refl; tells = record { up = up.1; down = down.1; wish = refl; pause = refl } }, rest.1),
-    )
+-- any turn tells one of sounds
+abbrev pub told_pair : EveryHearing → (turn : PairTurn) → (place : PairPlace) × TellsPair turn place
+told_pair every x = let one = told_turn every x.turn in (record { bids = x.bids; place = one.0 }, record { bids = refl; tells = one.1 })
 
 -- what is at its place stays there in a longer schedule
 pub pairs_at_more : (places more : List PairPlace) (h : PairHistory) → ArePairsAt places h → ArePairsAt (places ++ more) h

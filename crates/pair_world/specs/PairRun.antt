@@ -23,7 +23,7 @@ use Rattle.bsc_history.specs.Got.{got}
 use Rattle.bsc_history.specs.Outcome.{outcome}
 use Rattle.line_world.specs.Plan.{plan_of, numbered}
 use Rattle.line_world.specs.Damage.{HasBadCut, IsNoDamage}
-use Rattle.line_world.specs.Run.{TellsTurn, FitsTurn, BreaksTurn, spoken_of}
+use Rattle.line_world.specs.Run.{TellsTurn, TurnByTurn, FitsTurn, FitsAtItsPlace, BreaksTurn, spoken_of}
 use Rattle.pair_world.specs.declared.pair_spoken.PairSpoken.{PairSpoken}
 use Rattle.pair_world.specs.declared.pair_turn.PairTurn.{PairTurn}
 use Rattle.pair_world.specs.declared.side.Side.{Side}
@@ -40,10 +40,7 @@ pub record TellsPair (turn : PairTurn) (place : PairPlace) : Type 0 where
 
 -- turn by turn
 abbrev pub TellsPairs : List PairTurn → List PairPlace → Type 0
-TellsPairs [] [] = Unit {0}
-TellsPairs [] (place ∷ places) = ⊥
-TellsPairs (turn ∷ turns) [] = ⊥
-TellsPairs (turn ∷ turns) (place ∷ places) = TellsPair turn place × TellsPairs turns places
+TellsPairs turns places = TurnByTurn TellsPair turns places
 
 -- THE FATES THAT ARE LOOKED AT
 
@@ -54,9 +51,7 @@ FitParts ups downs past turn None (Some u) = FitsTurn downs (down_gives_up past)
 FitParts ups downs past turn _ _ = Unit {0}
 
 abbrev pub AllPairsFit : List Block → List Block → List PairTurn → PairHistory → Type 0
-AllPairsFit ups downs turns [] = Unit {0}
-AllPairsFit ups downs turns (t ∷ past) =
-    ((turn : PairTurn) × (slice_get turns (length past) ≡ Some turn) × FitParts ups downs past turn.turn t.primary t.secondary) × AllPairsFit ups downs turns past
+AllPairsFit ups downs turns h = FitsAtItsPlace (λ past t turn. FitParts ups downs past turn.turn t.primary t.secondary) turns h
 
 -- THE CONVERSATION
 
