@@ -140,10 +140,10 @@ module _ (one : OneHearing) (transmits : WrittenIsTransmission) where
   }
 
   -- what is due, and its fate
-  pub said_told : (fate : Fate) (say : Say) (rest : List Block) (sent : List ℕ) (what : Heard) → IsWrittenOf say rest sent → IsCarried fate (sound_of say) sent what → Told fate (sound_of say) (sound_heard what)
-  said_told fate say rest sent what w c =
+  pub said_told : (fate : Fate) (say : Say) (rest : List Block) (sent : List ℕ) (what : Heard) (arrived : Sound) → IsWrittenOf say rest sent → IsCarried fate (sound_of say) sent what → arrived ≡ sound_heard what → Told fate (sound_of say) arrived
+  said_told fate say rest sent what arrived w c is =
       let f = frame_said say rest sent w in
-      subst (λ x. Told fate x (sound_heard what)) f.2 (carried_told fate f.0 sent what f.1 (subst (λ x. IsCarried fate x sent what) (sym f.2) c))
+      subst (Told fate (sound_of say)) (sym is) (subst (λ x. Told fate x (sound_heard what)) f.2 (carried_told fate f.0 sent what f.1 (subst (λ x. IsCarried fate x sent what) (sym f.2) c)))
 
   nothing_heard : (sound : Sound) → AreHeardAs [] sound → sound ≡ Sound.Quiet
   nothing_heard sound h = h.sound_is ∙ ap sound_heard (one [] h.what heard.Quiet h.heard empty_quiet)

@@ -29,12 +29,13 @@ use Rattle.line_world.specs.Plan.{plan_of}
 use Rattle.bsc_history.specs.ReplyRule.{replying}
 use Rattle.bsc_history.specs.SayingRule.{saying}
 use Rattle.line_world.specs.Run.{TellsTurn, TellsSchedule, BreaksTurn, BreaksFirst, IsDriveFault, as_it_is, spoken_of, spoken_turns}
-use Rattle.line_world.proofs.Comings.{Told, tell, said_told}
+use Rattle.line_world.proofs.Comings.{said_told}
+use Rattle.line_world.proofs.OneDirection.{breaks_replied, breaks_said, turn_of}
 use Rattle.rje_station.proofs.Uncounted.{blocks_begun, blocks_some}
 use Rattle.line_world.proofs.Planned.{begins}
 use Rattle.bsc_history.proofs.ForRuns.{conversations_are_spoken, sender_core_says}
 use Rattle.line_world.proofs.ReceivingTurns.{refused_block}
-use Rattle.line_world.proofs.RunTurns.{Laws, StandsRun, turn_of, turn_more, due_is, sent_is, goes_on, answer_is}
+use Rattle.line_world.proofs.RunTurns.{Laws, StandsRun, turn_more, due_is, goes_on, answer_is}
 use Rattle.line_world.proofs.Telling.{told_turn, told_length, told_any, told_whole, told_with, get_seam, spoken_longer}
 
 pub plan_some : (jobs : List Job) → 0 < length jobs → plan_of (blocks jobs) ≡ [] → ⊥
@@ -127,40 +128,21 @@ module _ (laws : Laws) (jobs : List Job) (turns : List Turn) (h : History) (s : 
     breaks = breaks;
   }
 
-  breaks_up : (Breaks : Fate → Sound → List ℕ → Type 0) (sent : List ℕ) → s.over ≡ false → IsWrittenOf (say_in s.core.place) s.rest sent → Breaks turn.up (sound_of (say_in s.core.place)) sent → (places : List SoundTurn) × BreaksFirst Breaks (blocks jobs) turns places (length h + 1)
-  breaks_up Breaks sent live w b =
-      let up = tell laws.every turn.up in
-      let down = tell laws.every turn.down in
-      let place : SoundTurn = record { up = up.0; down = down.0; refused = false; wish = turn.wish; pause = turn.pause } in (
-        places_with place,
-        first_with Breaks place (record { up = up.1; down = down.1; wish = refl; pause = refl }) live
-            (record { sent = sent; due = sent_is jobs turns h s r sent l p w; breaks = inl (subst (λ say. Breaks turn.up (sound_of say) sent) (due_is jobs turns h s r l p) b) }),
-      )
-
-  breaks_down : (Breaks : Fate → Sound → List ℕ → Type 0) (sent : List ℕ) → s.over ≡ false → IsWrittenOf (say_in s.core.place) s.rest sent → BreaksReply Breaks turn (sound_of (say_in s.core.place)) sent r → (places : List SoundTurn) × BreaksFirst Breaks (blocks jobs) turns places (length h + 1)
-  breaks_down Breaks sent live w b =
-      let down = tell laws.every turn.down in
-      let told : Told turn.up (sound_of (say_in s.core.place)) (sound_heard b.up.what) = said_told laws.one laws.transmits turn.up (say_in s.core.place) s.rest sent b.up.what w b.up.carried in
-      let due = due_is jobs turns h s r l p in
-      let place : SoundTurn = record { up = told.told; down = down.0; refused = b.refused; wish = turn.wish; pause = turn.pause } in
-      let after : after_fate told.told (sound_of (saying (plan_of (blocks jobs)) (gives_up_now h) h)) ≡ Some b.arrived = ap (λ say. after_fate told.told (sound_of say)) (sym due) ∙ told.after ∙ ap (λ x. Some x) (sym b.up.arrived_is) in
-      let refused : b.refused ≡ (b.refused && is_block b.arrived) = refused_block b.up.what _ b.refused b.up.may ∙ ap (λ x. b.refused && is_block x) (sym b.up.arrived_is) in
-      let answer : b.answer ≡ replying h b.arrived b.refused turn.wish = answer_is jobs turns h s r turn _ sent b.middle b.arrived b.refused b.answer p (goes_on jobs turns h s r p live) b.up in
-      let replies : replying h b.arrived (b.refused && is_block b.arrived) turn.wish ≡ Some b.reply = ap (λ f. replying h b.arrived f turn.wish) (sym refused) ∙ sym answer ∙ b.up.reply_is ∙ b.reply_is in (
-        places_with place,
-        first_with Breaks place (record { up = told.tells; down = down.1; wish = refl; pause = refl }) live
-            (record {
-              sent = sent;
-              due = sent_is jobs turns h s r sent l p w;
-              breaks = inr (record { fits = b.up.carried.fits; arrived = b.arrived; up = after; reply = b.reply; replies = replies; reply_sent = b.reply_sent; written = b.written; breaks = b.breaks });
-            }),
-      )
-
   pub turn_breaks : (Breaks : Fate → Sound → List ℕ → Type 0) → BreaksIn Breaks turn s r → (places : List SoundTurn) × BreaksFirst Breaks (blocks jobs) turns places (length h + 1)
-  turn_breaks Breaks b = elim b.breaks [
-    | inl up ↦ breaks_up Breaks b.sent b.live b.written up
-    | inr down ↦ breaks_down Breaks b.sent b.live b.written down
-  ]
+  turn_breaks Breaks b =
+      let say = say_in s.core.place in
+      let due = due_is jobs turns h s r l p in
+      let left = p.sends.counted.rest in
+      let broken : (place : SoundTurn) × TellsTurn turn place × BreaksTurn Breaks as_it_is (blocks jobs) (gives_up_now h) h turn place = elim b.breaks [
+        | inl up ↦ breaks_said laws.every Breaks as_it_is (blocks jobs) (gives_up_now h) h turn say s.rest b.sent due left b.written up
+        | inr d ↦
+            let told = said_told laws.one laws.transmits turn.up say s.rest b.sent d.up.what d.arrived b.written d.up.carried d.up.arrived_is in
+            let block : d.refused ≡ (d.refused && is_block d.arrived) = refused_block d.up.what _ d.refused d.up.may ∙ ap (λ x. d.refused && is_block x) (sym d.up.arrived_is) in
+            let answer : d.answer ≡ replying h d.arrived d.refused turn.wish = answer_is jobs turns h s r turn _ b.sent d.middle d.arrived d.refused d.answer p (goes_on jobs turns h s r p b.live) d.up in
+            breaks_replied laws.every Breaks as_it_is (blocks jobs) (gives_up_now h) h turn say s.rest b.sent due left b.written d.arrived d.refused d.reply d.reply_sent d.up.carried.fits told block
+            (sym answer ∙ d.up.reply_is ∙ d.reply_is) d.written d.breaks
+      ] in
+      (places_with broken.0, first_with Breaks broken.0 broken.1 b.live broken.2)
 
 -- ---- The loop.
 

@@ -15,7 +15,7 @@ use Rattle.rje_jobs.specs.Blocks.{blocks}
 use Rattle.rje_station.specs.Hearing.{sound_heard}
 use Rattle.rje_station.specs.declared.event.Event.TheVariants as event
 use Rattle.rje_station.specs.Laws.{TraceGoesOn}
-use Rattle.rje_station.specs.Receiving.{Receiving, received_events, trace_after_reply}
+use Rattle.rje_station.specs.Receiving.{Receiving, received_events, after_replying, trace_after_reply}
 use Rattle.rje_station.specs.Sending.{Sending, IsWrittenOf, after_speaking}
 use Rattle.rje_station.specs.Trace.{IsTraceOf}
 use Rattle.line_world.specs.declared.fate.Fate.{Fate}
@@ -38,11 +38,12 @@ use Rattle.line_world.specs.Run.{TellsTurn, TellsSchedule, IsDue, FitsReply, All
 use Rattle.line_world.specs.Traces.{sender_events, receiver_events}
 use Rattle.line_world.specs.Turns.{StandsSending, StandsReceiving, SendingTurns, ReceivingTurns, after_turn}
 use Rattle.bsc_history.proofs.ForRuns.{conversations_may_be_spoken, comes, no-answer, receiver_core_replies, conversations_are_spoken, spoken-more, sender_core_says, sender_core_counts}
-use Rattle.line_world.proofs.Comings.{Told, tell, said_told, reply_told, reply_fits, block_carried, first_left}
+use Rattle.line_world.proofs.Comings.{Told, said_told}
+use Rattle.line_world.proofs.OneDirection.{ToldDown, no_reply_told, outstanding_is, replies_by, reply_told_as, rested, sent_is_due, turn_of, unanswered}
 use Rattle.line_world.proofs.Planned.{begins}
 use Rattle.line_world.proofs.Noted.{turn_noted, hearing_noted, answer_noted}
-use Rattle.line_world.proofs.ReceivingTurns.{taken_is, refused_block, accepted_is}
-use Rattle.line_world.proofs.SendingTurns.{turn_ends, turn_hears, cases_end}
+use Rattle.line_world.proofs.ReceivingTurns.{refused_block, accepted_is}
+use Rattle.line_world.proofs.SendingTurns.{after_end, after_more, turn_ends, turn_hears, cases_end}
 use Rattle.line_world.proofs.Telling.{told_on, get_seam, spoken_longer}
 
 -- the laws of the crates below
@@ -67,19 +68,13 @@ pub record StandsRun (jobs : List Job) (turns : List Turn) (h : History) (s : Se
   pub said : IsTraceOf (sender_events h) s.trace
   pub heard : IsTraceOf (receiver_events h) r.trace
 
--- the turn with the wish and the pause of its place
-abbrev pub turn_of : Turn → Spoken → SpokenTurn
-turn_of turn t = record { said = t.said; arrived = t.arrived; refused = t.refused; reply = t.reply; heard = t.heard; wish = turn.wish; pause = turn.pause }
-
 -- what stands so is due by the saying rule
 pub due_is : (jobs : List Job) (turns : List Turn) (h : History) (s : Sending) (r : Receiving) → 0 < length jobs → StandsRun jobs turns h s r → say_in s.core.place ≡ saying (plan_of (blocks jobs)) (gives_up_now h) h
 due_is jobs turns h s r l p =
     ap (λ x. say_in x.place) p.sends.core ∙ (sender_core_says (plan_of (blocks jobs)) h (begins jobs l) (conversations_are_spoken (plan_of (blocks jobs)) h p.spoken.conversation)).0
 
 pub sent_is : (jobs : List Job) (turns : List Turn) (h : History) (s : Sending) (r : Receiving) (sent : List ℕ) → 0 < length jobs → StandsRun jobs turns h s r → IsWrittenOf (say_in s.core.place) s.rest sent → IsDue (blocks jobs) (gives_up_now h) h sent
-sent_is jobs turns h s r sent l p w =
-    let due : IsWrittenOf (saying (plan_of (blocks jobs)) (gives_up_now h) h) s.rest sent = subst (λ say. IsWrittenOf say s.rest sent) (due_is jobs turns h s r l p) w in
-    subst (λ rest. IsWrittenOf (saying (plan_of (blocks jobs)) (gives_up_now h) h) rest sent) p.sends.counted.rest due
+sent_is jobs turns h s r sent l p w = sent_is_due (blocks jobs) (gives_up_now h) h (say_in s.core.place) s.rest sent (due_is jobs turns h s r l p) p.sends.counted.rest w
 
 pub goes_on : (jobs : List Job) (turns : List Turn) (h : History) (s : Sending) (r : Receiving) → StandsRun jobs turns h s r → s.over ≡ false → is_over h ≡ false
 goes_on jobs turns h s r p live = sym p.sends.over ∙ live
@@ -88,71 +83,7 @@ goes_on jobs turns h s r p live = sym p.sends.over ∙ live
 pub answer_is : (jobs : List Job) (turns : List Turn) (h : History) (s : Sending) (r : Receiving) (turn : Turn) (said : Sound) (sent : List ℕ) (middle : Receiving) (arrived : Sound) (refused : Bool) (reply : Option Reply)
     → StandsRun jobs turns h s r → is_over h ≡ false → GoesUp turn said sent r middle arrived refused reply → reply ≡ replying h arrived refused turn.wish
 answer_is jobs turns h s r turn said sent middle arrived refused reply p goes up =
-    up.reply_is ∙ ap (λ x. x.due) up.state
-    ∙ ap (λ x. (receiver_news r.core x turn.wish).reply) (taken_is up.what _ refused up.may ∙ ap (λ x. taken x refused) (sym up.arrived_is))
-    ∙ ap (λ x. (receiver_news x (taken arrived refused) turn.wish).reply) p.receives.core
-    ∙ receiver_core_replies (plan_of (blocks jobs)) h arrived refused turn.wish (conversations_may_be_spoken (plan_of (blocks jobs)) h p.spoken.conversation) goes
-
--- ---- Down.
-
--- the fate of the reply tells what is heard, and it fits
-record ToldDown (fate : Fate) (reply : Option Reply) (heard : Sound) : Type 0 where
-  told : Told fate (sound_of_reply reply) heard
-  fits : FitsReply fate reply
-
--- but for EOT the sender hears, and the receiver rests
-record IsDown (turn : Turn) (s s' : Sending) (middle r' : Receiving) (t : Spoken) : Type 0 where
-  down : ToldDown turn.down t.reply t.heard
-  sender : s' ≡ after_turn s (turn_of turn t)
-  core : r'.core ≡ middle.core
-  jobs : r'.jobs ≡ middle.jobs
-  over : r'.over ≡ middle.over
-  silent : r'.due ≡ None
-  noted : r'.trace ≡ trace_after_reply t.reply middle.trace
-
-down_ends : Laws → (turn : Turn) (s s' : Sending) (middle r' : Receiving) (t : Spoken) → t.said ≡ Say.End → t.reply ≡ None → t.reply ≡ middle.due → GoesDownAfter Say.End turn (after_speaking s) s' middle r' t.heard → IsDown turn s s' middle r' t
-down_ends laws turn s s' middle r' t end none due (sender, receiver, quiet) =
-    let told = tell laws.every turn.down in
-    record {
-      down = record {
-        told = record { told = told.0; tells = told.1; after = rw (none, quiet) refl };
-        fits = rw none tt;
-      };
-      sender = sender ∙ sym (turn_ends s (turn_of turn t) end);
-      core = ap (λ x. x.core) receiver;
-      jobs = ap (λ x. x.jobs) receiver;
-      over = ap (λ x. x.over) receiver;
-      silent = ap (λ x. x.due) receiver ∙ sym due ∙ none;
-      noted = ap (λ x. x.trace) receiver ∙ ap (λ x. trace_after_reply x middle.trace) (sym none);
-    }
-
-down_more : (say : Say) (turn : Turn) (s s' : Sending) (r r' : Receiving) (heard : Sound) → say ≢ Say.End → GoesDownAfter say turn s s' r r' heard → GoesDown turn s s' r r' heard
-down_more Say.End turn s s' r r' heard n d = absurd (n refl)
-down_more Say.Bid turn s s' r r' heard n d = d
-down_more Say.Block turn s s' r r' heard n d = d
-down_more Say.Again turn s s' r r' heard n d = d
-down_more Say.Ask turn s s' r r' heard n d = d
-down_more Say.Delay turn s s' r r' heard n d = d
-down_more Say.Nothing turn s s' r r' heard n d = d
-
-down_hears : Laws → (turn : Turn) (s s' : Sending) (middle r' : Receiving) (t : Spoken) → t.said ≢ Say.End → t.reply ≡ middle.due → GoesDown turn (after_speaking s) s' middle r' t.heard → IsDown turn s s' middle r' t
-down_hears laws turn s s' middle r' t more due d =
-    let carried : IsReplyCarried turn.down t.reply t.heard = subst (λ x. IsReplyCarried turn.down x t.heard) (sym due) d.carried in
-    record {
-      down = record { told = reply_told laws.one laws.transmits laws.every turn.down t.reply t.heard carried; fits = reply_fits turn.down t.reply t.heard carried };
-      sender = d.sender ∙ sym (turn_hears s (turn_of turn t) t.said refl more);
-      core = ap (λ x. x.core) d.receiver;
-      jobs = ap (λ x. x.jobs) d.receiver;
-      over = ap (λ x. x.over) d.receiver;
-      silent = ap (λ x. x.due) d.receiver;
-      noted = ap (λ x. x.trace) d.receiver ∙ ap (λ x. trace_after_reply x middle.trace) (sym due);
-    }
-
--- an EOT isn't answered
-unanswered : (h : History) (said : Say) (t : Spoken) (wish : Wish) → said ≡ Say.End → MayBeHeardAs (sound_of said) t.arrived → t.reply ≡ replying h t.arrived t.refused wish → t.reply ≡ None
-unanswered h said t wish end may reply =
-    let e : sound_of said ≡ Sound.Eot = rw end refl in
-    reply ∙ no-answer h t.arrived t.refused wish (comes Sound.Eot t.arrived (subst (λ x. MayBeHeardAs x t.arrived) e may))
+    up.reply_is ∙ ap (λ x. x.due) up.state ∙ replies_by (plan_of (blocks jobs)) h r up.what arrived refused turn.wish p.receives.core up.may up.arrived_is (conversations_may_be_spoken (plan_of (blocks jobs)) h p.spoken.conversation) goes
 
 -- ---- One turn.
 
@@ -167,23 +98,38 @@ module _ (laws : Laws) (jobs : List Job) (turns : List Turn) (h : History) (s s'
   said : t.said ≡ saying plan (gives_up_now h) h
   said = took.said ∙ due_is jobs turns h s r l p
 
-  abbrev up_told : Told turn.up (sound_of (say_in s.core.place)) (sound_heard took.up.what)
-  up_told = said_told laws.one laws.transmits turn.up (say_in s.core.place) s.rest took.sent took.up.what took.written took.up.carried
+  abbrev up_told : Told turn.up (sound_of (say_in s.core.place)) t.arrived
+  up_told = said_told laws.one laws.transmits turn.up (say_in s.core.place) s.rest took.sent took.up.what t.arrived took.written took.up.carried took.up.arrived_is
 
   up_after : after_fate up_told.told (sound_of t.said) ≡ Some t.arrived
-  up_after = ap (λ x. after_fate up_told.told (sound_of x)) took.said ∙ up_told.after ∙ ap (λ x. Some x) (sym took.up.arrived_is)
+  up_after = ap (λ x. after_fate up_told.told (sound_of x)) took.said ∙ up_told.after
 
   replied : t.reply ≡ replying h t.arrived t.refused turn.wish
   replied = answer_is jobs turns h s r turn _ took.sent took.middle t.arrived t.refused t.reply p goes took.up
 
-  abbrev is_down : IsDown turn s s' took.middle r' t
+  -- but for EOT the sender hears, and the receiver rests
+  record IsDown : Type 0 where
+    down : ToldDown turn.down t.reply t.heard
+    sender : s' ≡ after_turn s (turn_of turn t)
+    receiver : r' ≡ after_replying took.middle
+
+  abbrev is_down : IsDown
   is_down = elim (cases_end t.said) [
     | inl end ↦
-        let none : t.reply ≡ None = unanswered h t.said t turn.wish end (up_told.told, up_after) replied in
-        let after : GoesDownAfter Say.End turn (after_speaking s) s' took.middle r' t.heard = subst (λ x. GoesDownAfter x turn (after_speaking s) s' took.middle r' t.heard) (sym took.said ∙ end) took.down in
-        down_ends laws turn s s' took.middle r' t end none took.up.reply_is after
+        let none : t.reply ≡ None = unanswered h t.said t.arrived t.refused t.reply turn.wish end (up_told.told, up_after) replied in
+        let down = after_end _ _ (say_in s.core.place) (sym took.said ∙ end) took.down in
+        record {
+          down = no_reply_told laws.every turn.down t.reply t.heard none down.2;
+          sender = down.0 ∙ sym (turn_ends s (turn_of turn t) end);
+          receiver = down.1 ∙ sym (rested took.middle (sym took.up.reply_is ∙ none));
+        }
     | inr more ↦
-        down_hears laws turn s s' took.middle r' t more took.up.reply_is (down_more (say_in s.core.place) turn (after_speaking s) s' took.middle r' t.heard (λ e. more (took.said ∙ e)) took.down)
+        let down = after_more _ _ (say_in s.core.place) (λ e. more (took.said ∙ e)) took.down in
+        record {
+          down = reply_told_as laws.one laws.every laws.transmits turn.down t.reply took.middle.due t.heard took.up.reply_is down.carried;
+          sender = down.sender ∙ sym (turn_hears s (turn_of turn t) t.said refl more);
+          receiver = down.receiver;
+        }
   ]
 
   abbrev place : SoundTurn
@@ -213,16 +159,10 @@ module _ (laws : Laws) (jobs : List Job) (turns : List Turn) (h : History) (s s'
   may_be : MayBeSpoken plan (turn_of turn t ∷ h)
   may_be = conversations_may_be_spoken plan (turn_of turn t ∷ h) spoken.conversation
 
-  -- a block that is heard is the next one
-  outstanding : (b : Block) → took.up.what ≡ heard.Frame (frame.Block b) → slice_get (blocks jobs) (known h) ≡ Some b
-  outstanding b is =
-      let carried : IsCarried turn.up (sound_of (say_in s.core.place)) took.sent (heard.Frame (frame.Block b)) = subst (IsCarried turn.up (sound_of (say_in s.core.place)) took.sent) is took.up.carried in
-      let first = block_carried laws.one laws.transmits turn.up (say_in s.core.place) s.rest took.sent b took.written carried in
-      first_left (known h) (blocks jobs) b first.0 (sym p.sends.counted.rest ∙ first.1)
-
   received : StandsReceiving (blocks jobs) (turn_of turn t ∷ h) took.middle
   received = subst (StandsReceiving (blocks jobs) (turn_of turn t ∷ h)) (sym took.up.state)
-      (laws.receiving (blocks jobs) h r (turn_of turn t) took.up.what p.receives may_be took.up.arrived_is took.up.may outstanding)
+      (laws.receiving (blocks jobs) h r (turn_of turn t) took.up.what p.receives may_be took.up.arrived_is took.up.may
+      (outstanding_is laws.one laws.transmits turn.up (say_in s.core.place) s.rest (blocks jobs) (known h) took.sent took.up.what took.written took.up.carried p.sends.counted.rest))
 
   long_on : length longer ≡ length (turn_of turn t ∷ h)
   long_on = omega (arith, length-append p.before (place ∷ []), p.long)
@@ -238,7 +178,7 @@ module _ (laws : Laws) (jobs : List Job) (turns : List Turn) (h : History) (s s'
       let middle : IsTraceOf (receiver_events h ++ event.Heard t.arrived ∷ received_events (brings_block (turn_of turn t)) t.refused) took.middle.trace =
       ap (λ x. x.trace) took.up.state
       ∙ hearing_noted laws.notes (receiver_events h) r took.up.what (turn_of turn t) took.up.arrived_is (accepted_is plan h r (turn_of turn t) took.up.what p.receives.core may_be took.up.arrived_is took.up.may) p.heard in
-      is_down.noted ∙ answer_noted laws.notes (receiver_events h) (turn_of turn t) took.middle.trace middle
+      ap (λ x. x.trace) is_down.receiver ∙ ap (λ x. trace_after_reply x took.middle.trace) (sym took.up.reply_is) ∙ answer_noted laws.notes (receiver_events h) (turn_of turn t) took.middle.trace middle
 
   pub turn_more : StandsRun jobs turns (turn_of turn t ∷ h) s' r'
   turn_more = record {
@@ -248,12 +188,8 @@ module _ (laws : Laws) (jobs : List Job) (turns : List Turn) (h : History) (s s'
     long = long_on;
     fits = ((turn, here, record { up = (took.sent, sent_is jobs turns h s r took.sent l p took.written, took.up.carried.fits); down = is_down.down.fits }), p.fits);
     sends = subst (StandsSending jobs (turn_of turn t ∷ h)) (sym is_down.sender) (laws.sending jobs h s (turn_of turn t) l p.sends (conversations_are_spoken plan (turn_of turn t ∷ h) spoken.conversation));
-    receives = record {
-      core = is_down.core ∙ received.core;
-      jobs = is_down.jobs ∙ received.jobs;
-      over = λ e. is_down.over ∙ received.over e;
-    };
-    silent = is_down.silent;
+    receives = subst (StandsReceiving (blocks jobs) (turn_of turn t ∷ h)) (sym is_down.receiver) (record { core = received.core; jobs = received.jobs; over = received.over });
+    silent = ap (λ x. x.due) is_down.receiver;
     said = said_noted;
     heard = heard_noted;
   }

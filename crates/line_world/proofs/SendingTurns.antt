@@ -14,6 +14,7 @@ use Rattle.bsc_history.specs.History.{Plan, History, what_follows, is_over}
 use Rattle.bsc_history.specs.Known.{known, is_counting, gives_up_now}
 use Rattle.bsc_history.specs.SayingRule.{saying}
 use Rattle.bsc_history.specs.Cores.{hears_after, sender_after, IsSpoken}
+use Rattle.line_world.specs.Inside.Driving.{AfterEnd}
 use Rattle.line_world.specs.Plan.{plan_of}
 use Rattle.line_world.specs.Turns.{StandsSending, SendingTurns, after_turn}
 use Rattle.bsc_history.proofs.ForRuns.{saying-speaks, sender_core_says, sender_core_counts}
@@ -97,6 +98,19 @@ turn_hears s t _ e n = rw e refl
 pub cases_end : (said : Say) → (said ≡ Say.End) ⊎ (said ≢ Say.End)
 cases_end Say.End = inl refl
 cases_end _ = inr (λ e. cc)
+
+-- what holds after EOT, and what after all else
+pub after_end : (P Q : Type 0) (say : Say) → say ≡ Say.End → AfterEnd say P Q → P
+after_end P Q say e h = subst (λ x. AfterEnd x P Q) e h
+
+pub after_more : (P Q : Type 0) (say : Say) → say ≢ Say.End → AfterEnd say P Q → Q
+after_more P Q Say.End n h = absurd (n refl)
+after_more P Q Say.Bid n h = h
+after_more P Q Say.Block n h = h
+after_more P Q Say.Again n h = h
+after_more P Q Say.Ask n h = h
+after_more P Q Say.Delay n h = h
+after_more P Q Say.Nothing n h = h
 
 pub sending_turns : CountsBlocks → SendingTurns
 sending_turns law jobs h s t l p spoken = elim (cases_end t.said) [

@@ -22,7 +22,7 @@ use Rattle.rje_station.specs.JoinedJobs.{begun_in}
 use Rattle.rje_station.specs.Laws.{CountsBlocks, TraceGoesOn}
 use Rattle.rje_station.specs.Receiving.{Receiving, MayRefuse, after_receiving, after_abandon}
 use Rattle.rje_station.specs.Sending.{after_speaking, after_hearing, IsWrittenOf}
-use Rattle.rje_station.specs.Station.{Contending, due_at, after_own_speaking, after_other, after_passing, after_own_reply, lets_in, gives_way, contender_said, contender_answered, contender_hears}
+use Rattle.rje_station.specs.Station.{Contending, due_at, after_own_speaking, after_answer, after_other, after_passing, after_own_reply, lets_in, gives_way, contender_said, contender_answered, contender_hears}
 use Rattle.bsc_history.specs.declared.sound_turn.SoundTurn.{SoundTurn}
 use Rattle.line_world.specs.declared.spoken.Spoken.{Spoken}
 use Rattle.bsc_history.specs.declared.spoken_turn.SpokenTurn.{SpokenTurn}
@@ -40,11 +40,12 @@ use Rattle.bsc_history.specs.ReplyRule.{replying}
 use Rattle.line_world.specs.Run.{TellsTurn, FitsReply}
 use Rattle.bsc_history.specs.SayingRule.{saying}
 use Rattle.line_world.specs.Turns.{StandsReceiving, ReceivingTurns, after_turn}
-use Rattle.line_world.proofs.ForPairs.{Told, tell, said_told, reply_told, reply_fits, block_carried, first_left, taken_is, refused_block, turn_of, turn_ends, turn_hears, cases_end}
+use Rattle.line_world.proofs.ForPairs.{Told, ToldDown, after_end, after_more, cases_end, no_reply_told, outstanding_is, refused_block, replies_by, reply_told_as, rested, said_told, sent_is_due, turn_ends, turn_hears, turn_of, unanswered}
 use Rattle.bsc_history.proofs.ForRuns.{counted-brought, comes, no-answer, receiver_core_replies, is_block-sound}
 use Rattle.pair_world.specs.Contending.{own_turn, other_turn, other_heard}
 use Rattle.bsc_history.specs.Pair.{without_enq, as_counted}
-use Rattle.pair_world.specs.Inside.PairDriving.{GoesAcross, ComesBack, ComesBackAfter, SpeaksAlone, after_end_of}
+use Rattle.pair_world.specs.Inside.PairDriving.{GoesAcross, SpeaksAlone, after_end_of}
+use Rattle.pair_world.specs.PairDrive.{ReceivesAfter}
 use Rattle.line_world.specs.Run.{FitsTurn}
 use Rattle.rje_station.proofs.Due.{spoken_of_due, answered_of_due, due_kept}
 use Rattle.rje_station.proofs.PassedOver.{passed_enq, passed_unrefused}
@@ -58,11 +59,6 @@ pub record Laws : Type 0 where
   pub counts : CountsBlocks
   pub receiving : ReceivingTurns
   pub notes : TraceGoesOn
-
--- a receiving station: it holds the jobs of the blocks that it got, and while its direction goes on it stands where the history left it
-pub record Listens (blocks : List Block) (own : History) (r : Receiving) : Type 0 where
-  pub jobs : r.jobs ≡ joined (numbered blocks (got own))
-  pub live : is_over own ≡ false → StandsReceiving blocks own r
 
 -- ---- What is passed over.
 
@@ -153,16 +149,13 @@ module _ (laws : Laws) (jobs : List Job) (own : History) (g : Bool) (bid_out : B
 
   pub replied : t.reply ≡ replying own v.arrived t.refused turn.wish
   replied =
-      across.reply_is ∙ like.due
-      ∙ ap (λ x. (receiver_news l.receiver.core x turn.wish).reply) (taken_is what _ t.refused may_refuse ∙ ap (λ x. taken x t.refused) (sym arrived_is))
-      ∙ ap (λ x. (receiver_news x (taken v.arrived t.refused) turn.wish).reply) stands.core
-      ∙ receiver_core_replies plan own v.arrived t.refused turn.wish may_own goes
+      across.reply_is ∙ like.due ∙ replies_by plan own l.receiver what v.arrived t.refused turn.wish stands.core may_refuse arrived_is may_own goes
 
-  abbrev pub up_told : Told turn.up (sound_of (due_at s)) (sound_heard across.what)
-  up_told = said_told laws.one laws.transmits turn.up (due_at s) s.sender.rest sent across.what written across.carried
+  abbrev pub up_told : Told turn.up (sound_of (due_at s)) t.arrived
+  up_told = said_told laws.one laws.transmits turn.up (due_at s) s.sender.rest sent across.what t.arrived written across.carried across.arrived_is
 
   pub up_after : after_fate up_told.told (sound_of t.said) ≡ Some t.arrived
-  up_after = ap (λ x. after_fate up_told.told (sound_of x)) said_is ∙ up_told.after ∙ ap (λ x. Some x) (sym across.arrived_is)
+  up_after = ap (λ x. after_fate up_told.told (sound_of x)) said_is ∙ up_told.after
 
   pub brought : MayBeHeardAs (sound_of t.said) t.arrived
   brought = (up_told.told, up_after)
@@ -182,30 +175,11 @@ module _ (laws : Laws) (jobs : List Job) (own : History) (g : Bool) (bid_out : B
   -- a block that is heard is the next one
   pub outstanding : (rest : s.sender.rest ≡ drop (known own) (blocks jobs)) → (b : Block) → what ≡ heard.Frame (frame.Block b) → slice_get (blocks jobs) (known own) ≡ Some b
   outstanding rest b is = elim (cases_Bool let_in) [
-    | inl yea ↦
-        let same : across.what ≡ heard.Frame (frame.Block b) = sym (rw yea refl) ∙ is in
-        let carried : IsCarried turn.up (sound_of (due_at s)) sent (heard.Frame (frame.Block b)) = subst (IsCarried turn.up (sound_of (due_at s)) sent) same across.carried in
-        let first = block_carried laws.one laws.transmits turn.up (due_at s) s.sender.rest sent b written carried in
-        first_left (known own) (blocks jobs) b first.0 (sym rest ∙ first.1)
+    | inl yea ↦ outstanding_is laws.one laws.transmits turn.up (due_at s) s.sender.rest (blocks jobs) (known own) sent across.what written across.carried rest b (sym (rw yea refl) ∙ is)
     | inr out ↦ let none : heard.Quiet ≡ heard.Frame (frame.Block b) = sym (rw out refl) ∙ is in absurd cc
   ]
 
 -- ---- The speaker.
-
--- an EOT isn't answered
-pub unanswered : (own : History) (said : Say) (arrived : Sound) (refused : Bool) (reply : Option Reply) (wish : Wish) → said ≡ Say.End → MayBeHeardAs (sound_of said) arrived → reply ≡ replying own arrived refused wish → reply ≡ None
-unanswered own said arrived refused reply wish end may e =
-    let eot : sound_of said ≡ Sound.Eot = rw end refl in
-    e ∙ no-answer own arrived refused wish (comes Sound.Eot arrived (subst (λ x. MayBeHeardAs x arrived) eot may))
-
-pub back_more : (say : Say) (turn : Turn) (s s' l l' : Contending) (heard : Sound) → say ≢ Say.End → ComesBackAfter say turn s s' l l' heard → ComesBack turn s s' l l' heard
-back_more Say.End turn s s' l l' heard n d = absurd (n refl)
-back_more Say.Bid turn s s' l l' heard n d = d
-back_more Say.Block turn s s' l l' heard n d = d
-back_more Say.Again turn s s' l l' heard n d = d
-back_more Say.Ask turn s s' l l' heard n d = d
-back_more Say.Delay turn s s' l l' heard n d = d
-back_more Say.Nothing turn s s' l l' heard n d = d
 
 pub end_more : (say : Say) (s : Contending) → say ≢ Say.End → after_end_of say s ≡ s
 end_more Say.End s n = absurd (n refl)
@@ -214,6 +188,46 @@ end_more _ s n = refl
 pub own_more : (say : Say) (heard : Sound) (c : ContenderState) → say ≢ Say.End → own_turn say heard c ≡ contender_answered say heard (contender_said say c)
 own_more Say.End heard c n = absurd (n refl)
 own_more _ heard c n = refl
+
+-- what a turn makes of the station that speaks in it
+pub record HasSpoken (s s' : Contending) (turn : Turn) (t : Spoken) : Type 0 where
+  pub sender : s'.sender ≡ after_turn s.sender (turn_of turn t)
+  pub receiver : s'.receiver ≡ s.receiver
+  pub contender : s'.contender ≡ own_turn t.said t.heard s.contender
+  pub failed : s'.failed ≡ s.failed
+
+module _ (s s' : Contending) (turn : Turn) (t : Spoken) (said_is : t.said ≡ due_at s) (something : due_at s ≢ Say.Nothing) where
+  pub spoken_last : t.said ≡ Say.End → s' ≡ after_own_speaking s → HasSpoken s s' turn t
+  spoken_last end is =
+      let spoke : s' ≡ record s { sender = after_speaking s.sender; contender = contender_said (due_at s) s.contender } = is ∙ spoken_of_due s (due_at s) refl something in
+      record {
+        sender = ap (λ x. x.sender) spoke ∙ sym (turn_ends s.sender (turn_of turn t) end);
+        receiver = ap (λ x. x.receiver) spoke;
+        contender = ap (λ x. x.contender) spoke ∙ rw (sym said_is ∙ end, end) refl;
+        failed = ap (λ x. x.failed) spoke;
+      }
+
+  pub spoken_on : t.said ≢ Say.End → s' ≡ after_answer (after_own_speaking s) t.heard turn.pause → HasSpoken s s' turn t
+  spoken_on more is =
+      let kept : due_at (after_own_speaking s) ≡ due_at s = due_kept s (due_at s) refl something (λ e. more (said_is ∙ e)) in
+      let spoke = spoken_of_due s (due_at s) refl something in
+      let heard : s' ≡ record (after_own_speaking s) { sender = after_hearing (after_own_speaking s).sender t.heard turn.pause; contender = contender_answered (due_at s) t.heard (after_own_speaking s).contender } =
+      is ∙ answered_of_due (after_own_speaking s) (due_at s) t.heard turn.pause kept something in
+      record {
+        sender = ap (λ x. x.sender) heard ∙ ap (λ x. after_hearing x.sender t.heard turn.pause) spoke ∙ sym (turn_hears s.sender (turn_of turn t) t.said refl more);
+        receiver = ap (λ x. x.receiver) heard ∙ ap (λ x. x.receiver) spoke;
+        contender = ap (λ x. x.contender) heard ∙ ap (λ x. contender_answered (due_at s) t.heard x.contender) spoke ∙ ap (λ y. contender_answered y t.heard (contender_said y s.contender)) (sym said_is) ∙ sym (own_more t.said t.heard s.contender more);
+        failed = ap (λ x. x.failed) heard ∙ ap (λ x. x.failed) spoke;
+      }
+
+-- ---- The turn.
+
+-- once the other was heard, the listener only replies, if at all
+pub listener_rests : (turn : Turn) (s s' l l' : Contending) (t : Spoken) → (t.said ≡ Say.End → t.reply ≡ None) → (took : SpeaksAlone turn s s' l l' t) → took.after ≡ after_own_reply took.middle
+listener_rests turn s s' l l' t none took = elim (cases_end t.said) [
+  | inl end ↦ (after_end _ _ (due_at s) (sym took.said ∙ end) took.back).1 ∙ ap (λ r. record took.middle { receiver = r }) (sym (rested took.middle.receiver (sym took.across.reply_is ∙ none end)))
+  | inr more ↦ (after_more _ _ (due_at s) (λ e. more (took.said ∙ e)) took.back).listener
+]
 
 pub kept_jobs : (b : Bool) (r : Receiving) → (if b then r else after_abandon r).jobs ≡ r.jobs
 kept_jobs true r = refl
@@ -243,14 +257,11 @@ pub record Turned (jobs : List Job) (own : History) (g bid_out : Bool) (s s' l l
   pub brought : MayBeHeardAs (sound_of t.said) t.arrived
   pub follows : Follows (plan_of (blocks jobs)) g own (as_counted bid_out (turn_of turn t))
   pub fits : FitsTurn (blocks jobs) g own (turn_of turn t) turn
-  pub s_sender : s'.sender ≡ after_turn s.sender (turn_of turn t)
-  pub s_receiver : s'.receiver ≡ s.receiver
-  pub s_contender : s'.contender ≡ own_turn t.said t.heard s.contender
-  pub s_failed : s'.failed ≡ s.failed
+  pub spoke : HasSpoken s s' turn t
   pub l_sender : l'.sender ≡ (if lets_in l.contender t.arrived then gives_way l.contender.rank t.arrived l.sender else l.sender)
   pub l_contender : l'.contender ≡ other_turn t.said t.arrived l.contender
   pub l_failed : l'.failed ≡ l.failed
-  pub l_receives : Listens (blocks jobs) (as_counted bid_out (turn_of turn t) ∷ own) l'.receiver
+  pub l_receives : ReceivesAfter (blocks jobs) (as_counted bid_out (turn_of turn t) ∷ own) l'.receiver
 
 module _ (laws : Laws) (jobs : List Job) (own : History) (gb : Bool) (m n : ℕ) (bid_out : Bool) (s s' l l' : Contending) (turn : Turn) (t : Spoken)
     (some : 0 < length jobs) (sends : SendsBy jobs own gb m n s.sender) (stands : StandsReceiving (blocks jobs) own l.receiver) (may_own : MayBeSpoken (plan_of (blocks jobs)) own) (goes : is_over own ≡ false)
@@ -268,87 +279,31 @@ module _ (laws : Laws) (jobs : List Job) (own : History) (gb : Bool) (m n : ℕ)
   abbrev brought_is : MayBeHeardAs (sound_of t.said) t.arrived
   brought_is = brought laws jobs own g bid_out s l took.middle turn t took.sent stands may_own goes takes took.said due_is took.written took.across
 
-  abbrev told_up : Told turn.up (sound_of (due_at s)) (sound_heard took.across.what)
+  abbrev told_up : Told turn.up (sound_of (due_at s)) t.arrived
   told_up = up_told laws jobs own g bid_out s l took.middle turn t took.sent stands may_own goes takes took.said due_is took.written took.across
 
-  -- the reply, carried
+  none_after_end : t.said ≡ Say.End → t.reply ≡ None
+  none_after_end end = unanswered own t.said (as_counted bid_out tt_).arrived t.refused t.reply turn.wish end
+      (follows_arrived laws jobs own g bid_out s l took.middle turn t took.sent stands may_own goes takes took.said due_is took.written took.across) replied_is
+
   record IsBack : Type 0 where
-    told : Told turn.down (sound_of_reply t.reply) t.heard
-    fits : FitsReply turn.down t.reply
-    sender : s'.sender ≡ after_turn s.sender tt_
-    receiver : s'.receiver ≡ s.receiver
-    contender : s'.contender ≡ own_turn t.said t.heard s.contender
-    failed : s'.failed ≡ s.failed
-
-  back_ends : t.said ≡ Say.End → IsBack
-  back_ends end =
-      let due : due_at s ≡ Say.End = sym took.said ∙ end in
-      let back : ComesBackAfter Say.End turn (after_own_speaking s) s' took.middle took.after t.heard = subst (λ x. ComesBackAfter x turn (after_own_speaking s) s' took.middle took.after t.heard) due took.back in
-      let spoke : s' ≡ record s { sender = after_speaking s.sender; contender = contender_said (due_at s) s.contender } = back.0 ∙ spoken_of_due s (due_at s) refl something in
-      let told = tell laws.every turn.down in
-      let none : t.reply ≡ None = unanswered own t.said (as_counted bid_out tt_).arrived t.refused t.reply turn.wish end
-      (follows_arrived laws jobs own g bid_out s l took.middle turn t took.sent stands may_own goes takes took.said due_is took.written took.across) replied_is in
-      record {
-        told = record { told = told.0; tells = told.1; after = rw (none, back.2) refl };
-        fits = rw none tt;
-        sender = ap (λ x. x.sender) spoke ∙ sym (turn_ends s.sender tt_ end);
-        receiver = ap (λ x. x.receiver) spoke;
-        contender = ap (λ x. x.contender) spoke ∙ rw (due, end) refl;
-        failed = ap (λ x. x.failed) spoke;
-      }
-
-  back_hears : t.said ≢ Say.End → IsBack
-  back_hears more =
-      let unended : due_at s ≢ Say.End = λ e. more (took.said ∙ e) in
-      let back : ComesBack turn (after_own_speaking s) s' took.middle took.after t.heard = back_more (due_at s) turn (after_own_speaking s) s' took.middle took.after t.heard unended took.back in
-      let carried : IsReplyCarried turn.down t.reply t.heard = subst (λ x. IsReplyCarried turn.down x t.heard) (sym took.across.reply_is) back.carried in
-      let kept : due_at (after_own_speaking s) ≡ due_at s = due_kept s (due_at s) refl something unended in
-      let spoke = spoken_of_due s (due_at s) refl something in
-      let heard : s' ≡ record (after_own_speaking s) { sender = after_hearing (after_own_speaking s).sender t.heard turn.pause; contender = contender_answered (due_at s) t.heard (after_own_speaking s).contender } =
-      back.speaker ∙ answered_of_due (after_own_speaking s) (due_at s) t.heard turn.pause kept something in
-      record {
-        told = reply_told laws.one laws.transmits laws.every turn.down t.reply t.heard carried;
-        fits = reply_fits turn.down t.reply t.heard carried;
-        sender = ap (λ x. x.sender) heard ∙ ap (λ x. after_hearing x.sender t.heard turn.pause) spoke ∙ sym (turn_hears s.sender tt_ t.said refl more);
-        receiver = ap (λ x. x.receiver) heard ∙ ap (λ x. x.receiver) spoke;
-        contender = ap (λ x. x.contender) heard ∙ ap (λ x. contender_answered (due_at s) t.heard x.contender) spoke ∙ ap (λ y. contender_answered y t.heard (contender_said y s.contender)) (sym took.said) ∙ sym (own_more t.said t.heard s.contender more);
-        failed = ap (λ x. x.failed) heard ∙ ap (λ x. x.failed) spoke;
-      }
+    down : ToldDown turn.down t.reply t.heard
+    spoke : HasSpoken s s' turn t
 
   abbrev is_back : IsBack
-  is_back = elim (cases_end t.said) [ inl end ↦ back_ends end | inr more ↦ back_hears more ]
+  is_back = elim (cases_end t.said) [
+    | inl end ↦
+        let back = after_end _ _ (due_at s) (sym took.said ∙ end) took.back in
+        record { down = no_reply_told laws.every turn.down t.reply t.heard (none_after_end end) back.2; spoke = spoken_last s s' turn t took.said something end back.0 }
+    | inr more ↦
+        let back = after_more _ _ (due_at s) (λ e. more (took.said ∙ e)) took.back in
+        record { down = reply_told_as laws.one laws.every laws.transmits turn.down t.reply took.middle.receiver.due t.heard took.across.reply_is back.carried; spoke = spoken_on s s' turn t took.said something more back.speaker }
+  ]
 
   -- ---- The listener.
 
-  -- it rests while the reply goes back
-  record IsResting : Type 0 where
-    sender : took.after.sender ≡ took.middle.sender
-    contender : took.after.contender ≡ took.middle.contender
-    failed : took.after.failed ≡ took.middle.failed
-    core : took.after.receiver.core ≡ took.middle.receiver.core
-    held : took.after.receiver.jobs ≡ took.middle.receiver.jobs
-    over : took.after.receiver.over ≡ took.middle.receiver.over
-
-  resting_by : (x : Contending) → took.after ≡ x → x.sender ≡ took.middle.sender → x.contender ≡ took.middle.contender → x.failed ≡ took.middle.failed → x.receiver.core ≡ took.middle.receiver.core
-      → x.receiver.jobs ≡ took.middle.receiver.jobs → x.receiver.over ≡ took.middle.receiver.over → IsResting
-  resting_by x e sender contender failed core held over = record {
-    sender = ap (λ y. y.sender) e ∙ sender;
-    contender = ap (λ y. y.contender) e ∙ contender;
-    failed = ap (λ y. y.failed) e ∙ failed;
-    core = ap (λ y. y.receiver.core) e ∙ core;
-    held = ap (λ y. y.receiver.jobs) e ∙ held;
-    over = ap (λ y. y.receiver.over) e ∙ over;
-  }
-
-  is_resting : IsResting
-  is_resting = elim (cases_end t.said) [
-    | inl end ↦
-        let back : ComesBackAfter Say.End turn (after_own_speaking s) s' took.middle took.after t.heard = subst (λ x. ComesBackAfter x turn (after_own_speaking s) s' took.middle took.after t.heard) (sym took.said ∙ end) took.back in
-        resting_by took.middle back.1 refl refl refl refl refl refl
-    | inr more ↦
-        let back : ComesBack turn (after_own_speaking s) s' took.middle took.after t.heard = back_more (due_at s) turn (after_own_speaking s) s' took.middle took.after t.heard (λ e. more (took.said ∙ e)) took.back in
-        resting_by (after_own_reply took.middle) back.listener refl refl refl refl refl refl
-  ]
+  is_resting : took.after ≡ after_own_reply took.middle
+  is_resting = listener_rests turn s s' l l' t none_after_end took
 
   is_ended : l' ≡ after_end_of t.said took.after
   is_ended = took.ended ∙ ap (λ x. after_end_of x took.after) (sym took.said)
@@ -366,7 +321,7 @@ module _ (laws : Laws) (jobs : List Job) (own : History) (gb : Bool) (m n : ℕ)
   heard_failed false e = rw (e, after_other) refl
 
   follows_is : Follows (plan_of (blocks jobs)) g own (as_counted bid_out tt_)
-  follows_is = follows laws jobs own g bid_out s l took.middle turn t took.sent stands may_own goes takes took.said due_is took.written took.across (is_back.told.told, is_back.told.after)
+  follows_is = follows laws jobs own g bid_out s l took.middle turn t took.sent stands may_own goes takes took.said due_is took.written took.across (is_back.down.told.told, is_back.down.told.after)
 
   received : StandsReceiving (blocks jobs) (as_counted bid_out tt_ ∷ own) (after_receiving l.receiver (what laws jobs own g bid_out s l took.middle turn t took.sent stands may_own goes takes took.said due_is took.written took.across) t.refused turn.wish)
   received = laws.receiving (blocks jobs) own l.receiver (as_counted bid_out tt_) (what laws jobs own g bid_out s l took.middle turn t took.sent stands may_own goes takes took.said due_is took.written took.across) stands ((g, follows_is), may_own) (arrived_is laws jobs own g bid_out s l took.middle turn t took.sent stands may_own goes takes took.said due_is took.written took.across) (may_refuse laws jobs own g bid_out s l took.middle turn t took.sent stands may_own goes takes took.said due_is took.written took.across) (outstanding laws jobs own g bid_out s l took.middle turn t took.sent stands may_own goes takes took.said due_is took.written took.across sends.counted.rest)
@@ -374,17 +329,17 @@ module _ (laws : Laws) (jobs : List Job) (own : History) (gb : Bool) (m n : ℕ)
   same : IsLike took.middle.receiver (after_receiving l.receiver (what laws jobs own g bid_out s l took.middle turn t took.sent stands may_own goes takes took.said due_is took.written took.across) t.refused turn.wish)
   same = like laws jobs own g bid_out s l took.middle turn t took.sent stands may_own goes takes took.said due_is took.written took.across
 
-  listens : Listens (blocks jobs) (as_counted bid_out tt_ ∷ own) l'.receiver
+  listens : ReceivesAfter (blocks jobs) (as_counted bid_out tt_ ∷ own) l'.receiver
   listens = record {
-    jobs = ap (λ x. x.receiver.jobs) is_ended ∙ end_jobs t.said took.after ∙ is_resting.held ∙ same.jobs ∙ received.jobs;
+    jobs = ap (λ x. x.receiver.jobs) is_ended ∙ end_jobs t.said took.after ∙ ap (λ x. x.receiver.jobs) is_resting ∙ same.jobs ∙ received.jobs;
     live = λ going. elim (cases_end t.said) [
       | inl end ↦ absurd (true≢false (rw end at going))
       | inr more ↦
           let is : l' ≡ took.after = is_ended ∙ end_more t.said took.after more in
           record {
-            core = ap (λ x. x.receiver.core) is ∙ is_resting.core ∙ same.core ∙ received.core;
-            jobs = ap (λ x. x.receiver.jobs) is ∙ is_resting.held ∙ same.jobs ∙ received.jobs;
-            over = λ e. ap (λ x. x.receiver.over) is ∙ is_resting.over ∙ same.over ∙ received.over e;
+            core = ap (λ x. x.receiver.core) is ∙ ap (λ x. x.receiver.core) is_resting ∙ same.core ∙ received.core;
+            jobs = ap (λ x. x.receiver.jobs) is ∙ ap (λ x. x.receiver.jobs) is_resting ∙ same.jobs ∙ received.jobs;
+            over = λ e. ap (λ x. x.receiver.over) is ∙ ap (λ x. x.receiver.over) is_resting ∙ same.over ∙ received.over e;
           }
     ];
   }
@@ -393,21 +348,18 @@ module _ (laws : Laws) (jobs : List Job) (own : History) (gb : Bool) (m n : ℕ)
   turned =
       let arrived : t.arrived ≡ sound_heard took.across.what = took.across.arrived_is in
       record {
-        place = record { up = told_up.told; down = is_back.told.told; refused = t.refused; wish = turn.wish; pause = turn.pause };
-        tells = record { up = told_up.tells; down = is_back.told.tells; wish = refl; pause = refl };
-        is_at = record { up = up_after laws jobs own g bid_out s l took.middle turn t took.sent stands may_own goes takes took.said due_is took.written took.across; refused = refused_is laws jobs own g bid_out s l took.middle turn t took.sent stands may_own goes takes took.said due_is took.written took.across; down = is_back.told.after; wish = refl; pause = refl };
+        place = record { up = told_up.told; down = is_back.down.told.told; refused = t.refused; wish = turn.wish; pause = turn.pause };
+        tells = record { up = told_up.tells; down = is_back.down.told.tells; wish = refl; pause = refl };
+        is_at = record { up = up_after laws jobs own g bid_out s l took.middle turn t took.sent stands may_own goes takes took.said due_is took.written took.across; refused = refused_is laws jobs own g bid_out s l took.middle turn t took.sent stands may_own goes takes took.said due_is took.written took.across; down = is_back.down.told.after; wish = refl; pause = refl };
         brought = brought_is;
         follows = follows_is;
         fits = record {
-          up = (took.sent, subst (λ x. IsWrittenOf (saying (plan_of (blocks jobs)) g own) x took.sent) sends.counted.rest (subst (λ x. IsWrittenOf x s.sender.rest took.sent) due_is took.written), took.across.carried.fits);
-          down = is_back.fits;
+          up = (took.sent, sent_is_due (blocks jobs) g own (due_at s) s.sender.rest took.sent due_is sends.counted.rest took.written, took.across.carried.fits);
+          down = is_back.down.fits;
         };
-        s_sender = is_back.sender;
-        s_receiver = is_back.receiver;
-        s_contender = is_back.contender;
-        s_failed = is_back.failed;
-        l_sender = ap (λ x. x.sender) is_ended ∙ end_sender t.said took.after ∙ is_resting.sender ∙ ap (λ x. x.sender) took.across.state ∙ heard_sender _ refl ∙ ap (λ x. if lets_in l.contender x then gives_way l.contender.rank x l.sender else l.sender) (sym arrived);
-        l_contender = ap (λ x. x.contender) is_ended ∙ end_contender t.said took.after t.arrived l.contender (is_resting.contender ∙ ap (λ x. x.contender) took.across.state ∙ heard_contender _ refl ∙ ap (λ x. other_heard x l.contender) (sym arrived));
-        l_failed = ap (λ x. x.failed) is_ended ∙ end_failed t.said took.after ∙ is_resting.failed ∙ ap (λ x. x.failed) took.across.state ∙ heard_failed _ refl;
+        spoke = is_back.spoke;
+        l_sender = ap (λ x. x.sender) is_ended ∙ end_sender t.said took.after ∙ ap (λ x. x.sender) is_resting ∙ ap (λ x. x.sender) took.across.state ∙ heard_sender _ refl ∙ ap (λ x. if lets_in l.contender x then gives_way l.contender.rank x l.sender else l.sender) (sym arrived);
+        l_contender = ap (λ x. x.contender) is_ended ∙ end_contender t.said took.after t.arrived l.contender (ap (λ x. x.contender) is_resting ∙ ap (λ x. x.contender) took.across.state ∙ heard_contender _ refl ∙ ap (λ x. other_heard x l.contender) (sym arrived));
+        l_failed = ap (λ x. x.failed) is_ended ∙ end_failed t.said took.after ∙ ap (λ x. x.failed) is_resting ∙ ap (λ x. x.failed) took.across.state ∙ heard_failed _ refl;
         l_receives = listens;
       }

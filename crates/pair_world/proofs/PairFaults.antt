@@ -23,10 +23,10 @@ use Rattle.line_world.specs.Faults.{fault_at}
 use Rattle.bsc_history.specs.Fate.{sound_of, after_fate}
 use Rattle.line_world.specs.Plan.{plan_of}
 use Rattle.bsc_history.specs.ReplyRule.{replying}
-use Rattle.line_world.specs.Run.{TellsTurn, IsDue, BreaksTurn}
+use Rattle.line_world.specs.Run.{TellsTurn, BreaksTurn}
 use Rattle.bsc_history.specs.SayingRule.{saying}
 use Rattle.line_world.specs.Turns.{StandsReceiving}
-use Rattle.line_world.proofs.ForPairs.{Told, tell, get_seam, told_any, told_with}
+use Rattle.line_world.proofs.ForPairs.{breaks_replied, breaks_said, get_seam, told_any, told_with}
 use Rattle.pair_world.specs.declared.pair_spoken.PairSpoken.{PairSpoken}
 use Rattle.pair_world.specs.declared.pair_turn.PairTurn.{PairTurn}
 use Rattle.bsc_history.specs.Pair.{PairHistory, up, down, is_bid_out, is_something, sound_counted}
@@ -34,7 +34,7 @@ use Rattle.bsc_history.specs.PairCount.{spent, down_gave_up}
 use Rattle.pair_world.specs.Inside.PairDriving.{BreaksAlone, BreaksBack, BreaksPair, IsPairTurnFault}
 use Rattle.pair_world.specs.PairRun.{TellsPair, BreaksPairFirst, BreaksPairTurn, IsPairDriveFault}
 use Rattle.bsc_history.specs.PairSchedule.{PairPlace}
-use Rattle.pair_world.proofs.Alone.{Laws, replied, up_told, up_after, refused_is}
+use Rattle.pair_world.proofs.Alone.{Laws, replied, up_told, refused_is}
 use Rattle.pair_world.proofs.Contends.{primary_takes, secondary_takes}
 use Rattle.pair_world.proofs.PairLoop.{PairRunning}
 use Rattle.bsc_history.proofs.ForRuns.{and-left}
@@ -50,46 +50,16 @@ module _ (laws : Laws) (Breaks : Fate → Sound → List ℕ → Type 0) (jobs :
   abbrev g : Bool
   g = is_enough m n
 
-  are_due : (sent : List ℕ) → IsWrittenOf (due_at s) s.sender.rest sent → IsDue (blocks jobs) g own sent
-  are_due sent w = subst (λ x. IsWrittenOf (saying (plan_of (blocks jobs)) g own) x sent) sends.counted.rest (subst (λ x. IsWrittenOf x s.sender.rest sent) due_is w)
-
-  breaks_up : (b : BreaksAlone Breaks turn s l) → Breaks turn.up (sound_of (due_at s)) b.sent → (place : SoundTurn) × TellsTurn turn place × BreaksTurn Breaks (sound_counted bid_out) (blocks jobs) g own turn place
-  breaks_up b h =
-      let up = tell laws.every turn.up in
-      let down = tell laws.every turn.down in (
-        record { up = up.0; down = down.0; refused = false; wish = turn.wish; pause = turn.pause },
-        record { up = up.1; down = down.1; wish = refl; pause = refl },
-        record { sent = b.sent; due = are_due b.sent b.written; breaks = inl (subst (λ x. Breaks turn.up (sound_of x) b.sent) due_is h) },
-      )
-
-  breaks_back : (b : BreaksAlone Breaks turn s l) → BreaksBack Breaks turn (sound_of (due_at s)) b.sent l → (place : SoundTurn) × TellsTurn turn place × BreaksTurn Breaks (sound_counted bid_out) (blocks jobs) g own turn place
-  breaks_back b d =
-      let t : Spoken = record { said = due_at s; arrived = d.arrived; refused = d.refused; reply = d.answer; heard = Sound.Quiet } in
-      let down = tell laws.every turn.down in
-      let told : Told turn.up (sound_of (due_at s)) (sound_heard d.across.what) = up_told laws jobs own g bid_out s l d.middle turn t b.sent stands may_own goes takes refl due_is b.written d.across in
-      let after : after_fate told.told (sound_of (due_at s)) ≡ Some d.arrived = up_after laws jobs own g bid_out s l d.middle turn t b.sent stands may_own goes takes refl due_is b.written d.across in
-      let answer : d.answer ≡ replying own (sound_counted bid_out d.arrived) d.refused turn.wish = replied laws jobs own g bid_out s l d.middle turn t b.sent stands may_own goes takes refl due_is b.written d.across in
-      let refused : d.refused ≡ (d.refused && is_block d.arrived) = refused_is laws jobs own g bid_out s l d.middle turn t b.sent stands may_own goes takes refl due_is b.written d.across in (
-        record { up = told.told; down = down.0; refused = d.refused; wish = turn.wish; pause = turn.pause },
-        record { up = told.tells; down = down.1; wish = refl; pause = refl },
-        record {
-          sent = b.sent;
-          due = are_due b.sent b.written;
-          breaks = inr (record {
-            fits = d.across.carried.fits;
-            arrived = d.arrived;
-            up = ap (λ x. after_fate told.told (sound_of x)) (sym due_is) ∙ after;
-            reply = d.reply;
-            replies = ap (λ f. replying own (sound_counted bid_out d.arrived) f turn.wish) (sym refused) ∙ sym answer ∙ d.across.reply_is ∙ d.reply_is;
-            reply_sent = d.reply_sent;
-            written = d.written;
-            breaks = d.breaks;
-          });
-        },
-      )
-
   pub breaks_part : BreaksAlone Breaks turn s l → (place : SoundTurn) × TellsTurn turn place × BreaksTurn Breaks (sound_counted bid_out) (blocks jobs) g own turn place
-  breaks_part b = elim b.breaks [ inl h ↦ breaks_up b h | inr d ↦ breaks_back b d ]
+  breaks_part b = elim b.breaks [
+    | inl h ↦ breaks_said laws.every Breaks (sound_counted bid_out) (blocks jobs) g own turn (due_at s) s.sender.rest b.sent due_is sends.counted.rest b.written h
+    | inr d ↦
+        let t : Spoken = record { said = due_at s; arrived = d.arrived; refused = d.refused; reply = d.answer; heard = Sound.Quiet } in
+        let answer : d.answer ≡ replying own (sound_counted bid_out d.arrived) d.refused turn.wish = replied laws jobs own g bid_out s l d.middle turn t b.sent stands may_own goes takes refl due_is b.written d.across in
+        breaks_replied laws.every Breaks (sound_counted bid_out) (blocks jobs) g own turn (due_at s) s.sender.rest b.sent due_is sends.counted.rest b.written d.arrived d.refused d.reply d.reply_sent d.across.carried.fits
+        (up_told laws jobs own g bid_out s l d.middle turn t b.sent stands may_own goes takes refl due_is b.written d.across) (refused_is laws jobs own g bid_out s l d.middle turn t b.sent stands may_own goes takes refl due_is b.written d.across)
+        (sym answer ∙ d.across.reply_is ∙ d.reply_is) d.written d.breaks
+  ]
 
 -- ---- The schedule.
 

@@ -20,9 +20,9 @@ use Rattle.bsc_history.specs.PairCount.{spent, down_gives_up, down_gave_up}
 use Rattle.bsc_history.specs.PairConversation.{down_outcome}
 use Rattle.pair_world.specs.Inside.PairDriving.{TakesPair}
 use Rattle.bsc_history.specs.PairSchedule.{NothingIsDue}
-use Rattle.pair_world.specs.PairDrive.{SendsAfter, ReceivesAfter, StandPair, IsPairDrive}
+use Rattle.pair_world.specs.PairDrive.{SendsAfter, StandPair, IsPairDrive}
 use Rattle.pair_world.specs.PairRun.{TellsPair, TellsPairs, pair_of, spoken_pairs}
-use Rattle.pair_world.proofs.Alone.{Laws, Listens}
+use Rattle.pair_world.proofs.Alone.{Laws}
 use Rattle.pair_world.proofs.Contends.{contends_first}
 use Rattle.pair_world.proofs.PairRuns.{StandsPairRun, cases_jobs, primary_more, secondary_more, both_more, nothing_due}
 use Rattle.pair_world.proofs.PairTelling.{told_pair, pairs_longer}
@@ -124,9 +124,6 @@ sends_after jobs own b m n s p = record {
   over = p.over;
 }
 
-receives_after : (blocks : List Block) (own : History) (r : Receiving) → Listens blocks own r → ReceivesAfter blocks own r
-receives_after blocks own r p = record { jobs = p.jobs; live = p.live }
-
 stand_pair : (ups downs : List Job) (turns : List PairTurn) (h : PairHistory) (a b : Contending) → StandsPairRun ups downs turns h a b → StandPair ups downs h a b
 stand_pair ups downs turns h a b s = record {
   a_live = s.a_live;
@@ -138,8 +135,8 @@ stand_pair ups downs turns h a b s = record {
   a_noted = s.contends.p_noted;
   a_sends = sends_after ups (up h) (gave_up_before (up h)) (tries (up h)) (holds (up h)) a.sender s.up_sends;
   b_sends = sends_after downs (down h) (down_gave_up h) (spent h).tries (spent h).holds b.sender s.down_sends;
-  a_receives = receives_after (blocks downs) (down h) a.receiver s.down_receives;
-  b_receives = receives_after (blocks ups) (up h) b.receiver s.up_receives;
+  a_receives = s.down_receives;
+  b_receives = s.up_receives;
   a_silent = s.a_silent;
   b_silent = s.b_silent;
   a_said = s.a_said;

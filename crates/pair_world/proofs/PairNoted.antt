@@ -19,7 +19,7 @@ use Rattle.rje_station.specs.JoinedJobs.{begun_in}
 use Rattle.rje_station.specs.Laws.{TraceGoesOn}
 use Rattle.rje_station.specs.Receiving.{sound_taken, received_events, after_receiving, trace_after_reply}
 use Rattle.rje_station.specs.Sending.{Sending}
-use Rattle.rje_station.specs.Station.{Contending, due_at, after_own_speaking, after_passing, gives_way, lets_in}
+use Rattle.rje_station.specs.Station.{Contending, after_own_reply, after_passing, gives_way, lets_in}
 use Rattle.rje_station.specs.Trace.{last_events, IsTraceOf}
 use Rattle.bsc_history.specs.declared.spoken_turn.SpokenTurn.{SpokenTurn}
 use Rattle.bsc_history.specs.History.{Plan, History, is_over}
@@ -30,13 +30,13 @@ use Rattle.bsc_history.specs.Pair.{sound_counted, as_counted}
 use Rattle.bsc_history.proofs.ForRuns.{counts-step}
 use Rattle.line_world.specs.declared.spoken.Spoken.{Spoken}
 use Rattle.line_world.specs.declared.turn.Turn.{Turn}
-use Rattle.pair_world.specs.Inside.PairDriving.{ComesBack, ComesBackAfter, SpeaksAlone, after_end_of}
+use Rattle.pair_world.specs.Inside.PairDriving.{SpeaksAlone, after_end_of}
 use Rattle.line_world.specs.Plan.{plan_of}
 use Rattle.line_world.specs.Traces.{sender_events, heard_events}
 use Rattle.pair_world.specs.PairTraces.{ended_events, listener_events}
 use Rattle.line_world.specs.Turns.{after_turn}
-use Rattle.pair_world.proofs.Alone.{other_than_enq, unanswered, back_more}
-use Rattle.line_world.proofs.ForPairs.{turn_noted, hearing_noted, answer_noted, taken_is, taken_eot, no_eot, accepted_is, turn_of, cases_end}
+use Rattle.pair_world.proofs.Alone.{other_than_enq, listener_rests}
+use Rattle.line_world.proofs.ForPairs.{turn_noted, hearing_noted, answer_noted, taken_is, taken_eot, no_eot, accepted_is, turn_of, unanswered}
 use Rattle.rje_station.proofs.PassedOver.{passed_enq, passed_unrefused}
 use Rattle.pair_world.proofs.Sends.{SendsBy}
 
@@ -160,43 +160,19 @@ module _ (law : TraceGoesOn) (plan : Plan) (own : History) (g bid_out : Bool) (s
   has_heard : (events : List Event) → IsTraceOf events l.receiver.trace → HasHeard events
   has_heard events p = elim (cases_Bool (lets_in l.contender (sound_heard took.across.what))) [ inl yea ↦ hears_it events p yea | inr out ↦ passes_it events p out ]
 
-  -- and after its reply went back
-  record HasAnswered : Type 0 where
-    noted : took.after.receiver.trace ≡ trace_after_reply t.reply took.middle.receiver.trace
-    over : took.after.receiver.over ≡ took.middle.receiver.over
-    silent : took.after.receiver.due ≡ None
-
-  answered_end : t.said ≡ Say.End → HasAnswered
-  answered_end end =
-      let back : ComesBackAfter Say.End turn (after_own_speaking s) s' took.middle took.after t.heard = subst (λ x. ComesBackAfter x turn (after_own_speaking s) s' took.middle took.after t.heard) (sym took.said ∙ end) took.back in
-      let none : t.reply ≡ None = unanswered own t.said v.arrived t.refused t.reply turn.wish end f.arrived f.replied in
-      record {
-        noted = ap (λ x. x.receiver.trace) back.1 ∙ ap (λ x. trace_after_reply x took.middle.receiver.trace) (sym none);
-        over = ap (λ x. x.receiver.over) back.1;
-        silent = ap (λ x. x.receiver.due) back.1 ∙ sym took.across.reply_is ∙ none;
-      }
-
-  answered_more : t.said ≢ Say.End → HasAnswered
-  answered_more more =
-      let back : ComesBack turn (after_own_speaking s) s' took.middle took.after t.heard = back_more (due_at s) turn (after_own_speaking s) s' took.middle took.after t.heard (λ e. more (took.said ∙ e)) took.back in
-      record {
-        noted = ap (λ x. x.receiver.trace) back.listener ∙ ap (λ x. trace_after_reply x took.middle.receiver.trace) (sym took.across.reply_is);
-        over = ap (λ x. x.receiver.over) back.listener;
-        silent = ap (λ x. x.receiver.due) back.listener;
-      }
-
-  answered : HasAnswered
-  answered = elim (cases_end t.said) [ inl end ↦ answered_end end | inr more ↦ answered_more more ]
+  is_resting : took.after ≡ after_own_reply took.middle
+  is_resting = listener_rests turn s s' l l' t (λ end. unanswered own t.said v.arrived t.refused t.reply turn.wish end f.arrived f.replied) took
 
   is_ended : l' ≡ after_end_of t.said took.after
   is_ended = took.ended ∙ ap (λ x. after_end_of x took.after) (sym took.said)
 
   pub alone_silent : l'.receiver.due ≡ None
-  alone_silent = ap (λ x. x.receiver.due) is_ended ∙ ended_silent t.said took.after answered.silent
+  alone_silent = ap (λ x. x.receiver.due) is_ended ∙ ended_silent t.said took.after (ap (λ x. x.receiver.due) is_resting)
 
   pub alone_noted : (events : List Event) → IsTraceOf events l.receiver.trace → IsTraceOf (events ++ listener_events (Some u) None) l'.receiver.trace
   alone_noted events p =
       let heard = has_heard events p in
-      let after : IsTraceOf (events ++ heard_events u) took.after.receiver.trace = answered.noted ∙ answer_noted law events u took.middle.receiver.trace heard.noted in
-      ap (λ x. x.receiver.trace) is_ended ∙ ended_noted law t.said t.arrived took.after (events ++ heard_events u) (answered.over ∙ heard.over) after
+      let after : IsTraceOf (events ++ heard_events u) took.after.receiver.trace =
+      ap (λ x. x.receiver.trace) is_resting ∙ ap (λ x. trace_after_reply x took.middle.receiver.trace) (sym took.across.reply_is) ∙ answer_noted law events u took.middle.receiver.trace heard.noted in
+      ap (λ x. x.receiver.trace) is_ended ∙ ended_noted law t.said t.arrived took.after (events ++ heard_events u) (ap (λ x. x.receiver.over) is_resting ∙ heard.over) after
       ∙ ap last_events (append_assoc events (heard_events u) (ended_events t.said t.arrived))

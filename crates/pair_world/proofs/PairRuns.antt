@@ -34,8 +34,9 @@ use Rattle.bsc_history.specs.PairCount.{spent, begun_again, down_gives_up, down_
 use Rattle.bsc_history.specs.PairConversation.{PairFollows, primary_speaks, secondary_speaks}
 use Rattle.pair_world.specs.Inside.PairDriving.{PrimaryAlone, SecondaryAlone, BothSpeak, after_end_of, primary_does, secondary_does}
 use Rattle.bsc_history.specs.PairSchedule.{PairPlace, IsPairAt, IsPairSpokenOver, NothingIsDue}
+use Rattle.pair_world.specs.PairDrive.{ReceivesAfter}
 use Rattle.pair_world.specs.PairRun.{TellsPair, TellsPairs, FitParts, AllPairsFit}
-use Rattle.pair_world.proofs.Alone.{Laws, Listens, Turned, turned}
+use Rattle.pair_world.proofs.Alone.{Laws, Turned, turned}
 use Rattle.pair_world.proofs.PairNoted.{alone_silent, alone_noted, vain_noted, ended_silent, sends_noted, way_noted}
 use Rattle.pair_world.proofs.PairVain.{vainly, vain_follows, vain_listens, end_contender, end_sender_kept}
 use Rattle.pair_world.proofs.Contends.{Contends, due-closed, closed-ungranted, primary_takes, secondary_takes, primary_alone, secondary_alone, both_speak}
@@ -55,8 +56,8 @@ pub record StandsPairRun (ups downs : List Job) (turns : List PairTurn) (h : Pai
   pub contends : Contends h a.contender b.contender
   pub up_sends : SendsBy ups (up h) (gave_up_before (up h)) (tries (up h)) (holds (up h)) a.sender
   pub down_sends : SendsBy downs (down h) (down_gave_up h) (spent h).tries (spent h).holds b.sender
-  pub up_receives : Listens (blocks ups) (up h) b.receiver
-  pub down_receives : Listens (blocks downs) (down h) a.receiver
+  pub up_receives : ReceivesAfter (blocks ups) (up h) b.receiver
+  pub down_receives : ReceivesAfter (blocks downs) (down h) a.receiver
   pub a_silent : a.receiver.due ≡ None
   pub b_silent : b.receiver.due ≡ None
   pub a_said : IsTraceOf (sender_events (up h)) a.sender.trace
@@ -221,20 +222,20 @@ module _ (laws : Laws) (ups downs : List Job) (turns : List PairTurn) (h : PairH
         fits = fit_on pair x.fits;
         spoken = longer place pair (record { bids = refl; parts = x.is_at })
             (record { goes_on = inl (up_speaks turn.bids ∙ w.does); primary = (up_speaks turn.bids ∙ w.does, x.follows); secondary = down_speaks turn.bids ∙ w.rests; arrived = tt; collide = tt });
-        a_live = x.s_failed ∙ p.a_live;
+        a_live = x.spoke.failed ∙ p.a_live;
         b_live = x.l_failed ∙ p.b_live;
-        contends = rw (x.s_contender, x.l_contender) c;
-        up_sends = subst (SendsBy ups (u ∷ up h) (gives_up_now (up h)) (tries (u ∷ up h)) (holds (u ∷ up h))) (sym x.s_sender)
+        contends = rw (x.spoke.contender, x.l_contender) c;
+        up_sends = subst (SendsBy ups (u ∷ up h) (gives_up_now (up h)) (tries (u ∷ up h)) (holds (u ∷ up h))) (sym x.spoke.sender)
             (sends_turn laws.counts ups (up h) (gave_up_before (up h)) (tries (up h)) (holds (up h)) a.sender u l p.up_sends x.follows);
         down_sends = subst (SendsBy downs (down h) (down_gave_up h) (spent (pair ∷ h)).tries (spent (pair ∷ h)).holds) (sym x.l_sender)
             (hears_up w.spoken.arrived b.contender.rank (takes_enq b.contender) p.contends.q_rank takes (closed-ungranted down_plan (down h) may.1 closed));
         up_receives = x.l_receives;
-        down_receives = subst (Listens (blocks downs) (down h)) (sym x.s_receiver) p.down_receives;
-        a_silent = ap (λ z. z.due) x.s_receiver ∙ p.a_silent;
+        down_receives = subst (ReceivesAfter (blocks downs) (down h)) (sym x.spoke.receiver) p.down_receives;
+        a_silent = ap (λ z. z.due) x.spoke.receiver ∙ p.a_silent;
         b_silent = alone_silent laws.notes up_plan (up h) (gives_up_now (up h)) false a a' b b' turn.turn w.spoken (p.up_receives.live goes).core ((p.up_receives.live goes).over goes) may.0 takes x.follows w.alone;
-        a_said = ap (λ z. z.trace) x.s_sender ∙ sends_noted laws.notes ups (up h) (gave_up_before (up h)) (tries (up h)) (holds (up h)) a.sender u p.up_sends x.follows p.a_said;
+        a_said = ap (λ z. z.trace) x.spoke.sender ∙ sends_noted laws.notes ups (up h) (gave_up_before (up h)) (tries (up h)) (holds (up h)) a.sender u p.up_sends x.follows p.a_said;
         b_said = ap (λ z. z.trace) x.l_sender ∙ way_noted (lets_in b.contender w.spoken.arrived) b.contender.rank w.spoken.arrived b.sender ∙ p.b_said;
-        a_heard = ap (λ z. z.trace) x.s_receiver ∙ p.a_heard ∙ ap last_events (sym (append-nil (primary_events h)));
+        a_heard = ap (λ z. z.trace) x.spoke.receiver ∙ p.a_heard ∙ ap last_events (sym (append-nil (primary_events h)));
         b_heard = alone_noted laws.notes up_plan (up h) (gives_up_now (up h)) false a a' b b' turn.turn w.spoken (p.up_receives.live goes).core ((p.up_receives.live goes).over goes) may.0 takes x.follows w.alone (secondary_events h) p.b_heard;
       }
 
@@ -270,19 +271,19 @@ module _ (laws : Laws) (ups downs : List Job) (turns : List PairTurn) (h : PairH
         spoken = longer place pair (record { bids = refl; parts = x.is_at })
             (record { goes_on = inr (down_speaks turn.bids ∙ w.does); primary = up_speaks turn.bids ∙ w.rests; secondary = (down_speaks turn.bids ∙ w.does, x.follows); arrived = x.brought; collide = tt });
         a_live = x.l_failed ∙ p.a_live;
-        b_live = x.s_failed ∙ p.b_live;
-        contends = rw (x.s_contender, x.l_contender) c;
+        b_live = x.spoke.failed ∙ p.b_live;
+        contends = rw (x.spoke.contender, x.l_contender) c;
         up_sends = subst (SendsBy ups (up h) (gave_up_before (up h)) (tries (up h)) (holds (up h))) (sym (x.l_sender ∙ hears_down w.spoken.arrived a.contender.rank (takes_enq a.contender) p.contends.p_rank)) p.up_sends;
-        down_sends = subst (SendsBy downs (v ∷ down h) (down_gives_up h) (spent (pair ∷ h)).tries (spent (pair ∷ h)).holds) (sym x.s_sender)
+        down_sends = subst (SendsBy downs (v ∷ down h) (down_gives_up h) (spent (pair ∷ h)).tries (spent (pair ∷ h)).holds) (sym x.spoke.sender)
             (sends_turn laws.counts downs (down h) (down_gave_up h) (spent h).tries (spent h).holds b.sender v l p.down_sends x.follows);
-        up_receives = subst (Listens (blocks ups) (up h)) (sym x.s_receiver) p.up_receives;
+        up_receives = subst (ReceivesAfter (blocks ups) (up h)) (sym x.spoke.receiver) p.up_receives;
         down_receives = x.l_receives;
         a_silent = alone_silent laws.notes down_plan (down h) (down_gives_up h) bid_out b b' a a' turn.turn w.spoken (p.down_receives.live goes).core ((p.down_receives.live goes).over goes) may.1 takes x.follows w.alone;
-        b_silent = ap (λ z. z.due) x.s_receiver ∙ p.b_silent;
+        b_silent = ap (λ z. z.due) x.spoke.receiver ∙ p.b_silent;
         a_said = ap (λ z. z.trace) x.l_sender ∙ way_noted (lets_in a.contender w.spoken.arrived) a.contender.rank w.spoken.arrived a.sender ∙ p.a_said;
-        b_said = ap (λ z. z.trace) x.s_sender ∙ sends_noted laws.notes downs (down h) (down_gave_up h) (spent h).tries (spent h).holds b.sender v p.down_sends x.follows p.b_said;
+        b_said = ap (λ z. z.trace) x.spoke.sender ∙ sends_noted laws.notes downs (down h) (down_gave_up h) (spent h).tries (spent h).holds b.sender v p.down_sends x.follows p.b_said;
         a_heard = alone_noted laws.notes down_plan (down h) (down_gives_up h) bid_out b b' a a' turn.turn w.spoken (p.down_receives.live goes).core ((p.down_receives.live goes).over goes) may.1 takes x.follows w.alone (primary_events h) p.a_heard;
-        b_heard = ap (λ z. z.trace) x.s_receiver ∙ p.b_heard ∙ ap last_events (sym (append-nil (secondary_events h)));
+        b_heard = ap (λ z. z.trace) x.spoke.receiver ∙ p.b_heard ∙ ap last_events (sym (append-nil (secondary_events h)));
       }
 
   -- BOTH AT ONCE
@@ -313,13 +314,13 @@ module _ (laws : Laws) (ups downs : List Job) (turns : List PairTurn) (h : PairH
       let place = told.0 in
       let c : Contends (pair ∷ h) (other_turn u2.said Sound.Quiet (own_turn u.said u.heard a.contender)) (other_turn u.said Sound.Quiet (own_turn u2.said u2.heard b.contender)) =
       both_speak up_plan down_plan h a.contender b.contender p.contends may.0 may.1 turn.bids (gives_up_now (up h)) (down_gives_up h) u u2 up_closed down_closed f d k.primary.arrived k.secondary.arrived in
-      let a_contender : a'.contender ≡ other_turn u2.said Sound.Quiet (own_turn u.said u.heard a.contender) = ap (λ z. z.contender) k.a_ended ∙ end_contender k.second.said k.a_after ∙ ap (other_turn k.second.said Sound.Quiet) x.contender in
-      let b_contender : b'.contender ≡ other_turn u.said Sound.Quiet (own_turn u2.said u2.heard b.contender) = ap (λ z. z.contender) k.b_ended ∙ end_contender k.first.said k.b_after ∙ ap (other_turn k.first.said Sound.Quiet) y.contender in
-      let a_sender : a'.sender ≡ after_turn a.sender u = ap (λ z. z.sender) k.a_ended ∙ (end_sender_kept k.second.said k.a_after).0 ∙ x.sender in
-      let b_sender : b'.sender ≡ after_turn b.sender u2 = ap (λ z. z.sender) k.b_ended ∙ (end_sender_kept k.first.said k.b_after).0 ∙ y.sender in
-      let ups_heard : Listens (blocks ups) (u ∷ up h) (after_end_of k.first.said k.b_after).receiver = vain_listens (blocks ups) (up h) u k.b_after k.primary.arrived p_goes (subst (Listens (blocks ups) (up h)) (sym y.receiver) p.up_receives) in
-      let downs_heard : Listens (blocks downs) (v ∷ down h) (after_end_of k.second.said k.a_after).receiver =
-      vain_listens (blocks downs) (down h) v k.a_after (counted-quiet bid_out u2 k.secondary.arrived) q_goes (subst (Listens (blocks downs) (down h)) (sym x.receiver) p.down_receives) in
+      let a_contender : a'.contender ≡ other_turn u2.said Sound.Quiet (own_turn u.said u.heard a.contender) = ap (λ z. z.contender) k.a_ended ∙ end_contender k.second.said k.a_after ∙ ap (other_turn k.second.said Sound.Quiet) x.spoke.contender in
+      let b_contender : b'.contender ≡ other_turn u.said Sound.Quiet (own_turn u2.said u2.heard b.contender) = ap (λ z. z.contender) k.b_ended ∙ end_contender k.first.said k.b_after ∙ ap (other_turn k.first.said Sound.Quiet) y.spoke.contender in
+      let a_sender : a'.sender ≡ after_turn a.sender u = ap (λ z. z.sender) k.a_ended ∙ (end_sender_kept k.second.said k.a_after).0 ∙ x.spoke.sender in
+      let b_sender : b'.sender ≡ after_turn b.sender u2 = ap (λ z. z.sender) k.b_ended ∙ (end_sender_kept k.first.said k.b_after).0 ∙ y.spoke.sender in
+      let ups_heard : ReceivesAfter (blocks ups) (u ∷ up h) (after_end_of k.first.said k.b_after).receiver = vain_listens (blocks ups) (up h) u k.b_after k.primary.arrived p_goes (subst (ReceivesAfter (blocks ups) (up h)) (sym y.spoke.receiver) p.up_receives) in
+      let downs_heard : ReceivesAfter (blocks downs) (v ∷ down h) (after_end_of k.second.said k.a_after).receiver =
+      vain_listens (blocks downs) (down h) v k.a_after (counted-quiet bid_out u2 k.secondary.arrived) q_goes (subst (ReceivesAfter (blocks downs) (down h)) (sym x.spoke.receiver) p.down_receives) in
       record {
         before = p.before ++ place ∷ [];
         told = told_on TellsPair turns (length h) p.before p.told turn place here told.1;
@@ -334,21 +335,21 @@ module _ (laws : Laws) (ups downs : List Job) (turns : List PairTurn) (h : PairH
               arrived = (SoundFate.Lost, lost-after (sound_of k.second.said) ∙ ap (λ z. Some z) (sym k.secondary.arrived));
               collide = (k.primary.arrived, k.secondary.arrived);
             });
-        a_live = ap (λ z. z.failed) k.a_ended ∙ (end_sender_kept k.second.said k.a_after).1 ∙ x.failed ∙ p.a_live;
-        b_live = ap (λ z. z.failed) k.b_ended ∙ (end_sender_kept k.first.said k.b_after).1 ∙ y.failed ∙ p.b_live;
+        a_live = ap (λ z. z.failed) k.a_ended ∙ (end_sender_kept k.second.said k.a_after).1 ∙ x.spoke.failed ∙ p.a_live;
+        b_live = ap (λ z. z.failed) k.b_ended ∙ (end_sender_kept k.first.said k.b_after).1 ∙ y.spoke.failed ∙ p.b_live;
         contends = rw (a_contender, b_contender) c;
         up_sends = subst (SendsBy ups (u ∷ up h) (gives_up_now (up h)) (tries (u ∷ up h)) (holds (u ∷ up h))) (sym a_sender)
             (sends_turn laws.counts ups (up h) (gave_up_before (up h)) (tries (up h)) (holds (up h)) a.sender u p_l p.up_sends f);
         down_sends = subst (SendsBy downs (v ∷ down h) (down_gives_up h) (spent (pair ∷ h)).tries (spent (pair ∷ h)).holds) (sym b_sender)
             (sends_turn laws.counts downs (down h) (down_gave_up h) (spent h).tries (spent h).holds b.sender v q_l p.down_sends d);
-        up_receives = subst (Listens (blocks ups) (u ∷ up h)) (sym (ap (λ z. z.receiver) k.b_ended)) ups_heard;
-        down_receives = subst (Listens (blocks downs) (v ∷ down h)) (sym (ap (λ z. z.receiver) k.a_ended)) downs_heard;
-        a_silent = ap (λ z. z.receiver.due) k.a_ended ∙ ended_silent k.second.said k.a_after (ap (λ z. z.due) x.receiver ∙ p.a_silent);
-        b_silent = ap (λ z. z.receiver.due) k.b_ended ∙ ended_silent k.first.said k.b_after (ap (λ z. z.due) y.receiver ∙ p.b_silent);
+        up_receives = subst (ReceivesAfter (blocks ups) (u ∷ up h)) (sym (ap (λ z. z.receiver) k.b_ended)) ups_heard;
+        down_receives = subst (ReceivesAfter (blocks downs) (v ∷ down h)) (sym (ap (λ z. z.receiver) k.a_ended)) downs_heard;
+        a_silent = ap (λ z. z.receiver.due) k.a_ended ∙ ended_silent k.second.said k.a_after (ap (λ z. z.due) x.spoke.receiver ∙ p.a_silent);
+        b_silent = ap (λ z. z.receiver.due) k.b_ended ∙ ended_silent k.first.said k.b_after (ap (λ z. z.due) y.spoke.receiver ∙ p.b_silent);
         a_said = ap (λ z. z.trace) a_sender ∙ sends_noted laws.notes ups (up h) (gave_up_before (up h)) (tries (up h)) (holds (up h)) a.sender u p.up_sends f p.a_said;
         b_said = ap (λ z. z.trace) b_sender ∙ sends_noted laws.notes downs (down h) (down_gave_up h) (spent h).tries (spent h).holds b.sender v p.down_sends d p.b_said;
-        a_heard = ap (λ z. z.receiver.trace) k.a_ended ∙ vain_noted laws.notes u2 k.a_after (primary_events h) k.secondary.arrived (ap (λ z. z.over) x.receiver ∙ (p.down_receives.live q_goes).over q_goes) (ap (λ z. z.trace) x.receiver ∙ p.a_heard);
-        b_heard = ap (λ z. z.receiver.trace) k.b_ended ∙ vain_noted laws.notes u k.b_after (secondary_events h) k.primary.arrived (ap (λ z. z.over) y.receiver ∙ (p.up_receives.live p_goes).over p_goes) (ap (λ z. z.trace) y.receiver ∙ p.b_heard);
+        a_heard = ap (λ z. z.receiver.trace) k.a_ended ∙ vain_noted laws.notes u2 k.a_after (primary_events h) k.secondary.arrived (ap (λ z. z.over) x.spoke.receiver ∙ (p.down_receives.live q_goes).over q_goes) (ap (λ z. z.trace) x.spoke.receiver ∙ p.a_heard);
+        b_heard = ap (λ z. z.receiver.trace) k.b_ended ∙ vain_noted laws.notes u k.b_after (secondary_events h) k.primary.arrived (ap (λ z. z.over) y.spoke.receiver ∙ (p.up_receives.live p_goes).over p_goes) (ap (λ z. z.trace) y.spoke.receiver ∙ p.b_heard);
       }
 
   -- nothing is due at either where neither speaks

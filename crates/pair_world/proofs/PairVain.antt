@@ -21,22 +21,14 @@ use Rattle.line_world.specs.Damage.{AreHeardAs}
 use Rattle.line_world.specs.Plan.{plan_of}
 use Rattle.bsc_history.specs.SayingRule.{saying}
 use Rattle.line_world.specs.Turns.{after_turn}
-use Rattle.line_world.proofs.ForPairs.{Told, reply_told, turn_of, turn_ends, turn_hears, cases_end}
+use Rattle.line_world.proofs.ForPairs.{Told, after_end, after_more, reply_told, turn_of, cases_end}
 use Rattle.pair_world.specs.Contending.{own_turn, other_turn}
 use Rattle.bsc_history.specs.Pair.{as_counted}
-use Rattle.pair_world.specs.Inside.PairDriving.{SpeaksInVain, HearsNothing, after_end_of}
-use Rattle.pair_world.proofs.Alone.{Laws, Listens, quiet_place, own_more, end_more, end_jobs}
+use Rattle.pair_world.specs.Inside.PairDriving.{SpeaksInVain, after_end_of}
+use Rattle.pair_world.specs.PairDrive.{ReceivesAfter}
+use Rattle.pair_world.proofs.Alone.{Laws, HasSpoken, spoken_last, spoken_on, quiet_place, end_more, end_jobs}
 use Rattle.bsc_history.proofs.ForRuns.{vain-follows}
 use Rattle.rje_station.proofs.Due.{spoken_of_due, answered_of_due, due_kept}
-
-hears_more : (say : Say) (pause : Bool) (s s' : Contending) (heard : Sound) → say ≢ Say.End → HearsNothing say pause s s' heard → (s' ≡ after_answer s heard pause) × AreHeardAs [] heard
-hears_more Say.End pause s s' heard n h = absurd (n refl)
-hears_more Say.Bid pause s s' heard n h = h
-hears_more Say.Block pause s s' heard n h = h
-hears_more Say.Again pause s s' heard n h = h
-hears_more Say.Ask pause s s' heard n h = h
-hears_more Say.Delay pause s s' heard n h = h
-hears_more Say.Nothing pause s s' heard n h = h
 
 module _ (laws : Laws) (jobs : List Job) (own : History) (g bid_out : Bool) (s s' : Contending) (turn : Turn) (t : Spoken) (goes : is_over own ≡ false) (due_is : due_at s ≡ saying (plan_of (blocks jobs)) g own)
     (something : due_at s ≢ Say.Nothing) (vain : SpeaksInVain turn.pause s s' t) where
@@ -46,43 +38,16 @@ module _ (laws : Laws) (jobs : List Job) (own : History) (g bid_out : Bool) (s s
   -- the end, or silence
   pub record IsVainly : Type 0 where
     pub heard : t.heard ≡ Sound.Quiet
-    pub sender : s'.sender ≡ after_turn s.sender u
-    pub receiver : s'.receiver ≡ s.receiver
-    pub contender : s'.contender ≡ own_turn t.said t.heard s.contender
-    pub failed : s'.failed ≡ s.failed
-
-  vain_ends : t.said ≡ Say.End → IsVainly
-  vain_ends end =
-      let due : due_at s ≡ Say.End = sym vain.said ∙ end in
-      let h : HearsNothing Say.End turn.pause (after_own_speaking s) s' t.heard = subst (λ x. HearsNothing x turn.pause (after_own_speaking s) s' t.heard) due vain.hears in
-      let spoke : s' ≡ record s { sender = after_speaking s.sender; contender = contender_said (due_at s) s.contender } = h.0 ∙ spoken_of_due s (due_at s) refl something in
-      record {
-        heard = h.1;
-        sender = ap (λ x. x.sender) spoke ∙ sym (turn_ends s.sender u end);
-        receiver = ap (λ x. x.receiver) spoke;
-        contender = ap (λ x. x.contender) spoke ∙ rw (due, end) refl;
-        failed = ap (λ x. x.failed) spoke;
-      }
-
-  vain_more : t.said ≢ Say.End → IsVainly
-  vain_more more =
-      let unended : due_at s ≢ Say.End = λ e. more (vain.said ∙ e) in
-      let h = hears_more (due_at s) turn.pause (after_own_speaking s) s' t.heard unended vain.hears in
-      let told : Told fates.Lost Sound.Quiet t.heard = reply_told laws.one laws.transmits laws.every fates.Lost None t.heard h.1 in
-      let kept : due_at (after_own_speaking s) ≡ due_at s = due_kept s (due_at s) refl something unended in
-      let spoke = spoken_of_due s (due_at s) refl something in
-      let heard : s' ≡ record (after_own_speaking s) { sender = after_hearing (after_own_speaking s).sender t.heard turn.pause; contender = contender_answered (due_at s) t.heard (after_own_speaking s).contender } =
-      h.0 ∙ answered_of_due (after_own_speaking s) (due_at s) t.heard turn.pause kept something in
-      record {
-        heard = sym (same_Some Sound.Quiet t.heard told.after);
-        sender = ap (λ x. x.sender) heard ∙ ap (λ x. after_hearing x.sender t.heard turn.pause) spoke ∙ sym (turn_hears s.sender u t.said refl more);
-        receiver = ap (λ x. x.receiver) heard ∙ ap (λ x. x.receiver) spoke;
-        contender = ap (λ x. x.contender) heard ∙ ap (λ x. contender_answered (due_at s) t.heard x.contender) spoke ∙ ap (λ y. contender_answered y t.heard (contender_said y s.contender)) (sym vain.said) ∙ sym (own_more t.said t.heard s.contender more);
-        failed = ap (λ x. x.failed) heard ∙ ap (λ x. x.failed) spoke;
-      }
+    pub spoke : HasSpoken s s' turn t
 
   pub vainly : IsVainly
-  vainly = elim (cases_end t.said) [ inl end ↦ vain_ends end | inr more ↦ vain_more more ]
+  vainly = elim (cases_end t.said) [
+    | inl end ↦ let h = after_end _ _ (due_at s) (sym vain.said ∙ end) vain.hears in record { heard = h.1; spoke = spoken_last s s' turn t vain.said something end h.0 }
+    | inr more ↦
+        let h = after_more _ _ (due_at s) (λ e. more (vain.said ∙ e)) vain.hears in
+        let told : Told fates.Lost Sound.Quiet t.heard = reply_told laws.one laws.transmits laws.every fates.Lost None t.heard h.1 in
+        record { heard = sym (same_Some Sound.Quiet t.heard told.after); spoke = spoken_on s s' turn t vain.said something more h.0 }
+  ]
 
   pub vain_follows : Follows (plan_of (blocks jobs)) g own (as_counted bid_out u)
   vain_follows = vain-follows bid_out (plan_of (blocks jobs)) g own u goes (vain.said ∙ due_is) vain.arrived vain.refused vain.reply vainly.heard
@@ -95,7 +60,7 @@ taken_quiet own u e = rw e (quiet_place (receiver_after own) u.wish (receiver_af
 got_quiet : (own : History) (u : SpokenTurn) → u.arrived ≡ Sound.Quiet → got (u ∷ own) ≡ got own
 got_quiet own u e = rw e refl
 
-pub vain_listens : (blocks : List Block) (own : History) (u : SpokenTurn) (x : Contending) → u.arrived ≡ Sound.Quiet → is_over own ≡ false → Listens blocks own x.receiver → Listens blocks (u ∷ own) (after_end_of u.said x).receiver
+pub vain_listens : (blocks : List Block) (own : History) (u : SpokenTurn) (x : Contending) → u.arrived ≡ Sound.Quiet → is_over own ≡ false → ReceivesAfter blocks own x.receiver → ReceivesAfter blocks (u ∷ own) (after_end_of u.said x).receiver
 vain_listens blocks own u x e goes p =
     let stands = p.live goes in
     record {

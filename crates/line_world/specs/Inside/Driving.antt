@@ -49,10 +49,14 @@ pub record GoesDown (turn : Turn) (s s' : Sending) (r r' : Receiving) (heard : S
 
 -- ---- One turn.
 
+-- one thing holds after EOT, and another after all else that is said
+abbrev pub AfterEnd : Say → Type 0 → Type 0 → Type 0
+AfterEnd Say.End P Q = P
+AfterEnd _ P Q = Q
+
 -- after EOT the sender doesn't listen
 abbrev pub GoesDownAfter : Say → Turn → Sending → Sending → Receiving → Receiving → Sound → Type 0
-GoesDownAfter Say.End turn s s' r r' heard = (s' ≡ s) × (r' ≡ r) × (heard ≡ Sound.Quiet)
-GoesDownAfter _ turn s s' r r' heard = GoesDown turn s s' r r' heard
+GoesDownAfter say turn s s' r r' heard = AfterEnd say ((s' ≡ s) × (r' ≡ r) × (heard ≡ Sound.Quiet)) (GoesDown turn s s' r r' heard)
 
 -- one turn of both stations
 pub record TakesTurn (turn : Turn) (s s' : Sending) (r r' : Receiving) (t : Spoken) : Type 0 where

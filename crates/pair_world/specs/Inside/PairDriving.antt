@@ -16,7 +16,7 @@ use Rattle.line_world.specs.declared.turn.Turn.{Turn}
 use Rattle.line_world.specs.declared.turn_fault.TurnFault.{TurnFault}
 use Rattle.bsc_history.specs.Fate.{sound_of, sound_of_reply}
 use Rattle.line_world.specs.Damage.{AreHeardAs, HasBadCut, IsNoDamage}
-use Rattle.line_world.specs.Inside.Driving.{IsReplyCarried}
+use Rattle.line_world.specs.Inside.Driving.{IsReplyCarried, AfterEnd}
 use Rattle.line_world.specs.Carrying.{IsCarried}
 use Rattle.bsc_history.specs.declared.bids.Bids.{Bids}
 use Rattle.pair_world.specs.declared.pair_spoken.PairSpoken.{PairSpoken}
@@ -42,8 +42,7 @@ pub record ComesBack (turn : Turn) (s s' l l' : Contending) (heard : Sound) : Ty
 
 -- after EOT the speaker doesn't listen
 abbrev pub ComesBackAfter : Say → Turn → Contending → Contending → Contending → Contending → Sound → Type 0
-ComesBackAfter Say.End turn s s' l l' heard = (s' ≡ s) × (l' ≡ l) × (heard ≡ Sound.Quiet)
-ComesBackAfter _ turn s s' l l' heard = ComesBack turn s s' l l' heard
+ComesBackAfter say turn s s' l l' heard = AfterEnd say ((s' ≡ s) × (l' ≡ l) × (heard ≡ Sound.Quiet)) (ComesBack turn s s' l l' heard)
 
 -- after EOT the other station is told that the transmission ended
 abbrev pub after_end_of : Say → Contending → Contending
@@ -89,8 +88,7 @@ IsAloneFault turn s l TurnFault.BadCut = BreaksAlone HasBadCut turn s l
 
 -- nothing came in answer; after EOT the speaker doesn't listen
 abbrev pub HearsNothing : Say → Bool → Contending → Contending → Sound → Type 0
-HearsNothing Say.End pause s s' heard = (s' ≡ s) × (heard ≡ Sound.Quiet)
-HearsNothing _ pause s s' heard = (s' ≡ after_answer s heard pause) × AreHeardAs [] heard
+HearsNothing say pause s s' heard = AfterEnd say ((s' ≡ s) × (heard ≡ Sound.Quiet)) ((s' ≡ after_answer s heard pause) × AreHeardAs [] heard)
 
 -- a station spoke, and nothing arrived
 pub record SpeaksInVain (pause : Bool) (s s' : Contending) (t : Spoken) : Type 0 where
