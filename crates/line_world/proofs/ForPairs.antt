@@ -10,4 +10,6 @@ pub use Rattle.line_world.proofs.Planned.{begins, next_is_planned}
 pub use Rattle.line_world.proofs.ReceivingTurns.{accepted_is, no_eot, refused_block, taken_eot, taken_is}
 pub use Rattle.line_world.proofs.RunLoop.{plan_some, some_jobs}
 pub use Rattle.line_world.proofs.SendingTurns.{after_end, after_more, cases_end, core_turn, done_is, turn_ends, turn_hears}
+pub use Rattle.line_world.proofs.SoFar.{SpokenSoFar, one_more, spoken_length, spoken_on}
 pub use Rattle.line_world.proofs.Telling.{get_append, get_seam, telling, told_any, told_length, told_on, told_turn, told_whole, told_with}
+pub use Rattle.line_world.proofs.TurnFaults.{fault_so}

@@ -1,7 +1,6 @@
 -- What a good turn of a schedule makes of the turn of its conversation.
 use Rattle.std.proofs.Common.{◌≡◌, ℕ, zero, suc, false, List, [], ◌∷◌, ◌++◌, map, reverse, slice_get, Some, refl, ap, sym, ◌∙◌, subst}
 use Rattle.std.specs.List.{AllByRecursion}
-use Rattle.std.proofs.lemmas.List.{map-append, reverse-append}
 use Rattle.std.proofs.lemmas.Option.{same_Some}
 use Rattle.bsc_link.specs.declared.sound.Sound.{Sound}
 use Rattle.line_world.specs.declared.fate.Fate.{Fate}
@@ -18,6 +17,7 @@ use Rattle.line_world.specs.GoodTurn.{AllArrives, IsGood}
 use Rattle.line_world.specs.Run.{TellsTurn, TellsSchedule, spoken_of, spoken_turns}
 use Rattle.bsc_history.proofs.ForRuns.{IsClean}
 use Rattle.line_world.proofs.Comings.{after_arrives}
+use Rattle.line_world.proofs.SoFar.{one_more}
 
 -- ---- A good turn is clean.
 
@@ -63,7 +63,7 @@ all_back (x ∷ xs) ys a = all_back xs ys a.1
 pub unrefused : (h : History) → AllByRecursion (λ t. t.refused ≡ false) (spoken_turns h) → AreUnrefused h
 unrefused [] a = tt
 unrefused (t ∷ past) a =
-    let turned : spoken_turns (t ∷ past) ≡ spoken_turns past ++ spoken_of t ∷ [] = ap (map spoken_of) (reverse-append (t ∷ []) past) ∙ map-append spoken_of (reverse past) (t ∷ []) in
+    let turned : spoken_turns (t ∷ past) ≡ spoken_turns past ++ spoken_of t ∷ [] = one_more spoken_of t past in
     let all : AllByRecursion (λ u. u.refused ≡ false) (spoken_turns past ++ spoken_of t ∷ []) = subst (AllByRecursion (λ u. u.refused ≡ false)) turned a in
     let last = all_back (spoken_turns past) (spoken_of t ∷ []) all in
     (last.0, unrefused past (all_front (spoken_turns past) (spoken_of t ∷ []) all))

@@ -8,6 +8,7 @@ pub mod ReceivingTurns
 pub mod Noted
 pub mod Comings
 pub mod Telling
+pub mod SoFar
 pub mod OneDirection
 pub mod RunTurns
 pub mod RunLoop

@@ -5,7 +5,6 @@ use Rattle.bsc_frame.specs.declared.frame.Frame.TheVariants as frame
 use Rattle.bsc_frame.specs.declared.heard.Heard.{Heard}
 use Rattle.bsc_frame.specs.declared.heard.Heard.TheVariants as heard
 use Rattle.bsc_frame.specs.Laws.{OneHearing, EveryHearing, WrittenIsTransmission}
-use Rattle.bsc_frame.specs.Written.{Written}
 use Rattle.bsc_link.specs.declared.reply.Reply.{Reply}
 use Rattle.bsc_link.specs.declared.say.Say.{Say}
 use Rattle.bsc_link.specs.declared.sound.Sound.{Sound}
@@ -13,7 +12,7 @@ use Rattle.bsc_link.specs.declared.wish.Wish.{Wish}
 use Rattle.bsc_link.specs.Receiver.{receiver_news}
 use Rattle.rje_station.specs.Hearing.{sound_heard}
 use Rattle.rje_station.specs.JoinedJobs.{begun_in}
-use Rattle.rje_station.specs.Receiving.{Receiving, MayRefuse, after_receiving, after_replying, trace_after_reply, frame_of}
+use Rattle.rje_station.specs.Receiving.{Receiving, MayRefuse, after_receiving, after_replying, trace_after_reply}
 use Rattle.rje_station.specs.Sending.{IsWrittenOf}
 use Rattle.bsc_history.specs.declared.sound_turn.SoundTurn.{SoundTurn}
 use Rattle.bsc_history.specs.declared.spoken_turn.SpokenTurn.{SpokenTurn}
@@ -30,7 +29,7 @@ use Rattle.line_world.specs.declared.spoken.Spoken.{Spoken}
 use Rattle.line_world.specs.declared.turn.Turn.{Turn}
 use Rattle.line_world.specs.Carrying.{IsCarried}
 use Rattle.line_world.specs.Damage.{Fits}
-use Rattle.line_world.specs.Inside.Driving.{IsReplyCarried}
+use Rattle.line_world.specs.Inside.Driving.{IsReplyCarried, ReplyBreaks}
 use Rattle.line_world.specs.Plan.{plan_of}
 use Rattle.line_world.specs.Run.{TellsTurn, IsDue, FitsReply, BreaksTurn}
 use Rattle.line_world.proofs.Comings.{Told, tell, reply_told, reply_fits, block_carried, first_left}
@@ -101,9 +100,10 @@ module _ (every : EveryHearing) (Breaks : Fate → Sound → List ℕ → Type 0
       let told = told_turn every turn in
       (told.0, told.1, record { sent = sent; due = sent_is_due blocks g own say rest sent due left written; breaks = inl (subst (λ x. Breaks turn.up (sound_of x) sent) due broken) })
 
-  pub breaks_replied : (arrived : Sound) (refused : Bool) (reply : Reply) (reply_sent : List ℕ) → Fits turn.up sent → Told turn.up (sound_of say) arrived → refused ≡ (refused && is_block arrived) → replying own (counts arrived) refused turn.wish ≡ Some reply → Written (frame_of reply) reply_sent
-      → Breaks turn.down (sound_of_reply (Some reply)) reply_sent → (place : SoundTurn) × TellsTurn turn place × BreaksTurn Breaks counts blocks g own turn place
-  breaks_replied arrived refused reply reply_sent fits told block replies reply_written broken =
+  pub breaks_replied : (arrived : Sound) (refused : Bool) (owed : Option Reply) → Fits turn.up sent → Told turn.up (sound_of say) arrived → refused ≡ (refused && is_block arrived) → replying own (counts arrived) refused turn.wish ≡ owed → ReplyBreaks Breaks turn.down owed
+      → (place : SoundTurn) × TellsTurn turn place × BreaksTurn Breaks counts blocks g own turn place
+  breaks_replied arrived refused None fits told block owes broken = absurd broken
+  breaks_replied arrived refused (Some reply) fits told block owes (reply_sent, reply_written, broken) =
       let down = tell every turn.down in (
         record { up = told.told; down = down.0; refused = refused; wish = turn.wish; pause = turn.pause },
         record { up = told.tells; down = down.1; wish = refl; pause = refl },
@@ -115,7 +115,7 @@ module _ (every : EveryHearing) (Breaks : Fate → Sound → List ℕ → Type 0
             arrived = arrived;
             up = ap (λ x. after_fate told.told (sound_of x)) (sym due) ∙ told.after;
             reply = reply;
-            replies = ap (λ f. replying own (counts arrived) f turn.wish) (sym block) ∙ replies;
+            replies = ap (λ f. replying own (counts arrived) f turn.wish) (sym block) ∙ owes;
             reply_sent = reply_sent;
             written = reply_written;
             breaks = broken;

@@ -1,7 +1,6 @@
 -- The loop of a run: the turns so far are those of a history, and both stations stand where it left them.
 use Rattle.std.proofs.Common.{◌≡◌, ◌⊎◌, inl, inr, ℕ, zero, suc, ◌+◌, ◌<◌, ◌==◌, true, false, ◌&&◌, List, [], ◌∷◌, ◌++◌, length, map, reverse, take, drop, slice_get, Some, if◌then◌else◌, refl, ap, sym, ◌∙◌, subst, arith, rules}
 use Rattle.std.proofs.lemmas.Bool.{true≢false}
-use Rattle.std.proofs.lemmas.List.{take-append-drop, map-append, length-map, length-reverse, reverse-append}
 use Rattle.bsc_link.specs.declared.outcome.Outcome.{Outcome}
 use Rattle.bsc_link.specs.declared.sound.Sound.{Sound}
 use Rattle.bsc_link.specs.Sender.{say_in, outcome_in}
@@ -22,7 +21,7 @@ use Rattle.bsc_history.specs.Outcome.{outcome, outcome_after}
 use Rattle.bsc_history.specs.Conversation.{is_block}
 use Rattle.line_world.specs.Damage.{HasBadCut, IsNoDamage}
 use Rattle.line_world.specs.Drive.{IsDrive}
-use Rattle.line_world.specs.Inside.Driving.{TakesTurn, BreaksIn, BreaksReply, IsTurnFault}
+use Rattle.line_world.specs.Inside.Driving.{TakesTurn, BreaksIn, IsTurnFault}
 use Rattle.line_world.specs.Faults.{fault_at}
 use Rattle.bsc_history.specs.Fate.{sound_of, after_fate}
 use Rattle.line_world.specs.Plan.{plan_of}
@@ -36,6 +35,7 @@ use Rattle.line_world.proofs.Planned.{begins}
 use Rattle.bsc_history.proofs.ForRuns.{conversations_are_spoken, sender_core_says}
 use Rattle.line_world.proofs.ReceivingTurns.{refused_block}
 use Rattle.line_world.proofs.RunTurns.{Laws, StandsRun, turn_more, due_is, goes_on, answer_is}
+use Rattle.line_world.proofs.SoFar.{SpokenSoFar, spoken_on}
 use Rattle.line_world.proofs.Telling.{told_turn, told_length, told_any, told_whole, told_with, get_seam, spoken_longer}
 
 pub plan_some : (jobs : List Job) → 0 < length jobs → plan_of (blocks jobs) ≡ [] → ⊥
@@ -139,8 +139,7 @@ module _ (laws : Laws) (jobs : List Job) (turns : List Turn) (h : History) (s : 
             let told = said_told laws.one laws.transmits turn.up say s.rest b.sent d.up.what d.arrived b.written d.up.carried d.up.arrived_is in
             let block : d.refused ≡ (d.refused && is_block d.arrived) = refused_block d.up.what _ d.refused d.up.may ∙ ap (λ x. d.refused && is_block x) (sym d.up.arrived_is) in
             let answer : d.answer ≡ replying h d.arrived d.refused turn.wish = answer_is jobs turns h s r turn _ b.sent d.middle d.arrived d.refused d.answer p (goes_on jobs turns h s r p b.live) d.up in
-            breaks_replied laws.every Breaks as_it_is (blocks jobs) (gives_up_now h) h turn say s.rest b.sent due left b.written d.arrived d.refused d.reply d.reply_sent d.up.carried.fits told block
-            (sym answer ∙ d.up.reply_is ∙ d.reply_is) d.written d.breaks
+            breaks_replied laws.every Breaks as_it_is (blocks jobs) (gives_up_now h) h turn say s.rest b.sent due left b.written d.arrived d.refused d.middle.due d.up.carried.fits told block (sym answer ∙ d.up.reply_is) d.breaks
       ] in
       (places_with broken.0, first_with Breaks broken.0 broken.1 b.live broken.2)
 
@@ -153,11 +152,8 @@ pub record IsIdle (jobs : List Job) (h : History) (s : Sending) (r : Receiving) 
   pub sender : s ≡ first_sending []
   pub receiver : r ≡ first_receiving
 
-pub record Running (jobs : List Job) (turns : List Turn) (n : ℕ) (spoken : List Spoken) (s : Sending) (r : Receiving) : Type 0 where
-  pub history : History
-  pub long : length history ≡ n
-  pub spoken_is : spoken ≡ spoken_turns history
-  pub stands : IsIdle jobs history s r ⊎ ((0 < length jobs) × StandsRun jobs turns history s r)
+abbrev pub Running : List Job → List Turn → ℕ → List Spoken → Sending → Receiving → Type 0
+Running jobs turns n spoken s r = SpokenSoFar spoken_of (λ h. IsIdle jobs h s r ⊎ ((0 < length jobs) × StandsRun jobs turns h s r)) n spoken
 
 stands_first : (jobs : List Job) (turns : List Turn) → 0 < length jobs → StandsRun jobs turns [] (first_sending jobs) first_receiving
 stands_first jobs turns l = record {
@@ -190,13 +186,7 @@ running_more laws jobs turns n spoken spoken' s s' r r' turn t p here took more 
   | inl idle ↦ absurd (true≢false (sym (idle_over jobs p.history s r idle) ∙ took.live))
   | inr (l, stands) ↦
       let there : slice_get turns (length p.history) ≡ Some turn = subst (λ k. slice_get turns k ≡ Some turn) (sym p.long) here in
-      let turned : spoken_turns (turn_of turn t ∷ p.history) ≡ spoken_turns p.history ++ t ∷ [] = ap (map spoken_of) (reverse-append (turn_of turn t ∷ []) p.history) ∙ map-append spoken_of (reverse p.history) (turn_of turn t ∷ []) in
-      record {
-        history = turn_of turn t ∷ p.history;
-        long = omega (arith, p.long);
-        spoken_is = more ∙ ap (λ xs. xs ++ t ∷ []) p.spoken_is ∙ sym turned;
-        stands = inr (l, turn_more laws jobs turns p.history s s' r r' turn t l stands there took);
-      }
+      spoken_on spoken_of _ _ n spoken spoken' p (turn_of turn t) t refl more (inr (l, turn_more laws jobs turns p.history s s' r r' turn t l stands there took))
 ]
 
 whole_if : Laws → (jobs : List Job) (turns : List Turn) (n : ℕ) (spoken : List Spoken) (s : Sending) (r : Receiving) → (p : Running jobs turns n spoken s r) → (StandsRun jobs turns p.history s r → (length p.history ≡ length turns) ⊎ (is_over p.history ≡ true))
@@ -227,9 +217,6 @@ running_breaks laws jobs turns n spoken s r turn Breaks p here b = elim p.stands
       let first = turn_breaks laws jobs turns p.history s r turn l stands there Breaks b in
       (first.0, subst (λ k. BreaksFirst Breaks (blocks jobs) turns first.0 (k + 1)) p.long first.1)
 ]
-
-pub running_length : (jobs : List Job) (turns : List Turn) (n : ℕ) (spoken : List Spoken) (s : Sending) (r : Receiving) → Running jobs turns n spoken s r → length spoken ≡ n
-running_length jobs turns n spoken s r p = ap length p.spoken_is ∙ length-map (reverse p.history) spoken_of ∙ length-reverse p.history ∙ p.long
 
 pub drive_fault : Laws → (jobs : List Job) (turns : List Turn) (n : ℕ) (spoken : List Spoken) (s : Sending) (r : Receiving) (turn : Turn) (fault : TurnFault) → Running jobs turns n spoken s r → slice_get turns n ≡ Some turn
     → IsTurnFault turn s r fault → IsDriveFault jobs turns (fault_at fault (n + 1))

@@ -31,8 +31,12 @@ pub record IsCarried (fate : Fate) (said : Sound) (sent : List ℕ) (what : Hear
   pub heard : IsHeard (bytes_after fate sent) what
   pub may : MayDamage fate said (sound_heard what)
 
--- why it isn't carried; of memory nothing is said
+-- a fault of memory says nothing, and another one that a fate so breaks a rule
+abbrev pub FaultOf : ((Fate → Sound → List ℕ → Type 0) → Type 0) → TurnFault → Type 0
+FaultOf BreaksBy TurnFault.OutOfMemory = Unit {0}
+FaultOf BreaksBy TurnFault.NotDamage = BreaksBy IsNoDamage
+FaultOf BreaksBy TurnFault.BadCut = BreaksBy HasBadCut
+
+-- why it isn't carried
 abbrev pub IsFateFault : Fate → Sound → List ℕ → TurnFault → Type 0
-IsFateFault fate said sent TurnFault.OutOfMemory = Unit {0}
-IsFateFault fate said sent TurnFault.NotDamage = IsNoDamage fate said sent
-IsFateFault fate said sent TurnFault.BadCut = HasBadCut fate said sent
+IsFateFault fate said sent fault = FaultOf (λ Breaks. Breaks fate said sent) fault

@@ -1,7 +1,7 @@
 -- Where the secondary has no jobs, the run of a pair is the run of the primary's jobs.
 use Rattle.std.proofs.Common.{◌≡◌, ◌⊎◌, inl, inr, ℕ, suc, Bool, true, false, List, [], ◌∷◌, ◌++◌, length, map, reverse, slice_get, option_map, Option, Some, None, refl, sym, ap, ◌∙◌, subst}
 use Rattle.std.proofs.lemmas.Bool.{true≢false, cases_Bool}
-use Rattle.std.proofs.lemmas.List.{map-append, reverse-append, length-map}
+use Rattle.std.proofs.lemmas.List.{map-append, length-map}
 use Rattle.std.proofs.lemmas.Option.{slice_get-map}
 use Rattle.bsc_codes.specs.declared.block.Block.{Block}
 use Rattle.bsc_link.specs.declared.outcome.Outcome.{Outcome}
@@ -24,6 +24,7 @@ use Rattle.line_world.specs.Plan.{plan_of}
 use Rattle.line_world.specs.Run.{TellsSchedule, FitsTurn, AllFit, spoken_of, spoken_turns}
 use Rattle.pair_world.specs.PairRun.{TellsPairs, FitParts, AllPairsFit, pair_of, spoken_pairs, Told}
 use Rattle.pair_world.specs.OneWay.{spoken_alone, WithoutDownJobs}
+use Rattle.line_world.proofs.ForPairs.{one_more}
 
 -- the primary alone spoke in the turn, and this is what came of it
 record IsAlone (p : Plan) (past : PairHistory) (t : SpokenPair) : Type 0 where
@@ -141,12 +142,6 @@ up_over p places h c =
 
 -- ---- What is told.
 
-turns_more : (t : SpokenTurn) (past : History) → spoken_turns (t ∷ past) ≡ spoken_turns past ++ spoken_of t ∷ []
-turns_more t past = ap (map spoken_of) (reverse-append (t ∷ []) past) ∙ map-append spoken_of (reverse past) (t ∷ [])
-
-pairs_more : (t : SpokenPair) (past : PairHistory) → spoken_pairs (t ∷ past) ≡ spoken_pairs past ++ pair_of t ∷ []
-pairs_more t past = ap (map pair_of) (reverse-append (t ∷ []) past) ∙ map-append pair_of (reverse past) (t ∷ [])
-
 alone_pair : (t : SpokenPair) (own : SpokenTurn) → t.primary ≡ Some own → t.secondary ≡ None → pair_of t ≡ spoken_alone (spoken_of own)
 alone_pair t own e f = rw (e, f) refl
 
@@ -156,8 +151,8 @@ told_alone p (t ∷ past) c =
     let a = is_alone p past t c.0 in
     let pair : pair_of t ≡ spoken_alone (spoken_of a.own) = alone_pair t a.own a.primary_is a.secondary_is in
     let alone : map spoken_alone (spoken_turns (up (t ∷ past))) ≡ map spoken_alone (spoken_turns (up past)) ++ spoken_alone (spoken_of a.own) ∷ [] =
-    ap (λ h. map spoken_alone (spoken_turns h)) (up_more t past a.own a.primary_is) ∙ ap (map spoken_alone) (turns_more a.own (up past)) ∙ map-append spoken_alone (spoken_turns (up past)) (spoken_of a.own ∷ []) in
-    pairs_more t past ∙ ap (λ xs. xs ++ pair_of t ∷ []) (told_alone p past c.1) ∙ ap (λ x. map spoken_alone (spoken_turns (up past)) ++ x ∷ []) pair ∙ sym alone
+    ap (λ h. map spoken_alone (spoken_turns h)) (up_more t past a.own a.primary_is) ∙ ap (map spoken_alone) (one_more spoken_of a.own (up past)) ∙ map-append spoken_alone (spoken_turns (up past)) (spoken_of a.own ∷ []) in
+    one_more pair_of t past ∙ ap (λ xs. xs ++ pair_of t ∷ []) (told_alone p past c.1) ∙ ap (λ x. map spoken_alone (spoken_turns (up past)) ++ x ∷ []) pair ∙ sym alone
 
 abbrev told_of : List Job → ℕ → Option Outcome → Told
 told_of handed counted ending = record { handed = handed; counted = counted; ending = ending }

@@ -15,15 +15,14 @@ use Rattle.rje_station.specs.Sending.{IsWrittenOf}
 use Rattle.rje_station.specs.Station.{Contending, due_at, after_answer, HeardOther, after_other, lets_in}
 use Rattle.line_world.specs.declared.turn.Turn.{Turn}
 use Rattle.line_world.specs.declared.turn_fault.TurnFault.{TurnFault}
-use Rattle.line_world.specs.declared.turn_fault.TurnFault.TheVariants as Fault
 use Rattle.line_world.specs.Damage.{AreHeardAs, Fits}
-use Rattle.line_world.specs.Inside.Driving.{IsReplyFault}
+use Rattle.line_world.specs.Inside.Driving.{ReplyBreaks, IsReplyFault}
 use Rattle.line_world.specs.Carrying.{bytes_after, MayDamage}
 use Rattle.bsc_history.specs.Fate.{sound_of}
 use Rattle.line_world.specs.MemoryLine.{LineInMemory, talk_of}
 use Rattle.rje_station.proofs.PassedOver.{passed_enq, passed_unrefused}
-use Rattle.line_world.proofs.ForPairs.{line_hears, same_sound, same_refusal}
-use Rattle.pair_world.specs.Inside.PairDriving.{GoesAcross, HearsNothing, IsAloneFault}
+use Rattle.line_world.proofs.ForPairs.{fault_so, line_hears, same_sound, same_refusal}
+use Rattle.pair_world.specs.Inside.PairDriving.{GoesAcross, HearsNothing, BreaksAlone, IsAloneFault}
 
 -- ---- Across.
 
@@ -74,22 +73,8 @@ nothing_came l m sound comes h = record { what = h.what; heard = line_hears l m 
 
 -- ---- Faults.
 
-by_reply : (turn : Turn) (s l middle : Contending) (sent : List ℕ) (arrived : Sound) (refused : Bool) (answer due : Option Reply) (fault : TurnFault) → IsWrittenOf (due_at s) s.sender.rest sent
-    → GoesAcross turn (sound_of (due_at s)) sent l middle arrived refused answer → middle.receiver.due ≡ due → IsReplyFault turn.down due fault → IsAloneFault turn s l fault
-by_reply turn s l middle sent arrived refused answer due Fault.OutOfMemory written across is h = tt
-by_reply turn s l middle sent arrived refused answer None Fault.NotDamage written across is h = absurd h
-by_reply turn s l middle sent arrived refused answer None Fault.BadCut written across is h = absurd h
-by_reply turn s l middle sent arrived refused answer (Some reply) Fault.NotDamage written across is h = record {
-  sent = sent;
-  written = written;
-  breaks = inr (record { arrived = arrived; refused = refused; answer = answer; middle = middle; across = across; reply = reply; reply_is = is; reply_sent = h.0; written = h.1; breaks = h.2 });
-}
-by_reply turn s l middle sent arrived refused answer (Some reply) Fault.BadCut written across is h = record {
-  sent = sent;
-  written = written;
-  breaks = inr (record { arrived = arrived; refused = refused; answer = answer; middle = middle; across = across; reply = reply; reply_is = is; reply_sent = h.0; written = h.1; breaks = h.2 });
-}
-
 pub fault_back : (turn : Turn) (s l middle : Contending) (sent : List ℕ) (arrived : Sound) (refused : Bool) (answer : Option Reply) (fault : TurnFault) → IsWrittenOf (due_at s) s.sender.rest sent
     → GoesAcross turn (sound_of (due_at s)) sent l middle arrived refused answer → IsReplyFault turn.down middle.receiver.due fault → IsAloneFault turn s l fault
-fault_back turn s l middle sent arrived refused answer fault written across h = by_reply turn s l middle sent arrived refused answer middle.receiver.due fault written across refl h
+fault_back turn s l middle sent arrived refused answer fault written across h =
+    fault_so (λ Breaks. ReplyBreaks Breaks turn.down middle.receiver.due) (λ Breaks. BreaksAlone Breaks turn s l)
+    (λ Breaks b. record { sent = sent; written = written; breaks = inr (record { arrived = arrived; refused = refused; answer = answer; middle = middle; across = across; breaks = b }) }) fault h

@@ -31,7 +31,7 @@ use Rattle.pair_world.specs.declared.pair_spoken.PairSpoken.{PairSpoken}
 use Rattle.pair_world.specs.declared.pair_turn.PairTurn.{PairTurn}
 use Rattle.bsc_history.specs.Pair.{PairHistory, up, down, is_bid_out, is_something, sound_counted}
 use Rattle.bsc_history.specs.PairCount.{spent, down_gave_up}
-use Rattle.pair_world.specs.Inside.PairDriving.{BreaksAlone, BreaksBack, BreaksPair, IsPairTurnFault}
+use Rattle.pair_world.specs.Inside.PairDriving.{BreaksAlone, BreaksPair, IsPairTurnFault}
 use Rattle.pair_world.specs.PairRun.{TellsPair, BreaksPairFirst, BreaksPairTurn, IsPairDriveFault}
 use Rattle.bsc_history.specs.PairSchedule.{PairPlace}
 use Rattle.pair_world.proofs.Alone.{Laws, replied, up_told, refused_is}
@@ -56,9 +56,9 @@ module _ (laws : Laws) (Breaks : Fate → Sound → List ℕ → Type 0) (jobs :
     | inr d ↦
         let t : Spoken = record { said = due_at s; arrived = d.arrived; refused = d.refused; reply = d.answer; heard = Sound.Quiet } in
         let answer : d.answer ≡ replying own (sound_counted bid_out d.arrived) d.refused turn.wish = replied laws jobs own g bid_out s l d.middle turn t b.sent stands may_own goes takes refl due_is b.written d.across in
-        breaks_replied laws.every Breaks (sound_counted bid_out) (blocks jobs) g own turn (due_at s) s.sender.rest b.sent due_is sends.counted.rest b.written d.arrived d.refused d.reply d.reply_sent d.across.carried.fits
+        breaks_replied laws.every Breaks (sound_counted bid_out) (blocks jobs) g own turn (due_at s) s.sender.rest b.sent due_is sends.counted.rest b.written d.arrived d.refused d.middle.receiver.due d.across.carried.fits
         (up_told laws jobs own g bid_out s l d.middle turn t b.sent stands may_own goes takes refl due_is b.written d.across) (refused_is laws jobs own g bid_out s l d.middle turn t b.sent stands may_own goes takes refl due_is b.written d.across)
-        (sym answer ∙ d.across.reply_is ∙ d.reply_is) d.written d.breaks
+        (sym answer ∙ d.across.reply_is) d.breaks
   ]
 
 -- ---- The schedule.

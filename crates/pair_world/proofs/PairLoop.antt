@@ -1,6 +1,5 @@
 -- The loop of a run of two stations that both have jobs: the turns so far are those of a history, and both stations stand where it left them.
 use Rattle.std.proofs.Common.{Bool, ◌≡◌, ◌⊎◌, inl, inr, ℕ, ◌+◌, ◌==◌, false, List, [], ◌∷◌, ◌++◌, length, map, reverse, take, drop, slice_get, Option, Some, None, refl, ap, sym, ◌∙◌, subst, arith}
-use Rattle.std.proofs.lemmas.List.{map-append, length-map, length-reverse, reverse-append}
 use Rattle.bsc_link.specs.declared.rank.Rank.{Rank}
 use Rattle.rje_jobs.specs.declared.job.Job.{Job}
 use Rattle.rje_jobs.specs.Blocks.{blocks}
@@ -27,13 +26,10 @@ use Rattle.pair_world.proofs.Contends.{contends_first}
 use Rattle.pair_world.proofs.PairRuns.{StandsPairRun, cases_jobs, primary_more, secondary_more, both_more, nothing_due}
 use Rattle.pair_world.proofs.PairTelling.{told_pair, pairs_longer}
 use Rattle.pair_world.proofs.Sends.{SendsBy, sends_first}
-use Rattle.line_world.proofs.ForPairs.{plan_some, some_jobs, told_any, told_length, told_whole}
+use Rattle.line_world.proofs.ForPairs.{SpokenSoFar, plan_some, some_jobs, spoken_on, told_any, told_length, told_whole}
 
-pub record PairRunning (ups downs : List Job) (turns : List PairTurn) (n : ℕ) (spoken : List PairSpoken) (a b : Contending) : Type 0 where
-  pub history : PairHistory
-  pub long : length history ≡ n
-  pub spoken_is : spoken ≡ spoken_pairs history
-  pub stands : StandsPairRun ups downs turns history a b
+abbrev pub PairRunning : List Job → List Job → List PairTurn → ℕ → List PairSpoken → Contending → Contending → Type 0
+PairRunning ups downs turns n spoken a b = SpokenSoFar pair_of (λ h. StandsPairRun ups downs turns h a b) n spoken
 
 stands_first : (ups downs : List Job) (turns : List PairTurn) → StandsPairRun ups downs turns [] (first_contending Rank.Primary ups) (first_contending Rank.Secondary downs)
 stands_first ups downs turns = record {
@@ -65,25 +61,15 @@ pair_first ups downs turns spoken a b e is js = rw (e, is, js) (record { history
 pair_same : (t : PairSpoken) (x y : Option Spoken) → t.primary ≡ x → t.secondary ≡ y → t ≡ record { primary = x; secondary = y }
 pair_same t x y e f = ap (λ z. record t { primary = z }) e ∙ ap (λ z. record { primary = x; secondary = z }) f
 
-goes_on : (ups downs : List Job) (turns : List PairTurn) (n : ℕ) (spoken spoken' : List PairSpoken) (a b a' b' : Contending) (t : PairSpoken) (p : PairRunning ups downs turns n spoken a b) (x : SpokenPair) → t ≡ pair_of x → spoken' ≡ spoken ++ t ∷ []
-    → StandsPairRun ups downs turns (x ∷ p.history) a' b' → PairRunning ups downs turns (n + 1) spoken' a' b'
-goes_on ups downs turns n spoken spoken' a b a' b' t p x is more stands =
-    let turned : spoken_pairs (x ∷ p.history) ≡ spoken_pairs p.history ++ pair_of x ∷ [] = ap (map pair_of) (reverse-append (x ∷ []) p.history) ∙ map-append pair_of (reverse p.history) (x ∷ []) in
-    record {
-      history = x ∷ p.history;
-      long = omega (arith, p.long);
-      spoken_is = more ∙ ap (λ xs. xs ++ t ∷ []) p.spoken_is ∙ ap (λ z. spoken_pairs p.history ++ z ∷ []) is ∙ sym turned;
-      stands = stands;
-    }
-
 pub pair_more : Laws → (ups downs : List Job) (turns : List PairTurn) (n : ℕ) (spoken spoken' : List PairSpoken) (a b a' b' : Contending) (turn : PairTurn) (t : PairSpoken) → PairRunning ups downs turns n spoken a b → slice_get turns n ≡ Some turn
     → TakesPair (Some t) turn a a' b b' → spoken' ≡ spoken ++ t ∷ [] → PairRunning ups downs turns (n + 1) spoken' a' b'
 pair_more laws ups downs turns n spoken spoken' a b a' b' turn t p here took more =
     let there : slice_get turns (length p.history) ≡ Some turn = subst (λ k. slice_get turns k ≡ Some turn) (sym p.long) here in
+    let on : (x : SpokenPair) → t ≡ pair_of x → StandsPairRun ups downs turns (x ∷ p.history) a' b' → PairRunning ups downs turns (n + 1) spoken' a' b' = λ x is stands. spoken_on pair_of _ _ n spoken spoken' p x t is more stands in
     elim took [
-      | inl w ↦ goes_on ups downs turns n spoken spoken' a b a' b' t p _ (pair_same t (Some w.spoken) None w.primary_is w.secondary_is) more (primary_more laws ups downs turns p.history a a' b b' turn t p.stands there w)
-      | inr (inl w) ↦ goes_on ups downs turns n spoken spoken' a b a' b' t p _ (pair_same t None (Some w.spoken) w.primary_is w.secondary_is) more (secondary_more laws ups downs turns p.history a a' b b' turn t p.stands there w)
-      | inr (inr w) ↦ goes_on ups downs turns n spoken spoken' a b a' b' t p _ (pair_same t (Some w.collide.first) (Some w.collide.second) w.collide.primary_is w.collide.secondary_is) more (both_more laws ups downs turns p.history a a' b b' turn t p.stands there w)
+      | inl w ↦ on _ (pair_same t (Some w.spoken) None w.primary_is w.secondary_is) (primary_more laws ups downs turns p.history a a' b b' turn t p.stands there w)
+      | inr (inl w) ↦ on _ (pair_same t None (Some w.spoken) w.primary_is w.secondary_is) (secondary_more laws ups downs turns p.history a a' b b' turn t p.stands there w)
+      | inr (inr w) ↦ on _ (pair_same t (Some w.collide.first) (Some w.collide.second) w.collide.primary_is w.collide.secondary_is) (both_more laws ups downs turns p.history a a' b b' turn t p.stands there w)
     ]
 
 -- ---- The end.
@@ -181,6 +167,3 @@ pair_over laws ups downs turns n spoken a b a' b' turn p here took =
 
 pub pair_out : Laws → (ups downs : List Job) (turns : List PairTurn) (n : ℕ) (spoken : List PairSpoken) (a b : Contending) → PairRunning ups downs turns n spoken a b → n ≡ length turns → IsPairDrive ups downs turns spoken a b
 pair_out laws ups downs turns n spoken a b p out = whole_pair laws ups downs turns n spoken a b p (inl (p.long ∙ out))
-
-pub pair_length : (ups downs : List Job) (turns : List PairTurn) (n : ℕ) (spoken : List PairSpoken) (a b : Contending) → PairRunning ups downs turns n spoken a b → length spoken ≡ n
-pair_length ups downs turns n spoken a b p = ap length p.spoken_is ∙ length-map (reverse p.history) pair_of ∙ length-reverse p.history ∙ p.long

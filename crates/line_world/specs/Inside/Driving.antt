@@ -15,8 +15,8 @@ use Rattle.line_world.specs.declared.spoken.Spoken.{Spoken}
 use Rattle.line_world.specs.declared.turn.Turn.{Turn}
 use Rattle.line_world.specs.declared.turn_fault.TurnFault.{TurnFault}
 use Rattle.bsc_history.specs.Fate.{sound_of, sound_of_reply}
-use Rattle.line_world.specs.Damage.{AreHeardAs, HasBadCut, IsNoDamage}
-use Rattle.line_world.specs.Carrying.{IsCarried, IsFateFault}
+use Rattle.line_world.specs.Damage.{AreHeardAs}
+use Rattle.line_world.specs.Carrying.{IsCarried, FaultOf}
 
 -- ---- The two ways of a turn.
 
@@ -35,11 +35,14 @@ IsReplyCarried fate None heard = AreHeardAs [] heard
 IsReplyCarried fate (Some reply) heard =
     (sent : List ℕ) × Written (frame_of reply) sent × ((what : Heard) × IsCarried fate (sound_of_reply (Some reply)) sent what × (heard ≡ sound_heard what))
 
--- why not
+-- the reply that was due was sent, and its fate breaks a rule
+abbrev pub ReplyBreaks : (Fate → Sound → List ℕ → Type 0) → Fate → Option Reply → Type 0
+ReplyBreaks Breaks fate None = ⊥
+ReplyBreaks Breaks fate (Some reply) = (sent : List ℕ) × Written (frame_of reply) sent × Breaks fate (sound_of_reply (Some reply)) sent
+
+-- why it isn't carried
 abbrev pub IsReplyFault : Fate → Option Reply → TurnFault → Type 0
-IsReplyFault fate reply TurnFault.OutOfMemory = Unit {0}
-IsReplyFault fate None fault = ⊥
-IsReplyFault fate (Some reply) fault = (sent : List ℕ) × Written (frame_of reply) sent × IsFateFault fate (sound_of_reply (Some reply)) sent fault
+IsReplyFault fate due fault = FaultOf (λ Breaks. ReplyBreaks Breaks fate due) fault
 
 -- the receiver's reply went down, and the sender heard it
 pub record GoesDown (turn : Turn) (s s' : Sending) (r r' : Receiving) (heard : Sound) : Type 0 where
@@ -80,11 +83,7 @@ pub record BreaksReply (Breaks : Fate → Sound → List ℕ → Type 0) (turn :
   pub answer : Option Reply
   pub middle : Receiving
   pub up : GoesUp turn said sent r middle arrived refused answer
-  pub reply : Reply
-  pub reply_is : middle.due ≡ Some reply
-  pub reply_sent : List ℕ
-  pub written : Written (frame_of reply) reply_sent
-  pub breaks : Breaks turn.down (sound_of_reply (Some reply)) reply_sent
+  pub breaks : ReplyBreaks Breaks turn.down middle.due
 
 -- a fate of the turn breaks a rule
 pub record BreaksIn (Breaks : Fate → Sound → List ℕ → Type 0) (turn : Turn) (s : Sending) (r : Receiving) : Type 0 where
@@ -94,6 +93,4 @@ pub record BreaksIn (Breaks : Fate → Sound → List ℕ → Type 0) (turn : Tu
   pub breaks : Breaks turn.up (sound_of (say_in s.core.place)) sent ⊎ BreaksReply Breaks turn (sound_of (say_in s.core.place)) sent r
 
 abbrev pub IsTurnFault : Turn → Sending → Receiving → TurnFault → Type 0
-IsTurnFault turn s r TurnFault.OutOfMemory = Unit {0}
-IsTurnFault turn s r TurnFault.NotDamage = BreaksIn IsNoDamage turn s r
-IsTurnFault turn s r TurnFault.BadCut = BreaksIn HasBadCut turn s r
+IsTurnFault turn s r fault = FaultOf (λ Breaks. BreaksIn Breaks turn s r) fault

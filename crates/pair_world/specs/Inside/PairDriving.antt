@@ -1,23 +1,22 @@
 -- One turn of two stations that both have jobs, over lines in memory. Private functions cite this; no promise rests on it.
 use Rattle.std.specs.Prelude.{◌≡◌, ◌⊎◌, Bool, true, false, ℕ, List, [], Option, Some, None}
 use Rattle.bsc_frame.specs.declared.heard.Heard.{Heard}
-use Rattle.bsc_frame.specs.Written.{Written}
 use Rattle.bsc_link.specs.declared.reply.Reply.{Reply}
 use Rattle.bsc_link.specs.declared.say.Say.{Say}
 use Rattle.bsc_link.specs.declared.sound.Sound.{Sound}
 use Rattle.rje_station.specs.Hearing.{sound_heard}
 use Rattle.rje_station.specs.JoinedJobs.{begun_in}
-use Rattle.rje_station.specs.Receiving.{MayRefuse, frame_of}
+use Rattle.rje_station.specs.Receiving.{MayRefuse}
 use Rattle.rje_station.specs.Sending.{IsWrittenOf}
 use Rattle.rje_station.specs.Station.{Contending, due_at, after_own_speaking, after_answer, after_other, after_own_reply, after_other_ended}
 use Rattle.line_world.specs.declared.fate.Fate.{Fate}
 use Rattle.line_world.specs.declared.spoken.Spoken.{Spoken}
 use Rattle.line_world.specs.declared.turn.Turn.{Turn}
 use Rattle.line_world.specs.declared.turn_fault.TurnFault.{TurnFault}
-use Rattle.bsc_history.specs.Fate.{sound_of, sound_of_reply}
-use Rattle.line_world.specs.Damage.{AreHeardAs, HasBadCut, IsNoDamage}
-use Rattle.line_world.specs.Inside.Driving.{IsReplyCarried, AfterEnd}
-use Rattle.line_world.specs.Carrying.{IsCarried}
+use Rattle.bsc_history.specs.Fate.{sound_of}
+use Rattle.line_world.specs.Damage.{AreHeardAs}
+use Rattle.line_world.specs.Inside.Driving.{IsReplyCarried, ReplyBreaks, AfterEnd}
+use Rattle.line_world.specs.Carrying.{IsCarried, FaultOf}
 use Rattle.bsc_history.specs.declared.bids.Bids.{Bids}
 use Rattle.pair_world.specs.declared.pair_spoken.PairSpoken.{PairSpoken}
 use Rattle.pair_world.specs.declared.pair_turn.PairTurn.{PairTurn}
@@ -67,11 +66,7 @@ pub record BreaksBack (Breaks : Fate → Sound → List ℕ → Type 0) (turn : 
   pub answer : Option Reply
   pub middle : Contending
   pub across : GoesAcross turn said sent l middle arrived refused answer
-  pub reply : Reply
-  pub reply_is : middle.receiver.due ≡ Some reply
-  pub reply_sent : List ℕ
-  pub written : Written (frame_of reply) reply_sent
-  pub breaks : Breaks turn.down (sound_of_reply (Some reply)) reply_sent
+  pub breaks : ReplyBreaks Breaks turn.down middle.receiver.due
 
 -- a fate of the turn breaks a rule
 pub record BreaksAlone (Breaks : Fate → Sound → List ℕ → Type 0) (turn : Turn) (s l : Contending) : Type 0 where
@@ -80,9 +75,7 @@ pub record BreaksAlone (Breaks : Fate → Sound → List ℕ → Type 0) (turn :
   pub breaks : Breaks turn.up (sound_of (due_at s)) sent ⊎ BreaksBack Breaks turn (sound_of (due_at s)) sent l
 
 abbrev pub IsAloneFault : Turn → Contending → Contending → TurnFault → Type 0
-IsAloneFault turn s l TurnFault.OutOfMemory = Unit {0}
-IsAloneFault turn s l TurnFault.NotDamage = BreaksAlone IsNoDamage turn s l
-IsAloneFault turn s l TurnFault.BadCut = BreaksAlone HasBadCut turn s l
+IsAloneFault turn s l fault = FaultOf (λ Breaks. BreaksAlone Breaks turn s l) fault
 
 -- ---- Both speak.
 
@@ -153,6 +146,4 @@ BreaksPair Breaks turn a b =
     ⊎ ((primary_does turn.bids a b ≡ false) × (secondary_does turn.bids a b ≡ true) × BreaksAlone Breaks turn.turn b a)
 
 abbrev pub IsPairTurnFault : PairTurn → Contending → Contending → TurnFault → Type 0
-IsPairTurnFault turn a b TurnFault.OutOfMemory = Unit {0}
-IsPairTurnFault turn a b TurnFault.NotDamage = BreaksPair IsNoDamage turn a b
-IsPairTurnFault turn a b TurnFault.BadCut = BreaksPair HasBadCut turn a b
+IsPairTurnFault turn a b fault = FaultOf (λ Breaks. BreaksPair Breaks turn a b) fault
