@@ -6,10 +6,10 @@ pub use Rattle.line_world.proofs.Carried.{damage_fault, line_hears, nothing_carr
 pub use Rattle.line_world.proofs.Comings.{Told, reply_told, said_told}
 pub use Rattle.line_world.proofs.Noted.{answer_noted, hearing_noted, turn_noted}
 pub use Rattle.line_world.proofs.OneDirection.{ToldDown, breaks_replied, breaks_said, no_reply_told, outstanding_is, replies_by, reply_told_as, rested, sent_is_due, turn_of, unanswered}
-pub use Rattle.line_world.proofs.Planned.{begins, next_is_planned}
-pub use Rattle.line_world.proofs.ReceivingTurns.{accepted_is, no_eot, refused_block, taken_eot, taken_is}
-pub use Rattle.line_world.proofs.RunLoop.{plan_some, some_jobs}
-pub use Rattle.line_world.proofs.SendingTurns.{after_end, after_more, cases_end, core_turn, done_is, turn_ends, turn_hears}
+pub use Rattle.line_world.proofs.Planned.{begins}
+pub use Rattle.line_world.proofs.ReceivingTurns.{accepted_is, ended_early, no_eot, refused_block, taken_eot, taken_is}
+pub use Rattle.line_world.proofs.RunLoop.{outcome_plan, plan_some, some_jobs}
+pub use Rattle.line_world.proofs.SendingTurns.{after_end, after_more, cases_end, core_on, counted_last, counted_on, done_is, turn_ends, turn_hears}
 pub use Rattle.line_world.proofs.SoFar.{SpokenSoFar, one_more, spoken_length, spoken_on}
 pub use Rattle.line_world.proofs.Telling.{get_append, get_seam, telling, told_any, told_length, told_on, told_turn, told_whole, told_with}
 pub use Rattle.line_world.proofs.TurnFaults.{fault_so}

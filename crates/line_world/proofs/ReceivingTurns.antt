@@ -96,14 +96,14 @@ blocks_are blocks h t heard.Quiet e out = rw e refl
 -- ---- The end.
 
 -- the receiver ends at an EOT alone
-ended_idle : (s : ReceiverState) (sound : Sound) (wish : Wish) (place : ReceiverPlace) → s.place ≡ place → sound ≢ Sound.Eot → (receiver_news s sound wish).ended ≡ false
-ended_idle s Sound.Eot wish place e n = absurd (n refl)
-ended_idle s Sound.Enq Wish.Hold ReceiverPlace.Idle e n = rw e refl
-ended_idle s Sound.Enq Wish.Go ReceiverPlace.Idle e n = rw e refl
-ended_idle s Sound.Enq Wish.Turn ReceiverPlace.Idle e n = rw e refl
-ended_idle s sound wish ReceiverPlace.Idle e n = rw e refl
-ended_idle s sound wish ReceiverPlace.InTransmission e n = rw e refl
-ended_idle s sound wish ReceiverPlace.Ended e n = rw e refl
+pub ended_early : (s : ReceiverState) (sound : Sound) (wish : Wish) (place : ReceiverPlace) → s.place ≡ place → sound ≢ Sound.Eot → (receiver_news s sound wish).ended ≡ false
+ended_early s Sound.Eot wish place e n = absurd (n refl)
+ended_early s Sound.Enq Wish.Hold ReceiverPlace.Idle e n = rw e refl
+ended_early s Sound.Enq Wish.Go ReceiverPlace.Idle e n = rw e refl
+ended_early s Sound.Enq Wish.Turn ReceiverPlace.Idle e n = rw e refl
+ended_early s sound wish ReceiverPlace.Idle e n = rw e refl
+ended_early s sound wish ReceiverPlace.InTransmission e n = rw e refl
+ended_early s sound wish ReceiverPlace.Ended e n = rw e refl
 
 pub taken_eot : (arrived : Sound) (refused : Bool) → arrived ≢ Sound.Eot → taken arrived refused ≢ Sound.Eot
 taken_eot Sound.Block true n = λ e. cc
@@ -128,5 +128,5 @@ receiving_turns law blocks h r t what p spoken arrived may out =
     record {
       core = ap (λ s. receiver_hears r.core s t.wish) sound ∙ ap (λ c. receiver_hears c (taken t.arrived t.refused) t.wish) p.core;
       jobs = law (numbered blocks (got h)) r what t.refused t.wish p.jobs ∙ ap (λ a. joined (accepted_after what a (numbered blocks (got h)))) accepts ∙ ap joined (blocks_are blocks h t what arrived out);
-      over = λ goes. ap (λ x. (receiver_news r.core x t.wish).ended) sound ∙ ended_idle r.core (taken t.arrived t.refused) t.wish r.core.place refl (taken_eot t.arrived t.refused (no_eot plan t h spoken goes));
+      over = λ goes. ap (λ x. (receiver_news r.core x t.wish).ended) sound ∙ ended_early r.core (taken t.arrived t.refused) t.wish r.core.place refl (taken_eot t.arrived t.refused (no_eot plan t h spoken goes));
     }

@@ -43,7 +43,7 @@ plan_some jobs l e = let b = blocks_begun jobs l in let f : plan_of (b.first ∷
 
 -- ---- The end.
 
-outcome_plan : (plan : Plan) (h : History) → (plan ≡ [] → ⊥) → outcome plan h ≡ outcome_after plan h
+pub outcome_plan : (plan : Plan) (h : History) → (plan ≡ [] → ⊥) → outcome plan h ≡ outcome_after plan h
 outcome_plan [] h n = absurd (n refl)
 outcome_plan (b ∷ plan) h n = refl
 

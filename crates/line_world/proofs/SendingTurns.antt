@@ -21,7 +21,7 @@ use Rattle.bsc_history.proofs.ForRuns.{saying-speaks, sender_core_says, sender_c
 use Rattle.line_world.proofs.Planned.{next_is_planned, begins}
 use Rattle.rje_station.proofs.Due.{unsent}
 
-pub core_turn : (plan : Plan) (n : ℕ) (s : SenderState) (rest : List Block) (said : Say) (heard : Sound) (pause : Bool) → said ≢ Say.End → next_in rest ≡ what_follows plan (n + 1)
+core_turn : (plan : Plan) (n : ℕ) (s : SenderState) (rest : List Block) (said : Say) (heard : Sound) (pause : Bool) → said ≢ Say.End → next_in rest ≡ what_follows plan (n + 1)
     → sender_hears s heard (next_for said rest) pause ≡ hears_after plan n s said heard pause
 core_turn plan n s rest Say.Bid heard pause x w = refl
 core_turn plan n s rest Say.End heard pause x w = absurd (x refl)
@@ -43,21 +43,46 @@ done_is plan gives_up h = elim (cases_Bool (is_over h)) [
 ]
 
 -- the station's core is due to say what the turn says
-pub says : (jobs : List Job) (h : History) (s : Sending) (t : SpokenTurn) → 0 < length jobs → StandsSending jobs h s → IsSpoken (plan_of (blocks jobs)) (t ∷ h) → say_in s.core.place ≡ t.said
+says : (jobs : List Job) (h : History) (s : Sending) (t : SpokenTurn) → 0 < length jobs → StandsSending jobs h s → IsSpoken (plan_of (blocks jobs)) (t ∷ h) → say_in s.core.place ≡ t.said
 says jobs h s t l p spoken =
     ap (λ x. say_in x.place) p.core ∙ (sender_core_says (plan_of (blocks jobs)) h (begins jobs l) spoken.1).0 ∙ sym spoken.0.said
+
+module _ (jobs : List Job) (h : History) (s : Sending) (t : SpokenTurn) (counted : HasCounted jobs (known h) s) where
+  abbrev plan : Plan
+  plan = plan_of (blocks jobs)
+
+  -- with EOT no more is counted
+  pub counted_last : t.said ≡ Say.End → HasCounted jobs (known (t ∷ h)) (after_speaking s)
+  counted_last end =
+      let same : known h ≡ known (t ∷ h) = rw end refl in
+      let before : HasCounted jobs (known h) (after_speaking s) = record { rest = counted.rest; counted = counted.counted } in
+      subst (λ n. HasCounted jobs n (after_speaking s)) same before
+
+  -- after all else the core hears ..
+  pub core_on : say_in s.core.place ≡ t.said → t.said ≢ Say.End → (after_hearing (after_speaking s) t.heard t.pause).core ≡ hears_after plan (known h) s.core t.said t.heard t.pause
+  core_on said more =
+      let same : (after_speaking s).core ≡ s.core = unsent s.core (λ e. more (sym said ∙ e)) in
+      let next : next_in s.rest ≡ what_follows plan (known h + 1) = ap next_in counted.rest ∙ next_is_planned (blocks jobs) (known h) in
+      ap (λ say. sender_hears (after_speaking s).core t.heard (next_for say s.rest) t.pause) (ap (λ x. say_in x.place) same ∙ said)
+      ∙ core_turn plan (known h) (after_speaking s).core s.rest t.said t.heard t.pause more next
+      ∙ ap (λ x. hears_after plan (known h) x t.said t.heard t.pause) same
+
+  -- .. and what it counts is counted
+  pub counted_on : CountsBlocks → say_in s.core.place ≡ t.said → t.said ≢ Say.End → counts_block (line_for s.core t.heard t.pause) ≡ is_counting h t → HasCounted jobs (known (t ∷ h)) (after_hearing (after_speaking s) t.heard t.pause)
+  counted_on law said more counts =
+      let same : counts_block (line_for (after_speaking s).core t.heard t.pause) ≡ is_counting h t = ap (λ x. counts_block (line_for x t.heard t.pause)) (unsent s.core (λ e. more (sym said ∙ e))) ∙ counts in
+      let before : HasCounted jobs (known h) (after_speaking s) = record { rest = counted.rest; counted = counted.counted } in
+      subst (λ c. HasCounted jobs (if c then known h + 1 else known h) (after_hearing (after_speaking s) t.heard t.pause)) same (law.1 jobs (known h) (after_speaking s) t.heard t.pause before)
 
 -- with EOT it ends
 ends : (jobs : List Job) (h : History) (s : Sending) (t : SpokenTurn) → 0 < length jobs → StandsSending jobs h s → IsSpoken (plan_of (blocks jobs)) (t ∷ h) → t.said ≡ Say.End
     → StandsSending jobs (t ∷ h) (after_speaking s)
 ends jobs h s t l p spoken end =
     let said : say_in s.core.place ≡ Say.End = says jobs h s t l p spoken ∙ end in
-    let same : known h ≡ known (t ∷ h) = rw end refl in
-    let counted : HasCounted jobs (known h) (after_speaking s) = record { rest = p.counted.rest; counted = p.counted.counted } in
     record {
       jobs_are = p.jobs_are;
       core = ap sender_sent_end p.core ∙ rw end refl;
-      counted = subst (λ n. HasCounted jobs n (after_speaking s)) same counted;
+      counted = counted_last jobs h s t p.counted end;
       over = rw (said, end) refl;
     }
 
@@ -66,24 +91,12 @@ hears : CountsBlocks → (jobs : List Job) (h : History) (s : Sending) (t : Spok
     → StandsSending jobs (t ∷ h) (after_hearing (after_speaking s) t.heard t.pause)
 hears law jobs h s t l p spoken more =
     let plan = plan_of (blocks jobs) in
-    let said : say_in s.core.place ≡ t.said = says jobs h s t l p spoken in
-    let unended : say_in s.core.place ≢ Say.End = λ e. more (sym said ∙ e) in
-    let same : (after_speaking s).core ≡ sender_after plan h = unsent s.core unended ∙ p.core in
-    let due : say_in (after_speaking s).core.place ≡ t.said = ap (λ x. say_in x.place) (unsent s.core unended) ∙ said in
-    let counts : counts_block (line_for (after_speaking s).core t.heard t.pause) ≡ is_counting h t =
-    ap (λ x. counts_block (line_for x t.heard t.pause)) same ∙ sender_core_counts plan t h (begins jobs l) spoken in
-    let next : next_in s.rest ≡ what_follows plan (known h + 1) = ap next_in p.counted.rest ∙ next_is_planned (blocks jobs) (known h) in
-    let before : HasCounted jobs (known h) (after_speaking s) = record { rest = p.counted.rest; counted = p.counted.counted } in
-    let after : HasCounted jobs (if counts_block (line_for (after_speaking s).core t.heard t.pause) then known h + 1 else known h) (after_hearing (after_speaking s) t.heard t.pause) =
-    law.1 jobs (known h) (after_speaking s) t.heard t.pause before in
-    let core : (after_hearing (after_speaking s) t.heard t.pause).core ≡ sender_after plan (t ∷ h) =
-    ap (λ say. sender_hears (after_speaking s).core t.heard (next_for say s.rest) t.pause) due
-    ∙ core_turn plan (known h) (after_speaking s).core s.rest t.said t.heard t.pause more next
-    ∙ ap (λ x. hears_after plan (known h) x t.said t.heard t.pause) same in
+    let said = says jobs h s t l p spoken in
+    let core : (after_hearing (after_speaking s) t.heard t.pause).core ≡ sender_after plan (t ∷ h) = core_on jobs h s t p.counted said more ∙ ap (λ x. hears_after plan (known h) x t.said t.heard t.pause) p.core in
     record {
       jobs_are = p.jobs_are;
       core = core;
-      counted = subst (λ c. HasCounted jobs (if c then known h + 1 else known h) (after_hearing (after_speaking s) t.heard t.pause)) counts after;
+      counted = counted_on jobs h s t p.counted law said more (ap (λ x. counts_block (line_for x t.heard t.pause)) p.core ∙ sender_core_counts plan t h (begins jobs l) spoken);
       over = ap (λ x. is_done (say_in x.place)) core ∙ ap is_done (sender_core_says plan (t ∷ h) (begins jobs l) spoken).0 ∙ done_is plan (gives_up_now (t ∷ h)) (t ∷ h);
     }
 

@@ -49,6 +49,7 @@ use Rattle.pair_world.specs.PairDrive.{ReceivesAfter}
 use Rattle.line_world.specs.Run.{FitsTurn}
 use Rattle.rje_station.proofs.Due.{spoken_of_due, answered_of_due, due_kept}
 use Rattle.rje_station.proofs.PassedOver.{passed_enq, passed_unrefused}
+use Rattle.pair_world.proofs.PairCalm.{other_live}
 use Rattle.pair_world.proofs.Sends.{SendsBy}
 
 -- the laws of the crates below
@@ -316,10 +317,6 @@ module _ (laws : Laws) (jobs : List Job) (own : History) (gb : Bool) (m n : ℕ)
   heard_contender true e = rw (e, after_other) refl
   heard_contender false e = rw (e, after_other) refl
 
-  heard_failed : (b : Bool) → lets_in l.contender (sound_heard took.across.what) ≡ b → (after_other l took.across.what t.refused turn.wish).failed ≡ l.failed
-  heard_failed true e = rw (e, after_other) refl
-  heard_failed false e = rw (e, after_other) refl
-
   follows_is : Follows (plan_of (blocks jobs)) g own (as_counted bid_out tt_)
   follows_is = follows laws jobs own g bid_out s l took.middle turn t took.sent stands may_own goes takes took.said due_is took.written took.across (is_back.down.told.told, is_back.down.told.after)
 
@@ -360,6 +357,6 @@ module _ (laws : Laws) (jobs : List Job) (own : History) (gb : Bool) (m n : ℕ)
         spoke = is_back.spoke;
         l_sender = ap (λ x. x.sender) is_ended ∙ end_sender t.said took.after ∙ ap (λ x. x.sender) is_resting ∙ ap (λ x. x.sender) took.across.state ∙ heard_sender _ refl ∙ ap (λ x. if lets_in l.contender x then gives_way l.contender.rank x l.sender else l.sender) (sym arrived);
         l_contender = ap (λ x. x.contender) is_ended ∙ end_contender t.said took.after t.arrived l.contender (ap (λ x. x.contender) is_resting ∙ ap (λ x. x.contender) took.across.state ∙ heard_contender _ refl ∙ ap (λ x. other_heard x l.contender) (sym arrived));
-        l_failed = ap (λ x. x.failed) is_ended ∙ end_failed t.said took.after ∙ ap (λ x. x.failed) is_resting ∙ ap (λ x. x.failed) took.across.state ∙ heard_failed _ refl;
+        l_failed = ap (λ x. x.failed) is_ended ∙ end_failed t.said took.after ∙ ap (λ x. x.failed) is_resting ∙ ap (λ x. x.failed) took.across.state ∙ other_live l took.across.what t.refused turn.wish;
         l_receives = listens;
       }

@@ -1,6 +1,8 @@
 -- The loop of a run of two stations that both have jobs: the turns so far are those of a history, and both stations stand where it left them.
-use Rattle.std.proofs.Common.{Bool, ◌≡◌, ◌⊎◌, inl, inr, ℕ, ◌+◌, ◌==◌, false, List, [], ◌∷◌, ◌++◌, length, map, reverse, take, drop, slice_get, Option, Some, None, refl, ap, sym, ◌∙◌, subst, arith}
+use Rattle.std.proofs.Common.{Bool, ◌≡◌, ◌⊎◌, inl, inr, ℕ, ◌+◌, ◌<◌, ◌==◌, false, List, [], ◌∷◌, ◌++◌, length, map, reverse, take, drop, slice_get, Option, Some, None, refl, ap, sym, ◌∙◌, subst, arith}
+use Rattle.bsc_link.specs.declared.outcome.Outcome.{Outcome}
 use Rattle.bsc_link.specs.declared.rank.Rank.{Rank}
+use Rattle.bsc_link.specs.Sender.{is_enough}
 use Rattle.rje_jobs.specs.declared.job.Job.{Job}
 use Rattle.rje_jobs.specs.Blocks.{blocks}
 use Rattle.bsc_codes.specs.declared.block.Block.{Block}
@@ -26,7 +28,7 @@ use Rattle.pair_world.proofs.Contends.{contends_first}
 use Rattle.pair_world.proofs.PairRuns.{StandsPairRun, cases_jobs, primary_more, secondary_more, both_more, nothing_due}
 use Rattle.pair_world.proofs.PairTelling.{told_pair, pairs_longer}
 use Rattle.pair_world.proofs.Sends.{SendsBy, sends_first}
-use Rattle.line_world.proofs.ForPairs.{SpokenSoFar, plan_some, some_jobs, spoken_on, told_any, told_length, told_whole}
+use Rattle.line_world.proofs.ForPairs.{SpokenSoFar, outcome_plan, plan_some, some_jobs, spoken_on, told_any, told_length, told_whole}
 
 abbrev pub PairRunning : List Job → List Job → List PairTurn → ℕ → List PairSpoken → Contending → Contending → Type 0
 PairRunning ups downs turns n spoken a b = SpokenSoFar pair_of (λ h. StandsPairRun ups downs turns h a b) n spoken
@@ -74,28 +76,16 @@ pair_more laws ups downs turns n spoken spoken' a b a' b' turn t p here took mor
 
 -- ---- The end.
 
-outcome_some : (plan : Plan) (h : History) → (plan ≡ [] → ⊥) → outcome plan h ≡ outcome_by plan (gave_up_before h) (gives_up_now h) h
-outcome_some [] h n = absurd (n refl)
-outcome_some (b ∷ plan) h n = refl
-
 down_outcome_some : (plan : Plan) (h : PairHistory) → (plan ≡ [] → ⊥) → down_outcome plan h ≡ outcome_by plan (down_gave_up h) (down_gives_up h) (down h)
 down_outcome_some [] h n = absurd (n refl)
 down_outcome_some (b ∷ plan) h n = refl
 
-up_ending : (ups : List Job) (h : History) (s : Contending) → SendsBy ups h (gave_up_before h) (tries h) (holds h) s.sender → outcome_of s.sender ≡ outcome (plan_of (blocks ups)) h
-up_ending ups h s p = elim (cases_jobs ups) [
-  | inl none ↦ let e : s.sender.jobs ≡ [] = p.jobs_are ∙ none in rw (e, none) refl
-  | inr l ↦
-      let some : (length s.sender.jobs == 0) ≡ false = ap (λ js. length js == 0) p.jobs_are ∙ some_jobs ups l in
-      rw some (p.core.ends ∙ sym (outcome_some (plan_of (blocks ups)) h (plan_some ups l)))
-]
-
-down_ending : (downs : List Job) (h : PairHistory) (s : Contending) → SendsBy downs (down h) (down_gave_up h) (spent h).tries (spent h).holds s.sender → outcome_of s.sender ≡ down_outcome (plan_of (blocks downs)) h
-down_ending downs h s p = elim (cases_jobs downs) [
-  | inl none ↦ let e : s.sender.jobs ≡ [] = p.jobs_are ∙ none in rw (e, none) refl
-  | inr l ↦
-      let some : (length s.sender.jobs == 0) ≡ false = ap (λ js. length js == 0) p.jobs_are ∙ some_jobs downs l in
-      rw some (p.core.ends ∙ sym (down_outcome_some (plan_of (blocks downs)) h (plan_some downs l)))
+-- a transmission without jobs is done, and another one ends as its core tells
+ends_so : (jobs : List Job) (own : History) (b : Bool) (m n : ℕ) (s : Sending) (ending : Option Outcome) → SendsBy jobs own b m n s → (jobs ≡ [] → ending ≡ Some Outcome.Done) → (0 < length jobs → ending ≡ outcome_by (plan_of (blocks jobs)) b (is_enough m n) own)
+    → outcome_of s ≡ ending
+ends_so jobs own b m n s ending p done ends = elim (cases_jobs jobs) [
+  | inl none ↦ let e : s.jobs ≡ [] = p.jobs_are ∙ none in rw e (sym (done none))
+  | inr l ↦ let some : (length s.jobs == 0) ≡ false = ap (λ js. length js == 0) p.jobs_are ∙ some_jobs jobs l in rw some (p.core.ends ∙ sym (ends l))
 ]
 
 sends_after : (jobs : List Job) (own : History) (b : Bool) (m n : ℕ) (s : Sending) → SendsBy jobs own b m n s → SendsAfter jobs own m n s
@@ -153,8 +143,8 @@ whole_pair laws ups downs turns n spoken a b p whole =
         spoken_is = p.spoken_is;
         up_side = record { handed_is = s.up_receives.jobs; counted_is = s.up_sends.counted.counted };
         down_side = record { handed_is = s.down_receives.jobs; counted_is = s.down_sends.counted.counted };
-        up_ending = up_ending ups (up h) a s.up_sends;
-        down_ending = down_ending downs h b s.down_sends;
+        up_ending = ends_so ups (up h) _ _ _ a.sender _ s.up_sends (λ none. rw none refl) (λ l. outcome_plan (plan_of (blocks ups)) (up h) (plan_some ups l));
+        down_ending = ends_so downs (down h) _ _ _ b.sender _ s.down_sends (λ none. rw none refl) (λ l. down_outcome_some (plan_of (blocks downs)) h (plan_some downs l));
       };
       stand = stand_pair ups downs turns h a b s;
     }

@@ -36,7 +36,7 @@ use Rattle.line_world.specs.Traces.{sender_events, heard_events}
 use Rattle.pair_world.specs.PairTraces.{ended_events, listener_events}
 use Rattle.line_world.specs.Turns.{after_turn}
 use Rattle.pair_world.proofs.Alone.{other_than_enq, listener_rests}
-use Rattle.line_world.proofs.ForPairs.{turn_noted, hearing_noted, answer_noted, taken_is, taken_eot, no_eot, accepted_is, turn_of, unanswered}
+use Rattle.line_world.proofs.ForPairs.{ended_early, turn_noted, hearing_noted, answer_noted, taken_is, taken_eot, no_eot, accepted_is, turn_of, unanswered}
 use Rattle.rje_station.proofs.PassedOver.{passed_enq, passed_unrefused}
 use Rattle.pair_world.proofs.Sends.{SendsBy}
 
@@ -97,12 +97,9 @@ never_ended plan (t ∷ past) spoken goes =
 
 ended_at : (s : ReceiverState) (sound : Sound) (wish : Wish) (place : ReceiverPlace) → s.place ≡ place → place ≢ ReceiverPlace.Ended → (receiver_news s sound wish).ended ≡ is_eot sound
 ended_at s sound wish ReceiverPlace.Ended e n = absurd (n refl)
-ended_at s Sound.Enq Wish.Hold ReceiverPlace.Idle e n = rw e refl
-ended_at s Sound.Enq Wish.Go ReceiverPlace.Idle e n = rw e refl
-ended_at s Sound.Enq Wish.Turn ReceiverPlace.Idle e n = rw e refl
-ended_at s _ wish ReceiverPlace.Idle e n = rw e refl
+ended_at s Sound.Eot wish ReceiverPlace.Idle e n = rw e refl
 ended_at s Sound.Eot wish ReceiverPlace.InTransmission e n = rw e refl
-ended_at s _ wish ReceiverPlace.InTransmission e n = rw e refl
+ended_at s sound wish place e n = ended_early s sound wish place e (λ x. cc)
 
 eot_taken : (arrived : Sound) (refused : Bool) → is_eot (taken arrived refused) ≡ is_eot arrived
 eot_taken Sound.Block true = refl

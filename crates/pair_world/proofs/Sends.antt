@@ -17,8 +17,7 @@ use Rattle.bsc_history.specs.Cores.{hears_after}
 use Rattle.line_world.specs.Plan.{plan_of}
 use Rattle.line_world.specs.Turns.{after_turn}
 use Rattle.bsc_history.proofs.ForRuns.{quiet-after_end, Matches, sender-step, counts-step}
-use Rattle.rje_station.proofs.Due.{unsent}
-use Rattle.line_world.proofs.ForPairs.{next_is_planned, begins, core_turn, done_is, turn_ends, turn_hears, cases_end}
+use Rattle.line_world.proofs.ForPairs.{begins, cases_end, core_on, counted_last, counted_on, done_is, turn_ends, turn_hears}
 
 -- b: it gave up before its last turn; m, n: the tries and the holds that count
 pub record SendsBy (jobs : List Job) (h : History) (b : Bool) (m n : ℕ) (s : Sending) : Type 0 where
@@ -65,37 +64,23 @@ module _ (law : CountsBlocks) (jobs : List Job) (h : History) (b : Bool) (m n : 
   ends : t.said ≡ Say.End → SendsBy jobs (t ∷ h) (is_enough m n) (tries_on m h t) (holds_on n h t) (after_speaking s)
   ends end =
       let due : say_in s.core.place ≡ Say.End = said ∙ end in
-      let same : known h ≡ known (t ∷ h) = rw end refl in
       let core : hears_after plan (known h) s.core t.said t.heard t.pause ≡ sender_sent_end s.core = rw end refl in
-      let counted : HasCounted jobs (known h) (after_speaking s) = record { rest = p.counted.rest; counted = p.counted.counted } in
       record {
         jobs_are = p.jobs_are;
         core = subst (Matches plan (t ∷ h) (is_enough m n) (tries_on m h t) (holds_on n h t)) core core_after;
-        counted = subst (λ k. HasCounted jobs k (after_speaking s)) same counted;
+        counted = counted_last jobs h s t p.counted end;
         over = sym (some_jobs jobs _ l ∙ rw (due, end) refl);
       }
 
   -- after all else it hears
   hears : t.said ≢ Say.End → SendsBy jobs (t ∷ h) (is_enough m n) (tries_on m h t) (holds_on n h t) (after_hearing (after_speaking s) t.heard t.pause)
   hears more =
-      let unended : say_in s.core.place ≢ Say.End = λ e. more (sym said ∙ e) in
-      let same : (after_speaking s).core ≡ s.core = unsent s.core unended in
-      let due : say_in (after_speaking s).core.place ≡ t.said = ap (λ x. say_in x.place) same ∙ said in
-      let counts : counts_block (line_for (after_speaking s).core t.heard t.pause) ≡ is_counting h t =
-      ap (λ x. counts_block (line_for x t.heard t.pause)) same ∙ counts-step plan h b m n s.core t p.core f.goes_on f.said in
-      let next : next_in s.rest ≡ what_follows plan (known h + 1) = ap next_in p.counted.rest ∙ next_is_planned (blocks jobs) (known h) in
-      let before : HasCounted jobs (known h) (after_speaking s) = record { rest = p.counted.rest; counted = p.counted.counted } in
-      let after : HasCounted jobs (if counts_block (line_for (after_speaking s).core t.heard t.pause) then known h + 1 else known h) (after_hearing (after_speaking s) t.heard t.pause) =
-      law.1 jobs (known h) (after_speaking s) t.heard t.pause before in
-      let core : (after_hearing (after_speaking s) t.heard t.pause).core ≡ hears_after plan (known h) s.core t.said t.heard t.pause =
-      ap (λ say. sender_hears (after_speaking s).core t.heard (next_for say s.rest) t.pause) due
-      ∙ core_turn plan (known h) (after_speaking s).core s.rest t.said t.heard t.pause more next
-      ∙ ap (λ x. hears_after plan (known h) x t.said t.heard t.pause) same in
-      let matches : Matches plan (t ∷ h) (is_enough m n) (tries_on m h t) (holds_on n h t) (after_hearing (after_speaking s) t.heard t.pause).core = subst (Matches plan (t ∷ h) (is_enough m n) (tries_on m h t) (holds_on n h t)) (sym core) core_after in
+      let matches : Matches plan (t ∷ h) (is_enough m n) (tries_on m h t) (holds_on n h t) (after_hearing (after_speaking s) t.heard t.pause).core =
+      subst (Matches plan (t ∷ h) (is_enough m n) (tries_on m h t) (holds_on n h t)) (sym (core_on jobs h s t p.counted said more)) core_after in
       record {
         jobs_are = p.jobs_are;
         core = matches;
-        counted = subst (λ c. HasCounted jobs (if c then known h + 1 else known h) (after_hearing (after_speaking s) t.heard t.pause)) counts after;
+        counted = counted_on jobs h s t p.counted law said more (counts-step plan h b m n s.core t p.core f.goes_on f.said);
         over = sym (some_jobs jobs _ l ∙ sym (ap is_done matches.says ∙ done_is plan _ (t ∷ h)));
       }
 
