@@ -1,5 +1,5 @@
 -- Turns of stations over lines of any kind: what their calls did is a turn, and the turns so far go on by it.
-use Rattle.std.proofs.Common.{◌≡◌, ℕ, ◌+◌, Bool, false, ◌∷◌, length, Some, None, refl, ap, sym, ◌∙◌, arith}
+use Rattle.std.proofs.Common.{◌≡◌, ℕ, ◌+◌, Bool, false, List, [], ◌∷◌, length, Some, None, refl, ap, sym, ◌∙◌, arith}
 use Rattle.bsc_frame.specs.declared.heard.Heard.{Heard}
 use Rattle.bsc_link.specs.declared.say.Say.{Say}
 use Rattle.bsc_link.specs.declared.sound.Sound.{Sound}
@@ -11,7 +11,15 @@ use Rattle.rje_station.specs.Sending.{Sending, after_speaking, after_hearing, is
 use Rattle.bsc_history.specs.declared.spoken_turn.SpokenTurn.{SpokenTurn}
 use Rattle.bsc_history.specs.History.{History}
 use Rattle.line_world.specs.Turns.{after_turn}
-use Rattle.line_world.specs.AnyLines.{SenderTakes, SenderTook, after_answering, ReceiverTakes, ReceiverTook}
+use Rattle.line_world.specs.AnyLines.{SenderTakes, SenderTook, Turns, after_answering, ReceiverTakes, ReceiverTook}
+
+-- ---- Some turns.
+
+-- seen otherwise, they are the same turns
+pub turns_as : {S S' T : Type 0} (Step : List T → S → S → T → Type 0) (Step' : List T → S' → S' → T → Type 0) (f : S → S')
+    → ((past : List T) (s s' : S) (t : T) → Step past s s' t → Step' past (f s) (f s') t) → (s : S) (h : List T) (s' : S) → Turns Step s h s' → Turns Step' (f s) h (f s')
+turns_as Step Step' f goes s [] s' same = ap f same
+turns_as Step Step' f goes s (t ∷ past) s' (near, before, step) = (f near, turns_as Step Step' f goes s past near before, goes past near s' t step)
 
 -- ---- The sending station's part.
 

@@ -52,15 +52,18 @@ pub record ReceiverTakes (r r' : Receiving) (t : SpokenTurn) : Type 0 where
 
 -- TURN BY TURN, the newest first
 
--- a sending station took these turns
-abbrev pub SenderTook : Sending → History → Sending → Type 0
-SenderTook s [] s' = s' ≡ s
-SenderTook s (t ∷ past) s' = (near : Sending) × SenderTook s past near × SenderTakes near s' t
+-- these turns were taken, each from the state to which those before it led
+abbrev pub Turns : {S T : Type 0} → (List T → S → S → T → Type 0) → S → List T → S → Type 0
+Turns Step s [] s' = s' ≡ s
+Turns {S} Step s (t ∷ past) s' = (near : S) × Turns Step s past near × Step past near s' t
 
--- a receiving station did
+-- by a sending station
+abbrev pub SenderTook : Sending → History → Sending → Type 0
+SenderTook = Turns (λ _. SenderTakes)
+
+-- by a receiving station
 abbrev pub ReceiverTook : Receiving → History → Receiving → Type 0
-ReceiverTook r [] r' = r' ≡ r
-ReceiverTook r (t ∷ past) r' = (far : Receiving) × ReceiverTook r past far × ReceiverTakes far r' t
+ReceiverTook = Turns (λ _. ReceiverTakes)
 
 -- it ends where the station is over; or so many turns were taken that no more can be counted
 abbrev pub IsThrough : Sending → History → Type 0

@@ -25,7 +25,7 @@ use Rattle.rje_sockets.specs.declared.kept_file.KeptFile.{KeptFile}
 use Rattle.rje_sockets.specs.InFront.{HasFront, IsOpened}
 use Rattle.rje_sockets.proofs.InFront.{left_alone, opened_as, opened_untold}
 use Rattle.rje_sockets.specs.declared.marker.Marker.{Marker}
-use Rattle.rje_sockets.specs.BothFiles.{BreaksBoth, GoesOnHolding, HoldsBoth, kept_of}
+use Rattle.rje_sockets.specs.BothFiles.{BreaksBoth, GoesOnHolding, HeldSoFar, HoldsBoth, Progress, kept_of, progress_of}
 use Rattle.rje_sockets.specs.BothWays.{FailsInOthers, FailsInOwn, StationTurn, TakesOthers, TakesOwn, Took, after_answering_other, after_own_turn}
 use Rattle.rje_sockets.specs.Ending.{MarksSent}
 use Rattle.rje_sockets.specs.Keeping.{AreKept, GoesOnKeeping, KeepsJobs, kept_after}
@@ -170,30 +170,30 @@ holds_written marker counted n keeper jobs files g h two sets both =
     jobs files g h (λ f m. written_over marker.file.items marker.name.now marker.marked n f g h m.file sets) both
 
 -- no turn was taken yet
-pub holds_first : (marker : Marker) (counted : ℕ) (keeper : Keeper) (jobs : List Job) (f : Option FileMap) → GoesOnHolding marker marker counted counted keeper keeper jobs jobs f f
-holds_first marker counted keeper jobs f = record { name = refl; file = refl; own = refl; holds = λ two files h. h }
+pub holds_first : (was : HeldSoFar) (had : Progress) → GoesOnHolding was was had had
+holds_first was had = record { name = refl; file = refl; own = refl; holds = λ two files h. h }
 
-module _ (first old : Marker) (start counted : ℕ) (before keeper : Keeper) (begun jobs : List Job) (f g : Option FileMap) (p : GoesOnHolding first old start counted before keeper begun jobs f g) where
+module _ (first now : HeldSoFar) (had has : Progress) (p : GoesOnHolding first now had has) where
   -- more is marked
-  pub goes_on_marked : (new : Marker) (more : ℕ) (later : List Job) (h : Option FileMap) → later ≡ jobs → GoesOnMarking old new counted more g h → GoesOnHolding first new start more before keeper begun later f h
-  goes_on_marked new more later h same on = record {
+  pub goes_on_marked : (new : Marker) (h : Option FileMap) (more : Progress) → more.1 ≡ has.1 → GoesOnMarking now.0 new has.0 more.0 now.2 h → GoesOnHolding first (new, now.1, h) had more
+  goes_on_marked new h more same on = record {
     name = on.0 ∙ p.name;
     file = on.1 ∙ p.file;
     own = p.own;
-    holds = λ two files had.
-        let apart : old.name.now ≢ keeper.file.into.jobs.now = λ is. two (sym (ap (λ (n : _). n.now) p.name) ∙ is ∙ ap (λ (x : KeptFile). x.into.jobs.now) p.own) in
-        subst (λ (js : List Job). HoldsBoth new more keeper js files h) (sym same) (holds_marked old new counted more keeper jobs files g h apart on (p.holds two files had));
+    holds = λ two files held.
+        let apart : now.0.name.now ≢ now.1.file.into.jobs.now = λ is. two (sym (ap (λ (n : _). n.now) p.name) ∙ is ∙ ap (λ (x : KeptFile). x.into.jobs.now) p.own) in
+        subst (λ (js : List Job). HoldsBoth new more.0 now.1 js files h) (sym same) (holds_marked now.0 new has.0 more.0 now.1 has.1 files now.2 h apart on (p.holds two files held));
   }
 
   -- more is kept
-  pub goes_on_kept : (after : Keeper) (more : ℕ) (later : List Job) (h : Option FileMap) → more ≡ counted → GoesOnKeeping keeper after jobs later g h → GoesOnHolding first old start more before after begun later f h
-  goes_on_kept after more later h same on = record {
+  pub goes_on_kept : (after : Keeper) (h : Option FileMap) (more : Progress) → more.0 ≡ has.0 → GoesOnKeeping now.1 after has.1 more.1 now.2 h → GoesOnHolding first (now.0, after, h) had more
+  goes_on_kept after h more same on = record {
     name = p.name;
     file = p.file;
     own = on.0 ∙ p.own;
-    holds = λ two files had.
-        let both = p.holds two files had in
-        subst (λ (n : ℕ). HoldsBoth old n after later files h) (sym same) (both.0, both.1, on.1 both.0 both.2);
+    holds = λ two files held.
+        let both = p.holds two files held in
+        subst (λ (n : ℕ). HoldsBoth now.0 n after more.1 files h) (sym same) (both.0, both.1, on.1 both.0 both.2);
   }
 
 -- WHAT A TURN LEAVES
@@ -205,8 +205,8 @@ spoke_receiver : (s : Contending) → (after_own_speaking s).receiver ≡ s.rece
 spoke_receiver s = own_speaking (λ (x : Contending). x.receiver) (λ s sender contender. refl) s
 
 -- its own turn leaves the jobs that came
-pub own_jobs : (s s' : Contending) → ((said : Say) × (heard : Sound) × TakesOwn s s' said heard) → s'.receiver.jobs ≡ s.receiver.jobs
-own_jobs s s' (said, heard, takes) = ap (λ (x : Contending). x.receiver.jobs) takes.state ∙ ap (λ x. x.jobs) (own_receiver s said heard)
+pub own_jobs : (s s' : Contending) (said : Say) (heard : Sound) → TakesOwn s s' said heard → s'.receiver.jobs ≡ s.receiver.jobs
+own_jobs s s' said heard takes = ap (λ (x : Contending). x.receiver.jobs) takes.state ∙ ap (λ x. x.jobs) (own_receiver s said heard)
 
 refused_receiver : (f : StationFault) (s : Contending) → (after_own_refusal f s).receiver ≡ s.receiver
 refused_receiver fault.Over s = refl
@@ -300,25 +300,24 @@ ended_jobs old new s s' jobs f g is on = subst (λ (js : List Job). GoesOnKeepin
 
 -- THE BREAK
 
-module _ (s near s' : Contending) (turns : List StationTurn) (took : Took s.contender.rank s turns near) (first old : Marker) (before keeper : Keeper) (f g : Option FileMap)
-    (p : GoesOnHolding first old s.sender.counted near.sender.counted before keeper s.receiver.jobs near.receiver.jobs f g) where
-  pub breaks_own : (fault : StationFault) (new : Marker) (h : Option FileMap) → new ≡ old → h ≡ g → FailsInOwn near s' fault → BreaksBoth s s' first new before keeper f h (BrokenOff.Line fault)
+module _ (s near s' : Contending) (turns : List StationTurn) (took : Took s.contender.rank s turns near) (was now : HeldSoFar) (p : GoesOnHolding was now (progress_of s) (progress_of near)) where
+  pub breaks_own : (fault : StationFault) (new : Marker) (h : Option FileMap) → new ≡ now.0 → h ≡ now.2 → FailsInOwn near s' fault → BreaksBoth s s' was (new, now.1, h) (BrokenOff.Line fault)
   breaks_own fault new h unmarked still fails = record {
     turns = turns;
     near = near;
     took = took;
     fails = inl fails;
-    holds = subst (λ (m : Marker). GoesOnHolding first m s.sender.counted near.sender.counted before keeper s.receiver.jobs s'.receiver.jobs f h) (sym unmarked)
-        (subst (λ (files : Option FileMap). GoesOnHolding first old s.sender.counted near.sender.counted before keeper s.receiver.jobs s'.receiver.jobs f files) (sym still)
-        (subst (λ (js : List Job). GoesOnHolding first old s.sender.counted near.sender.counted before keeper s.receiver.jobs js f g) (sym (own_failed near s' fault fails)) p));
+    holds = subst (λ (m : Marker). GoesOnHolding was (m, now.1, h) (progress_of s) (near.sender.counted, s'.receiver.jobs)) (sym unmarked)
+        (subst (λ (files : Option FileMap). GoesOnHolding was (now.0, now.1, files) (progress_of s) (near.sender.counted, s'.receiver.jobs)) (sym still)
+        (subst (λ (js : List Job). GoesOnHolding was now (progress_of s) (near.sender.counted, js)) (sym (own_failed near s' fault fails)) p));
   }
 
-  pub breaks_others : (broken : BrokenOff) (after : Keeper) (h : Option FileMap) → FailsInOthers near s' broken → GoesOnKeeping keeper after near.receiver.jobs (kept_of near s' broken) g h
-      → BreaksBoth s s' first old before after f h broken
+  pub breaks_others : (broken : BrokenOff) (after : Keeper) (h : Option FileMap) → FailsInOthers near s' broken → GoesOnKeeping now.1 after near.receiver.jobs (kept_of near s' broken) now.2 h
+      → BreaksBoth s s' was (now.0, after, h) broken
   breaks_others broken after h fails on = record {
     turns = turns;
     near = near;
     took = took;
     fails = others_fail near s' broken fails;
-    holds = goes_on_kept first old s.sender.counted near.sender.counted before keeper s.receiver.jobs near.receiver.jobs f g p after near.sender.counted (kept_of near s' broken) h refl on;
+    holds = goes_on_kept was now (progress_of s) (progress_of near) p after h (near.sender.counted, kept_of near s' broken) refl on;
   }

@@ -1,8 +1,8 @@
 -- What the calls of a station that sends and receives did is a turn, and the turns so far go on by it.
 use Rattle.std.proofs.Common.{◌≡◌, ◌⊎◌, inl, inr, ℕ, ◌+◌, ◌<◌, Bool, true, false, [], ◌∷◌, List, length, Option, Some, Result, Ok, Err, IfErr, if◌then◌else◌, refl, ap, sym, subst, ◌∙◌, arith}
 use Rattle.std.specs.Result.{IsErrAnd}
-use Rattle.rje_sockets.proofs.Patience.{quiet_on}
-use Rattle.bsc_codes.specs.declared.block.Block.{Block}
+use Rattle.line_world.proofs.TurnsOverLines.{turns_as}
+use Rattle.rje_sockets.proofs.Patience.{below_forty, quiet_on}
 use Rattle.bsc_frame.specs.declared.heard.Heard.{Heard}
 use Rattle.bsc_link.specs.declared.rank.Rank.{Rank}
 use Rattle.bsc_link.specs.declared.reply.Reply.{Reply}
@@ -19,10 +19,10 @@ use Rattle.rje_station.specs.declared.line_fault.LineFault.TheVariants.{Closed}
 use Rattle.rje_station.specs.declared.station_fault.StationFault.TheVariants as fault
 use Rattle.rje_sockets.specs.declared.broken_off.BrokenOff.{BrokenOff}
 use Rattle.rje_sockets.specs.declared.exchange.Left.{Left}
-use Rattle.rje_sockets.specs.BothWays.{AreOver, ExchangesTo, Fails, FailsInOthers, Others, Own, StationTurn, TakesOthers, TakesOwn, Took, Waits, Watched, after_answering_other, has_listened, quiet_in_a_row}
+use Rattle.rje_sockets.specs.BothWays.{AreOver, ExchangesTo, Fails, FailsInOthers, NextTurn, Others, Own, StationTurn, TakesOthers, TakesOwn, TakesTurnsTo, Took, TookOver, TurnOver, Waits, after_answering_other, has_listened, quiet_in_a_row}
 use Rattle.rje_sockets.specs.OverLine.{HeardAndReplied, LineTells, SpokeAndHeard}
 use Rattle.rje_sockets.specs.Patience.{was_quiet}
-use Rattle.rje_sockets.specs.Watching.{SawReceiver, SawSender}
+use Rattle.rje_sockets.specs.Watching.{SawReceiver, SawSender, nobody_hears, nobody_sees}
 
 -- THE OTHER'S TURN
 
@@ -71,12 +71,6 @@ others_taken s mid s' what refused arrival reply over live may is due came ends 
 
 -- THE TURNS SO FAR
 
--- what was told is what was taken
-pub took_watched : {W : Type 0} (Sent : List Block → SawSender W) (Came : Heard → SawReceiver W) (rank : Rank) (s : Contending) (w : W) (s' : Contending) (w' : W) (turns : List StationTurn)
-    → Watched Sent Came rank s w s' w' turns → Took rank s turns s'
-took_watched Sent Came rank s w s' w' [] (same, told) = same
-took_watched Sent Came rank s w s' w' (t ∷ past) (near, mid, before, next, takes, saw) = (near, took_watched Sent Came rank s w near mid past before, next, takes)
-
 -- after its own turn it is as at first, and after the other's it has listened
 own_listened : (rank : Rank) (said : Say) (heard : Sound) (past : List StationTurn) → has_listened rank [] ≡ has_listened rank (Own said heard ∷ past)
 own_listened Rank.Primary said heard past = refl
@@ -86,101 +80,107 @@ others_listened : (rank : Rank) (arrival : Arrival) (reply : Option Reply) (past
 others_listened Rank.Primary arrival reply past = refl
 others_listened Rank.Secondary arrival reply past = refl
 
-module _ {W : Type 0} (Sent : List Block → SawSender W) (Came : Heard → SawReceiver W) (s : Contending) (w : W) where
-  -- it took so many turns, so many of the last of them the other's and quiet, and just those were told; and whether it has listened since
-  pub record SoFar (n quiet : ℕ) (listened : Bool) (s' : Contending) (w' : W) : Type 0 where
+module _ {W : Type 0} (Sent : SawSender W) (Came : SawReceiver W) (was : Contending × LineTells × W) where
+  -- whoever watches, these turns were taken
+  pub took_turns : (turns : List StationTurn) (is : Contending × LineTells × W) → TookOver Sent Came was turns is → Took was.0.contender.rank was.0 turns is.0
+  took_turns turns is took =
+      turns_as (TurnOver Sent Came was.0.contender.rank) (NextTurn was.0.contender.rank) (λ a. a.0) (λ past a b x turn. (turn.0, turn.1)) was turns is took
+
+  -- it took so many turns, so many of the last of them the other's and quiet; and whether it has listened since
+  pub record SoFar (n quiet : ℕ) (listened : Bool) (is : Contending × LineTells × W) : Type 0 where
     pub turns : List StationTurn
-    pub watched : Watched Sent Came s.contender.rank s w s' w' turns
+    pub took : TookOver Sent Came was turns is
     pub long : length turns ≡ n
     pub quiet_is : quiet_in_a_row turns ≡ quiet
     pub few : quiet < 40
-    pub listened_is : listened ≡ has_listened s.contender.rank turns
+    pub listened_is : listened ≡ has_listened was.0.contender.rank turns
 
-  pub so_first : (listened : Bool) → listened ≡ has_listened s.contender.rank [] → SoFar 0 0 listened s w
-  so_first listened is = record { turns = []; watched = (refl, refl); long = refl; quiet_is = refl; few = omega arith; listened_is = is }
+  pub so_first : (listened : Bool) → listened ≡ has_listened was.0.contender.rank [] → SoFar 0 0 listened was
+  so_first listened is = record { turns = []; took = refl; long = refl; quiet_is = refl; few = omega arith; listened_is = is }
 
-  module _ (near s' : Contending) (mid w' : W) (n quiet : ℕ) (listened : Bool) (p : SoFar n quiet listened near mid) where
-    pub so_own : (now : Bool) → now ≡ has_listened s.contender.rank [] → (due_at near ≡ Say.Bid → (listened ≡ true) ⊎ (near.receiver.over ≡ true))
-        → ((said : Say) × (heard : Sound) × TakesOwn near s' said heard × Sent near.sender.rest mid w' said heard) → SoFar (n + 1) 0 now s' w'
-    so_own now is bids (said, heard, takes, saw) = record {
+  module _ (n quiet : ℕ) (listened : Bool) (near : Contending × LineTells × W) (p : SoFar n quiet listened near) where
+    pub took : Took was.0.contender.rank was.0 p.turns near.0
+    took = took_turns p.turns near p.took
+
+    pub so_own : (is : Contending × LineTells × W) (now : Bool) → now ≡ has_listened was.0.contender.rank [] → (due_at near.0 ≡ Say.Bid → (listened ≡ true) ⊎ (near.0.receiver.over ≡ true))
+        → ((said : Say) × (heard : Sound) × TakesOwn near.0 is.0 said heard × SpokeAndHeard near.0.sender.rest near.1 is.1 said heard × Sent near.2 is.2 said heard) → SoFar (n + 1) 0 now is
+    so_own is now first bids (said, heard, takes, passed, saw) = record {
       turns = Own said heard ∷ p.turns;
-      watched = (near, mid, p.watched, subst (λ (b : Bool). due_at near ≡ Say.Bid → (b ≡ true) ⊎ (near.receiver.over ≡ true)) p.listened_is bids, takes, saw);
+      took = (near, p.took, (subst (λ (b : Bool). due_at near.0 ≡ Say.Bid → (b ≡ true) ⊎ (near.0.receiver.over ≡ true)) p.listened_is bids, takes, passed, saw));
       long = omega (arith, p.long);
       quiet_is = refl;
       few = omega arith;
-      listened_is = is ∙ own_listened s.contender.rank said heard p.turns;
+      listened_is = first ∙ own_listened was.0.contender.rank said heard p.turns;
     }
 
     -- the other's turn
-    abbrev Came_now : Type 0
-    Came_now = (arrival : Arrival) × (reply : Option Reply) × (takes : TakesOthers near s' arrival reply) × Came takes.what mid w' arrival reply × (s'.receiver.arrival ≡ Some arrival)
+    module _ (is : Contending × LineTells × W) where
+      abbrev CameNow : Type 0
+      CameNow = (arrival : Arrival) × (reply : Option Reply) × (takes : TakesOthers near.0 is.0 arrival reply) × HeardAndReplied takes.what near.1 is.1 reply × Came near.2 is.2 arrival reply
+          × (is.0.receiver.arrival ≡ Some arrival)
 
-    abbrev Listens : Bool → Type 0
-    Listens b = (due_at near ≡ Say.Nothing) ⊎ ((due_at near ≡ Say.Bid) × (b ≡ false))
+      abbrev Listens : Bool → Type 0
+      Listens b = (due_at near.0 ≡ Say.Nothing) ⊎ ((due_at near.0 ≡ Say.Bid) × (b ≡ false))
 
-    abbrev with_others : Came_now → List StationTurn
-    with_others (arrival, reply, takes, saw, is) = Others arrival reply ∷ p.turns
+      abbrev with_others : CameNow → List StationTurn
+      with_others (arrival, reply, takes, passed, saw, came) = Others arrival reply ∷ p.turns
 
-    others_watched : Listens listened → (c : Came_now) → Watched Sent Came s.contender.rank s w s' w' (with_others c)
-    others_watched next (arrival, reply, takes, saw, is) = (near, mid, p.watched, subst Listens p.listened_is next, takes, saw)
+      others_took : Listens listened → (c : CameNow) → TookOver Sent Came was (with_others c) is
+      others_took next (arrival, reply, takes, passed, saw, came) = (near, p.took, (subst Listens p.listened_is next, takes, passed, saw))
 
-    others_quiet : (c : Came_now) → quiet_in_a_row (with_others c) ≡ (if was_quiet s'.receiver.arrival then quiet + 1 else 0)
-    others_quiet (arrival, reply, takes, saw, is) =
-        quiet_on arrival.sound (quiet_in_a_row p.turns) ∙ ap (λ (m : ℕ). if was_quiet (Some arrival) then m + 1 else 0) p.quiet_is
-        ∙ ap (λ (a : Option Arrival). if was_quiet a then quiet + 1 else 0) (sym is)
+      others_quiet : (c : CameNow) → quiet_in_a_row (with_others c) ≡ (if was_quiet is.0.receiver.arrival then quiet + 1 else 0)
+      others_quiet (arrival, reply, takes, passed, saw, came) =
+          quiet_on arrival.sound (quiet_in_a_row p.turns) ∙ ap (λ (m : ℕ). if was_quiet (Some arrival) then m + 1 else 0) p.quiet_is
+          ∙ ap (λ (a : Option Arrival). if was_quiet a then quiet + 1 else 0) (sym came)
 
-    others_long : (c : Came_now) → length (with_others c) ≡ n + 1
-    others_long (arrival, reply, takes, saw, is) = omega (arith, p.long)
+      others_long : (c : CameNow) → length (with_others c) ≡ n + 1
+      others_long (arrival, reply, takes, passed, saw, came) = omega (arith, p.long)
 
-    others_heard : (c : Came_now) → true ≡ has_listened s.contender.rank (with_others c)
-    others_heard (arrival, reply, takes, saw, is) = others_listened s.contender.rank arrival reply p.turns
+      others_heard : (c : CameNow) → true ≡ has_listened was.0.contender.rank (with_others c)
+      others_heard (arrival, reply, takes, passed, saw, came) = others_listened was.0.contender.rank arrival reply p.turns
 
-    below_forty : (now : ℕ) (b : Bool) → now ≡ (if b then quiet + 1 else 0) → (now ≡ 40 → ⊥) → now < 40
-    below_forty now true e not = omega (arith, e, p.few, not)
-    below_forty now false e not = omega (arith, e)
+      pub so_others : (now : ℕ) → Listens listened → CameNow → now ≡ (if was_quiet is.0.receiver.arrival then quiet + 1 else 0) → (now ≡ 40 → ⊥) → SoFar (n + 1) now true is
+      so_others now next c is_now not = record {
+        turns = with_others c;
+        took = others_took next c;
+        long = others_long c;
+        quiet_is = others_quiet c ∙ sym is_now;
+        few = below_forty now quiet (was_quiet is.0.receiver.arrival) is_now p.few not;
+        listened_is = others_heard c;
+      }
 
-    pub so_others : (now : ℕ) → Listens listened → Came_now → now ≡ (if was_quiet s'.receiver.arrival then quiet + 1 else 0) → (now ≡ 40 → ⊥) → SoFar (n + 1) now true s' w'
-    so_others now next c is not = record {
-      turns = with_others c;
-      watched = others_watched next c;
-      long = others_long c;
-      quiet_is = others_quiet c ∙ sym is;
-      few = below_forty now (was_quiet s'.receiver.arrival) is not;
-      listened_is = others_heard c;
-    }
+      -- it gave up hope
+      pub forty_quiet : (now : ℕ) (left : Contending) → Listens listened → CameNow → now ≡ (if was_quiet is.0.receiver.arrival then quiet + 1 else 0) → now ≡ 40 → left ≡ after_other_ended is.0
+          → TakesTurnsTo Sent Came Left.Abandoned was (left, is.1, is.2)
+      forty_quiet now left next c is_now forty ended = (with_others c, is.0, others_took next c, inl (others_quiet c ∙ sym is_now ∙ forty, ended))
 
-    pub forty_told : Listens listened → Came_now → (turns : List StationTurn) × Watched Sent Came s.contender.rank s w s' w' turns
-    forty_told next c = (with_others c, others_watched next c)
+    -- HOW IT ENDS
 
-    pub took : Took s.contender.rank s p.turns near
-    took = took_watched Sent Came s.contender.rank s w near mid p.turns p.watched
+    pub ends_over : AreOver near.0 → TakesTurnsTo Sent Came Left.Ended was near
+    ends_over over = (p.turns, near.0, near.1, p.took, inl (over, refl, refl))
 
--- HOW IT ENDS, over a line
+    pub ends_hung_up : (s' : Contending) (u : LineTells) (w' : W) → w' ≡ near.2 → Waits near.0 → s' ≡ after_other_refusal (fault.Line Closed) near.0
+        → TakesTurnsTo Sent Came Left.Ended was (s', u, w')
+    ends_hung_up s' u w' same waits is =
+        (p.turns, near.0, near.1, subst (λ (w : W). TookOver Sent Came was p.turns (near.0, near.1, w)) (sym same) p.took, inr (waits, is))
 
-module _ (s : Contending) (t : LineTells) where
-  abbrev pub SoFarOver : (n quiet : ℕ) → Bool → Contending → LineTells → Type 0
-  SoFarOver = SoFar SpokeAndHeard HeardAndReplied s t
+    pub ends_long : n ≡ 1000000000 → TakesTurnsTo Sent Came Left.Abandoned was near
+    ends_long e = (p.turns, near.0, p.took, inr (p.long ∙ e, refl))
 
-  module _ (near s' : Contending) (mid u : LineTells) (n quiet : ℕ) (listened : Bool) (p : SoFarOver n quiet listened near mid) where
-    pub ends_over : AreOver near → s' ≡ near → u ≡ mid → ExchangesTo Left.Ended s t s' u
-    ends_over over is same = (p.turns, near, mid, p.watched, inl (over, is, same))
+-- whoever watches, they end so
+turns_unseen : {W : Type 0} (Sent : SawSender W) (Came : SawReceiver W) (s s' : Contending) (t u : LineTells) (w w' : W) (turns : List StationTurn)
+    → TookOver Sent Came (s, t, w) turns (s', u, w') → TookOver nobody_sees nobody_hears (s, t, tt) turns (s', u, tt)
+turns_unseen Sent Came s s' t u w w' turns took =
+    turns_as (TurnOver Sent Came s.contender.rank) (TurnOver nobody_sees nobody_hears s.contender.rank) (λ a. (a.0, a.1, tt)) unseen (s, t, w) turns (s', u, w') took where
+      unseen : (past : List StationTurn) (a b : Contending × LineTells × _) (x : StationTurn) → TurnOver Sent Came s.contender.rank past a b x
+          → TurnOver nobody_sees nobody_hears s.contender.rank past (a.0, a.1, tt) (b.0, b.1, tt) x
+      unseen past a b (Own said heard) (next, takes, passed, saw) = (next, takes, passed, tt)
+      unseen past a b (Others arrival reply) (next, takes, passed, saw) = (next, takes, passed, tt)
 
-    pub ends_hung_up : Waits near → s' ≡ after_other_refusal (fault.Line Closed) near → ExchangesTo Left.Ended s t s' u
-    ends_hung_up waits is = (p.turns, near, mid, p.watched, inr (waits, is))
-
-    -- it gave up hope
-    pub forty_quiet : (now : ℕ) (left : Contending) → Listens SpokeAndHeard HeardAndReplied s t near s' mid u n quiet listened p listened
-        → Came_now SpokeAndHeard HeardAndReplied s t near s' mid u n quiet listened p → now ≡ (if was_quiet s'.receiver.arrival then quiet + 1 else 0) → now ≡ 40 → left ≡ after_other_ended s'
-        → ExchangesTo Left.Abandoned s t left u
-    forty_quiet now left next c is forty ended = (
-      with_others SpokeAndHeard HeardAndReplied s t near s' mid u n quiet listened p c,
-      s',
-      others_watched SpokeAndHeard HeardAndReplied s t near s' mid u n quiet listened p next c,
-      inl (others_quiet SpokeAndHeard HeardAndReplied s t near s' mid u n quiet listened p c ∙ sym is ∙ forty, ended),
-    )
-
-  pub ends_long : (near : Contending) (mid : LineTells) (n quiet : ℕ) (listened : Bool) → SoFarOver n quiet listened near mid → n ≡ 1000000000 → ExchangesTo Left.Abandoned s t near mid
-  ends_long near mid n quiet listened p e = (p.turns, near, p.watched, inr (p.long ∙ e, refl))
+pub exchanges_unseen : {W : Type 0} (Sent : SawSender W) (Came : SawReceiver W) (left : Left) (s s' : Contending) (t u : LineTells) (w w' : W)
+    → TakesTurnsTo Sent Came left (s, t, w) (s', u, w') → ExchangesTo left s t s' u
+exchanges_unseen Sent Came Left.Ended s s' t u w w' (turns, near, mid, took, ends) = (turns, near, mid, turns_unseen Sent Came s near t mid w w' turns took, ends)
+exchanges_unseen Sent Came Left.Abandoned s s' t u w w' (turns, near, took, ends) = (turns, near, turns_unseen Sent Came s near t u w w' turns took, ends)
 
 pub fails_as : {X : Type 0} (r : Result X BrokenOff) (broken : BrokenOff) (P : BrokenOff → Type 0) → IsErrAnd r (λ b. b ≡ broken) → P broken → IfErr r P
 fails_as (Err b) broken P is holds = subst P (sym is) holds

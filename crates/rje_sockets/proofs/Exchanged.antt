@@ -25,7 +25,7 @@ use Rattle.rje_sockets.specs.declared.keeper.Keeper.{Keeper}
 use Rattle.rje_sockets.specs.declared.kept_file.KeptFile.{KeptFile}
 use Rattle.rje_sockets.specs.declared.marker.Marker.{Marker}
 use Rattle.rje_sockets.specs.declared.socket_commands.ending.Ending.{Ending}
-use Rattle.rje_sockets.specs.BothFiles.{GoesOnHolding, HoldsBoth}
+use Rattle.rje_sockets.specs.BothFiles.{GoesOnHolding, HeldSoFar, HoldsBoth, Progress, progress_of}
 use Rattle.rje_sockets.specs.BothWays.{ExchangesTo}
 use Rattle.rje_sockets.specs.BrokenOff.{of_broken_off}
 use Rattle.rje_sockets.specs.Ending.{MakesJobFile, MarksSent}
@@ -45,36 +45,39 @@ use Rattle.rje_stores.specs.declared.store.Place.TheVariants.{Growing}
 use Rattle.rje_stores.specs.Store.{FileMap, Discloses, IsSame}
 
 -- what is marked at the end, and what is kept then
-pub makes_both : (old new : Marker) (counted n : ℕ) (before after : Keeper) (jobs later : List Job) (f mid g h : Option FileMap) → GoesOnHolding old new counted n before after jobs later f mid
-    → MarksSent new.file.items n new.name.now mid g → ((files : Option FileMap) → KeepsJobs after later files g → MakesJobFile later after.file.into files h)
-    → old.name.now ≢ before.file.into.jobs.now → (files : Option FileMap) → HoldsBoth old counted before jobs files f → MakesBoth old.file.items n later old.name.now before.file.into files h
-makes_both old new counted n before after jobs later f mid g h on sets makes two files had =
-    let apart : new.name.now ≢ after.file.into.jobs.now = λ is. two (sym (ap (λ (x : _). x.now) on.name) ∙ is ∙ ap (λ (x : KeptFile). x.into.jobs.now) on.own) in
-    let written = holds_written new n n after later files mid g apart sets (on.holds two files had) in (
+pub makes_both : (was is : HeldSoFar) (had : Progress) (s : Contending) (g h : Option FileMap) → GoesOnHolding was is had (progress_of s)
+    → MarksSent is.0.file.items s.sender.counted is.0.name.now is.2 g
+    → ((files : Option FileMap) → KeepsJobs is.1 s.receiver.jobs files g → MakesJobFile s.receiver.jobs is.1.file.into files h)
+    → was.0.name.now ≢ was.1.file.into.jobs.now → (files : Option FileMap) → HoldsBoth was.0 had.0 was.1 had.1 files was.2 → MakesBoth was.0.file.items s was.0.name.now was.1.file.into files h
+makes_both was is had s g h on sets makes two files held =
+    let n = s.sender.counted in
+    let later = s.receiver.jobs in
+    let apart : is.0.name.now ≢ is.1.file.into.jobs.now = λ e. two (sym (ap (λ (x : _). x.now) on.name) ∙ e ∙ ap (λ (x : KeptFile). x.into.jobs.now) on.own) in
+    let written = holds_written is.0 n n is.1 later files is.2 g apart sets (on.holds two files held) in (
       written.0,
-      subst (λ (bytes : _). MarksSent bytes.items n old.name.now files written.0) on.file (subst (λ (name : _). MarksSent new.file.items n name.now files written.0) on.name written.1),
+      subst (λ (bytes : _). MarksSent bytes.items n was.0.name.now files written.0) on.file (subst (λ (name : _). MarksSent is.0.file.items n name.now files written.0) on.name written.1),
       subst (λ (x : KeptFile). MakesJobFile later x.into written.0 h) on.own (makes written.0 written.2),
     )
 
 -- a transmission each way that nothing ended but itself
-pub all_exchanged : (left : Result Left BrokenOff) (marked kept printed : Result (Unit {0}) CommandFault) (t u : LineTells) (s station : Contending) (old new : Marker) (before after : Keeper) (f mid g h : Option FileMap)
+pub all_exchanged : (left : Result Left BrokenOff) (marked kept printed : Result (Unit {0}) CommandFault) (t u : LineTells) (s station : Contending) (was is : HeldSoFar) (g h : Option FileMap)
     (had has : Option (List ℕ)) (text : List ℕ) → IfOk left (λ l. ExchangesTo l s t station u)
-    → OnOk left (GoesOnHolding old new s.sender.counted station.sender.counted before after s.receiver.jobs station.receiver.jobs f mid)
-    → OnOk marked (MarksSent new.file.items station.sender.counted new.name.now mid g)
-    → OnOk kept ((files : Option FileMap) → IfErr left (λ broken. IsOfFile broken → ⊥) → KeepsJobs after station.receiver.jobs files g → MakesJobFile station.receiver.jobs after.file.into files h)
+    → OnOk left (GoesOnHolding was is (progress_of s) (progress_of station))
+    → OnOk marked (MarksSent is.0.file.items station.sender.counted is.0.name.now is.2 g)
+    → OnOk kept ((files : Option FileMap) → IfErr left (λ broken. IsOfFile broken → ⊥) → KeepsJobs is.1 station.receiver.jobs files g → MakesJobFile station.receiver.jobs is.1.file.into files h)
     → OnOk printed (Appends had has text) → text ≡ exchanged_text station.sender.counted (length s.sender.jobs) (outcome_of station.sender) station.receiver.jobs
-    → IfOk left (λ l. OnOk (result_and marked kept) (OnOk printed (Exchanges (ending_of_both (outcome_of station.sender) (is_idle (length s.sender.jobs) station.receiver.jobs) l) t u s old before f h had has)))
-all_exchanged (Err b) marked kept printed t u s station old new before after f mid g h had has text exchanges holds sets keeps prints is = tt
-all_exchanged (Ok l) (Err e) kept printed t u s station old new before after f mid g h had has text exchanges holds sets keeps prints is = tt
-all_exchanged (Ok l) (Ok m) (Err e) printed t u s station old new before after f mid g h had has text exchanges holds sets keeps prints is = tt
-all_exchanged (Ok l) (Ok m) (Ok k) (Err e) t u s station old new before after f mid g h had has text exchanges holds sets keeps prints is = tt
-all_exchanged (Ok l) (Ok m) (Ok k) (Ok p) t u s station old new before after f mid g h had has text exchanges holds sets keeps prints is = record {
+    → IfOk left (λ l. OnOk (result_and marked kept) (OnOk printed (Exchanges (ending_of_both (outcome_of station.sender) (is_idle (length s.sender.jobs) station.receiver.jobs) l) s was.0 was.1 (t, was.2, had) (u, h, has))))
+all_exchanged (Err b) marked kept printed t u s station was is g h had has text exchanges holds sets keeps prints says = tt
+all_exchanged (Ok l) (Err e) kept printed t u s station was is g h had has text exchanges holds sets keeps prints says = tt
+all_exchanged (Ok l) (Ok m) (Err e) printed t u s station was is g h had has text exchanges holds sets keeps prints says = tt
+all_exchanged (Ok l) (Ok m) (Ok k) (Err e) t u s station was is g h had has text exchanges holds sets keeps prints says = tt
+all_exchanged (Ok l) (Ok m) (Ok k) (Ok p) t u s station was is g h had has text exchanges holds sets keeps prints says = record {
   left = l;
   station = station;
   exchanges = exchanges;
-  makes = makes_both old new s.sender.counted station.sender.counted before after s.receiver.jobs station.receiver.jobs f mid g h holds sets (λ files. keeps files tt);
+  makes = makes_both was is (progress_of s) station g h holds sets (λ files. keeps files tt);
   ending_is = refl;
-  text_is = subst (Appends had has) is prints;
+  text_is = subst (Appends had has) says prints;
 }
 
 -- and one that something ended: it is a line, a file or an output that failed, or memory
@@ -117,8 +120,8 @@ pub exchanges_left : (r : Result Ending CommandFault) (t u : LineTells) (rank : 
     (f g h : Option FileMap) (before after : Option (List ℕ))
     → IsOutgoing send f jobs marker → MarksSent marker.file.items 0 marker.name.now f g → s ≡ first_contending rank jobs
     → keeper.file.into ≡ into → keeper.kept ≡ 0 → IsOpened front keeper.file f → send ≢ into.jobs.now
-    → IfOk r (λ ending. Exchanges ending t u s marker keeper g h before after)
-    → IfOk r (λ ending. OfFile send f (λ bytes. ExchangesLeft ending t u rank send into bytes f h before after))
+    → IfOk r (λ ending. Exchanges ending s marker keeper (t, g, before) (u, h, after))
+    → IfOk r (λ ending. ExchangesLeft ending rank send into (t, f, before) (u, h, after))
 exchanges_left (Err fault) t u rank send into jobs s marker front keeper f g h before after out copy first called kept opened two done = tt
 exchanges_left (Ok ending) t u rank send into jobs s marker front keeper f g h before after out copy first called kept opened two done =
     let file = marker.file.items in
@@ -129,17 +132,19 @@ exchanges_left (Ok ending) t u rank send into jobs s marker front keeper f g h b
     let had = holds_nothing marker s.sender.counted front keeper s.receiver.jobs f g out.none (ap (λ (x : Contending). x.sender.counted) first) out.marks copy apart opened kept
     (ap (λ (x : Contending). x.receiver.jobs) first) in
     let makes = done.makes apart f had in
-    of_file (λ bytes. ExchangesLeft ending t u rank send into bytes f h before after) file (record {
+    record {
+      file = file;
       entries = left.0;
       left = done.left;
       station = done.station;
+      read = out.read;
       file_is = left.1;
       exchanges = subst (λ (x : Contending). ExchangesTo done.left x t done.station u) (first ∙ ap (first_contending rank) left.3) done.exchanges;
-      makes = subst (λ (n : List ℕ). MakesBoth file done.station.sender.counted done.station.receiver.jobs n into f h) out.named
-          (subst (λ (x : Destination). MakesBoth file done.station.sender.counted done.station.receiver.jobs marker.name.now x f h) called makes);
+      makes = subst (λ (n : List ℕ). MakesBoth file done.station n into f h) out.named
+          (subst (λ (x : Destination). MakesBoth file done.station marker.name.now x f h) called makes);
       ending_is = subst (λ (n : ℕ). ending ≡ ending_of_both (outcome_of done.station.sender) (is_idle n done.station.receiver.jobs) done.left) all done.ending_is;
       text_is = subst (λ (n : ℕ). Appends before after (exchanged_text done.station.sender.counted n (outcome_of done.station.sender) done.station.receiver.jobs)) all done.text_is;
-    }) send f out.read
+    }
 
 -- WHATEVER ENDS IT
 

@@ -1,9 +1,11 @@
 -- What a station that sends and receives leaves in its two files, from what it held of them when its turns ended.
-use Rattle.std.proofs.Common.{◌≡◌, ◌⊎◌, inl, inr, ℕ, List, [], Option, Result, Ok, Err, IfErr, IfOk, OnErr, OnOk, refl, ap, sym, ◌∙◌, subst}
+use Rattle.std.proofs.Common.{◌≡◌, ◌⊎◌, inl, inr, ℕ, List, [], length, Option, Result, Ok, Err, IfErr, IfOk, OnErr, OnOk, refl, ap, sym, ◌∙◌, subst}
 use Rattle.std.specs.Prelude.{◌≢◌}
 use Rattle.std.proofs.lemmas.Result.{on_ok_weaker}
 use Rattle.rje_jobs.specs.declared.job.Job.{Job}
-use Rattle.rje_station.specs.Station.{Contending}
+use Rattle.rje_station.specs.Station.{Contending, after_other_ended, after_other_refusal}
+use Rattle.rje_station.specs.declared.line_fault.LineFault.TheVariants.{Closed}
+use Rattle.rje_station.specs.declared.station_fault.StationFault.TheVariants as fault
 use Rattle.rje_commands.specs.declared.command_fault.CommandFault.{CommandFault}
 use Rattle.rje_sockets.specs.declared.broken_off.BrokenOff.{BrokenOff}
 use Rattle.rje_sockets.specs.declared.exchange.Left.{Left}
@@ -12,14 +14,15 @@ use Rattle.rje_sockets.specs.declared.kept_file.KeptFile.{KeptFile}
 use Rattle.rje_sockets.specs.declared.marker.Marker.{Marker}
 use Rattle.rje_stores.specs.declared.store.Place.TheVariants.{Growing}
 use Rattle.rje_sockets.specs.Answering.{HasWhole}
-use Rattle.rje_sockets.specs.BothFiles.{BreaksBoth, GoesOnHolding, HoldsBoth}
-use Rattle.rje_sockets.specs.BothWays.{ExchangesTo, StationTurn, Took, TookOver}
+use Rattle.rje_sockets.specs.BothFiles.{BreaksBoth, GoesOnHolding, HeldSoFar, HoldsBoth, progress_of}
+use Rattle.rje_sockets.specs.BothWays.{AreOver, ExchangesTo, LeavesFrom, StationTurn, Took, Waits, quiet_in_a_row}
 use Rattle.rje_sockets.specs.Ending.{MakesJobFile, MarksSent}
 use Rattle.rje_sockets.specs.Keeping.{IsOfFile, KeepsJobs}
 use Rattle.rje_sockets.specs.LeavingBoth.{CameTo, HasCounted, LeavesBoth, MarksAlone}
-use Rattle.rje_sockets.specs.OverLine.{HeardAndReplied, LineTells, SpokeAndHeard}
+use Rattle.rje_sockets.specs.OverLine.{LineTells}
+use Rattle.rje_sockets.specs.Watching.{nobody_hears, nobody_sees}
 use Rattle.rje_sockets.proofs.BothFiles.{holds_written}
-use Rattle.rje_sockets.proofs.BothWays.{took_watched}
+use Rattle.rje_sockets.proofs.BothWays.{took_turns}
 use Rattle.rje_sockets.proofs.Growing.{still_keeps}
 use Rattle.rje_sockets.proofs.Received.{has_kept, has_rest}
 use Rattle.rje_stores.specs.Store.{FileMap, Discloses, IsSame}
@@ -36,58 +39,57 @@ counted_on s near start had has came before (inr new) = inr (near, came, sym new
 
 -- WHEN THEY ENDED
 
-took_over : (s near : Contending) (t u : LineTells) (turns : List StationTurn) → TookOver s t turns near u → Took s.contender.rank s turns near
-took_over s near t u turns took = took_watched SpokeAndHeard HeardAndReplied s.contender.rank s t near u turns took
-
 came_left : (s s' : Contending) (t u : LineTells) (left : Left) → ExchangesTo left s t s' u → CameTo s s'
-came_left s s' t u Left.Ended (turns, near, mid, took, inl (over, same, talk)) = (turns, near, took_over s near t mid turns took, inl (inl same))
-came_left s s' t u Left.Ended (turns, near, mid, took, inr (waits, closed)) = (turns, near, took_over s near t mid turns took, inl (inr (inr closed)))
-came_left s s' t u Left.Abandoned (turns, near, took, inl (quiet, ended)) = (turns, near, took_over s near t u turns took, inl (inr (inl ended)))
-came_left s s' t u Left.Abandoned (turns, near, took, inr (long, same)) = (turns, near, took_over s near t u turns took, inl (inl same))
+came_left s s' t u Left.Ended (turns, near, mid, took, ends) = (turns, near, took_turns nobody_sees nobody_hears (s, t, tt) turns (near, mid, tt) took, inl (by ends)) where
+  by : (AreOver near × (s' ≡ near) × (u ≡ mid)) ⊎ (Waits near × (s' ≡ after_other_refusal (fault.Line Closed) near)) → LeavesFrom near s'
+  by (inl (over, same, told)) = inl same
+  by (inr (waits, closed)) = inr (inr closed)
+came_left s s' t u Left.Abandoned (turns, near, took, ends) = (turns, near, took_turns nobody_sees nobody_hears (s, t, tt) turns (near, u, tt) took, inl (by ends)) where
+  by : ((quiet_in_a_row turns ≡ 40) × (s' ≡ after_other_ended near)) ⊎ ((length turns ≡ 1000000000) × (s' ≡ near)) → LeavesFrom near s'
+  by (inl (quiet, ended)) = inr (inl ended)
+  by (inr (long, same)) = inl same
 
 -- what was held then: of the jobs of the station where it stands, or, where the last one couldn't be kept, of those that it had before
-record Held (left : Result Left BrokenOff) (s s' : Contending) (old new : Marker) (before after : Keeper) (f g : Option FileMap) : Type 0 where
+record Held (left : Result Left BrokenOff) (s s' : Contending) (was is : HeldSoFar) : Type 0 where
   pub counted : ℕ
   pub last : Contending
   pub came : CameTo s last
   pub ended : CameTo s s'
   pub same : IfErr left (λ broken. IsOfFile broken → ⊥) → last ≡ s'
-  pub holds : GoesOnHolding old new s.sender.counted counted before after s.receiver.jobs last.receiver.jobs f g
+  pub holds : GoesOnHolding was is (progress_of s) (counted, last.receiver.jobs)
 
-held : (left : Result Left BrokenOff) (t u : LineTells) (s s' : Contending) (old new : Marker) (before after : Keeper) (f g : Option FileMap) → IfOk left (λ l. ExchangesTo l s t s' u)
-    → OnOk left (GoesOnHolding old new s.sender.counted s'.sender.counted before after s.receiver.jobs s'.receiver.jobs f g) → IfErr left (BreaksBoth s s' old new before after f g)
-    → Held left s s' old new before after f g
-held (Ok l) t u s s' old new before after f g exchanges holds breaks =
-    record { counted = s'.sender.counted; last = s'; came = came_left s s' t u l exchanges; ended = came_left s s' t u l exchanges; same = λ well. refl; holds = holds }
-held (Err (BrokenOff.Line fault)) t u s s' old new before after f g exchanges holds b = record {
-  counted = b.near.sender.counted;
-  last = s';
-  came = (b.turns, b.near, b.took, inr (BrokenOff.Line fault, b.fails));
-  ended = (b.turns, b.near, b.took, inr (BrokenOff.Line fault, b.fails));
-  same = λ well. refl;
-  holds = b.holds;
-}
-held (Err (BrokenOff.File fault)) t u s s' old new before after f g exchanges holds b = record {
-  counted = b.near.sender.counted;
-  last = b.near;
-  came = came_near s b.near b.turns b.took;
-  ended = (b.turns, b.near, b.took, inr (BrokenOff.File fault, b.fails));
-  same = λ never. absurd (never tt);
-  holds = b.holds;
-}
+module _ (left : Result Left BrokenOff) (t u : LineTells) (s s' : Contending) (was is : HeldSoFar) (exchanges : IfOk left (λ l. ExchangesTo l s t s' u))
+    (holds : OnOk left (GoesOnHolding was is (progress_of s) (progress_of s'))) (breaks : IfErr left (BreaksBoth s s' was is)) where
+  held : Held left s s' was is
+  held = by left exchanges holds breaks where
+    by : (left : Result Left BrokenOff) → IfOk left (λ l. ExchangesTo l s t s' u) → OnOk left (GoesOnHolding was is (progress_of s) (progress_of s')) → IfErr left (BreaksBoth s s' was is)
+        → Held left s s' was is
+    by (Ok l) exchanges holds breaks =
+        record { counted = s'.sender.counted; last = s'; came = came_left s s' t u l exchanges; ended = came_left s s' t u l exchanges; same = λ well. refl; holds = holds }
+    by (Err (BrokenOff.Line fault)) exchanges holds b = record {
+      counted = b.near.sender.counted;
+      last = s';
+      came = (b.turns, b.near, b.took, inr (BrokenOff.Line fault, b.fails));
+      ended = (b.turns, b.near, b.took, inr (BrokenOff.Line fault, b.fails));
+      same = λ well. refl;
+      holds = b.holds;
+    }
+    by (Err (BrokenOff.File fault)) exchanges holds b = record {
+      counted = b.near.sender.counted;
+      last = b.near;
+      came = came_near s b.near b.turns b.took;
+      ended = (b.turns, b.near, b.took, inr (BrokenOff.File fault, b.fails));
+      same = λ never. absurd (never tt);
+      holds = b.holds;
+    }
 
--- the file that was read stays the same
-pub file_stays : (left : Result Left BrokenOff) (t u : LineTells) (s s' : Contending) (old new : Marker) (before after : Keeper) (f g : Option FileMap) → IfOk left (λ l. ExchangesTo l s t s' u)
-    → OnOk left (GoesOnHolding old new s.sender.counted s'.sender.counted before after s.receiver.jobs s'.receiver.jobs f g) → IfErr left (BreaksBoth s s' old new before after f g)
-    → new.file ≡ old.file
-file_stays left t u s s' old new before after f g exchanges holds breaks = (held left t u s s' old new before after f g exchanges holds breaks).holds.file
+  -- the file that was read stays the same
+  pub file_stays : is.0.file ≡ was.0.file
+  file_stays = held.holds.file
 
--- so do the name of the one file, and the other
-pub names_stay : (left : Result Left BrokenOff) (t u : LineTells) (s s' : Contending) (old new : Marker) (before after : Keeper) (f g : Option FileMap) → IfOk left (λ l. ExchangesTo l s t s' u)
-    → OnOk left (GoesOnHolding old new s.sender.counted s'.sender.counted before after s.receiver.jobs s'.receiver.jobs f g) → IfErr left (BreaksBoth s s' old new before after f g)
-    → (new.name.now ≡ old.name.now) × (after.file ≡ before.file)
-names_stay left t u s s' old new before after f g exchanges holds breaks =
-    let on = (held left t u s s' old new before after f g exchanges holds breaks).holds in (ap (λ (x : _). x.now) on.name, on.own)
+  -- so do the name of the one file, and the other
+  pub names_stay : (is.0.name.now ≡ was.0.name.now) × (is.1.file ≡ was.1.file)
+  names_stay = (ap (λ (x : _). x.now) held.holds.name, held.holds.own)
 
 -- THE WHOLE FILE OF WHAT IS SENT
 
@@ -135,24 +137,24 @@ module _ (kept : Result (Unit {0}) CommandFault) (keeper : Keeper) (last s' : Co
   kept_then (Err (BrokenOff.File e)) same makes refused = has_kept keeper last.receiver.jobs marked made grows (still_keeps keeper last.receiver.jobs marked g made k (refused tt))
 
 -- both
-pub leaves_both : {X : Type 0} (left : Result Left BrokenOff) (written : Result X CommandFault) (kept : Result (Unit {0}) CommandFault) (t u : LineTells) (s s' : Contending) (old new : Marker) (before after : Keeper)
-    (f g h made : Option FileMap) → IfOk left (λ l. ExchangesTo l s t s' u)
-    → OnOk left (GoesOnHolding old new s.sender.counted s'.sender.counted before after s.receiver.jobs s'.receiver.jobs f g) → IfErr left (BreaksBoth s s' old new before after f g)
-    → (new.marked ≡ old.marked) ⊎ HasCounted s new.marked
-    → OnOk written (MarksSent new.file.items s'.sender.counted new.name.now g h) → OnErr written (Discloses g h IsSame)
-    → OnOk kept ((files : Option FileMap) → IfErr left (λ broken. IsOfFile broken → ⊥) → KeepsJobs after s'.receiver.jobs files h → MakesJobFile s'.receiver.jobs after.file.into files made)
+pub leaves_both : {X : Type 0} (left : Result Left BrokenOff) (written : Result X CommandFault) (kept : Result (Unit {0}) CommandFault) (t u : LineTells) (s s' : Contending) (was is : HeldSoFar)
+    (h made : Option FileMap) → IfOk left (λ l. ExchangesTo l s t s' u)
+    → OnOk left (GoesOnHolding was is (progress_of s) (progress_of s')) → IfErr left (BreaksBoth s s' was is)
+    → (is.0.marked ≡ was.0.marked) ⊎ HasCounted s is.0.marked
+    → OnOk written (MarksSent is.0.file.items s'.sender.counted is.0.name.now is.2 h) → OnErr written (Discloses is.2 h IsSame)
+    → OnOk kept ((files : Option FileMap) → IfErr left (λ broken. IsOfFile broken → ⊥) → KeepsJobs is.1 s'.receiver.jobs files h → MakesJobFile s'.receiver.jobs is.1.file.into files made)
     → IfErr left (λ broken. IsOfFile broken → Discloses h made IsSame) → OnErr kept (Discloses h made IsSame)
-    → old.marked ≡ s.sender.counted → before.file.place ≡ Growing → old.name.now ≢ before.file.into.jobs.now
-    → (files : Option FileMap) → HoldsBoth old s.sender.counted before s.receiver.jobs files f → LeavesBoth s old.file.items old.name.now before.file.into files made
-leaves_both left written kept t u s s' old new before after f g h made exchanges holding breaks count sets stays makes refused still start grows two files had =
-    let on = held left t u s s' old new before after f g exchanges holding breaks in
-    let apart : new.name.now ≢ after.file.into.jobs.now = λ is. two (sym (ap (λ (x : _). x.now) on.holds.name) ∙ is ∙ ap (λ (x : KeptFile). x.into.jobs.now) on.holds.own) in
-    let m = marked_then s s' old new count start written on.counted after on.last.receiver.jobs files g h apart on.ended sets stays (on.holds.holds two files had) in
+    → was.0.marked ≡ s.sender.counted → was.1.file.place ≡ Growing → was.0.name.now ≢ was.1.file.into.jobs.now
+    → (files : Option FileMap) → HoldsBoth was.0 s.sender.counted was.1 s.receiver.jobs files was.2 → LeavesBoth s was.0.file.items was.0.name.now was.1.file.into files made
+leaves_both left written kept t u s s' was is h made exchanges holding breaks count sets stays makes refused still start grows two files had =
+    let on = held left t u s s' was is exchanges holding breaks in
+    let apart : is.0.name.now ≢ is.1.file.into.jobs.now = λ e. two (sym (ap (λ (x : _). x.now) on.holds.name) ∙ e ∙ ap (λ (x : KeptFile). x.into.jobs.now) on.holds.own) in
+    let m = marked_then s s' was.0 is.0 count start written on.counted is.1 on.last.receiver.jobs files is.2 h apart on.ended sets stays (on.holds.holds two files had) in
     record {
       marked = m.0;
-      marks = subst (λ (bytes : _). MarksAlone s bytes.items old.name.now files m.0) on.holds.file (subst (λ (name : _). MarksAlone s new.file.items name.now files m.0) on.holds.name m.1);
+      marks = subst (λ (bytes : _). MarksAlone s bytes.items was.0.name.now files m.0) on.holds.file (subst (λ (name : _). MarksAlone s is.0.file.items name.now files m.0) on.holds.name m.1);
       last = on.last;
       came = on.came;
       kept = subst (λ (x : KeptFile). HasWhole on.last.receiver.jobs x.into m.0 made) on.holds.own
-          (kept_then kept after on.last s' m.0 h made (ap (λ (x : KeptFile). x.place) on.holds.own ∙ grows) m.2 still left on.same makes refused);
+          (kept_then kept is.1 on.last s' m.0 h made (ap (λ (x : KeptFile). x.place) on.holds.own ∙ grows) m.2 still left on.same makes refused);
     }

@@ -17,7 +17,8 @@ use Rattle.rje_commands.specs.Commands.{OfFile}
 use Rattle.rje_sockets.specs.Ending.{MarksSent}
 use Rattle.rje_sockets.specs.Inside.Sending.{IsOutgoing}
 use Rattle.rje_sockets.specs.Marking.{GoesOnMarking, Marks, MarksCounted, MarksItsCount, MarksNoMore, WereCounted}
-use Rattle.rje_sockets.specs.OverLine.{LineTells, SendsOver, SpokeAndHeard}
+use Rattle.rje_sockets.specs.OverLine.{LineTells, Sends}
+use Rattle.rje_sockets.specs.Watching.{SawSender}
 use Rattle.rje_stores.specs.Store.{FileMap, Discloses, IsSame, SetsByte}
 use Rattle.rje_commands.proofs.Inputs.{of_file}
 use Rattle.rje_sockets.proofs.Watched.{sender_took}
@@ -124,8 +125,8 @@ failed_count : (near s' : Sending) (f : StationFault) → SenderFails near s' f 
 failed_count near s' f (inl e) = ap (λ x. x.counted) e ∙ refused_count f near
 failed_count near s' f (inr e) = ap (λ x. x.counted) e ∙ refused_count f (after_speaking near)
 
-pub counted_over : (s s' : Sending) (t u : LineTells) → SendsOver s t s' u → WereCounted s s'.counted
-counted_over s s' t u (h, took, through) = (h, s', sender_took SpokeAndHeard s t s' u h took, refl)
+pub counted_over : {W : Type 0} (Saw : SawSender W) (was is : Sending × LineTells × W) → Sends Saw was is → WereCounted was.0 is.0.counted
+counted_over Saw was is (h, took, through) = (h, is.0, sender_took Saw was is h took, refl)
 
 ended_count : {X : Type 0} (sent : Result X StationFault) (s s' : Sending) → OnOk sent (WereCounted s s'.counted) → IfErr sent (SendsToFault s s') → WereCounted s s'.counted
 ended_count (Ok x) s s' counted fails = counted

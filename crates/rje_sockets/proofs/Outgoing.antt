@@ -4,25 +4,27 @@ use Rattle.std.specs.Io.KnownBytes.{Appends}
 use Rattle.rje_jobs.specs.declared.job.Job.{Job}
 use Rattle.rje_station.specs.Sending.{Sending, first_sending, outcome_of}
 use Rattle.rje_commands.specs.declared.command_fault.CommandFault.{CommandFault}
-use Rattle.rje_commands.specs.Commands.{OfFile}
 use Rattle.rje_sockets.specs.declared.marker.Marker.{Marker}
 use Rattle.rje_sockets.specs.declared.socket_commands.ending.Ending.{Ending}
 use Rattle.rje_sockets.specs.Ending.{MarksSent, SendsLeft, ending_of, sent_text}
 use Rattle.rje_sockets.specs.Inside.Sending.{IsOutgoing}
 use Rattle.rje_sockets.specs.Marking.{Marks}
-use Rattle.rje_sockets.specs.OverLine.{LineTells, SendsOver}
+use Rattle.rje_sockets.specs.OverLine.{LineTells, Sends, SendsOver}
+use Rattle.rje_sockets.specs.Watching.{SawSender}
+use Rattle.rje_sockets.proofs.Watched.{sends_unseen}
+use Rattle.std.proofs.lemmas.Result.{on_ok_weaker}
 use Rattle.rje_sockets.proofs.Marked.{begun}
 use Rattle.rje_sockets.proofs.Sending.{sends_left}
-use Rattle.rje_stores.proofs.Changes.{same_itself}
 use Rattle.rje_stores.specs.Store.{FileMap}
 
-pub sends_outgoing : (r : Result Ending CommandFault) (t u : LineTells) (name : List ℕ) (jobs : List Job) (marker : Marker) (s s' : Sending) (f g h : Option FileMap) (before after : Option (List ℕ))
-    → IsOutgoing name f jobs marker → MarksSent marker.file.items 0 marker.name.now f g → s ≡ first_sending jobs → OnOk r (SendsOver s t s' u) → IfOk r (λ ending. ending ≡ ending_of (outcome_of s'))
+pub sends_outgoing : {W : Type 0} (Saw : SawSender W) (r : Result Ending CommandFault) (t u : LineTells) (w w' : W) (name : List ℕ) (jobs : List Job) (marker : Marker) (s s' : Sending)
+    (f g h : Option FileMap) (before after : Option (List ℕ)) → IsOutgoing name f jobs marker → MarksSent marker.file.items 0 marker.name.now f g → s ≡ first_sending jobs
+    → OnOk r (Sends Saw (s, t, w) (s', u, w')) → IfOk r (λ ending. ending ≡ ending_of (outcome_of s'))
     → OnOk r (Appends before after (sent_text s'.counted (length s.jobs) (outcome_of s')))
     → OnOk r ((files : Option FileMap) → Marks marker s.counted files g → MarksSent marker.file.items s'.counted marker.name.now files h)
-    → IfOk r (λ ending. OfFile name f (λ read. SendsLeft ending t u name read f h before after))
-sends_outgoing r t u name jobs marker s s' f g h before after out copy first took ended printed marked =
-    sends_left r t u name marker.file.items jobs s' f f h before after out.read (same_itself f) out.left
-    (subst (λ (x : Sending). OnOk r (SendsOver x t s' u)) first took) ended
+    → IfOk r (λ ending. SendsLeft ending name (t, f, before) (u, h, after))
+sends_outgoing Saw r t u w w' name jobs marker s s' f g h before after out copy first took ended printed marked =
+    sends_left r t u name marker.file.items jobs s' f h before after out.read out.left
+    (subst (λ (x : Sending). OnOk r (SendsOver x t s' u)) first (on_ok_weaker r (sends_unseen Saw s s' t u w w') took)) ended
     (subst (λ (n : ℕ). OnOk r (Appends before after (sent_text s'.counted n (outcome_of s')))) (ap (λ (x : Sending). length x.jobs) first) printed)
     (begun r marker name s.counted s'.counted f g h out.named out.none (ap (λ (x : Sending). x.counted) first) out.marks copy marked)

@@ -11,9 +11,8 @@ use Rattle.bsc_link.specs.declared.say.Say.{Say}
 use Rattle.bsc_link.specs.declared.sound.Sound.{Sound}
 use Rattle.bsc_link.specs.declared.wish.Wish.{Wish}
 use Rattle.bsc_link.specs.Sender.{say_in}
-use Rattle.line_world.specs.AnyLines.{SenderFails, SenderTook, SendsToFault}
+use Rattle.line_world.specs.AnyLines.{SenderFails, SenderTook, SendsToFault, Turns}
 use Rattle.line_world.proofs.Calm.{ended_owes}
-use Rattle.rje_station.specs.declared.arrival.Arrival.{Arrival}
 use Rattle.rje_station.specs.declared.station_fault.StationFault.{StationFault}
 use Rattle.rje_station.specs.Hearing.{Hearing, HearsSound, sound_heard}
 use Rattle.rje_station.specs.Line.{Passes, Talk, one_more}
@@ -21,8 +20,8 @@ use Rattle.rje_station.specs.Receiving.{Receiving, Replied, after_receiving, sou
 use Rattle.rje_station.specs.Sending.{Sending, Spoke, after_speaking, is_end}
 use Rattle.rje_station.specs.Station.{Contending, HeardAnswer, SpokeDue, after_other, after_own_speaking, due_at, lets_in, with_said}
 use Rattle.rje_station.proofs.Due.{answer_heard, due_kept, not_end}
-use Rattle.rje_sockets.specs.OverLine.{Answers, HeardAndReplied, LineTells, OverConnection, SendsOver, SpokeAndHeard}
-use Rattle.rje_sockets.specs.Watching.{SenderWatched, SenderWatchedAll}
+use Rattle.rje_sockets.specs.OverLine.{Answers, HeardAndReplied, LineTells, OverConnection, SenderTurn, Sends, SpokeAndHeard}
+use Rattle.rje_sockets.specs.Watching.{SawSender}
 use Rattle.rje_sockets.proofs.Watched.{sender_took}
 
 -- WHAT WAS SAID AND HEARD
@@ -53,9 +52,9 @@ turn_passed rest t u asked said heard more sent once hears = (asked, sent, once,
 -- WHAT WAS HEARD AND REPLIED
 
 -- what is due was replied
-pub reply_passed : (what : Heard) (arrival : Arrival) (reply due : Option Reply) (t u : LineTells) (heard : Option Talk) → Passes t.0 heard (λ t u. Hearing t u what) → reply ≡ due
-    → Passes heard u.0 (Replied due) → u.1 ≡ with_reply due t.1 → HeardAndReplied what t u arrival reply
-reply_passed what arrival reply due t u heard hears is sent once = rw is (heard, hears, sent, once)
+pub reply_passed : (what : Heard) (reply due : Option Reply) (t u : LineTells) (heard : Option Talk) → Passes t.0 heard (λ t u. Hearing t u what) → reply ≡ due
+    → Passes heard u.0 (Replied due) → u.1 ≡ with_reply due t.1 → HeardAndReplied what t u reply
+reply_passed what reply due t u heard hears is sent once = rw is (heard, hears, sent, once)
 
 -- nothing was
 replied_none : (t u : Option Talk) → u ≡ t → Passes t u (Replied None)
@@ -67,9 +66,9 @@ pub over_owes : (r heard : Receiving) (what : Heard) (refused : Bool) → heard 
 over_owes r heard what refused is over =
     ap (λ (x : Receiving). x.due) is ∙ ended_owes r.core (sound_taken what refused) Wish.Go (sym (ap (λ (x : Receiving). x.over) is) ∙ over)
 
-pub last_passed : (what : Heard) (arrival : Arrival) (reply : Option Reply) (t u : LineTells) (heard : Option Talk) → Passes t.0 heard (λ t u. Hearing t u what) → reply ≡ None → u.0 ≡ heard → u.1 ≡ t.1
-    → HeardAndReplied what t u arrival reply
-last_passed what arrival reply t u heard hears none is silent = reply_passed what arrival reply None t u heard hears none (replied_none heard u.0 is) silent
+pub last_passed : (what : Heard) (reply : Option Reply) (t u : LineTells) (heard : Option Talk) → Passes t.0 heard (λ t u. Hearing t u what) → reply ≡ None → u.0 ≡ heard → u.1 ≡ t.1
+    → HeardAndReplied what t u reply
+last_passed what reply t u heard hears none is silent = reply_passed what reply None t u heard hears none (replied_none heard u.0 is) silent
 
 -- A STATION THAT SENDS AND RECEIVES
 
@@ -116,24 +115,25 @@ other_owes s mid what refused is over =
 -- ALL TURNS of a sending station
 
 -- it took so many
-abbrev pub SendsSoFar : Sending → LineTells → ℕ → Sending → LineTells → Type 0
-SendsSoFar s t n s' u = (h : History) × SenderWatchedAll SpokeAndHeard s t s' u h × (length h ≡ n)
+abbrev pub SendsSoFar : {W : Type 0} → SawSender W → Sending × LineTells × W → ℕ → Sending × LineTells × W → Type 0
+SendsSoFar Saw was n is = (h : History) × Turns (λ _. SenderTurn Saw) was h is × (length h ≡ n)
 
-pub so_far_took : (s : Sending) (t : LineTells) (n : ℕ) (s' : Sending) (u : LineTells) → SendsSoFar s t n s' u → (h : History) × SenderTook s h s'
-so_far_took s t n s' u (h, took, long) = (h, sender_took SpokeAndHeard s t s' u h took)
+module _ {W : Type 0} (Saw : SawSender W) (was : Sending × LineTells × W) (n : ℕ) (near : Sending × LineTells × W) (p : SendsSoFar Saw was n near) where
+  pub so_far_took : (h : History) × SenderTook was.0 h near.0
+  so_far_took = (p.0, sender_took Saw was near p.0 p.1)
 
--- one more
-pub sends_on : (s near s' : Sending) (t mid u : LineTells) (n : ℕ) → SendsSoFar s t n near mid → ((x : SpokenTurn) × SenderWatched SpokeAndHeard near mid s' u x) → SendsSoFar s t (n + 1) s' u
-sends_on s near s' t mid u n (h, took, long) (x, watched) = (x ∷ h, (near, mid, took, watched), omega (arith, long))
+  -- one more
+  pub sends_on : (is : Sending × LineTells × W) → ((x : SpokenTurn) × SenderTurn Saw near is x) → SendsSoFar Saw was (n + 1) is
+  sends_on is (x, turn) = (x ∷ p.0, (near, p.1, turn), omega (arith, p.2))
 
-pub sends_over : (s near s' : Sending) (t mid u : LineTells) (n : ℕ) → SendsSoFar s t n near mid → near.over ≡ true → s' ≡ near → u ≡ mid → SendsOver s t s' u
-sends_over s near s' t mid u n (h, took, long) over is same = rw (is, same) (h, took, inl over)
+  pub sends_over : near.0.over ≡ true → Sends Saw was near
+  sends_over over = (p.0, p.1, inl over)
 
-pub sends_long : (s s' : Sending) (t u : LineTells) (n : ℕ) → SendsSoFar s t n s' u → n ≡ 2 ^ 64 - 1 → SendsOver s t s' u
-sends_long s s' t u n (h, took, long) e = (h, took, inr (long ∙ e))
+  pub sends_long : n ≡ 2 ^ 64 - 1 → Sends Saw was near
+  sends_long e = (p.0, p.1, inr (p.2 ∙ e))
 
-pub sends_fault : (s near s' : Sending) (t mid : LineTells) (n : ℕ) (fault : StationFault) → SendsSoFar s t n near mid → SenderFails near s' fault → SendsToFault s s' fault
-sends_fault s near s' t mid n fault p fails = let took = so_far_took s t n near mid p in (took.0, near, took.1, fails)
+  pub sends_fault : (s' : Sending) (fault : StationFault) → SenderFails near.0 s' fault → SendsToFault was.0 s' fault
+  sends_fault s' fault fails = (p.0, near.0, sender_took Saw was near p.0 p.1, fails)
 
 -- over a connection
 pub over_connection : {X E : Type 0} (r : Result X E) (Holds : LineTells → LineTells → X → Type 0) (m n : ℕ) → IfOk r (Holds (None, m) (None, n)) → IfOk r (λ x. OverConnection (λ t u. Holds t u x))

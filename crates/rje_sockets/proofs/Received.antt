@@ -6,7 +6,8 @@ use Rattle.std.specs.Result.{IsOkAnd, MatchResult, is_ok}
 use Rattle.std.specs.Io.KnownBytes.{Appends}
 use Rattle.std.proofs.lemmas.Result.{on_ok_weaker}
 use Rattle.rje_jobs.specs.declared.job.Job.{Job}
-use Rattle.rje_station.specs.Receiving.{Receiving, first_receiving}
+use Rattle.bsc_link.specs.declared.wish.Wish.{Wish}
+use Rattle.rje_station.specs.Receiving.{Receiving, after_receiving, first_receiving}
 use Rattle.rje_sockets.specs.declared.broken_off.BrokenOff.{BrokenOff}
 use Rattle.rje_commands.specs.declared.command_fault.CommandFault.{CommandFault}
 use Rattle.rje_commands.specs.declared.command_fault.CommandFault.TheVariants as told
@@ -18,13 +19,15 @@ use Rattle.rje_sockets.specs.declared.kept_file.KeptFile.{KeptFile}
 use Rattle.rje_sockets.specs.InFront.{IsOpened}
 use Rattle.rje_sockets.specs.declared.socket_commands.ending.Ending.{Ending}
 use Rattle.rje_stores.specs.declared.store.Place.TheVariants.{Growing}
-use Rattle.rje_sockets.specs.Answering.{HasWhole, KeepsAnswered, KeepsToBreak, KeepsToEnd}
+use Rattle.rje_sockets.specs.Answering.{BreaksOff, BreaksOffNow, HasWhole, KeepsAnswered, KeptSoFar}
 use Rattle.rje_sockets.specs.Ending.{MakesJobFile, Receives, ending_of_left, received_text}
 use Rattle.rje_sockets.specs.Keeping.{AreKept, GoesOnKeeping, IsOfFile, KeepsJobs, whole_in_front}
-use Rattle.rje_sockets.specs.Patience.{LeavesSo}
+use Rattle.rje_sockets.specs.Patience.{Leaves}
 use Rattle.rje_sockets.specs.OverLine.{LineTells}
 use Rattle.rje_stores.specs.Store.{FileMap, Discloses, IsSame}
-use Rattle.rje_sockets.proofs.Answering.{none_answered}
+use Rattle.rje_sockets.specs.Watching.{SawReceiver}
+use Rattle.rje_sockets.proofs.Answering.{breaks_same_file, left_answered, none_answered, refusal_jobs}
+use Rattle.rje_sockets.proofs.Watched.{leaves_unseen}
 use Rattle.rje_sockets.proofs.Growing.{none_kept, still_keeps}
 
 -- WHERE ALL IS WELL
@@ -49,32 +52,32 @@ pub err_unless_short : (r ending : Result Ending CommandFault) (P : CommandFault
 err_unless_short r ending P (inl same) holds memory = rw same holds
 err_unless_short r ending P (inr short) holds memory = rw short memory
 
-pub receives : (left : Result Left BrokenOff) (written printed : Result (Unit {0}) CommandFault) (t u : LineTells) (into : Destination) (files made : Option FileMap) (before after : Option (List ℕ)) (station : Receiving)
-    → IfOk left (λ l. LeavesSo l first_receiving t station u) → IfOk left (λ l. OnOk written (MakesJobFile station.jobs into files made)) → OnOk printed (Appends before after (received_text station.jobs))
-    → IfOk left (λ l. OnOk written (OnOk printed (Receives (ending_of_left l) t u into files made before after)))
-receives (Err b) written printed t u into files made before after station leaves makes text = tt
-receives (Ok l) (Err e) printed t u into files made before after station leaves makes text = tt
-receives (Ok l) (Ok w) (Err e) t u into files made before after station leaves makes text = tt
-receives (Ok l) (Ok w) (Ok p) t u into files made before after station leaves makes text = record { left = l; station = station; leaves = leaves; ending_is = refl; writes = (makes, text) }
+pub receives : {W : Type 0} (Saw : SawReceiver W) (left : Result Left BrokenOff) (written printed : Result (Unit {0}) CommandFault) (t u : LineTells) (w w' : W) (into : Destination) (files made : Option FileMap)
+    (before after : Option (List ℕ)) (station : Receiving) → IfOk left (λ l. Leaves Saw l (first_receiving, t, w) (station, u, w')) → IfOk left (λ l. OnOk written (MakesJobFile station.jobs into files made)) → OnOk printed (Appends before after (received_text station.jobs))
+    → IfOk left (λ l. OnOk written (OnOk printed (Receives (ending_of_left l) into (t, files, before) (u, made, after))))
+receives Saw (Err b) written printed t u w w' into files made before after station leaves makes text = tt
+receives Saw (Ok l) (Err e) printed t u w w' into files made before after station leaves makes text = tt
+receives Saw (Ok l) (Ok x) (Err e) t u w w' into files made before after station leaves makes text = tt
+receives Saw (Ok l) (Ok x) (Ok p) t u w w' into files made before after station leaves makes text =
+    record { left = l; station = station; leaves = leaves_unseen Saw l first_receiving station t u w w' leaves; ending_is = refl; makes = makes; text_is = text }
 
 -- where it came to an end, the file is that of its jobs
-pub made_at_end : (written : Result (Unit {0}) CommandFault) (front : List Entry) (first last : Keeper) (station : Receiving) (f looked kept made : Option FileMap) (before after : ℕ) (left : Result Left BrokenOff)
-    → IsOpened front first.file f → first.kept ≡ 0 → Discloses f looked IsSame → OnOk left (KeepsToEnd first last first_receiving station before after looked kept)
+pub made_at_end : (written : Result (Unit {0}) CommandFault) (front : List Entry) (first last : Keeper) (station : Receiving) (f looked kept made : Option FileMap) (left : Result Left BrokenOff)
+    → IsOpened front first.file f → first.kept ≡ 0 → Discloses f looked IsSame → OnOk left (GoesOnKeeping first last [] station.jobs looked kept)
     → OnOk written ((files : Option FileMap) → IfErr left (λ broken. IsOfFile broken → ⊥) → KeepsJobs last station.jobs files kept → MakesJobFile station.jobs last.file.into files made)
     → IfOk left (λ _. OnOk written (MakesJobFile station.jobs first.file.into f made))
-made_at_end written front first last station f looked kept made before after (Err e) opened none same ends makes = tt
-made_at_end written front first last station f looked kept made before after (Ok l) opened none same (far, answered, jobs, (one, on)) makes =
-    let now : KeepsJobs last station.jobs f kept = subst (λ (js : List Job). KeepsJobs last js f kept) (sym jobs) (on f (none_kept first front f looked opened none same)) in
+made_at_end written front first last station f looked kept made (Err e) opened none same goes makes = tt
+made_at_end written front first last station f looked kept made (Ok l) opened none same (one, on) makes =
+    let now : KeepsJobs last station.jobs f kept = on f (none_kept first front f looked opened none same) in
     on_ok_weaker written (λ m. subst (λ (x : KeptFile). MakesJobFile station.jobs x.into f made) one (m f tt now)) makes
 
 -- WHATEVER ENDS IT
 
 -- its keeper keeps the file
-pub keeper_stays : (left : Result Left BrokenOff) (k k' : Keeper) (r r' : Receiving) (before after : ℕ) (f g : Option FileMap) → OnOk left (KeepsToEnd k k' r r' before after f g)
-    → IfErr left (KeepsToBreak k k' r r' before after f g) → k'.file ≡ k.file
-keeper_stays (Ok l) k k' r r' before after f g (far, answered, jobs, goes) breaks = goes.0
-keeper_stays (Err b) k k' r r' before after f g ends (far, near, sent, then, answered, goes, inl (silent, more, why)) = more.0 ∙ goes.0
-keeper_stays (Err b) k k' r r' before after f g ends (far, near, sent, then, answered, goes, inr (one, (what, refused, may, jobs, more))) = more.0 ∙ goes.0
+pub keeper_stays : (left : Result Left BrokenOff) (r r' : Receiving) (was is : KeptSoFar) → OnOk left (GoesOnKeeping was.0 is.0 r.jobs r'.jobs was.2 is.2)
+    → IfErr left (BreaksOff r r' was is) → is.0.file ≡ was.0.file
+keeper_stays (Ok l) r r' was is goes breaks = goes.0
+keeper_stays (Err broken) r r' was is goes b = breaks_same_file b.far r' b.mid is broken b.breaks ∙ b.kept.0
 
 -- what a keeper has kept
 of_kept : (front : List Entry) (file : KeptFile) (kept : List Job) (long : ℕ) (files made : Option FileMap) → IsOpened front file files → AreKept front kept long file.into.jobs.now files made
@@ -100,7 +103,8 @@ pub has_rest : (written : Result (Unit {0}) CommandFault) (keeper : Keeper) (job
 has_rest (Ok x) keeper jobs files kept made grows k makes same = has_all jobs keeper.file.into files made (makes k)
 has_rest (Err e) keeper jobs files kept made grows k makes same = has_kept keeper jobs files made grows (still_keeps keeper jobs files kept made k same)
 
-module _ (written : Result (Unit {0}) CommandFault) (front : List Entry) (first last : Keeper) (station : Receiving) (f looked kept made : Option FileMap) (before after : ℕ)
+module _ {W : Type 0} (Saw : SawReceiver W) (written : Result (Unit {0}) CommandFault) (front : List Entry) (first : Keeper) (looked : Option FileMap) (station : Receiving) (f made : Option FileMap)
+    (t u : LineTells) (w w' : W) (last : Keeper) (kept : Option FileMap)
     (opened : IsOpened front first.file f) (none : first.kept ≡ 0) (grows : first.file.place ≡ Growing) (same : Discloses f looked IsSame) where
   -- what goes on from nothing
   from_none : (near : Keeper) (jobs : List Job) (g : Option FileMap) → GoesOnKeeping first near [] jobs looked g → KeepsJobs near jobs f g × (near.file ≡ first.file)
@@ -112,38 +116,49 @@ module _ (written : Result (Unit {0}) CommandFault) (front : List Entry) (first 
   at_file : (keeper : Keeper) (jobs : List Job) → keeper.file ≡ first.file → HasWhole jobs keeper.file.into f made → HasWhole jobs first.file.into f made
   at_file keeper jobs is has = subst (λ (x : KeptFile). HasWhole jobs x.into f made) is has
 
-  pub kept_to_end : KeepsToEnd first last first_receiving station before after looked kept
-      → OnOk written (KeepsJobs last station.jobs f kept → MakesJobFile station.jobs last.file.into f made) → OnErr written (Discloses kept made IsSame) → KeepsAnswered first.file.into f made before after
-  kept_to_end (far, answered, jobs, goes) makes still =
-      let k = from_none last far.jobs kept goes in
-      let now : KeepsJobs last station.jobs f kept = subst (λ (js : List Job). KeepsJobs last js f kept) (sym jobs) k.0 in
-      (far, after, answered, inl (refl, subst (λ (js : List Job). HasWhole js first.file.into f made) jobs (at_file last station.jobs k.1 (has_rest written last station.jobs f kept made (grown last k.1) now makes still))))
+  kept_to_end : (left : Left) → Leaves Saw left (first_receiving, t, w) (station, u, w') → GoesOnKeeping first last [] station.jobs looked kept
+      → OnOk written (KeepsJobs last station.jobs f kept → MakesJobFile station.jobs last.file.into f made) → OnErr written (Discloses kept made IsSame) → KeepsAnswered first.file.into f made t.1 u.1
+  kept_to_end left leaves goes makes still =
+      let end = left_answered Saw left first_receiving station t u w w' leaves in
+      let k = from_none last station.jobs kept goes in
+      (end.0, u.1, end.1, inl (refl, subst (λ (js : List Job). HasWhole js first.file.into f made) end.2 (at_file last station.jobs k.1 (has_rest written last station.jobs f kept made (grown last k.1) k.0 makes still))))
 
   -- it broke off, and what was kept by then is there
-  kept_by : (broken : BrokenOff) → KeepsToBreak first last first_receiving station before after looked kept broken
+  kept_by : (broken : BrokenOff) → BreaksOff first_receiving station (first, t.1, looked) (last, u.1, kept) broken
       → ((jobs : List Job) → (station.jobs ≡ jobs) ⊎ IsOfFile broken → last.file.place ≡ Growing → KeepsJobs last jobs f kept → HasWhole jobs last.file.into f made)
-      → KeepsAnswered first.file.into f made before after
-  kept_by broken (far, near, sent, then, answered, goes, inl (silent, more, why)) has =
-      let k = from_none near far.jobs then goes in
-      let is : last.file ≡ first.file = more.0 ∙ k.1 in
-      (far, sent, answered, inl (silent, at_file last far.jobs is (has far.jobs (turned why) (grown last is) (more.1 f k.0)))) where
-        turned : IsOfFile broken ⊎ (station.jobs ≡ far.jobs) → (station.jobs ≡ far.jobs) ⊎ IsOfFile broken
-        turned (inl x) = inr x
-        turned (inr x) = inl x
-  kept_by broken (far, near, sent, then, answered, goes, inr (one, (what, refused, may, jobs, more))) has =
-      let k = from_none near far.jobs then goes in
-      let is : last.file ≡ first.file = more.0 ∙ k.1 in
-      (far, sent, answered, inr (one, (what, refused, may, subst (λ (js : List Job). HasWhole js first.file.into f made) jobs (at_file last station.jobs is (has station.jobs (inl refl) (grown last is) (more.1 f k.0))))))
+      → KeepsAnswered first.file.into f made t.1 u.1
+  kept_by broken b has = by broken b.breaks has where
+    k : KeepsJobs b.mid.0 b.far.jobs f b.mid.2 × (b.mid.0.file ≡ first.file)
+    k = from_none b.mid.0 b.far.jobs b.mid.2 b.kept
+
+    -- no more was kept, and nothing replied
+    no_more : (broken : BrokenOff) → u.1 ≡ b.mid.1 → GoesOnKeeping b.mid.0 last b.far.jobs b.far.jobs b.mid.2 kept → (station.jobs ≡ b.far.jobs) ⊎ IsOfFile broken
+        → ((jobs : List Job) → (station.jobs ≡ jobs) ⊎ IsOfFile broken → last.file.place ≡ Growing → KeepsJobs last jobs f kept → HasWhole jobs last.file.into f made)
+        → KeepsAnswered first.file.into f made t.1 u.1
+    no_more broken silent more why has =
+        let is : last.file ≡ first.file = more.0 ∙ k.1 in
+        (b.far, b.mid.1, b.answered, inl (silent, at_file last b.far.jobs is (has b.far.jobs why (grown last is) (more.1 f k.0))))
+
+    by : (broken : BrokenOff) → BreaksOffNow b.far station b.mid (last, u.1, kept) broken
+        → ((jobs : List Job) → (station.jobs ≡ jobs) ⊎ IsOfFile broken → last.file.place ≡ Growing → KeepsJobs last jobs f kept → HasWhole jobs last.file.into f made)
+        → KeepsAnswered first.file.into f made t.1 u.1
+    by (BrokenOff.File fault) (what, refused, may, state, silent, more) has = no_more (BrokenOff.File fault) silent more (inr tt) has
+    by (BrokenOff.Line fault) (inl (state, silent, more)) has =
+        no_more (BrokenOff.Line fault) silent more (inl (ap (λ (x : Receiving). x.jobs) state ∙ refusal_jobs fault b.far)) has
+    by (BrokenOff.Line fault) (inr (what, refused, may, state, one, more)) has =
+        let is : last.file ≡ first.file = more.0 ∙ k.1 in
+        let jobs : station.jobs ≡ (after_receiving b.far what refused Wish.Go).jobs = ap (λ (x : Receiving). x.jobs) state ∙ refusal_jobs fault (after_receiving b.far what refused Wish.Go) in
+        (b.far, b.mid.1, b.answered, inr (one, (what, refused, may, subst (λ (js : List Job). HasWhole js first.file.into f made) jobs (at_file last station.jobs is (has station.jobs (inl refl) (grown last is) (more.1 f k.0))))))
 
   -- whatever is left of it
-  pub kept_whatever : (left : Result Left BrokenOff) → OnOk left (KeepsToEnd first last first_receiving station before after looked kept)
-      → IfErr left (KeepsToBreak first last first_receiving station before after looked kept)
+  pub kept_whatever : (left : Result Left BrokenOff) → IfOk left (λ l. Leaves Saw l (first_receiving, t, w) (station, u, w')) → OnOk left (GoesOnKeeping first last [] station.jobs looked kept)
+      → IfErr left (BreaksOff first_receiving station (first, t.1, looked) (last, u.1, kept))
       → OnOk written ((files : Option FileMap) → IfErr left (λ broken. IsOfFile broken → ⊥) → KeepsJobs last station.jobs files kept → MakesJobFile station.jobs last.file.into files made)
-      → IfErr left (λ broken. IsOfFile broken → Discloses kept made IsSame) → OnErr written (Discloses kept made IsSame) → KeepsAnswered first.file.into f made before after
-  kept_whatever (Ok l) ends breaks makes refused still = kept_to_end ends (on_ok_weaker written (λ m. m f tt) makes) still
-  kept_whatever (Err (BrokenOff.File e)) ends breaks makes refused still =
+      → IfErr left (λ broken. IsOfFile broken → Discloses kept made IsSame) → OnErr written (Discloses kept made IsSame) → KeepsAnswered first.file.into f made t.1 u.1
+  kept_whatever (Ok l) leaves goes breaks makes refused still = kept_to_end l leaves goes (on_ok_weaker written (λ m. m f tt) makes) still
+  kept_whatever (Err (BrokenOff.File e)) leaves goes breaks makes refused still =
       kept_by (BrokenOff.File e) breaks (λ jobs why growing k. has_kept last jobs f made growing (still_keeps last jobs f kept made k (refused tt)))
-  kept_whatever (Err (BrokenOff.Line e)) ends breaks makes refused still = kept_by (BrokenOff.Line e) breaks has where
+  kept_whatever (Err (BrokenOff.Line e)) leaves goes breaks makes refused still = kept_by (BrokenOff.Line e) breaks has where
     rest : last.file.place ≡ Growing → KeepsJobs last station.jobs f kept → HasWhole station.jobs last.file.into f made
     rest growing k =
         has_rest written last station.jobs f kept made growing k (on_ok_weaker written (λ m. m f (λ never. absurd never)) makes) still
@@ -154,14 +169,16 @@ module _ (written : Result (Unit {0}) CommandFault) (front : List Entry) (first 
         subst (λ (js : List Job). HasWhole js last.file.into f made) same_jobs (rest growing (subst (λ (js : List Job). KeepsJobs last js f kept) (sym same_jobs) k))
 
 -- over a store that tells its files
-pub received_kept : (written : Result (Unit {0}) CommandFault) (front : List Entry) (first last : Keeper) (station : Receiving) (f looked kept made : Option FileMap) (before after : ℕ) (left : Result Left BrokenOff)
+pub received_kept : {W : Type 0} (Saw : SawReceiver W) (written : Result (Unit {0}) CommandFault) (front : List Entry) (first : Keeper) (looked : Option FileMap) (station : Receiving) (f made : Option FileMap)
+    (t u : LineTells) (w w' : W) (last : Keeper) (kept : Option FileMap) (left : Result Left BrokenOff)
     → IsOpened front first.file f → first.kept ≡ 0 → Discloses f looked IsSame
-    → OnOk left (KeepsToEnd first last first_receiving station before after looked kept) → IfErr left (KeepsToBreak first last first_receiving station before after looked kept)
+    → IfOk left (λ l. Leaves Saw l (first_receiving, t, w) (station, u, w')) → OnOk left (GoesOnKeeping first last [] station.jobs looked kept)
+    → IfErr left (BreaksOff first_receiving station (first, t.1, looked) (last, u.1, kept))
     → OnOk written ((files : Option FileMap) → IfErr left (λ broken. IsOfFile broken → ⊥) → KeepsJobs last station.jobs files kept → MakesJobFile station.jobs last.file.into files made)
-    → IfErr left (λ broken. IsOfFile broken → Discloses kept made IsSame) → OnErr written (Discloses kept made IsSame) → IfSome f (λ _. KeepsAnswered first.file.into f made before after)
-received_kept written front first last station None looked kept made before after left opened none same ends breaks makes refused still = tt
-received_kept written front first last station (Some f) looked kept made before after left opened none same ends breaks makes refused still =
-    kept_whatever written front first last station (Some f) looked kept made before after opened none opened.grows same left ends breaks makes refused still
+    → IfErr left (λ broken. IsOfFile broken → Discloses kept made IsSame) → OnErr written (Discloses kept made IsSame) → IfSome f (λ _. KeepsAnswered first.file.into f made t.1 u.1)
+received_kept Saw written front first looked station None made t u w w' last kept left opened none same leaves goes breaks makes refused still = tt
+received_kept Saw written front first looked station (Some f) made t u w w' last kept left opened none same leaves goes breaks makes refused still =
+    kept_whatever Saw written front first looked station (Some f) made t u w w' last kept opened none opened.grows same left leaves goes breaks makes refused still
 
 -- nothing was heard
 pub nothing_kept : (into : Destination) (f made : Option FileMap) (before after : ℕ) → Discloses f made IsSame → after ≡ before → IfSome f (λ _. KeepsAnswered into f made before after)

@@ -1,6 +1,5 @@
--- What a station's calls did is a turn that its watch was told.
-use Rattle.std.proofs.Common.{◌≡◌, Bool, false, List, [], ◌∷◌, Option, Some, refl, ap, sym, ◌∙◌, subst}
-use Rattle.bsc_codes.specs.declared.block.Block.{Block}
+-- What a station's calls did is a turn that its watch saw; and whoever watches, the turns are the same.
+use Rattle.std.proofs.Common.{◌≡◌, inl, Bool, true, false, List, [], ◌∷◌, map, Option, Some, refl, ap, sym, ◌∙◌, subst}
 use Rattle.bsc_frame.specs.declared.heard.Heard.{Heard}
 use Rattle.bsc_link.specs.declared.reply.Reply.{Reply}
 use Rattle.bsc_link.specs.declared.say.Say.{Say}
@@ -10,71 +9,100 @@ use Rattle.bsc_link.specs.Sender.{say_in}
 use Rattle.bsc_history.specs.declared.spoken_turn.SpokenTurn.{SpokenTurn}
 use Rattle.bsc_history.specs.History.{History}
 use Rattle.rje_station.specs.declared.arrival.Arrival.{Arrival}
+use Rattle.rje_station.specs.declared.station_fault.StationFault.{StationFault}
 use Rattle.rje_station.specs.Hearing.{sound_heard}
 use Rattle.rje_station.specs.JoinedJobs.{begun_in}
 use Rattle.rje_station.specs.Receiving.{Receiving, MayRefuse, after_receiving, after_replying}
 use Rattle.rje_station.specs.Sending.{Sending, after_speaking, after_hearing, is_end}
-use Rattle.line_world.specs.AnyLines.{ReceiverTook, SenderTook}
-use Rattle.line_world.proofs.TurnsOverLines.{arrived_turn, heard_turn, hears, no_end}
-use Rattle.rje_sockets.specs.Watching.{SawReceiver, SawSender, ReceiverWatched, ReceiverWatchedAll, SenderWatched, SenderWatchedAll}
+use Rattle.line_world.specs.AnyLines.{BothFail, BothToEnd, BothToFault, ReceiverTakes, ReceiverTook, SenderTakes, SenderTook, Turns, unhindered}
+use Rattle.line_world.specs.declared.spoken.Spoken.{Spoken}
+use Rattle.line_world.proofs.TurnsOverLines.{arrived_turn, heard_turn, hears, no_end, turns_as}
+use Rattle.rje_sockets.specs.declared.exchange.Left.{Left}
+use Rattle.rje_sockets.specs.OverLine.{BothTook, BothTurn, HeardAndReplied, LineTells, ReceiverTurn, SenderTurn, Sends, SendsOver, SpokeAndHeard}
+use Rattle.rje_sockets.specs.Patience.{Leaves, LeavesSo}
+use Rattle.rje_sockets.specs.Watching.{SawBoth, SawReceiver, SawSender, nobody_hears, nobody_sees}
 
 -- it said EOT
-pub end_watched : {W : Type 0} (Saw : List Block → SawSender W) (s s' : Sending) (w w' : W) → s.over ≡ false → say_in s.core.place ≡ Say.End → s' ≡ after_speaking s
-    → Saw s.rest w w' Say.End Sound.Quiet → (t : SpokenTurn) × SenderWatched Saw s w s' w' t
-end_watched Saw s s' w w' live end e saw = (heard_turn Say.End Sound.Quiet, (record { live = live; said = sym end; done = λ x. refl; state = e }, saw))
+pub end_turn : {W : Type 0} (Saw : SawSender W) (s s' : Sending) (t u : LineTells) (w w' : W) → s.over ≡ false → say_in s.core.place ≡ Say.End → s' ≡ after_speaking s
+    → SpokeAndHeard s.rest t u Say.End Sound.Quiet → Saw w w' Say.End Sound.Quiet → (x : SpokenTurn) × SenderTurn Saw (s, t, w) (s', u, w') x
+end_turn Saw s s' t u w w' live end e passed saw =
+    (heard_turn Say.End Sound.Quiet, (record { live = live; said = sym end; done = λ x. refl; state = e }, passed, saw))
 
 -- it said something else, and heard this
-pub turn_watched : {W : Type 0} (Saw : List Block → SawSender W) (s near s' : Sending) (w w' : W) (said : Say) (heard : Sound) → said ≡ say_in s.core.place → s.over ≡ false
-    → near ≡ after_speaking s → near.over ≡ false → s' ≡ after_hearing near heard false → Saw s.rest w w' said heard → (t : SpokenTurn) × SenderWatched Saw s w s' w' t
-turn_watched Saw s near s' w w' said heard is live spoke listens e saw =
+pub more_turn : {W : Type 0} (Saw : SawSender W) (s near s' : Sending) (t u : LineTells) (w w' : W) (said : Say) (heard : Sound) → said ≡ say_in s.core.place → s.over ≡ false
+    → near ≡ after_speaking s → near.over ≡ false → s' ≡ after_hearing near heard false → SpokeAndHeard s.rest t u said heard → Saw w w' said heard
+    → (x : SpokenTurn) × SenderTurn Saw (s, t, w) (s', u, w') x
+more_turn Saw s near s' t u w w' said heard is live spoke listens e passed saw =
     let say = say_in s.core.place in
     let more : is_end say ≡ false = sym (ap (λ x. x.over) spoke) ∙ listens in (
       heard_turn say heard,
       (
         record { live = live; said = refl; done = λ end. absurd (no_end say more end); state = e ∙ ap (λ x. after_hearing x heard false) spoke ∙ sym (hears say s heard more) },
-        subst (λ x. Saw s.rest w w' x heard) is saw,
+        subst (λ x. SpokeAndHeard s.rest t u x heard) is passed,
+        subst (λ x. Saw w w' x heard) is saw,
       ),
     )
 
--- what a receiving station says of a hearing is what came, as it was told
-arrival_told : {W : Type 0} (Saw : SawReceiver W) (r heard : Receiving) (w w' : W) (what : Heard) (refused : Bool) (arrival : Arrival) (reply : Option Reply)
-    → heard ≡ after_receiving r what refused Wish.Go → Some arrival ≡ heard.arrival → reply ≡ heard.due → Saw w w' arrival reply
-    → Saw w w' (record { sound = sound_heard what; refused = refused }) (after_receiving r what refused Wish.Go).due
-arrival_told Saw r heard w w' what refused arrival reply is came due saw =
+-- what a receiving station says of a hearing is what came
+seen_as : {W : Type 0} (Saw : SawReceiver W) (r heard : Receiving) (t u : LineTells) (w w' : W) (what : Heard) (refused : Bool) (arrival : Arrival) (reply : Option Reply)
+    → heard ≡ after_receiving r what refused Wish.Go → Some arrival ≡ heard.arrival → reply ≡ heard.due → HeardAndReplied what t u reply → Saw w w' arrival reply
+    → HeardAndReplied what t u (after_receiving r what refused Wish.Go).due × Saw w w' (record { sound = sound_heard what; refused = refused }) (after_receiving r what refused Wish.Go).due
+seen_as Saw r heard t u w w' what refused arrival reply is came due passed saw =
     let same : Some arrival ≡ Some (record { sound = sound_heard what; refused = refused }) = came ∙ ap (λ (x : Receiving). x.arrival) is in
     let named : arrival ≡ record { sound = sound_heard what; refused = refused } = cc in
-    subst (λ y. Saw w w' (record { sound = sound_heard what; refused = refused }) y) (due ∙ ap (λ (x : Receiving). x.due) is) (subst (λ x. Saw w w' x reply) named saw)
+    subst (λ y. HeardAndReplied what t u y × Saw w w' (record { sound = sound_heard what; refused = refused }) y) (due ∙ ap (λ (x : Receiving). x.due) is)
+    (passed, subst (λ x. Saw w w' x reply) named saw)
 
 -- it replied
-pub reply_watched : {W : Type 0} (Saw : Heard → SawReceiver W) (r heard r' : Receiving) (w w' : W) (what : Heard) (refused : Bool) (arrival : Arrival) (reply : Option Reply)
+pub reply_turn : {W : Type 0} (Saw : SawReceiver W) (r heard r' : Receiving) (t u : LineTells) (w w' : W) (what : Heard) (refused : Bool) (arrival : Arrival) (reply : Option Reply)
     → MayRefuse what (begun_in r.jobs) refused → heard ≡ after_receiving r what refused Wish.Go → r' ≡ after_replying heard → Some arrival ≡ heard.arrival
-    → reply ≡ heard.due → Saw what w w' arrival reply → (t : SpokenTurn) × ReceiverWatched Saw r w r' w' t
-reply_watched Saw r heard r' w w' what refused arrival reply may is state came due saw = (
-  arrived_turn Say.Bid r what refused,
-  (
-    record { what = what; arrived = refl; may = may; reply = refl; state = state ∙ ap after_replying is },
-    arrival_told (Saw what) r heard w w' what refused arrival reply is came due saw,
-  ),
-)
+    → reply ≡ heard.due → HeardAndReplied what t u reply → Saw w w' arrival reply → (x : SpokenTurn) × ReceiverTurn Saw (r, t, w) (r', u, w') x
+reply_turn Saw r heard r' t u w w' what refused arrival reply may is state came due passed saw =
+    let seen = seen_as Saw r heard t u w w' what refused arrival reply is came due passed saw in
+    (arrived_turn Say.Bid r what refused, (record { what = what; arrived = refl; may = may; reply = refl; state = state ∙ ap after_replying is }, seen.0, seen.1))
 
 -- it was over
-pub last_watched : {W : Type 0} (Saw : Heard → SawReceiver W) (r heard r' : Receiving) (w w' : W) (what : Heard) (refused : Bool) (arrival : Arrival) (reply : Option Reply)
+pub last_turn : {W : Type 0} (Saw : SawReceiver W) (r heard r' : Receiving) (t u : LineTells) (w w' : W) (what : Heard) (refused : Bool) (arrival : Arrival) (reply : Option Reply)
     → MayRefuse what (begun_in r.jobs) refused → heard ≡ after_receiving r what refused Wish.Go → r' ≡ heard → Some arrival ≡ heard.arrival
-    → reply ≡ heard.due → Saw what w w' arrival reply → (t : SpokenTurn) × ReceiverWatched Saw r w r' w' t
-last_watched Saw r heard r' w w' what refused arrival reply may is state came due saw = (
-  arrived_turn Say.End r what refused,
-  (
-    record { what = what; arrived = refl; may = may; reply = refl; state = state ∙ is },
-    arrival_told (Saw what) r heard w w' what refused arrival reply is came due saw,
-  ),
-)
+    → reply ≡ heard.due → HeardAndReplied what t u reply → Saw w w' arrival reply → (x : SpokenTurn) × ReceiverTurn Saw (r, t, w) (r', u, w') x
+last_turn Saw r heard r' t u w w' what refused arrival reply may is state came due passed saw =
+    let seen = seen_as Saw r heard t u w w' what refused arrival reply is came due passed saw in
+    (arrived_turn Say.End r what refused, (record { what = what; arrived = refl; may = may; reply = refl; state = state ∙ is }, seen.0, seen.1))
 
--- WHAT WAS TOLD IS WHAT WAS TAKEN
+-- WHOEVER WATCHES, the same turns were taken
 
-pub sender_took : {W : Type 0} (Saw : List Block → SawSender W) (s : Sending) (w : W) (s' : Sending) (w' : W) (h : History) → SenderWatchedAll Saw s w s' w' h → SenderTook s h s'
-sender_took Saw s w s' w' [] (same, told) = same
-sender_took Saw s w s' w' (t ∷ past) (near, mid, before, (takes, saw)) = (near, sender_took Saw s w near mid past before, takes)
+pub sender_took : {W : Type 0} (Saw : SawSender W) (was is : Sending × LineTells × W) (h : History) → Turns (λ _. SenderTurn Saw) was h is → SenderTook was.0 h is.0
+sender_took Saw was is h took = turns_as (λ _. SenderTurn Saw) (λ _. SenderTakes) (λ a. a.0) (λ past a b x turn. turn.0) was h is took
 
-pub receiver_took : {W : Type 0} (Saw : Heard → SawReceiver W) (r : Receiving) (w : W) (r' : Receiving) (w' : W) (h : History) → ReceiverWatchedAll Saw r w r' w' h → ReceiverTook r h r'
-receiver_took Saw r w r' w' [] (same, told) = same
-receiver_took Saw r w r' w' (t ∷ past) (far, mid, before, (takes, saw)) = (far, receiver_took Saw r w far mid past before, takes)
+pub sends_unseen : {W : Type 0} (Saw : SawSender W) (s s' : Sending) (t u : LineTells) (w w' : W) → Sends Saw (s, t, w) (s', u, w') → SendsOver s t s' u
+sends_unseen Saw s s' t u w w' (h, took, through) =
+    (h, turns_as (λ _. SenderTurn Saw) (λ _. SenderTurn nobody_sees) (λ a. (a.0, a.1, tt)) (λ past a b x turn. (turn.0, turn.1, tt)) (s, t, w) h (s', u, w') took, through)
+
+pub receiver_took : {W : Type 0} (Saw : SawReceiver W) (was is : Receiving × LineTells × W) (h : History) → Turns (λ _. ReceiverTurn Saw) was h is → ReceiverTook was.0 h is.0
+receiver_took Saw was is h took = turns_as (λ _. ReceiverTurn Saw) (λ _. ReceiverTakes) (λ a. a.0) (λ past a b x turn. turn.0) was h is took
+
+receiver_unseen : {W : Type 0} (Saw : SawReceiver W) (r r' : Receiving) (t u : LineTells) (w w' : W) (h : History) → Turns (λ _. ReceiverTurn Saw) (r, t, w) h (r', u, w')
+    → Turns (λ _. ReceiverTurn nobody_hears) (r, t, tt) h (r', u, tt)
+receiver_unseen Saw r r' t u w w' h took =
+    turns_as (λ _. ReceiverTurn Saw) (λ _. ReceiverTurn nobody_hears) (λ a. (a.0, a.1, tt)) (λ past a b x turn. (turn.0, turn.1, tt)) (r, t, w) h (r', u, w') took
+
+pub leaves_unseen : {W : Type 0} (Saw : SawReceiver W) (left : Left) (r r' : Receiving) (t u : LineTells) (w w' : W) → Leaves Saw left (r, t, w) (r', u, w') → LeavesSo left r t r' u
+leaves_unseen Saw Left.Ended r r' t u w w' (h, on, took, over) = (h, on, receiver_unseen Saw r r' t u w w' h took, over)
+leaves_unseen Saw Left.Abandoned r r' t u w w' (far, (h, on, took, why), is) = (far, (h, on, receiver_unseen Saw r far t u w w' h took, why), is)
+
+-- both took the same
+pub both_took : {W : Type 0} (Saw : SawBoth W) (was is : Sending × Receiving × W) (turns : List Spoken) → Turns (λ _. BothTurn Saw) was turns is
+    → SenderTook was.0 (map unhindered turns) is.0 × ReceiverTook was.1 (map unhindered turns) is.1
+both_took Saw was is [] same = (ap (λ a. a.0) same, ap (λ a. a.1) same)
+both_took Saw was is (t ∷ past) (near, before, ((sends, hears), saw)) = let took = both_took Saw was near past before in ((near.0, took.0, sends), (near.1, took.1, hears))
+
+pub took_both : {W : Type 0} (Saw : SawBoth W) (s s' : Sending) (r r' : Receiving) (w w' : W) → BothTook Saw (s, r, w) (s', r', w') → BothToEnd s s' r r'
+took_both Saw s s' r r' w w' (turns, took, through) = let both = both_took Saw (s, r, w) (s', r', w') turns took in (map unhindered turns, both.0, both.1, through)
+
+pub both_fault : {W : Type 0} (Saw : SawBoth W) (was near : Sending × Receiving × W) (turns : List Spoken) → Turns (λ _. BothTurn Saw) was turns near
+    → (s' : Sending) (r' : Receiving) (fault : StationFault) → BothFail near.0 s' near.1 r' fault → BothToFault was.0 s' was.1 r' fault
+both_fault Saw was near turns took s' r' fault fails = let both = both_took Saw was near turns took in (map unhindered turns, near.0, near.1, both.0, both.1, fails)
+
+-- to the end, where the sender is over
+pub both_over : {W : Type 0} (Saw : SawBoth W) (was near : Sending × Receiving × W) (turns : List Spoken) → Turns (λ _. BothTurn Saw) was turns near → near.0.over ≡ true → BothTook Saw was near
+both_over Saw was near turns took over = (turns, took, inl over)

@@ -16,12 +16,24 @@ abbrev pub HoldsBoth : Marker → (counted : ℕ) → Keeper → List Job → (f
 HoldsBoth marker counted keeper jobs files made =
     (marked : Option FileMap) × Marks marker counted files marked × KeepsJobs keeper jobs marked made
 
+-- what such a station changes beside itself: what is marked, what is kept, and the files
+abbrev pub HeldSoFar : Type 0
+HeldSoFar = Marker × Keeper × Option FileMap
+
+-- what a station has counted of its own jobs, and what came
+abbrev pub Progress : Type 0
+Progress = ℕ × List Job
+
+abbrev pub progress_of : Contending → Progress
+progress_of s = (s.sender.counted, s.receiver.jobs)
+
 -- a marker and a keeper, each of the same file, went on to mark what is counted and to keep what came, where these are two files
-pub record GoesOnHolding (old new : Marker) (counted more : ℕ) (before after : Keeper) (jobs later : List Job) (f g : Option FileMap) : Type 0 where
-  pub name : new.name ≡ old.name
-  pub file : new.file ≡ old.file
-  pub own : after.file ≡ before.file
-  pub holds : old.name.now ≢ before.file.into.jobs.now → (files : Option FileMap) → HoldsBoth old counted before jobs files f → HoldsBoth new more after later files g
+pub record GoesOnHolding (was is : HeldSoFar) (had has : Progress) : Type 0 where
+  pub name : is.0.name ≡ was.0.name
+  pub file : is.0.file ≡ was.0.file
+  pub own : is.1.file ≡ was.1.file
+  pub holds : was.0.name.now ≢ was.1.file.into.jobs.now → (files : Option FileMap)
+      → HoldsBoth was.0 had.0 was.1 had.1 files was.2 → HoldsBoth is.0 has.0 is.1 has.1 files is.2
 
 -- what is kept of the jobs of a station that broke off: all that it has; or, where the last one couldn't be kept, those that it had before
 abbrev pub kept_of : Contending → Contending → BrokenOff → List Job
@@ -29,9 +41,9 @@ kept_of near s (BrokenOff.Line fault) = s.receiver.jobs
 kept_of near s (BrokenOff.File fault) = near.receiver.jobs
 
 -- it took some turns, and then it broke off; what it had counted is marked, and what had come is kept
-pub record BreaksBoth (s s' : Contending) (old new : Marker) (before after : Keeper) (f g : Option FileMap) (broken : BrokenOff) : Type 0 where
+pub record BreaksBoth (s s' : Contending) (was is : HeldSoFar) (broken : BrokenOff) : Type 0 where
   pub turns : List StationTurn
   pub near : Contending
   pub took : Took s.contender.rank s turns near
   pub fails : Fails near s' broken
-  pub holds : GoesOnHolding old new s.sender.counted near.sender.counted before after s.receiver.jobs (kept_of near s' broken) f g
+  pub holds : GoesOnHolding was is (progress_of s) (near.sender.counted, kept_of near s' broken)

@@ -1,12 +1,12 @@
 -- A station that sends and receives over one line, whatever that does: turn by turn, and how it ends (own profile).
 use Rattle.std.specs.Prelude.{◌≡◌, ◌≢◌, ◌⊎◌, ◌+◌, ℕ, Bool, true, false, List, [], ◌∷◌, length, Option, if◌then◌else◌}
-use Rattle.bsc_codes.specs.declared.block.Block.{Block}
 use Rattle.bsc_frame.specs.declared.heard.Heard.{Heard}
 use Rattle.bsc_link.specs.declared.rank.Rank.{Rank}
 use Rattle.bsc_link.specs.declared.reply.Reply.{Reply}
 use Rattle.bsc_link.specs.declared.say.Say.{Say}
 use Rattle.bsc_link.specs.declared.sound.Sound.{Sound}
 use Rattle.bsc_link.specs.declared.wish.Wish.{Wish}
+use Rattle.line_world.specs.AnyLines.{Turns}
 use Rattle.rje_station.specs.declared.arrival.Arrival.{Arrival}
 use Rattle.rje_station.specs.Hearing.{sound_heard}
 use Rattle.rje_station.specs.JoinedJobs.{begun_in}
@@ -18,7 +18,7 @@ use Rattle.rje_station.specs.declared.station_fault.StationFault.TheVariants as 
 use Rattle.rje_sockets.specs.declared.broken_off.BrokenOff.{BrokenOff}
 use Rattle.rje_sockets.specs.declared.exchange.Left.{Left}
 use Rattle.rje_sockets.specs.OverLine.{HeardAndReplied, LineTells, SpokeAndHeard}
-use Rattle.rje_sockets.specs.Watching.{SawReceiver, SawSender}
+use Rattle.rje_sockets.specs.Watching.{SawReceiver, SawSender, nobody_hears, nobody_sees}
 
 -- after its own turn: after EOT it doesn't listen
 abbrev pub after_own_turn : Contending → Say → Sound → Contending
@@ -69,9 +69,11 @@ IsNext rank past s (Own said heard) = due_at s ≡ Say.Bid → (has_listened ran
 IsNext rank past s (Others arrival reply) = (due_at s ≡ Say.Nothing) ⊎ ((due_at s ≡ Say.Bid) × (has_listened rank past ≡ false))
 
 -- it took these turns, the newest first
+abbrev pub NextTurn : Rank → List StationTurn → Contending → Contending → StationTurn → Type 0
+NextTurn rank past s s' t = IsNext rank past s t × Takes s s' t
+
 abbrev pub Took : Rank → Contending → List StationTurn → Contending → Type 0
-Took rank s [] s' = s' ≡ s
-Took rank s (t ∷ past) s' = (mid : Contending) × Took rank s past mid × IsNext rank past mid t × Takes mid s' t
+Took rank = Turns (NextTurn rank)
 
 -- how many of the last turns were the other's and brought nothing, without a break
 abbrev pub quiet_in_a_row : List StationTurn → ℕ
@@ -89,31 +91,37 @@ pub record Waits (s : Contending) : Type 0 where
   pub own : due_at s ≡ Say.Nothing
   pub others : is_receiving s.contender.place ≡ false
 
--- what a watch was told of a turn
-abbrev pub Saw : {W : Type 0} → (List Block → SawSender W) → (Heard → SawReceiver W) → (s s' : Contending) → W → W → (t : StationTurn) → Takes s s' t → Type 0
-Saw SawSent SawCame s s' w w' (Own said heard) takes = SawSent s.sender.rest w w' said heard
-Saw SawSent SawCame s s' w w' (Others arrival reply) takes = SawCame takes.what w w' arrival reply
+-- what the line did in a turn: it sent what was said and replied, and gave what was heard
+abbrev pub PassedIn : (s s' : Contending) → (t : StationTurn) → Takes s s' t → (was is : LineTells) → Type 0
+PassedIn s s' (Own said heard) takes was is = SpokeAndHeard s.sender.rest was is said heard
+PassedIn s s' (Others arrival reply) takes was is = HeardAndReplied takes.what was is reply
 
--- it took these turns, the newest first, and just those were told
-abbrev pub Watched : {W : Type 0} → (List Block → SawSender W) → (Heard → SawReceiver W) → Rank → Contending → W → Contending → W → List StationTurn → Type 0
-Watched SawSent SawCame rank s w s' w' [] = (s' ≡ s) × (w' ≡ w)
-Watched {W} SawSent SawCame rank s w s' w' (t ∷ past) =
-    (near : Contending) × (mid : W) × Watched SawSent SawCame rank s w near mid past × IsNext rank past near t
-    × (takes : Takes near s' t) × Saw SawSent SawCame near s' mid w' t takes
+-- what a watch saw of it
+abbrev pub SawTurn : {W : Type 0} → SawSender W → SawReceiver W → (was is : W) → StationTurn → Type 0
+SawTurn Sent Came was is (Own said heard) = Sent was is said heard
+SawTurn Sent Came was is (Others arrival reply) = Came was is arrival reply
 
--- it took these turns, in each of which the line sent what it said and replied, and gave what it heard
-abbrev pub TookOver : Contending → LineTells → List StationTurn → Contending → LineTells → Type 0
-TookOver s t turns s' u = Watched SpokeAndHeard HeardAndReplied s.contender.rank s t s' u turns
+-- it took a turn, in its order; the line did so, and the watch saw just that
+abbrev pub TurnOver : {W : Type 0} → SawSender W → SawReceiver W → Rank → List StationTurn → Contending × LineTells × W → Contending × LineTells × W → StationTurn → Type 0
+TurnOver Sent Came rank past (s, t, w) (s', u, w') x = IsNext rank past s x × (takes : Takes s s' x) × PassedIn s s' x takes t u × SawTurn Sent Came w w' x
+
+-- it took these turns so
+abbrev pub TookOver : {W : Type 0} → SawSender W → SawReceiver W → Contending × LineTells × W → List StationTurn → Contending × LineTells × W → Type 0
+TookOver Sent Came was = Turns (TurnOver Sent Came was.0.contender.rank) was
 
 -- it took some turns so, until both transmissions were over, or the other hung up for which it waited; or until forty of the other's turns in
--- a row brought nothing, or so many turns were taken in all
-abbrev pub ExchangesTo : Left → Contending → LineTells → Contending → LineTells → Type 0
-ExchangesTo Left.Ended s t s' u =
-    (turns : List StationTurn) × (near : Contending) × (mid : LineTells) × TookOver s t turns near mid
+-- a row brought nothing, or a billion turns were taken in all
+abbrev pub TakesTurnsTo : {W : Type 0} → SawSender W → SawReceiver W → Left → Contending × LineTells × W → Contending × LineTells × W → Type 0
+TakesTurnsTo Sent Came Left.Ended was (s', u, w') =
+    (turns : List StationTurn) × (near : Contending) × (mid : LineTells) × TookOver Sent Came was turns (near, mid, w')
     × ((AreOver near × (s' ≡ near) × (u ≡ mid)) ⊎ (Waits near × (s' ≡ after_other_refusal (fault.Line Closed) near)))
-ExchangesTo Left.Abandoned s t s' u =
-    (turns : List StationTurn) × (near : Contending) × TookOver s t turns near u
+TakesTurnsTo Sent Came Left.Abandoned was (s', u, w') =
+    (turns : List StationTurn) × (near : Contending) × TookOver Sent Came was turns (near, u, w')
     × (((quiet_in_a_row turns ≡ 40) × (s' ≡ after_other_ended near)) ⊎ ((length turns ≡ 1000000000) × (s' ≡ near)))
+
+-- over a line that nobody watches
+abbrev pub ExchangesTo : Left → Contending → LineTells → Contending → LineTells → Type 0
+ExchangesTo left s t s' u = TakesTurnsTo nobody_sees nobody_hears left (s, t, tt) (s', u, tt)
 
 -- a fault of the line ended its own turn: as it spoke, or as it listened
 abbrev pub FailsInOwn : Contending → Contending → StationFault → Type 0

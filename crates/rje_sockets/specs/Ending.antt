@@ -19,7 +19,7 @@ use Rattle.rje_commands.specs.CommandFault.{status_of}
 use Rattle.rje_commands.specs.Commands.{OfFile}
 use Rattle.rje_orders.specs.declared.order.Destination.{Destination}
 use Rattle.rje_sockets.specs.InFront.{StandInFront}
-use Rattle.rje_sockets.specs.OverLine.{LineTells, SendsOver}
+use Rattle.rje_sockets.specs.OverLine.{Outside, SendsOver}
 use Rattle.rje_sockets.specs.Patience.{LeavesSo}
 use Rattle.rje_stores.specs.Store.{FileMap, Discloses, Sets}
 
@@ -52,10 +52,6 @@ MakesJobFile jobs into files made =
     (front : List Entry) × (bytes : List ℕ) × StandInFront into.existing into.jobs.now files front
     × IsEntryFileOf Second (front ++ map entry_of jobs) bytes × (length bytes ≤ 16777216) × Discloses files made (Sets into.jobs.now bytes)
 
--- so it did, and just the jobs' line was printed
-abbrev pub WritesJobs : List Job → (into : Destination) → (files made : Option FileMap) → (before after : Option (List ℕ)) → Type 0
-WritesJobs jobs into files made before after = MakesJobFile jobs into files made × Appends before after (received_text jobs)
-
 -- only where the sender ended the transmission all was received
 abbrev pub ending_of_left : Left → Ending
 ending_of_left Left.Ended = Ending.Done
@@ -63,17 +59,17 @@ ending_of_left Left.Abandoned = Ending.Other
 
 -- one transmission was received over a line: a new station took some turns there and left so, the file of the destination became that of the
 -- entries in front and its jobs, and just their line was printed
-pub record Receives (ending : Ending) (t u : LineTells) (into : Destination) (files made : Option FileMap) (before after : Option (List ℕ)) : Type 0 where
+pub record Receives (ending : Ending) (into : Destination) (was is : Outside) : Type 0 where
   pub left : Left
   pub station : Receiving
-  pub leaves : LeavesSo left first_receiving t station u
+  pub leaves : LeavesSo left first_receiving was.0 station is.0
+  pub makes : MakesJobFile station.jobs into was.1 is.1
   pub ending_is : ending ≡ ending_of_left left
-  pub writes : WritesJobs station.jobs into files made before after
+  pub text_is : Appends was.2 is.2 (received_text station.jobs)
 
 -- a command over a line ended with this status, and one transmission was received
-abbrev pub EndsReceiving : (status : ℕ) → (t u : LineTells) → (into : Destination) → (files made : Option FileMap) → (before after : Option (List ℕ)) → Type 0
-EndsReceiving status t u into files made before after =
-    (ending : Ending) × (status ≡ ending_status ending) × Receives ending t u into files made before after
+abbrev pub EndsReceiving : (status : ℕ) → (into : Destination) → (was is : Outside) → Type 0
+EndsReceiving status into was is = (ending : Ending) × (status ≡ ending_status ending) × Receives ending into was is
 
 -- the file of this name became that of the same entries as this file's, in which just the first counted of those that were not Sent are Sent,
 -- and no other file changed
@@ -94,16 +90,17 @@ IsRefusedFile file = (fault : CommandFault) × IsUnsentFault file fault × (stat
 
 -- what was left of the job file of this name was sent over a line: a new station for these jobs took some turns there to the end of its
 -- transmission; the jobs that it counted are Sent in the file now, it ended so, and just the lines of it were printed
-pub record SendsLeft (ending : Ending) (t u : LineTells) (name file : List ℕ) (files made : Option FileMap) (before after : Option (List ℕ)) : Type 0 where
+pub record SendsLeft (ending : Ending) (name : List ℕ) (was is : Outside) : Type 0 where
+  pub file : List ℕ
   pub entries : List Entry
   pub station : Sending
+  pub read : OfFile name was.1 (λ read. file ≡ read)
   pub file_is : HasEntries entries file
-  pub sends : SendsOver (first_sending (jobs_in (unsent entries))) t station u
-  pub marks : MarksSent file station.counted name files made
+  pub sends : SendsOver (first_sending (jobs_in (unsent entries))) was.0 station is.0
+  pub marks : MarksSent file station.counted name was.1 is.1
   pub ending_is : ending ≡ ending_of (outcome_of station)
-  pub text_is : Appends before after (sent_text station.counted (length (unsent entries)) (outcome_of station))
+  pub text_is : Appends was.2 is.2 (sent_text station.counted (length (unsent entries)) (outcome_of station))
 
 -- a command over a line ended with this status, and what was left of the job file of this name was sent
-abbrev pub EndsSending : (status : ℕ) → (t u : LineTells) → (name : List ℕ) → (files made : Option FileMap) → (before after : Option (List ℕ)) → Type 0
-EndsSending status t u name files made before after =
-    (ending : Ending) × (status ≡ ending_status ending) × OfFile name files (λ file. SendsLeft ending t u name file files made before after)
+abbrev pub EndsSending : (status : ℕ) → (name : List ℕ) → (was is : Outside) → Type 0
+EndsSending status name was is = (ending : Ending) × (status ≡ ending_status ending) × SendsLeft ending name was is

@@ -22,7 +22,7 @@ use Rattle.rje_sockets.specs.BothFiles.{HoldsBoth}
 use Rattle.rje_sockets.specs.BothWays.{ExchangesTo}
 use Rattle.rje_print.specs.ReportTexts.{counted_line, outcome_line}
 use Rattle.rje_sockets.specs.Ending.{MakesJobFile, MarksSent, ending_status, received_text}
-use Rattle.rje_sockets.specs.OverLine.{LineTells}
+use Rattle.rje_sockets.specs.OverLine.{Outside}
 use Rattle.rje_stores.specs.Store.{FileMap}
 
 -- the end that calls is the primary
@@ -45,37 +45,38 @@ ending_of_both _ _ _ = Ending.Other
 abbrev pub exchanged_text : (counted given : ℕ) → Option Outcome → List Job → List ℕ
 exchanged_text counted given outcome jobs = counted_line counted given ++ outcome_line outcome ++ received_text jobs
 
--- the file of the one name became that of the same entries as this file's, in which just so many of those that were not Sent are Sent, and the
--- file of the destination became that of the entries in front and these jobs; no other file changed
-abbrev pub MakesBoth : (file : List ℕ) → (counted : ℕ) → List Job → (send : List ℕ) → (into : Destination) → (files made : Option FileMap) → Type 0
-MakesBoth file counted jobs send into files made =
-    (marked : Option FileMap) × MarksSent file counted send files marked × MakesJobFile jobs into marked made
+-- the file of the one name became that of the same entries as this file's, in which just so many of those that were not Sent are Sent as the station counted, and the
+-- file of the destination became that of the entries in front and its jobs; no other file changed
+abbrev pub MakesBoth : (file : List ℕ) → Contending → (send : List ℕ) → (into : Destination) → (files made : Option FileMap) → Type 0
+MakesBoth file s send into files made =
+    (marked : Option FileMap) × MarksSent file s.sender.counted send files marked × MakesJobFile s.receiver.jobs into marked made
 
 -- one transmission was made each way over a line: the station took some turns there and left so; what it counted is marked in the one file, what
 -- came is kept in the other, and just the lines of both were printed
-pub record Exchanges (ending : Ending) (t u : LineTells) (s : Contending) (marker : Marker) (keeper : Keeper) (f g : Option FileMap) (before after : Option (List ℕ)) : Type 0 where
+pub record Exchanges (ending : Ending) (s : Contending) (marker : Marker) (keeper : Keeper) (was is : Outside) : Type 0 where
   pub left : Left
   pub station : Contending
-  pub exchanges : ExchangesTo left s t station u
-  pub makes : marker.name.now ≢ keeper.file.into.jobs.now → (files : Option FileMap) → HoldsBoth marker s.sender.counted keeper s.receiver.jobs files f
-      → MakesBoth marker.file.items station.sender.counted station.receiver.jobs marker.name.now keeper.file.into files g
+  pub exchanges : ExchangesTo left s was.0 station is.0
+  pub makes : marker.name.now ≢ keeper.file.into.jobs.now → (files : Option FileMap) → HoldsBoth marker s.sender.counted keeper s.receiver.jobs files was.1
+      → MakesBoth marker.file.items station marker.name.now keeper.file.into files is.1
   pub ending_is : ending ≡ ending_of_both (outcome_of station.sender) (is_idle (length s.sender.jobs) station.receiver.jobs) left
-  pub text_is : Appends before after (exchanged_text station.sender.counted (length s.sender.jobs) (outcome_of station.sender) station.receiver.jobs)
+  pub text_is : Appends was.2 is.2 (exchanged_text station.sender.counted (length s.sender.jobs) (outcome_of station.sender) station.receiver.jobs)
 
 -- what was left of the job file of the one name was exchanged over a line for the jobs of the other station: a new station of this rank took some
--- turns there and left so; the jobs that it counted are Sent in that file now, the file of the destination is that of the entries in front and the jobs that came, no
--- other file changed, and just the lines of both were printed
-pub record ExchangesLeft (ending : Ending) (t u : LineTells) (rank : Rank) (send : List ℕ) (into : Destination) (file : List ℕ) (files made : Option FileMap) (before after : Option (List ℕ)) : Type 0 where
+-- turns there and left so; the jobs that it counted are Sent in that file now, the file of the destination is that of the entries in front and
+-- the jobs that came, no other file changed, and just the lines of both were printed
+pub record ExchangesLeft (ending : Ending) (rank : Rank) (send : List ℕ) (into : Destination) (was is : Outside) : Type 0 where
+  pub file : List ℕ
   pub entries : List Entry
   pub left : Left
   pub station : Contending
+  pub read : OfFile send was.1 (λ read. file ≡ read)
   pub file_is : HasEntries entries file
-  pub exchanges : ExchangesTo left (first_contending rank (jobs_in (unsent entries))) t station u
-  pub makes : MakesBoth file station.sender.counted station.receiver.jobs send into files made
+  pub exchanges : ExchangesTo left (first_contending rank (jobs_in (unsent entries))) was.0 station is.0
+  pub makes : MakesBoth file station send into was.1 is.1
   pub ending_is : ending ≡ ending_of_both (outcome_of station.sender) (is_idle (length (unsent entries)) station.receiver.jobs) left
-  pub text_is : Appends before after (exchanged_text station.sender.counted (length (unsent entries)) (outcome_of station.sender) station.receiver.jobs)
+  pub text_is : Appends was.2 is.2 (exchanged_text station.sender.counted (length (unsent entries)) (outcome_of station.sender) station.receiver.jobs)
 
 -- a command over a line ended with this status, and what was left of the job file of the one name was exchanged so
-abbrev pub EndsExchanging : (status : ℕ) → (t u : LineTells) → Rank → (send : List ℕ) → (into : Destination) → (files made : Option FileMap) → (before after : Option (List ℕ)) → Type 0
-EndsExchanging status t u rank send into files made before after =
-    (ending : Ending) × (status ≡ ending_status ending) × OfFile send files (λ file. ExchangesLeft ending t u rank send into file files made before after)
+abbrev pub EndsExchanging : (status : ℕ) → Rank → (send : List ℕ) → (into : Destination) → (was is : Outside) → Type 0
+EndsExchanging status rank send into was is = (ending : Ending) × (status ≡ ending_status ending) × ExchangesLeft ending rank send into was is

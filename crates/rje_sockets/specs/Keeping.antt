@@ -6,12 +6,6 @@ use Rattle.rje_files.specs.declared.entry.Entry.{Entry}
 use Rattle.rje_files.specs.declared.job_file.version.FileVersion.TheVariants.{Second}
 use Rattle.rje_files.specs.Entry.{entry_of}
 use Rattle.rje_files.specs.JobFile.{IsEntryFileOf}
-use Rattle.bsc_frame.specs.declared.heard.Heard.{Heard}
-use Rattle.bsc_link.specs.declared.wish.Wish.{Wish}
-use Rattle.bsc_history.specs.History.{History}
-use Rattle.rje_station.specs.JoinedJobs.{begun_in}
-use Rattle.rje_station.specs.Receiving.{Receiving, MayRefuse, after_abandon, after_receiving}
-use Rattle.line_world.specs.AnyLines.{ReceiverFails, ReceiverTook}
 use Rattle.rje_sockets.specs.declared.broken_off.BrokenOff.{BrokenOff}
 use Rattle.rje_sockets.specs.declared.keeper.Keeper.{Keeper}
 use Rattle.rje_sockets.specs.InFront.{IsOpened}
@@ -49,16 +43,6 @@ GoesOnKeeping old new jobs more before after =
 abbrev pub IsOfFile : BrokenOff → Type 0
 IsOfFile (BrokenOff.Line fault) = ⊥
 IsOfFile (BrokenOff.File fault) = ⊤
-
--- a receiving station broke off in this turn: as it listened or replied; or something came, a job couldn't be kept, and it left without a reply
-abbrev pub BreaksOffNow : Receiving → Receiving → BrokenOff → Type 0
-BreaksOffNow r r' (BrokenOff.Line fault) = ReceiverFails r r' fault
-BreaksOffNow r r' (BrokenOff.File fault) =
-    (what : Heard) × (refused : Bool) × MayRefuse what (begun_in r.jobs) refused × (r' ≡ after_abandon (after_receiving r what refused Wish.Go))
-
--- it took some turns, and then it broke off
-abbrev pub BreaksOff : Receiving → Receiving → BrokenOff → Type 0
-BreaksOff r r' broken = (h : History) × (far : Receiving) × ReceiverTook r h far × BreaksOffNow far r' broken
 
 -- how many jobs are kept after a hearing: in a file that grows one more, where the next has come to its end
 abbrev pub kept_after : Place → ℕ → List Job → ℕ

@@ -1,40 +1,70 @@
--- What passes over a line that tells its bytes, in a station's turn and in all of them (own profile). Of a line that doesn't tell them nothing is
--- said here.
-use Rattle.std.specs.Prelude.{◌≡◌, ℕ, List, Option, None}
+-- What passes over a line that tells its bytes, in a station's turn and in all of them, and what a watch beside it is told: each turn that was
+-- taken, once and in order, and nothing else (own profile). Of a line that doesn't tell its bytes nothing is said here.
+use Rattle.std.specs.Prelude.{◌≡◌, ℕ, List, Option, Some, None, map}
 use Rattle.bsc_codes.specs.declared.block.Block.{Block}
 use Rattle.bsc_frame.specs.declared.heard.Heard.{Heard}
 use Rattle.bsc_history.specs.History.{History}
+use Rattle.bsc_history.specs.declared.spoken_turn.SpokenTurn.{SpokenTurn}
+use Rattle.bsc_link.specs.declared.reply.Reply.{Reply}
 use Rattle.bsc_link.specs.declared.say.Say.{Say}
 use Rattle.bsc_link.specs.declared.sound.Sound.{Sound}
-use Rattle.line_world.specs.AnyLines.{IsThrough}
+use Rattle.line_world.specs.AnyLines.{BothTake, IsThrough, ReceiverTakes, SenderTakes, Turns, unhindered}
+use Rattle.line_world.specs.declared.spoken.Spoken.{Spoken}
+use Rattle.rje_station.specs.declared.arrival.Arrival.{Arrival}
 use Rattle.rje_station.specs.Hearing.{Hearing, HearsSound}
 use Rattle.rje_station.specs.Line.{Passes, Talk, one_more}
-use Rattle.rje_station.specs.Receiving.{Replied, with_reply}
+use Rattle.rje_station.specs.Receiving.{Receiving, Replied, with_reply}
 use Rattle.rje_station.specs.Sending.{Sending, Spoke}
-use Rattle.rje_sockets.specs.Watching.{SawReceiver, SawSender, SenderWatchedAll}
+use Rattle.rje_stores.specs.Store.{FileMap}
+use Rattle.rje_sockets.specs.Watching.{SawBoth, SawReceiver, SawSender, nobody_sees}
 
 -- what a line tells: its bytes, where it tells them, and how many transmissions it has begun
 abbrev pub LineTells : Type 0
 LineTells = Option Talk × ℕ
 
--- behind what a station said the line gave what it heard; after EOT the station doesn't listen
+-- what a command over a line changes: what the line tells, the files, and what is printed
+abbrev pub Outside : Type 0
+Outside = LineTells × Option FileMap × Option (List ℕ)
+
+-- after what a station said the line gave what it heard; after EOT the station doesn't listen
 abbrev pub Answers : Say → Sound → (asked answered : Option Talk) → Type 0
 Answers Say.End heard asked answered = answered ≡ asked
 Answers said heard asked answered = Passes asked answered (λ t u. HearsSound t u heard)
 
 -- a station that has these blocks to send spoke, and listened: the line sent just what it said, and then gave what it heard
-abbrev pub SpokeAndHeard : List Block → SawSender LineTells
+abbrev pub SpokeAndHeard : List Block → (t u : LineTells) → Say → Sound → Type 0
 SpokeAndHeard rest t u said heard =
     (asked : Option Talk) × Passes t.0 asked (Spoke said rest) × (u.1 ≡ one_more t.1) × Answers said heard asked u.0
 
 -- a station listened, and replied: the line gave this, and then sent just the reply, or nothing where there was none
-abbrev pub HeardAndReplied : Heard → SawReceiver LineTells
-HeardAndReplied what t u arrival reply =
+abbrev pub HeardAndReplied : Heard → (t u : LineTells) → Option Reply → Type 0
+HeardAndReplied what t u reply =
     (heard : Option Talk) × Passes t.0 heard (λ t u. Hearing t u what) × Passes heard u.0 (Replied reply) × (u.1 ≡ with_reply reply t.1)
 
--- a sending station took some turns to its end, in each of which the line sent and gave so
+-- a sending station took a turn; the line sent and gave so, and the watch saw just that
+abbrev pub SenderTurn : {W : Type 0} → SawSender W → Sending × LineTells × W → Sending × LineTells × W → SpokenTurn → Type 0
+SenderTurn Saw (s, t, w) (s', u, w') x = SenderTakes s s' x × SpokeAndHeard s.rest t u x.said x.heard × Saw w w' x.said x.heard
+
+-- it took some turns to its end
+abbrev pub Sends : {W : Type 0} → SawSender W → Sending × LineTells × W → Sending × LineTells × W → Type 0
+Sends Saw was is = (h : History) × Turns (λ _. SenderTurn Saw) was h is × IsThrough is.0 h
+
+-- over a line that nobody watches
 abbrev pub SendsOver : Sending → LineTells → Sending → LineTells → Type 0
-SendsOver s t s' u = (h : History) × SenderWatchedAll SpokeAndHeard s t s' u h × IsThrough s' h
+SendsOver s t s' u = Sends nobody_sees (s, t, tt) (s', u, tt)
+
+-- a receiving station took a turn; the line gave and sent so, and the watch saw just that
+abbrev pub ReceiverTurn : {W : Type 0} → SawReceiver W → Receiving × LineTells × W → Receiving × LineTells × W → SpokenTurn → Type 0
+ReceiverTurn Saw (r, t, w) (r', u, w') x =
+    (takes : ReceiverTakes r r' x) × HeardAndReplied takes.what t u x.reply × Saw w w' (record { sound = x.arrived; refused = x.refused }) x.reply
+
+-- both took a turn, and the watch saw just that
+abbrev pub BothTurn : {W : Type 0} → SawBoth W → Sending × Receiving × W → Sending × Receiving × W → Spoken → Type 0
+BothTurn Saw (s, r, w) (s', r', w') x = BothTake (Some x) s s' r r' × Saw w w' x
+
+-- both took the same turns to the end
+abbrev pub BothTook : {W : Type 0} → SawBoth W → Sending × Receiving × W → Sending × Receiving × W → Type 0
+BothTook Saw was is = (turns : List Spoken) × Turns (λ _. BothTurn Saw) was turns is × IsThrough is.0 (map unhindered turns)
 
 -- over a connection, which tells no bytes
 abbrev pub OverConnection : (LineTells → LineTells → Type 0) → Type 0

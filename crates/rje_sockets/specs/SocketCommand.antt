@@ -23,10 +23,10 @@ use Rattle.rje_stores.specs.Store.{FileMap, Discloses, IsSame}
 abbrev pub Transmits : SocketOrder → Ending → (files made : Option FileMap) → (before after : Option (List ℕ)) → Type 0
 Transmits (SocketOrder.Loop order) ending files made before after = OfFile order.jobs.now files (λ file. Loops ending file before after)
 Transmits (SocketOrder.Send order) ending files made before after =
-    OverConnection (λ t u. OfFile order.jobs.now files (λ file. SendsLeft ending t u order.jobs.now file files made before after))
-Transmits (SocketOrder.Receive order) ending files made before after = OverConnection (λ t u. Receives ending t u order.into files made before after)
+    OverConnection (λ t u. SendsLeft ending order.jobs.now (t, files, before) (u, made, after))
+Transmits (SocketOrder.Receive order) ending files made before after = OverConnection (λ t u. Receives ending order.into (t, files, before) (u, made, after))
 Transmits (SocketOrder.Exchange order) ending files made before after =
-    OverConnection (λ t u. OfFile order.send.now files (λ file. ExchangesLeft ending t u (rank_at order.place) order.send.now order.received file files made before after))
+    OverConnection (λ t u. ExchangesLeft ending (rank_at order.place) order.send.now order.received (t, files, before) (u, made, after))
 
 -- Whatever ends it: `loop` changes no file, `send` marks just what was counted, in its file `receive` has what had come whole, and `exchange`
 -- does both.

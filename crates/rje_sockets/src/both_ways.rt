@@ -1,5 +1,5 @@
 //! A station that sends and receives, over one line, until both transmissions are over.
-ghost use Rattle.std.specs.Prelude.{◌≡◌, ◌≢◌, ◌⊎◌, List, [], Option, Some, true, false, IfOk, IfErr, OnErr, OnOk};
+ghost use Rattle.std.specs.Prelude.{◌≡◌, ◌≢◌, ◌⊎◌, [], Option, Some, true, false, IfOk, IfErr, OnErr, OnOk};
 ghost use Rattle.bsc_link.specs.declared.reply.Reply.{Reply as Answer};
 ghost use Rattle.bsc_link.specs.declared.say.Say.{Say as Word};
 ghost use Rattle.bsc_link.specs.declared.say.Say.TheVariants as say;
@@ -7,10 +7,10 @@ ghost use Rattle.bsc_link.specs.declared.sound.Sound.{Sound as Tone};
 ghost use Rattle.rje_station.specs.declared.arrival.Arrival.{Arrival as Coming};
 ghost use Rattle.rje_station.specs.declared.line_fault.LineFault.TheVariants.{Closed};
 ghost use Rattle.rje_station.specs.declared.station_fault.StationFault.TheVariants as fault;
-ghost use Rattle.rje_station.specs.Station.{Contending, due_at, is_deaf, after_other_refusal};
+ghost use Rattle.rje_station.specs.Station.{due_at, is_deaf, after_other_refusal};
 ghost use Rattle.rje_commands.specs.CommandFault.{IsFailing, of_station, status_of};
-ghost use Rattle.rje_sockets.specs.BothWays.{has_listened, AreOver, ExchangesTo, FailsInOwn, FailsInOthers, LeavesFrom, StationTurn, TakesOwn, TakesOthers, Waits, Watched};
-ghost use Rattle.rje_sockets.specs.BothFiles.{BreaksBoth, GoesOnHolding, kept_of};
+ghost use Rattle.rje_sockets.specs.BothWays.{has_listened, AreOver, FailsInOwn, FailsInOthers, TakesOwn, TakesOthers, TakesTurnsTo, Waits};
+ghost use Rattle.rje_sockets.specs.BothFiles.{BreaksBoth, GoesOnHolding, kept_of, progress_of};
 ghost use Rattle.rje_sockets.specs.BrokenOff.{of_broken_off};
 ghost use Rattle.rje_sockets.specs.Keeping.{GoesOnKeeping};
 ghost use Rattle.rje_sockets.specs.LeavingBoth.{HasCounted};
@@ -39,23 +39,20 @@ pub fn exchange_all<'a, 'b, L: Line, S: Store, W: Watch>(
     store: &mut S,
     watch: &mut W,
 ) -> Result<Left, BrokenOff<'b>>
-    ensures left { IfOk result (λ left. ExchangesTo left
-        station.old (L.talk line.old, L.transmissions line.old)
-        station.new (L.talk line.new, L.transmissions line.new)) }
+    ensures left { IfOk result (λ left. TakesTurnsTo W.saw_sender W.saw_receiver left
+        (station.old, (L.talk line.old, L.transmissions line.old), watch.old)
+        (station.new, (L.talk line.new, L.transmissions line.new), watch.new)) }
+    ensures holds { OnOk result (GoesOnHolding
+        (marker.old, keeper.old, S.files store.old) (marker.new, keeper.new, S.files store.new)
+        (progress_of station.old) (progress_of station.new)) }
+    ensures broken { IfErr result (BreaksBoth station.old station.new
+        (marker.old, keeper.old, S.files store.old)
+        (marker.new, keeper.new, S.files store.new)) }
     ensures status { IfErr result (λ broken. IsFailing (status_of (of_broken_off broken))) }
     ensures names { IfErr result (λ broken.
         NamesWritten keeper.old.file.into.jobs.now (of_broken_off broken)) }
-    ensures holds { OnOk result (GoesOnHolding marker.old marker.new station.old.sender.counted
-        station.new.sender.counted keeper.old keeper.new station.old.receiver.jobs
-        station.new.receiver.jobs (S.files store.old) (S.files store.new)) }
-    ensures broken { IfErr result (BreaksBoth station.old station.new marker.old marker.new
-        keeper.old keeper.new (S.files store.old) (S.files store.new)) }
     ensures count { (marker.new.marked ≡ marker.old.marked)
         ⊎ HasCounted station.old marker.new.marked }
-    ensures told { OnOk result ((turns : List StationTurn) × (near : Contending)
-        × Watched (λ _. W.saw_sender) (λ _. W.saw_receiver) station.old.contender.rank
-        station.old watch.old near watch.new turns
-        × LeavesFrom near station.new) }
 {
     let at_once = may_bid_at_once(station);
     let mut has_listened = at_once;
@@ -123,12 +120,10 @@ fn take_own_turn<'a, 'b, L: Line, S: Store, W: Watch>(
     requires due { due_at station.old ≢ say.Nothing }
     ensures takes { OnOk result ((said : Word) × (heard : Tone)
         × TakesOwn station.old station.new said heard
+        × SpokeAndHeard station.old.sender.rest (L.talk line.old, L.transmissions line.old)
+        (L.talk line.new, L.transmissions line.new) said heard
         × W.saw_sender watch.old watch.new said heard) }
     ensures fault { IfErr result (FailsInOwn station.old station.new) }
-    ensures gave { OnOk result ((said : Word) × (heard : Tone)
-        × TakesOwn station.old station.new said heard
-        × SpokeAndHeard station.old.sender.rest (L.talk line.old, L.transmissions line.old)
-        (L.talk line.new, L.transmissions line.new) said heard) }
     ensures status { IfErr result (λ fault. IsFailing (status_of (of_station fault))) }
     ensures marked { OnOk result (GoesOnMarking marker.old marker.new station.old.sender.counted
         station.new.sender.counted (S.files store.old) (S.files store.new)) }
@@ -156,19 +151,16 @@ fn take_others_turn<'a, 'b, L: Line, S: Store, W: Watch>(
     watch: &mut W,
 ) -> Result<bool, BrokenOff<'b>>
     ensures takes { IfOk result (λ is_turn. is_turn ≡ true → (arrival : Coming)
-        × (reply : Option Answer) × TakesOthers station.old station.new arrival reply
+        × (reply : Option Answer)
+        × (takes : TakesOthers station.old station.new arrival reply)
+        × HeardAndReplied takes.what (L.talk line.old, L.transmissions line.old)
+        (L.talk line.new, L.transmissions line.new) reply
         × W.saw_receiver watch.old watch.new arrival reply
         × (station.new.receiver.arrival ≡ Some arrival)) }
     ensures hung_up { IfOk result (λ is_turn. is_turn ≡ false → Waits station.old
         × (station.new ≡ after_other_refusal (fault.Line Closed) station.old)
         × (watch.new ≡ watch.old)) }
     ensures fault { IfErr result (FailsInOthers station.old station.new) }
-    ensures gave { IfOk result (λ is_turn. is_turn ≡ true → (arrival : Coming)
-        × (reply : Option Answer)
-        × (takes : TakesOthers station.old station.new arrival reply)
-        × HeardAndReplied takes.what (L.talk line.old, L.transmissions line.old)
-        (L.talk line.new, L.transmissions line.new) arrival reply
-        × (station.new.receiver.arrival ≡ Some arrival)) }
     ensures status { IfErr result (λ broken. IsFailing (status_of (of_broken_off broken))) }
     ensures names { IfErr result (λ broken.
         NamesWritten keeper.old.file.into.jobs.now (of_broken_off broken)) }

@@ -1,20 +1,15 @@
 //! Stations that take turns over a line, until the transmission ends.
-ghost use Rattle.std.specs.Prelude.{◌≡◌, ◌⊎◌, ◌<◌, ◌+◌, ℕ, List, Some, true, false, if◌then◌else◌, IfOk, OnOk, IfErr, OnErr, IfSome};
-ghost use Rattle.bsc_history.specs.History.{History};
+ghost use Rattle.std.specs.Prelude.{◌≡◌, ◌⊎◌, ◌<◌, ◌+◌, ℕ, true, false, if◌then◌else◌, IfOk, OnOk, IfErr, OnErr};
 ghost use Rattle.bsc_history.specs.declared.spoken_turn.SpokenTurn.{SpokenTurn};
-ghost use Rattle.line_world.specs.declared.spoken.Spoken.{Spoken as Turn};
-ghost use Rattle.rje_station.specs.Receiving.{Receiving, after_abandon};
-ghost use Rattle.rje_sockets.specs.Answering.{BreaksKeeping, KeepsToBreak, KeepsToEnd, with_answer};
+ghost use Rattle.rje_sockets.specs.Answering.{BreaksOff, BreaksOffNow};
 ghost use Rattle.rje_commands.specs.CommandFault.{IsFailing, of_station, status_of};
 ghost use Rattle.rje_sockets.specs.BrokenOff.{of_broken_off};
-ghost use Rattle.rje_sockets.specs.Keeping.{BreaksOff, BreaksOffNow, GoesOnKeeping, IsOfFile};
+ghost use Rattle.rje_sockets.specs.Keeping.{GoesOnKeeping};
 ghost use Rattle.rje_sockets.specs.Marking.{GoesOnMarking, WereCounted};
 ghost use Rattle.rje_sockets.specs.NamedFiles.{NamesWritten};
-ghost use Rattle.rje_sockets.specs.OverLine.{HeardAndReplied, SendsOver, SpokeAndHeard};
-ghost use Rattle.rje_sockets.specs.Patience.{LeavesSo, HearsOut, was_quiet};
-ghost use Rattle.rje_stores.specs.Store.{Discloses, IsSame};
-ghost use Rattle.rje_sockets.specs.Watching.{SenderWatched, SenderWatchedAll, ReceiverWatched, ReceiverWatchedAll, BothWatchedAll};
-ghost use Rattle.line_world.specs.AnyLines.{SenderFails, SendsToFault, ReceiverTakes, BothTake, BothFail, BothToEnd, BothToFault};
+ghost use Rattle.rje_sockets.specs.OverLine.{BothTook, ReceiverTurn, Sends, SenderTurn};
+ghost use Rattle.rje_sockets.specs.Patience.{HearsOut, Leaves, was_quiet};
+ghost use Rattle.line_world.specs.AnyLines.{SenderFails, SendsToFault, BothTake, BothFail, BothToFault};
 
 use crate::broken_off::BrokenOff;
 use crate::keeper::Keeper;
@@ -49,8 +44,9 @@ pub fn send_all<'a, L: Line, S: Store, W: Watch>(
     store: &mut S,
     watch: &mut W,
 ) -> Result<(), StationFault>
-    ensures took { OnOk result (SendsOver station.old (L.talk line.old, L.transmissions line.old)
-        station.new (L.talk line.new, L.transmissions line.new)) }
+    ensures took { OnOk result (Sends W.saw_sender
+        (station.old, (L.talk line.old, L.transmissions line.old), watch.old)
+        (station.new, (L.talk line.new, L.transmissions line.new), watch.new)) }
     ensures fault { IfErr result (SendsToFault station.old station.new) }
     ensures status { IfErr result (λ fault. IsFailing (status_of (of_station fault))) }
     ensures marked { OnOk result (GoesOnMarking marker.old marker.new station.old.counted
@@ -59,8 +55,6 @@ pub fn send_all<'a, L: Line, S: Store, W: Watch>(
         station.old.counted n (S.files store.old) (S.files store.new)) }
     ensures count { (marker.new.marked ≡ marker.old.marked)
         ⊎ WereCounted station.old marker.new.marked }
-    ensures told { OnOk result ((h : History) × SenderWatchedAll (λ _. W.saw_sender)
-        station.old watch.old station.new watch.new h) }
 {
     for _ in 0..u64::MAX {
         if !speak_hear_and_mark(station, line, marker, store, watch)? {
@@ -78,24 +72,19 @@ fn speak_hear_and_mark<'a, L: Line, S: Store, W: Watch>(
     store: &mut S,
     watch: &mut W,
 ) -> Result<bool, StationFault>
-    ensures over { IfOk result (λ is_turn. is_turn ≡ false → (station.old.over ≡ true)
-        × (station.new ≡ station.old)) }
+    ensures none { IfOk result (λ is_turn. is_turn ≡ false → (station.old.over ≡ true)
+        × (station.new ≡ station.old) × (line.new ≡ line.old) × (watch.new ≡ watch.old)) }
+    ensures turn { IfOk result (λ is_turn. is_turn ≡ true → (t : SpokenTurn)
+        × SenderTurn W.saw_sender
+        (station.old, (L.talk line.old, L.transmissions line.old), watch.old)
+        (station.new, (L.talk line.new, L.transmissions line.new), watch.new) t) }
     ensures fault { IfErr result (SenderFails station.old station.new) }
     ensures status { IfErr result (λ fault. IsFailing (status_of (of_station fault))) }
-    ensures gave { IfOk result (λ is_turn. is_turn ≡ true → (t : SpokenTurn) × SenderWatched
-        SpokeAndHeard station.old (L.talk line.old, L.transmissions line.old)
-        station.new (L.talk line.new, L.transmissions line.new) t) }
-    ensures silent { IfOk result (λ is_turn. is_turn ≡ false → line.new ≡ line.old) }
     ensures marked { OnOk result (GoesOnMarking marker.old marker.new station.old.counted
         station.new.counted (S.files store.old) (S.files store.new)) }
     ensures count { (marker.new.marked ≡ marker.old.marked)
         ⊎ (marker.new.marked ≡ station.new.counted) }
     ensures unmarked { OnErr result ((marker.new ≡ marker.old) × (store.new ≡ store.old)) }
-    ensures still { marker.new.marked ≡ marker.old.marked
-        → Discloses (S.files store.old) (S.files store.new) IsSame }
-    ensures told { IfOk result (λ is_turn. is_turn ≡ true → (t : SpokenTurn)
-        × SenderWatched (λ _. W.saw_sender) station.old watch.old station.new watch.new t) }
-    ensures untold { IfOk result (λ is_turn. is_turn ≡ false → watch.new ≡ watch.old) }
 {
     let is_turn = speak_and_hear(station, line, watch)?;
     marker.mark(station.counted(), store);
@@ -108,17 +97,14 @@ fn speak_and_hear<L: Line, W: Watch>(
     line: &mut L,
     watch: &mut W,
 ) -> Result<bool, StationFault>
-    ensures over { IfOk result (λ is_turn. is_turn ≡ false → (station.old.over ≡ true)
-        × (station.new ≡ station.old)) }
+    ensures none { IfOk result (λ is_turn. is_turn ≡ false → (station.old.over ≡ true)
+        × (station.new ≡ station.old) × (line.new ≡ line.old) × (watch.new ≡ watch.old)) }
+    ensures turn { IfOk result (λ is_turn. is_turn ≡ true → (t : SpokenTurn)
+        × SenderTurn W.saw_sender
+        (station.old, (L.talk line.old, L.transmissions line.old), watch.old)
+        (station.new, (L.talk line.new, L.transmissions line.new), watch.new) t) }
     ensures fault { IfErr result (SenderFails station.old station.new) }
     ensures status { IfErr result (λ fault. IsFailing (status_of (of_station fault))) }
-    ensures gave { IfOk result (λ is_turn. is_turn ≡ true → (t : SpokenTurn) × SenderWatched
-        SpokeAndHeard station.old (L.talk line.old, L.transmissions line.old)
-        station.new (L.talk line.new, L.transmissions line.new) t) }
-    ensures silent { IfOk result (λ is_turn. is_turn ≡ false → line.new ≡ line.old) }
-    ensures told { IfOk result (λ is_turn. is_turn ≡ true → (t : SpokenTurn)
-        × SenderWatched (λ _. W.saw_sender) station.old watch.old station.new watch.new t) }
-    ensures untold { IfOk result (λ is_turn. is_turn ≡ false → watch.new ≡ watch.old) }
 {
     match station.speak(line) {
         Ok(Say::End) => {
@@ -144,22 +130,17 @@ pub fn receive_all<'a, L: Line, S: Store, W: Watch>(
     store: &mut S,
     watch: &mut W,
 ) -> Result<Left, BrokenOff<'a>>
-    ensures left { IfOk result (λ left. LeavesSo left
-        station.old (L.talk line.old, L.transmissions line.old)
-        station.new (L.talk line.new, L.transmissions line.new)) }
-    ensures fault { IfErr result (BreaksOff station.old station.new) }
+    ensures left { IfOk result (λ left. Leaves W.saw_receiver left
+        (station.old, (L.talk line.old, L.transmissions line.old), watch.old)
+        (station.new, (L.talk line.new, L.transmissions line.new), watch.new)) }
+    ensures broken { IfErr result (BreaksOff station.old station.new
+        (keeper.old, L.transmissions line.old, S.files store.old)
+        (keeper.new, L.transmissions line.new, S.files store.new)) }
     ensures status { IfErr result (λ broken. IsFailing (status_of (of_broken_off broken))) }
     ensures names { IfErr result (λ broken.
         NamesWritten keeper.old.file.into.jobs.now (of_broken_off broken)) }
-    ensures kept { OnOk result (KeepsToEnd keeper.old keeper.new station.old station.new
-        (L.transmissions line.old) (L.transmissions line.new)
-        (S.files store.old) (S.files store.new)) }
-    ensures broken { IfErr result (KeepsToBreak keeper.old keeper.new station.old station.new
-        (L.transmissions line.old) (L.transmissions line.new)
-        (S.files store.old) (S.files store.new)) }
-    ensures told { OnOk result ((h : History) × (far : Receiving)
-        × ReceiverWatchedAll (λ _. W.saw_receiver) station.old watch.old far watch.new h
-        × ((station.new ≡ far) ⊎ (station.new ≡ after_abandon far))) }
+    ensures kept { OnOk result (GoesOnKeeping keeper.old keeper.new station.old.jobs
+        station.new.jobs (S.files store.old) (S.files store.new)) }
 {
     let left = hear_out(station, line, keeper, store, watch)?;
     if left == Left::Abandoned {
@@ -176,21 +157,17 @@ fn hear_out<'a, L: Line, S: Store, W: Watch>(
     store: &mut S,
     watch: &mut W,
 ) -> Result<Left, BrokenOff<'a>>
-    ensures heard { IfOk result (λ left. HearsOut left
-        station.old (L.talk line.old, L.transmissions line.old)
-        station.new (L.talk line.new, L.transmissions line.new)) }
-    ensures fault { IfErr result (BreaksOff station.old station.new) }
+    ensures heard { IfOk result (λ left. HearsOut W.saw_receiver left
+        (station.old, (L.talk line.old, L.transmissions line.old), watch.old)
+        (station.new, (L.talk line.new, L.transmissions line.new), watch.new)) }
+    ensures broken { IfErr result (BreaksOff station.old station.new
+        (keeper.old, L.transmissions line.old, S.files store.old)
+        (keeper.new, L.transmissions line.new, S.files store.new)) }
     ensures status { IfErr result (λ broken. IsFailing (status_of (of_broken_off broken))) }
     ensures names { IfErr result (λ broken.
         NamesWritten keeper.old.file.into.jobs.now (of_broken_off broken)) }
-    ensures kept { OnOk result (KeepsToEnd keeper.old keeper.new station.old station.new
-        (L.transmissions line.old) (L.transmissions line.new)
-        (S.files store.old) (S.files store.new)) }
-    ensures broken { IfErr result (KeepsToBreak keeper.old keeper.new station.old station.new
-        (L.transmissions line.old) (L.transmissions line.new)
-        (S.files store.old) (S.files store.new)) }
-    ensures told { OnOk result ((h : History) × ReceiverWatchedAll (λ _. W.saw_receiver)
-        station.old watch.old station.new watch.new h) }
+    ensures kept { OnOk result (GoesOnKeeping keeper.old keeper.new station.old.jobs
+        station.new.jobs (S.files store.old) (S.files store.new)) }
 {
     let mut quiet = 0;
     for _ in 0..MAX_HEARINGS {
@@ -230,25 +207,18 @@ fn hear_keep_and_speak<'a, L: Line, S: Store, W: Watch>(
     store: &mut S,
     watch: &mut W,
 ) -> Result<bool, BrokenOff<'a>>
-    ensures takes { OnOk result ((t : SpokenTurn) × ReceiverTakes station.old station.new t
-        × (L.transmissions line.new ≡ with_answer t (L.transmissions line.old))) }
+    ensures turn { OnOk result ((t : SpokenTurn) × ReceiverTurn W.saw_receiver
+        (station.old, (L.talk line.old, L.transmissions line.old), watch.old)
+        (station.new, (L.talk line.new, L.transmissions line.new), watch.new) t) }
     ensures over { IfOk result (λ goes_on. goes_on ≡ false → station.new.over ≡ true) }
-    ensures fault { IfErr result (BreaksOffNow station.old station.new) }
-    ensures gave { OnOk result ((t : SpokenTurn) × ReceiverWatched
-        HeardAndReplied station.old (L.talk line.old, L.transmissions line.old)
-        station.new (L.talk line.new, L.transmissions line.new) t) }
-    ensures kept { OnOk result (GoesOnKeeping keeper.old keeper.new station.old.jobs
-        station.new.jobs (S.files store.old) (S.files store.new)) }
+    ensures broken { IfErr result (BreaksOffNow station.old station.new
+        (keeper.old, L.transmissions line.old, S.files store.old)
+        (keeper.new, L.transmissions line.new, S.files store.new)) }
     ensures status { IfErr result (λ broken. IsFailing (status_of (of_broken_off broken))) }
     ensures names { IfErr result (λ broken.
         NamesWritten keeper.old.file.into.jobs.now (of_broken_off broken)) }
-    ensures silent { IfErr result (λ broken. IsOfFile broken
-        → L.transmissions line.new ≡ L.transmissions line.old) }
-    ensures broken { IfErr result (BreaksKeeping keeper.old keeper.new station.old station.new
-        (L.transmissions line.old) (L.transmissions line.new)
-        (S.files store.old) (S.files store.new)) }
-    ensures told { OnOk result ((t : SpokenTurn)
-        × ReceiverWatched (λ _. W.saw_receiver) station.old watch.old station.new watch.new t) }
+    ensures kept { OnOk result (GoesOnKeeping keeper.old keeper.new station.old.jobs
+        station.new.jobs (S.files store.old) (S.files store.new)) }
 {
     let reply = station.hear(line, Wish::Go)?;
     let Some(arrival) = station.arrival() else {
@@ -280,11 +250,10 @@ pub fn take_turns<N: Line, F: Line, W: Watch>(
     far: &mut F,
     watch: &mut W,
 ) -> Result<(), StationFault>
-    ensures took { OnOk result (BothToEnd sender.old sender.new receiver.old receiver.new) }
+    ensures took { OnOk result (BothTook W.saw_both
+        (sender.old, receiver.old, watch.old) (sender.new, receiver.new, watch.new)) }
     ensures fault { IfErr result (BothToFault sender.old sender.new receiver.old receiver.new) }
     ensures status { IfErr result (λ fault. IsFailing (status_of (of_station fault))) }
-    ensures told { OnOk result ((turns : List Turn) × BothWatchedAll W.saw_both
-        sender.old receiver.old watch.old sender.new receiver.new watch.new turns) }
 {
     for _ in 0..u64::MAX {
         let Some(turn) = take_turn(sender, near, receiver, far)? else {

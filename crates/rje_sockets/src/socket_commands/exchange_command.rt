@@ -54,10 +54,9 @@ pub fn exchange<'a, R: Net + Clock, S: Store, O: Write, E: Write>(
     err: &mut E,
 ) -> Result<Ending, CommandFault<'a>>
     ensures exchanged { IfOk result (λ ending. OverConnection (λ t u.
-        OfFile order.entry.send.now (S.files store.old) (λ file.
-        ExchangesLeft ending t u (rank_at order.entry.place)
-        order.entry.send.now order.entry.received file
-        (S.files store.old) (S.files store.new) (O.contents out.old) (O.contents out.new)))) }
+        ExchangesLeft ending (rank_at order.entry.place)
+        order.entry.send.now order.entry.received (t, S.files store.old, O.contents out.old)
+        (u, S.files store.new, O.contents out.new))) }
     ensures fault { IfErr result (IsExchangeFault order.entry.send.now order.entry.received
         (S.files store.old)) }
     ensures files { IfSome (S.files store.old) (λ _. LeavesExchange ⊤ (rank_at order.entry.place)
@@ -105,11 +104,10 @@ pub fn exchange_over<L: Line, S: Store, O: Write, E: Write>(
     out: &mut O,
     err: &mut E,
 ) -> u8
-    ensures exchanged { (result ≡ 0) ⊎ (result ≡ 4) → EndsExchanging result
-        (L.talk line.old, L.transmissions line.old)
-        (L.talk line.new, L.transmissions line.new) rank
-        send.now received.entry (S.files store.old) (S.files store.new)
-        (O.contents out.old) (O.contents out.new) }
+    ensures exchanged { (result ≡ 0) ⊎ (result ≡ 4) → EndsExchanging result rank
+        send.now received.entry
+        ((L.talk line.old, L.transmissions line.old), S.files store.old, O.contents out.old)
+        ((L.talk line.new, L.transmissions line.new), S.files store.new, O.contents out.new) }
     ensures status { (result ≡ 0) ⊎ ((result ≡ 4) ⊎ ((result ≡ 1) ⊎ IsFailing result)) }
     ensures refused { result ≡ 1 → OfFile send.now (S.files store.old) IsRefusedFile
         ⊎ IsRefusedDestination received.entry (S.files store.old) }
@@ -133,11 +131,10 @@ fn exchanged<'a, L: Line, S: Store, O: Write>(
     store: &mut S,
     out: &mut O,
 ) -> Result<Ending, CommandFault<'a>>
-    ensures exchanged { IfOk result (λ ending. OfFile send.entry.now (S.files store.old) (λ file.
-        ExchangesLeft ending (L.talk line.old, L.transmissions line.old)
-        (L.talk line.new, L.transmissions line.new) rank
-        send.entry.now received.entry file
-        (S.files store.old) (S.files store.new) (O.contents out.old) (O.contents out.new))) }
+    ensures exchanged { IfOk result (λ ending. ExchangesLeft ending rank
+        send.entry.now received.entry
+        ((L.talk line.old, L.transmissions line.old), S.files store.old, O.contents out.old)
+        ((L.talk line.new, L.transmissions line.new), S.files store.new, O.contents out.new)) }
     ensures fault { IfErr result (IsExchangeFault send.entry.now received.entry
         (S.files store.old)) }
     ensures files { IfSome (S.files store.old) (λ _. LeavesExchange (line.new ≡ line.old) rank
@@ -216,10 +213,9 @@ fn exchange_files<'a, 'b, L: Line, P: Parting<L>, S: Store, W: Watch, O: Write>(
     out: &mut O,
 ) -> Result<Ending, CommandFault<'a>>
     ensures exchanged { IfOk result (λ ending. Exchanges ending
-        (L.talk line.old, L.transmissions line.old)
-        (L.talk line.new, L.transmissions line.new) station.entry marker.entry keeper.entry
-        (S.files store.old) (S.files store.new)
-        (O.contents out.old) (O.contents out.new)) }
+        station.entry marker.entry keeper.entry
+        ((L.talk line.old, L.transmissions line.old), S.files store.old, O.contents out.old)
+        ((L.talk line.new, L.transmissions line.new), S.files store.new, O.contents out.new)) }
     ensures status { IfErr result (λ fault. (jobs : List Item)
         → IsLeft marker.entry.file.items jobs → IsFailing (status_of fault)) }
     ensures names { IfErr result (NamesOne (λ _. ⊥)

@@ -2,13 +2,11 @@
 ghost use Rattle.std.specs.Prelude.{◌≡◌, ◌⊎◌, List, IfErr, IfOk, OnOk, true};
 ghost use Rattle.std.specs.Io.KnownBytes.{Appends};
 ghost use Rattle.rje_station.specs.Sending.{outcome_of};
-ghost use Rattle.line_world.specs.AnyLines.{BothToEnd};
-ghost use Rattle.line_world.specs.declared.spoken.Spoken.{Spoken};
 ghost use Rattle.rje_commands.specs.CommandFault.{IsFailing, is_of_output, status_of};
 ghost use Rattle.rje_commands.specs.Commands.{OfFile};
 ghost use Rattle.rje_sockets.specs.Ending.{ending_of, loop_text};
 ghost use Rattle.rje_sockets.specs.Looping.{IsUnloopedFault, Loops};
-ghost use Rattle.rje_sockets.specs.Watching.{BothWatchedAll};
+ghost use Rattle.rje_sockets.specs.OverLine.{BothTook};
 ghost use Rattle.rje_sockets.specs.NamedFiles.{NamesOne};
 ghost use Rattle.rje_stores.specs.Store.{Discloses, IsSame};
 
@@ -78,12 +76,11 @@ fn loop_over<'a, N: Line, F: Line, W: Watch, O: Write>(
 ) -> Result<Ending, CommandFault<'a>>
     ensures status { IfErr result (λ fault. IsFailing (status_of fault)) }
     ensures names { IfErr result (NamesOne (λ _. ⊥) (λ _. ⊥)) }
-    ensures took { OnOk result (BothToEnd sender.old sender.new receiver.old receiver.new) }
+    ensures took { OnOk result (BothTook W.saw_both
+        (sender.old, receiver.old, watch.old) (sender.new, receiver.new, watch.new)) }
     ensures ended { IfOk result (λ ending. ending ≡ ending_of (outcome_of sender.new)) }
     ensures printed { OnOk result (Appends (O.contents out.old) (O.contents out.new)
         (loop_text sender.new.counted given receiver.new.jobs (outcome_of sender.new))) }
-    ensures told { OnOk result ((turns : List Spoken) × BothWatchedAll W.saw_both
-        sender.old receiver.old watch.old sender.new receiver.new watch.new turns) }
 {
     let taken = take_turns(sender, near, receiver, far, watch);
     let outcome = sender.outcome();

@@ -43,8 +43,8 @@ pub fn receive<'a, R: Net + Clock, S: Store, O: Write, E: Write>(
     err: &mut E,
 ) -> Result<Ending, CommandFault<'a>>
     ensures received { IfOk result (λ ending. OverConnection (λ t u.
-        Receives ending t u order.entry.into
-        (S.files store.old) (S.files store.new) (O.contents out.old) (O.contents out.new))) }
+        Receives ending order.entry.into (t, S.files store.old, O.contents out.old)
+        (u, S.files store.new, O.contents out.new))) }
     ensures fault { IfErr result (IsDestinationFault order.entry.into (S.files store.old)) }
     ensures kept { IfSome (S.files store.old) (λ _. (before : ℕ) × (after : ℕ)
         × KeepsAnswered order.entry.into (S.files store.old) (S.files store.new)
@@ -74,10 +74,9 @@ pub fn receive_over<L: Line, S: Store, O: Write, E: Write>(
     out: &mut O,
     err: &mut E,
 ) -> u8
-    ensures received { (result ≡ 0) ⊎ (result ≡ 4) → EndsReceiving result
-        (L.talk line.old, L.transmissions line.old)
-        (L.talk line.new, L.transmissions line.new) into.entry
-        (S.files store.old) (S.files store.new) (O.contents out.old) (O.contents out.new) }
+    ensures received { (result ≡ 0) ⊎ (result ≡ 4) → EndsReceiving result into.entry
+        ((L.talk line.old, L.transmissions line.old), S.files store.old, O.contents out.old)
+        ((L.talk line.new, L.transmissions line.new), S.files store.new, O.contents out.new) }
     ensures status { (result ≡ 0) ⊎ ((result ≡ 4) ⊎ ((result ≡ 1) ⊎ IsFailing result)) }
     ensures refused { result ≡ 1 → IsRefusedDestination into.entry (S.files store.old) }
     ensures kept { IfSome (S.files store.old) (λ _. KeepsAnswered into.entry
@@ -99,10 +98,9 @@ fn received_into<'a, L: Line, S: Store, O: Write>(
     store: &mut S,
     out: &mut O,
 ) -> Result<Ending, CommandFault<'a>>
-    ensures received { IfOk result (λ ending. Receives ending
-        (L.talk line.old, L.transmissions line.old)
-        (L.talk line.new, L.transmissions line.new) into.entry
-        (S.files store.old) (S.files store.new) (O.contents out.old) (O.contents out.new)) }
+    ensures received { IfOk result (λ ending. Receives ending into.entry
+        ((L.talk line.old, L.transmissions line.old), S.files store.old, O.contents out.old)
+        ((L.talk line.new, L.transmissions line.new), S.files store.new, O.contents out.new)) }
     ensures fault { IfErr result (IsDestinationFault into.entry (S.files store.old)) }
     ensures kept { IfSome (S.files store.old) (λ _. KeepsAnswered into.entry
         (S.files store.old) (S.files store.new)
@@ -127,9 +125,9 @@ fn received<'a, L: Line, S: Store, W: Watch, O: Write>(
 ) -> Result<Ending, CommandFault<'a>>
     ensures received { (front : List Entry) (files : Option FileMap)
         → IsOpened front file.entry files → Discloses files (S.files store.old) IsSame
-        → IfOk result (λ ending. Receives ending (L.talk line.old, L.transmissions line.old)
-        (L.talk line.new, L.transmissions line.new) file.entry.into
-        files (S.files store.new) (O.contents out.old) (O.contents out.new)) }
+        → IfOk result (λ ending. Receives ending file.entry.into
+        ((L.talk line.old, L.transmissions line.old), files, O.contents out.old)
+        ((L.talk line.new, L.transmissions line.new), S.files store.new, O.contents out.new)) }
     ensures status { IfErr result (λ fault. IsFailing (status_of fault)) }
     ensures names { IfErr result (NamesWritten file.entry.into.jobs.now) }
     ensures kept { (front : List Entry) (files : Option FileMap)

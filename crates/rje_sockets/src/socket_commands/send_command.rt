@@ -2,7 +2,6 @@
 ghost use Rattle.std.specs.Prelude.{◌≡◌, ◌⊎◌, List, Option, length, IfErr, IfOk, OnOk, true, ⊤};
 ghost use Rattle.std.specs.Io.KnownBytes.{Appends};
 ghost use Rattle.rje_jobs.specs.declared.job.Job.{Job};
-ghost use Rattle.bsc_history.specs.History.{History};
 ghost use Rattle.rje_files.specs.Marks.{AreMarks};
 ghost use Rattle.rje_files.specs.Unsent.{IsLeft};
 ghost use Rattle.rje_station.specs.Sending.{outcome_of};
@@ -13,8 +12,7 @@ ghost use Rattle.rje_sockets.specs.Inside.Sending.{IsOutgoing, IsSendFault};
 ghost use Rattle.rje_sockets.specs.Marking.{Marks, MarksCounted, MarksNoMore};
 ghost use Rattle.rje_stores.specs.Store.{FileMap, Discloses, IsSame};
 ghost use Rattle.rje_sockets.specs.NamedFiles.{NamesOne, NamesWritten};
-ghost use Rattle.rje_sockets.specs.OverLine.{OverConnection, SendsOver};
-ghost use Rattle.rje_sockets.specs.Watching.{SenderWatchedAll};
+ghost use Rattle.rje_sockets.specs.OverLine.{OverConnection, Sends};
 
 use crate::connection::connected;
 use crate::exchange::send_all;
@@ -48,9 +46,8 @@ pub fn send<'a, R: Net + Clock, S: Store, O: Write, E: Write>(
     err: &mut E,
 ) -> Result<Ending, CommandFault<'a>>
     ensures sent { IfOk result (λ ending. OverConnection (λ t u.
-        OfFile order.entry.jobs.now (S.files store.old) (λ file.
-        SendsLeft ending t u order.entry.jobs.now file
-        (S.files store.old) (S.files store.new) (O.contents out.old) (O.contents out.new)))) }
+        SendsLeft ending order.entry.jobs.now (t, S.files store.old, O.contents out.old)
+        (u, S.files store.new, O.contents out.new))) }
     ensures fault { IfErr result (IsSendFault (λ name. name ≡ order.entry.jobs.now)
         order.entry.jobs.now (S.files store.old)) }
     ensures marked { MarksNoMore ⊤ order.entry.jobs.now (S.files store.old) (S.files store.new) }
@@ -88,10 +85,9 @@ pub fn send_over<L: Line, S: Store, O: Write, E: Write>(
     out: &mut O,
     err: &mut E,
 ) -> u8
-    ensures sent { (result ≡ 0) ⊎ (result ≡ 4) → EndsSending result
-        (L.talk line.old, L.transmissions line.old)
-        (L.talk line.new, L.transmissions line.new) name.now
-        (S.files store.old) (S.files store.new) (O.contents out.old) (O.contents out.new) }
+    ensures sent { (result ≡ 0) ⊎ (result ≡ 4) → EndsSending result name.now
+        ((L.talk line.old, L.transmissions line.old), S.files store.old, O.contents out.old)
+        ((L.talk line.new, L.transmissions line.new), S.files store.new, O.contents out.new) }
     ensures status { (result ≡ 0) ⊎ ((result ≡ 4) ⊎ ((result ≡ 1) ⊎ IsFailing result)) }
     ensures refused { result ≡ 1 → OfFile name.now (S.files store.old) IsRefusedFile }
     ensures marked { MarksNoMore (line.new ≡ line.old) name.now
@@ -112,10 +108,9 @@ fn sent<'a, L: Line, S: Store, O: Write>(
     store: &mut S,
     out: &mut O,
 ) -> Result<Ending, CommandFault<'a>>
-    ensures sent { IfOk result (λ ending. OfFile name.entry.now (S.files store.old) (λ file.
-        SendsLeft ending (L.talk line.old, L.transmissions line.old)
-        (L.talk line.new, L.transmissions line.new) name.entry.now file
-        (S.files store.old) (S.files store.new) (O.contents out.old) (O.contents out.new))) }
+    ensures sent { IfOk result (λ ending. SendsLeft ending name.entry.now
+        ((L.talk line.old, L.transmissions line.old), S.files store.old, O.contents out.old)
+        ((L.talk line.new, L.transmissions line.new), S.files store.new, O.contents out.new)) }
     ensures fault { IfErr result (IsSendFault (λ named. named ≡ name.entry.now)
         name.entry.now (S.files store.old)) }
     ensures marked { MarksNoMore (line.new ≡ line.old) name.entry.now
@@ -213,8 +208,9 @@ fn transmit<'a, L: Line, P: Parting<L>, S: Store, W: Watch, O: Write>(
     watch: &mut W,
     out: &mut O,
 ) -> Result<Ending, CommandFault<'a>>
-    ensures took { OnOk result (SendsOver station.old (L.talk line.old, L.transmissions line.old)
-        station.new (L.talk line.new, L.transmissions line.new)) }
+    ensures took { OnOk result (Sends W.saw_sender
+        (station.old, (L.talk line.old, L.transmissions line.old), watch.old)
+        (station.new, (L.talk line.new, L.transmissions line.new), watch.new)) }
     ensures ended { IfOk result (λ ending. ending ≡ ending_of (outcome_of station.new)) }
     ensures printed { OnOk result (Appends (O.contents out.old) (O.contents out.new)
         (sent_text station.new.counted (length station.old.jobs) (outcome_of station.new))) }
@@ -229,8 +225,6 @@ fn transmit<'a, L: Line, P: Parting<L>, S: Store, W: Watch, O: Write>(
     ensures status { IfErr result (λ fault. (jobs : List Job)
         → IsLeft marker.old.file.items jobs → IsFailing (status_of fault)) }
     ensures names { IfErr result (NamesWritten marker.old.name.now) }
-    ensures told { OnOk result ((h : History) × SenderWatchedAll (λ _. W.saw_sender)
-        station.old watch.old station.new watch.new h) }
 {
     let given = station.jobs().len();
     let sent = send_all(station, line, marker, store, watch);

@@ -12,19 +12,6 @@ use Rattle.rje_sockets.proofs.Growing.{still_keeps}
 use Rattle.rje_sockets.proofs.both_ways.take_others_turn.Goals.{then-is_over, else-is_over+in_ok-reply}
 use Rattle.rje_sockets.proofs.both_ways.take_others_turn.Goals as goal
 
-pub returns-clause-takes : goal.returns-clause-takes
-returns-clause-takes g c is =
-    let heard = c.in-Ok.ensures.heard in
-    let after : c.if-is_over.station ≡ (if c.is_over.result then after_other_ended c.hear_other.new.self else after_own_reply c.hear_other.new.self) =
-    elim c.if-is_over.branch [
-      | then-is_over w ↦ search rules
-      | else-is_over+in_ok-reply w ↦ search rules
-    ] in
-    let taken =
-    others_taken c.args.station.now c.hear_other.new.self c.if-is_over.station heard.what heard.refused c.in-Some.arrival c.in-Ok.reply c.is_over.result c.in-Ok.ensures.live
-    heard.may heard.state heard.reply_is (search rules) (c.is_over.ensures ∙ ap (λ (r : Receiving). r.over) c.receiver-3.ensures) after in
-    (c.in-Some.arrival, c.in-Ok.reply, taken.0, c.receiver_took-2.ensures.saw, taken.2)
-
 pub returns-clause-kept : goal.returns-clause-kept
 returns-clause-kept g c =
     let heard = c.in-Ok.ensures.heard in
@@ -48,8 +35,8 @@ returns-in_err-reply-clause-broken g c =
     (g.S.Store.files c.args.store.now) (g.S.Store.files c.keep.new.store) heard.state (c.jobs.ensures ∙ ap (λ (r : Receiving). r.jobs) c.receiver-2.ensures)
     (refusal_leaves fault c.hear_other.new.self c.reply.new.self c.in_err-reply.ensures.kept) c.keep.ensures.file (search rules) (search rules))
 
-pub returns-clause-gave : goal.returns-clause-gave
-returns-clause-gave g c is =
+pub returns-clause-takes : goal.returns-clause-takes
+returns-clause-takes g c is =
     let heard = c.in-Ok.ensures.heard in
     let after : c.if-is_over.station ≡ (if c.is_over.result then after_other_ended c.hear_other.new.self else after_own_reply c.hear_other.new.self) =
     elim c.if-is_over.branch [
@@ -57,12 +44,12 @@ returns-clause-gave g c is =
       | else-is_over+in_ok-reply w ↦ search rules
     ] in
     let over = c.is_over.ensures ∙ ap (λ (r : Receiving). r.over) c.receiver-3.ensures in
-    let passed : HeardAndReplied heard.what (g.L.Line.talk c.args.line.now, g.L.Line.transmissions c.args.line.now) (g.L.Line.talk c.if-is_over.line, g.L.Line.transmissions c.if-is_over.line) c.in-Some.arrival c.in-Ok.reply =
+    let passed : HeardAndReplied heard.what (g.L.Line.talk c.args.line.now, g.L.Line.transmissions c.args.line.now) (g.L.Line.talk c.if-is_over.line, g.L.Line.transmissions c.if-is_over.line) c.in-Ok.reply =
     elim c.if-is_over.branch [
       | then-is_over w ↦
-          rw w.line-is (last_passed heard.what c.in-Some.arrival c.in-Ok.reply _ _ (g.L.Line.talk c.hear_other.new.line) heard.told
+          rw w.line-is (last_passed heard.what c.in-Ok.reply _ _ (g.L.Line.talk c.hear_other.new.line) heard.told
           (heard.reply_is ∙ other_owes c.args.station.now c.hear_other.new.self heard.what heard.refused heard.state (search rules)) refl c.in-Ok.ensures.none)
-      | else-is_over+in_ok-reply w ↦ rw w.line-is (reply_passed heard.what c.in-Some.arrival c.in-Ok.reply _ _ _ (g.L.Line.talk c.hear_other.new.line) heard.told heard.reply_is w.in_ok-reply.ensures.sent
+      | else-is_over+in_ok-reply w ↦ rw w.line-is (reply_passed heard.what c.in-Ok.reply _ _ _ (g.L.Line.talk c.hear_other.new.line) heard.told heard.reply_is w.in_ok-reply.ensures.sent
           (w.in_ok-reply.ensures.once ∙ ap (with_reply _) c.in-Ok.ensures.none))
     ] in
     let taken =
@@ -71,7 +58,8 @@ returns-clause-gave g c is =
       c.in-Some.arrival,
       c.in-Ok.reply,
       taken.0,
-      subst (λ what. HeardAndReplied what (g.L.Line.talk c.args.line.now, g.L.Line.transmissions c.args.line.now) (g.L.Line.talk c.if-is_over.line, g.L.Line.transmissions c.if-is_over.line) c.in-Some.arrival c.in-Ok.reply) (sym taken.1) passed,
+      subst (λ what. HeardAndReplied what (g.L.Line.talk c.args.line.now, g.L.Line.transmissions c.args.line.now) (g.L.Line.talk c.if-is_over.line, g.L.Line.transmissions c.if-is_over.line) c.in-Ok.reply) (sym taken.1) passed,
+      c.receiver_took-2.ensures.saw,
       taken.2,
     )
 

@@ -11,8 +11,8 @@ returns-clause-marked g c =
     subst (λ n. GoesOnMarking c.args.marker.now c.mark.new.self c.args.station.now.sender.counted n (g.S.Store.files c.args.store.now) (g.S.Store.files c.mark.new.store))
     (c.counted.ensures ∙ ap (λ (s : Sending). s.counted) c.sender.ensures) (c.mark.ensures.marked c.args.station.now.sender.counted)
 
-pub returns-clause-gave : goal.returns-clause-gave
-returns-clause-gave g c =
+pub returns-clause-takes : goal.returns-clause-takes
+returns-clause-takes g c =
     let s = c.args.station.now in
     let said = c.in_ok-said.said in
     let sent = said_due s said (g.L.Line.talk c.args.line.now) (g.L.Line.talk c.speak.new.line) (search rules) c.requires.due c.in_ok-said.ensures.sent in
@@ -24,4 +24,4 @@ returns-clause-gave g c =
           rw (w.line-is, w.heard-is) (own_passed s c.speak.new.self said _ _ _ (g.L.Line.talk c.speak.new.line) (search rules) c.requires.due (search rules) (search rules) sent
           (w.in_ok-heard-in_default.ensures.none ∙ once) w.in_ok-heard-in_default.ensures.heard)
     ] in
-    (said, c.match-said.heard, search rules, passed)
+    (said, c.match-said.heard, search rules, passed, c.sender_took.ensures.saw)

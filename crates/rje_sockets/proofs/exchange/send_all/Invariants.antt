@@ -1,7 +1,5 @@
-use Rattle.bsc_history.specs.History.{History}
 use Rattle.std.specs.Prelude.{◌≡◌, ◌⊎◌}
 use Rattle.rje_sockets.specs.Marking.{GoesOnMarking, WereCounted}
-use Rattle.rje_sockets.specs.Watching.{SenderWatchedAll}
 use Rattle.rje_sockets.proofs.OverLine.{SendsSoFar}
 use Rattle.rje_sockets.proofs.exchange.send_all.Given as goal
 
@@ -9,6 +7,6 @@ abbrev pub invariant-loop : goal.invariant-loop
 invariant-loop g l = record {
   marked : GoesOnMarking l.initial.marker l.marker l.initial.station.counted l.station.counted (g.S.Store.files l.initial.store) (g.S.Store.files l.store);
   count : (l.marker.marked ≡ l.initial.marker.marked) ⊎ WereCounted l.initial.station l.marker.marked;
-  told : (h : History) × SenderWatchedAll (λ _. g.W.Watch.saw_sender) l.initial.station l.initial.watch l.station l.watch h;
-  turns : SendsSoFar l.initial.station (g.L.Line.talk l.initial.line, g.L.Line.transmissions l.initial.line) l.counter l.station (g.L.Line.talk l.line, g.L.Line.transmissions l.line);
+  turns : SendsSoFar g.W.Watch.saw_sender (l.initial.station, (g.L.Line.talk l.initial.line, g.L.Line.transmissions l.initial.line), l.initial.watch) l.counter
+      (l.station, (g.L.Line.talk l.line, g.L.Line.transmissions l.line), l.watch);
 }

@@ -3,7 +3,6 @@ use Rattle.rje_station.specs.Station.{first_contending}
 use Rattle.rje_station.specs.StationFault.{IsNewCause}
 use Rattle.rje_orders.specs.declared.order.Destination.{Destination}
 use Rattle.rje_commands.specs.CommandFault.{of_station}
-use Rattle.rje_commands.specs.Commands.{OfFile}
 use Rattle.rje_sockets.specs.Exchanging.{ExchangesLeft, rank_at}
 use Rattle.rje_sockets.proofs.Exchanged.{destination_fault_of, exchanges_left, leaves_so, outgoing_before, send_fault_of}
 use Rattle.rje_sockets.proofs.OverLine.{over_connection}
@@ -33,8 +32,8 @@ returns g c =
     let front = c.in_ok-keeper.ensures.opened.0 in
     let opened = opened_before front keeper.file f looked c.look_before_meeting.ensures.same c.in_ok-keeper.ensures.opened.1 in
     record {
-      exchanged = over_connection c.exchange_files-ending.result (λ t u ending. OfFile c.args.order.send.now f (λ file. ExchangesLeft ending t u (rank_at c.args.order.place) c.args.order.send.now
-          into file f (g.S.Store.files c.exchange_files-ending.new.store) (g.O.Write.contents c.args.out.now) (g.O.Write.contents c.exchange_files-ending.new.out))) _ _
+      exchanged = over_connection c.exchange_files-ending.result (λ t u ending. ExchangesLeft ending (rank_at c.args.order.place) c.args.order.send.now into
+          (t, f, g.O.Write.contents c.args.out.now) (u, g.S.Store.files c.exchange_files-ending.new.store, g.O.Write.contents c.exchange_files-ending.new.out)) _ _
           (exchanges_left c.exchange_files-ending.result (None, _) (None, _) (rank_at c.args.order.place) c.args.order.send.now into jobs c.in_ok-station.station marker
           front keeper f begun (g.S.Store.files c.exchange_files-ending.new.store)
           (g.O.Write.contents c.args.out.now) (g.O.Write.contents c.exchange_files-ending.new.out) out copy first

@@ -1,4 +1,4 @@
-use Rattle.std.proofs.Common.{rules, ◌≡◌, ◌⊎◌, Bool, Err, ap, inl, inr, length, refl, subst}
+use Rattle.std.proofs.Common.{rules, ◌≡◌, ◌⊎◌, Bool, Err, IfOk, ap, inl, inr, length, refl, subst}
 use Rattle.std.specs.Prelude.{List}
 use Rattle.std.specs.List.{flat_map}
 use Rattle.std.specs.Result.{IsOkAnd, MatchResult, result_and}
@@ -7,7 +7,12 @@ use Rattle.rje_jobs.specs.declared.job.Job.{Job}
 use Rattle.rje_files.specs.Unsent.{IsLeft}
 use Rattle.rje_commands.specs.CommandFault.{IsFailing, status_of}
 use Rattle.rje_commands.specs.declared.command_fault.CommandFault.{CommandFault}
+use Rattle.rje_sockets.specs.BothFiles.{HeldSoFar}
+use Rattle.rje_sockets.specs.BothWays.{ExchangesTo}
 use Rattle.rje_sockets.specs.Exchanging.{Exchanges, ending_of_both, is_idle}
+use Rattle.rje_sockets.specs.OverLine.{LineTells}
+use Rattle.rje_sockets.proofs.BothWays.{exchanges_unseen}
+use Rattle.std.proofs.lemmas.Result.{IfOk-weaker}
 use Rattle.rje_sockets.specs.declared.kept_file.KeptFile.{KeptFile}
 use Rattle.rje_sockets.specs.NamedFiles.{NamesOne}
 use Rattle.rje_sockets.proofs.Exchanged.{all_exchanged, exchange_fails}
@@ -18,6 +23,12 @@ use Rattle.rje_sockets.proofs.socket_commands.exchange_command.exchange_files.Go
 
 pub returns-clause-status : goal.returns-clause-status
 returns-clause-status g c =
+    let was : LineTells = (g.L.Line.talk c.args.line.now, g.L.Line.transmissions c.args.line.now) in
+    let is : LineTells = (g.L.Line.talk c.exchange_all-left.new.line, g.L.Line.transmissions c.exchange_all-left.new.line) in
+    let held : HeldSoFar = (c.args.marker, c.args.keeper, g.S.Store.files c.args.store.now) in
+    let holding : HeldSoFar = (c.exchange_all-left.new.marker, c.exchange_all-left.new.keeper, g.S.Store.files c.exchange_all-left.new.store) in
+    let exchanges : IfOk c.exchange_all-left.result (λ l. ExchangesTo l c.args.station was c.exchange_all-left.new.station is) =
+    IfOk-weaker c.exchange_all-left.result _ _ (λ l. exchanges_unseen g.W.Watch.saw_sender g.W.Watch.saw_receiver l c.args.station c.exchange_all-left.new.station was is c.args.watch.now c.exchange_all-left.new.watch) c.exchange_all-left.ensures.left in
     let idle : c.is_idle-idle.result ≡ is_idle (length c.args.station.sender.jobs) c.exchange_all-left.new.station.receiver.jobs = search rules in
     let told : MatchResult c.left_after.result (λ l. IsOkAnd c.map-ending.result (λ ending. ending ≡ ending_of_both (outcome_of c.exchange_all-left.new.station.sender)
     (is_idle (length c.args.station.sender.jobs) c.exchange_all-left.new.station.receiver.jobs) l)) (λ e. c.map-ending.result ≡ Err e) =
@@ -26,12 +37,17 @@ returns-clause-status g c =
     err_unless_short c.unless_short.result c.map-ending.result (λ fault. (jobs : List Job) → IsLeft c.args.marker.file.items jobs → IsFailing (status_of fault)) c.unless_short.ensures.ending
     (exchange_fails c.map-ending.result c.left_after.result c.exchange_all-left.result c.finish-marked.result c.keep_rest-kept.result c.put_lines-printed.result (ending_of_both (outcome_of c.exchange_all-left.new.station.sender) (is_idle (length c.args.station.sender.jobs) c.exchange_all-left.new.station.receiver.jobs))
     c.args.marker c.exchange_all-left.new.marker
-    (file_stays c.exchange_all-left.result (g.L.Line.talk c.args.line.now, g.L.Line.transmissions c.args.line.now) (g.L.Line.talk c.exchange_all-left.new.line, g.L.Line.transmissions c.exchange_all-left.new.line) c.args.station c.exchange_all-left.new.station c.args.marker c.exchange_all-left.new.marker c.args.keeper c.exchange_all-left.new.keeper
-    (g.S.Store.files c.args.store.now) (g.S.Store.files c.exchange_all-left.new.store) c.exchange_all-left.ensures.left c.exchange_all-left.ensures.holds c.exchange_all-left.ensures.broken)
+    (file_stays c.exchange_all-left.result was is c.args.station c.exchange_all-left.new.station held holding exchanges c.exchange_all-left.ensures.holds c.exchange_all-left.ensures.broken)
     (search rules) told c.map-ending.ensures.variant c.exchange_all-left.ensures.status c.finish-marked.ensures.status c.keep_rest-kept.ensures.status (search rules)) (λ jobs left. inr (inl refl))
 
 pub returns-clause-exchanged : goal.returns-clause-exchanged
 returns-clause-exchanged g c =
+    let was : LineTells = (g.L.Line.talk c.args.line.now, g.L.Line.transmissions c.args.line.now) in
+    let is : LineTells = (g.L.Line.talk c.exchange_all-left.new.line, g.L.Line.transmissions c.exchange_all-left.new.line) in
+    let held : HeldSoFar = (c.args.marker, c.args.keeper, g.S.Store.files c.args.store.now) in
+    let holding : HeldSoFar = (c.exchange_all-left.new.marker, c.exchange_all-left.new.keeper, g.S.Store.files c.exchange_all-left.new.store) in
+    let exchanges : IfOk c.exchange_all-left.result (λ l. ExchangesTo l c.args.station was c.exchange_all-left.new.station is) =
+    IfOk-weaker c.exchange_all-left.result _ _ (λ l. exchanges_unseen g.W.Watch.saw_sender g.W.Watch.saw_receiver l c.args.station c.exchange_all-left.new.station was is c.args.watch.now c.exchange_all-left.new.watch) c.exchange_all-left.ensures.left in
     let idle : c.is_idle-idle.result ≡ is_idle (length c.args.station.sender.jobs) c.exchange_all-left.new.station.receiver.jobs = search rules in
     let told : MatchResult c.left_after.result (λ l. IsOkAnd c.map-ending.result (λ ending. ending ≡ ending_of_both (outcome_of c.exchange_all-left.new.station.sender)
     (is_idle (length c.args.station.sender.jobs) c.exchange_all-left.new.station.receiver.jobs) l)) (λ e. c.map-ending.result ≡ Err e) =
@@ -43,32 +59,43 @@ returns-clause-exchanged g c =
     let written = g.S.Store.files c.finish-marked.new.store in
     let sets = marks_as_many c.finish-marked.result marker.file.items _ station.sender.counted marker.name.now mid written c.finish-marked.ensures.marked (search rules) in
     rw (c.parts_in_step-in_step.ensures.talk, c.parts_in_step-in_step.ensures.none)
-    (ok_unless_short c.unless_short.result c.map-ending.result (λ ending. Exchanges ending (g.L.Line.talk c.args.line.now, g.L.Line.transmissions c.args.line.now) (g.L.Line.talk c.exchange_all-left.new.line, g.L.Line.transmissions c.exchange_all-left.new.line) c.args.station c.args.marker c.args.keeper (g.S.Store.files c.args.store.now) (g.S.Store.files c.keep_rest-kept.new.store) (g.O.Write.contents c.args.out.now) (g.O.Write.contents c.put_lines-printed.new.out)) c.unless_short.ensures.ending
+    (ok_unless_short c.unless_short.result c.map-ending.result (λ ending. Exchanges ending c.args.station c.args.marker c.args.keeper (was, g.S.Store.files c.args.store.now, g.O.Write.contents c.args.out.now) (is, g.S.Store.files c.keep_rest-kept.new.store, g.O.Write.contents c.put_lines-printed.new.out)) c.unless_short.ensures.ending
     (ends_well c.map-ending.result c.left_after.result c.exchange_all-left.result (result_and c.finish-marked.result c.keep_rest-kept.result) c.put_lines-printed.result (ending_of_both (outcome_of station.sender) (is_idle (length c.args.station.sender.jobs) station.receiver.jobs))
-    (λ ending. Exchanges ending (g.L.Line.talk c.args.line.now, g.L.Line.transmissions c.args.line.now) (g.L.Line.talk c.exchange_all-left.new.line, g.L.Line.transmissions c.exchange_all-left.new.line) c.args.station c.args.marker c.args.keeper (g.S.Store.files c.args.store.now) (g.S.Store.files c.keep_rest-kept.new.store) (g.O.Write.contents c.args.out.now) (g.O.Write.contents c.put_lines-printed.new.out))
+    (λ ending. Exchanges ending c.args.station c.args.marker c.args.keeper (was, g.S.Store.files c.args.store.now, g.O.Write.contents c.args.out.now) (is, g.S.Store.files c.keep_rest-kept.new.store, g.O.Write.contents c.put_lines-printed.new.out))
     (search rules) told c.map-ending.ensures.variant
-    (all_exchanged c.exchange_all-left.result c.finish-marked.result c.keep_rest-kept.result c.put_lines-printed.result (g.L.Line.talk c.args.line.now, g.L.Line.transmissions c.args.line.now) (g.L.Line.talk c.exchange_all-left.new.line, g.L.Line.transmissions c.exchange_all-left.new.line) c.args.station station c.args.marker c.exchange_all-left.new.marker c.args.keeper
-    c.exchange_all-left.new.keeper (g.S.Store.files c.args.store.now) (g.S.Store.files c.exchange_all-left.new.store) (g.S.Store.files c.finish-marked.new.store) (g.S.Store.files c.keep_rest-kept.new.store)
+    (all_exchanged c.exchange_all-left.result c.finish-marked.result c.keep_rest-kept.result c.put_lines-printed.result was is c.args.station station held holding
+    (g.S.Store.files c.finish-marked.new.store) (g.S.Store.files c.keep_rest-kept.new.store)
     (g.O.Write.contents c.args.out.now) (g.O.Write.contents c.put_lines-printed.new.out)
-    (flat_map (λ line. line.items) c.lines_of_both-lines.result) c.exchange_all-left.ensures.left c.exchange_all-left.ensures.holds
+    (flat_map (λ line. line.items) c.lines_of_both-lines.result) exchanges c.exchange_all-left.ensures.holds
     sets (rw c.take.ensures at c.keep_rest-kept.ensures.file) (search rules)
     (search rules))))
 
 pub returns-clause-files : goal.returns-clause-files
 returns-clause-files g c =
+    let was : LineTells = (g.L.Line.talk c.args.line.now, g.L.Line.transmissions c.args.line.now) in
+    let is : LineTells = (g.L.Line.talk c.exchange_all-left.new.line, g.L.Line.transmissions c.exchange_all-left.new.line) in
+    let held : HeldSoFar = (c.args.marker, c.args.keeper, g.S.Store.files c.args.store.now) in
+    let holding : HeldSoFar = (c.exchange_all-left.new.marker, c.exchange_all-left.new.keeper, g.S.Store.files c.exchange_all-left.new.store) in
+    let exchanges : IfOk c.exchange_all-left.result (λ l. ExchangesTo l c.args.station was c.exchange_all-left.new.station is) =
+    IfOk-weaker c.exchange_all-left.result _ _ (λ l. exchanges_unseen g.W.Watch.saw_sender g.W.Watch.saw_receiver l c.args.station c.exchange_all-left.new.station was is c.args.watch.now c.exchange_all-left.new.watch) c.exchange_all-left.ensures.left in
     let station = c.exchange_all-left.new.station in
     let marker = c.exchange_all-left.new.marker in
     let mid = g.S.Store.files c.exchange_all-left.new.store in
     let written = g.S.Store.files c.finish-marked.new.store in
     let sets = marks_as_many c.finish-marked.result marker.file.items _ station.sender.counted marker.name.now mid written c.finish-marked.ensures.marked (search rules) in
-    leaves_both c.exchange_all-left.result c.finish-marked.result c.keep_rest-kept.result (g.L.Line.talk c.args.line.now, g.L.Line.transmissions c.args.line.now) (g.L.Line.talk c.exchange_all-left.new.line, g.L.Line.transmissions c.exchange_all-left.new.line)
-    c.args.station c.exchange_all-left.new.station c.args.marker c.exchange_all-left.new.marker c.args.keeper c.exchange_all-left.new.keeper
-    (g.S.Store.files c.args.store.now) (g.S.Store.files c.exchange_all-left.new.store) (g.S.Store.files c.finish-marked.new.store) (g.S.Store.files c.keep_rest-kept.new.store)
-    c.exchange_all-left.ensures.left c.exchange_all-left.ensures.holds c.exchange_all-left.ensures.broken c.exchange_all-left.ensures.count sets c.finish-marked.ensures.same
+    leaves_both c.exchange_all-left.result c.finish-marked.result c.keep_rest-kept.result was is c.args.station station held holding
+    (g.S.Store.files c.finish-marked.new.store) (g.S.Store.files c.keep_rest-kept.new.store)
+    exchanges c.exchange_all-left.ensures.holds c.exchange_all-left.ensures.broken c.exchange_all-left.ensures.count sets c.finish-marked.ensures.same
     (rw c.take.ensures at c.keep_rest-kept.ensures.file) c.keep_rest-kept.ensures.refused c.keep_rest-kept.ensures.same
 
 pub returns-clause-names : goal.returns-clause-names
 returns-clause-names g c =
+    let was : LineTells = (g.L.Line.talk c.args.line.now, g.L.Line.transmissions c.args.line.now) in
+    let is : LineTells = (g.L.Line.talk c.exchange_all-left.new.line, g.L.Line.transmissions c.exchange_all-left.new.line) in
+    let held : HeldSoFar = (c.args.marker, c.args.keeper, g.S.Store.files c.args.store.now) in
+    let holding : HeldSoFar = (c.exchange_all-left.new.marker, c.exchange_all-left.new.keeper, g.S.Store.files c.exchange_all-left.new.store) in
+    let exchanges : IfOk c.exchange_all-left.result (λ l. ExchangesTo l c.args.station was c.exchange_all-left.new.station is) =
+    IfOk-weaker c.exchange_all-left.result _ _ (λ l. exchanges_unseen g.W.Watch.saw_sender g.W.Watch.saw_receiver l c.args.station c.exchange_all-left.new.station was is c.args.watch.now c.exchange_all-left.new.watch) c.exchange_all-left.ensures.left in
     let idle : c.is_idle-idle.result ≡ is_idle (length c.args.station.sender.jobs) c.exchange_all-left.new.station.receiver.jobs = search rules in
     let told : MatchResult c.left_after.result (λ l. IsOkAnd c.map-ending.result (λ ending. ending ≡ ending_of_both (outcome_of c.exchange_all-left.new.station.sender)
     (is_idle (length c.args.station.sender.jobs) c.exchange_all-left.new.station.receiver.jobs) l)) (λ e. c.map-ending.result ≡ Err e) =
@@ -77,9 +104,7 @@ returns-clause-names g c =
     let one = c.args.marker.name.now in
     let other = c.args.keeper.file.into.jobs.now in
     let Names : CommandFault → Type 0 = NamesOne (λ _. ⊥) (λ n. (n ≡ one) ⊎ (n ≡ other)) in
-    let stay = names_stay c.exchange_all-left.result (g.L.Line.talk c.args.line.now, g.L.Line.transmissions c.args.line.now) (g.L.Line.talk c.exchange_all-left.new.line, g.L.Line.transmissions c.exchange_all-left.new.line)
-    c.args.station c.exchange_all-left.new.station c.args.marker c.exchange_all-left.new.marker c.args.keeper c.exchange_all-left.new.keeper (g.S.Store.files c.args.store.now)
-    (g.S.Store.files c.exchange_all-left.new.store) c.exchange_all-left.ensures.left c.exchange_all-left.ensures.holds c.exchange_all-left.ensures.broken in
+    let stay = names_stay c.exchange_all-left.result was is c.args.station c.exchange_all-left.new.station held holding exchanges c.exchange_all-left.ensures.holds c.exchange_all-left.ensures.broken in
     err_unless_short c.unless_short.result c.map-ending.result Names c.unless_short.ensures.ending
     (told_names c.map-ending.result c.left_after.result (ending_of_both (outcome_of c.exchange_all-left.new.station.sender) (is_idle (length c.args.station.sender.jobs) c.exchange_all-left.new.station.receiver.jobs)) Names c.exchange_all-left.result c.finish-marked.result c.keep_rest-kept.result
     c.put_lines-printed.result told c.left_after.ensures.first (search rules) (search rules) (search rules)

@@ -16,8 +16,8 @@ returns-clause-received g c =
     let made = g.S.Store.files c.received-ending.new.store in
     let had = g.O.Write.contents c.args.out.now in
     let has = g.O.Write.contents c.received-ending.new.out in
-    subst (λ (into : Destination). IfOk c.received-ending.result (λ ending. OverConnection (λ t u. Receives ending t u into files made had has))) c.in_ok-file.ensures.into
-    (over_connection c.received-ending.result (λ t u ending. Receives ending t u c.in_ok-file.file.into files made had has) _ _
+    subst (λ (into : Destination). IfOk c.received-ending.result (λ ending. OverConnection (λ t u. Receives ending into (t, files, had) (u, made, has)))) c.in_ok-file.ensures.into
+    (over_connection c.received-ending.result (λ t u ending. Receives ending c.in_ok-file.file.into (t, files, had) (u, made, has)) _ _
     (c.received-ending.ensures.received opened.0 files opened.1 c.in_ok-file.ensures.same))
 
 pub returns-clause-kept : goal.returns-clause-kept

@@ -1,6 +1,8 @@
 use Rattle.std.proofs.Common.{rules, ◌≡◌, ◌∙◌, IfOk, OnOk, IfErr, inl, inr, refl, ap, sym, subst}
 use Rattle.rje_station.specs.Receiving.{Receiving}
-use Rattle.rje_sockets.specs.Answering.{KeepsAnswered, KeepsToBreak, KeepsToEnd}
+use Rattle.rje_sockets.specs.Answering.{BreaksOff, KeepsAnswered}
+use Rattle.rje_sockets.specs.Keeping.{GoesOnKeeping}
+use Rattle.rje_sockets.specs.Patience.{Leaves}
 use Rattle.rje_commands.specs.declared.command_fault.CommandFault.{CommandFault}
 use Rattle.rje_commands.specs.CommandFault.{IsFailing, status_of}
 use Rattle.rje_sockets.specs.declared.socket_commands.ending.Ending.{Ending}
@@ -30,16 +32,17 @@ returns-clause-received g c front files opened same =
     let start = c.in_ok-station.ensures.ready in
     let was : LineTells = (g.L.Line.talk c.args.line.now, g.L.Line.transmissions c.args.line.now) in
     let is : LineTells = (g.L.Line.talk c.receive_all-left.new.line, g.L.Line.transmissions c.receive_all-left.new.line) in
-    let P : Ending → Type 0 = λ ending. Receives ending was is c.args.file.into files made (g.O.Write.contents c.args.out.now) (g.O.Write.contents c.put-printed.new.out) in
+    let P : Ending → Type 0 = λ ending. Receives ending c.args.file.into (was, files, g.O.Write.contents c.args.out.now) (is, made, g.O.Write.contents c.put-printed.new.out) in
     ok_unless_short c.unless_short.result c.map-ending.result P c.unless_short.ensures.ending
     (ends_well c.map-ending.result c.left_after.result left written c.put-printed.result ending_of_left P c.left_after.ensures.left c.map-ending.ensures.cases c.map-ending.ensures.variant
-    (receives left written c.put-printed.result was is c.args.file.into files made (g.O.Write.contents c.args.out.now) (g.O.Write.contents c.put-printed.new.out) station (search rules)
+    (receives g.W.Watch.saw_receiver left written c.put-printed.result was is c.args.watch.now c.receive_all-left.new.watch c.args.file.into files made (g.O.Write.contents c.args.out.now) (g.O.Write.contents c.put-printed.new.out) station
+    (subst (λ (s : Receiving). IfOk left (λ l. Leaves g.W.Watch.saw_receiver l (s, was, c.args.watch.now) (station, is, c.receive_all-left.new.watch))) start c.receive_all-left.ensures.left)
     (subst (λ (x : KeptFile). IfOk left (λ _. OnOk written (MakesJobFile station.jobs x.into files made))) c.new-keeper.ensures.file
     (made_at_end written front keeper c.receive_all-left.new.keeper station files looked
-    (g.S.Store.files c.receive_all-left.new.store) made (g.L.Line.transmissions c.args.line.now) (g.L.Line.transmissions c.receive_all-left.new.line) left
+    (g.S.Store.files c.receive_all-left.new.store) made left
     (subst (λ (x : KeptFile). IsOpened front x files) (sym c.new-keeper.ensures.file) opened) c.new-keeper.ensures.none same
-    (subst (λ (s : Receiving). OnOk left (KeepsToEnd keeper c.receive_all-left.new.keeper s station (g.L.Line.transmissions c.args.line.now)
-    (g.L.Line.transmissions c.receive_all-left.new.line) looked (g.S.Store.files c.receive_all-left.new.store))) start c.receive_all-left.ensures.kept) (rw c.take.ensures at c.keep_rest-written.ensures.file)))
+    (subst (λ (s : Receiving). OnOk left (GoesOnKeeping keeper c.receive_all-left.new.keeper s.jobs station.jobs looked (g.S.Store.files c.receive_all-left.new.store))) start c.receive_all-left.ensures.kept)
+    (rw c.take.ensures at c.keep_rest-written.ensures.file)))
     (search rules)))
 
 pub returns-clause-status : goal.returns-clause-status
@@ -53,8 +56,8 @@ returns-clause-names g c =
     let name = c.args.file.into.jobs.now in
     let left = c.receive_all-left.result in
     let first : c.new-keeper.result.file.into.jobs.now ≡ name = ap (λ (x : KeptFile). x.into.jobs.now) c.new-keeper.ensures.file in
-    let stays = keeper_stays left c.new-keeper.result c.receive_all-left.new.keeper c.in_ok-station.station c.receive_all-left.new.station (g.L.Line.transmissions c.args.line.now)
-    (g.L.Line.transmissions c.receive_all-left.new.line) (g.S.Store.files c.args.store.now) (g.S.Store.files c.receive_all-left.new.store) c.receive_all-left.ensures.kept c.receive_all-left.ensures.broken in
+    let stays = keeper_stays left c.in_ok-station.station c.receive_all-left.new.station (c.new-keeper.result, g.L.Line.transmissions c.args.line.now, g.S.Store.files c.args.store.now)
+    (c.receive_all-left.new.keeper, g.L.Line.transmissions c.receive_all-left.new.line, g.S.Store.files c.receive_all-left.new.store) c.receive_all-left.ensures.kept c.receive_all-left.ensures.broken in
     let named : c.receive_all-left.new.keeper.file.into.jobs.now ≡ name = ap (λ (x : KeptFile). x.into.jobs.now) stays ∙ first in
     err_unless_short c.unless_short.result c.map-ending.result (NamesWritten name) c.unless_short.ensures.ending
     (received_names c.map-ending.result c.left_after.result ending_of_left (NamesWritten name) left c.keep_rest-written.result c.put-printed.result c.map-ending.ensures.cases
@@ -72,11 +75,14 @@ returns-clause-kept g c front files opened same =
     let looked = g.S.Store.files c.args.store.now in
     let made = g.S.Store.files c.keep_rest-written.new.store in
     let start = c.in_ok-station.ensures.ready in
-    subst (λ (x : KeptFile). IfSome files (λ _. KeepsAnswered x.into files made (g.L.Line.transmissions c.args.line.now) (g.L.Line.transmissions c.receive_all-left.new.line))) c.new-keeper.ensures.file
-    (received_kept written front keeper c.receive_all-left.new.keeper station files looked
-    (g.S.Store.files c.receive_all-left.new.store) made (g.L.Line.transmissions c.args.line.now) (g.L.Line.transmissions c.receive_all-left.new.line) left
+    let kept = g.S.Store.files c.receive_all-left.new.store in
+    let last = c.receive_all-left.new.keeper in
+    let was : LineTells = (g.L.Line.talk c.args.line.now, g.L.Line.transmissions c.args.line.now) in
+    let is : LineTells = (g.L.Line.talk c.receive_all-left.new.line, g.L.Line.transmissions c.receive_all-left.new.line) in
+    subst (λ (x : KeptFile). IfSome files (λ _. KeepsAnswered x.into files made was.1 is.1)) c.new-keeper.ensures.file
+    (received_kept g.W.Watch.saw_receiver written front keeper looked station files made was is c.args.watch.now c.receive_all-left.new.watch last kept left
     (subst (λ (x : KeptFile). IsOpened front x files) (sym c.new-keeper.ensures.file) opened) c.new-keeper.ensures.none same
-    (subst (λ (s : Receiving). OnOk left (KeepsToEnd keeper c.receive_all-left.new.keeper s station (g.L.Line.transmissions c.args.line.now)
-    (g.L.Line.transmissions c.receive_all-left.new.line) looked (g.S.Store.files c.receive_all-left.new.store))) start c.receive_all-left.ensures.kept)
-    (subst (λ (s : Receiving). IfErr left (KeepsToBreak keeper c.receive_all-left.new.keeper s station (g.L.Line.transmissions c.args.line.now)
-    (g.L.Line.transmissions c.receive_all-left.new.line) looked (g.S.Store.files c.receive_all-left.new.store))) start c.receive_all-left.ensures.broken) (rw c.take.ensures at c.keep_rest-written.ensures.file) (search rules) (search rules))
+    (subst (λ (s : Receiving). IfOk left (λ l. Leaves g.W.Watch.saw_receiver l (s, was, c.args.watch.now) (station, is, c.receive_all-left.new.watch))) start c.receive_all-left.ensures.left)
+    (subst (λ (s : Receiving). OnOk left (GoesOnKeeping keeper last s.jobs station.jobs looked kept)) start c.receive_all-left.ensures.kept)
+    (subst (λ (s : Receiving). IfErr left (BreaksOff s station (keeper, was.1, looked) (last, is.1, kept))) start c.receive_all-left.ensures.broken)
+    (rw c.take.ensures at c.keep_rest-written.ensures.file) (search rules) (search rules))

@@ -2,7 +2,6 @@ use Rattle.std.proofs.Common.{rules, inl, None, Err, ◌≡◌, ◌∙◌}
 use Rattle.rje_station.specs.Sending.{first_sending}
 use Rattle.rje_station.specs.StationFault.{IsNewCause}
 use Rattle.rje_commands.specs.CommandFault.{of_station}
-use Rattle.rje_commands.specs.Commands.{OfFile}
 use Rattle.rje_sockets.specs.Ending.{SendsLeft}
 use Rattle.rje_sockets.proofs.Failing.{left_fails, not_refused, send_fails, station_fails}
 use Rattle.rje_sockets.proofs.Marked.{begun_counts}
@@ -24,9 +23,8 @@ returns g c =
     let copy = marked_after marker.file.items marker.name.now 0 f read (g.S.Store.files c.begin.new.store) c.read_outgoing.ensures.same c.in_ok-begin.ensures.begun in
     let fails = left_fails c.transmit.result marker.file.items jobs out.left c.transmit.ensures.status in
     record {
-      sent = over_connection c.transmit.result (λ t u ending. OfFile c.args.order.jobs.now f (λ file. SendsLeft ending t u c.args.order.jobs.now file f made
-          (g.O.Write.contents c.args.out.now) (g.O.Write.contents c.transmit.new.out))) _ _
-          (sends_outgoing c.transmit.result (None, _) (None, _) c.args.order.jobs.now jobs marker c.in_ok-station.station c.transmit.new.station f (g.S.Store.files c.begin.new.store) made
+      sent = over_connection c.transmit.result (λ t u ending. SendsLeft ending c.args.order.jobs.now (t, f, g.O.Write.contents c.args.out.now) (u, made, g.O.Write.contents c.transmit.new.out)) _ _
+          (sends_outgoing _ c.transmit.result (None, _) (None, _) _ _ c.args.order.jobs.now jobs marker c.in_ok-station.station c.transmit.new.station f (g.S.Store.files c.begin.new.store) made
           (g.O.Write.contents c.args.out.now) (g.O.Write.contents c.transmit.new.out) out copy first c.transmit.ensures.took c.transmit.ensures.ended
           c.transmit.ensures.printed c.transmit.ensures.marked);
       fault = send_fails c.transmit.result (λ n. n ≡ c.args.order.jobs.now) c.args.order.jobs.now f fails (written_names c.transmit.result marker.name.now c.args.order.jobs.now out.named c.transmit.ensures.names);
