@@ -6,16 +6,15 @@ use Rattle.bsc_frame.specs.declared.frame.Frame.{Frame}
 use Rattle.bsc_link.specs.declared.next.Next.{Next}
 use Rattle.bsc_link.specs.declared.sender_place.SenderPlace.{SenderPlace}
 use Rattle.bsc_link.specs.declared.sound.Sound.{Sound}
-use Rattle.bsc_link.specs.Receiver.{receiver_news}
 use Rattle.bsc_link.specs.Sender.{SenderState, is_enough, say_in, sender_hears, sender_sent_end, sender_yielded}
 use Rattle.bsc_history.specs.declared.spoken_turn.SpokenTurn.{SpokenTurn}
 use Rattle.bsc_history.specs.Conversation.{Follows, MayBeSpoken, is_block}
-use Rattle.bsc_history.specs.Cores.{receiver_after, taken}
+use Rattle.bsc_history.specs.Cores.{receiver_after}
 use Rattle.bsc_history.specs.Fate.{MayBeHeardAs}
 use Rattle.bsc_history.specs.Got.{got}
 use Rattle.bsc_history.specs.History.{History, Plan, is_over}
 use Rattle.bsc_history.specs.Known.{has_grant, holds_on, known, tries_on}
-use Rattle.bsc_history.proofs.ForRuns.{Matches, receiver_core_replies, ungranted-from_bid}
+use Rattle.bsc_history.proofs.ForRuns.{Matches, ungranted-from_bid}
 use Rattle.rje_answers.specs.Awaiting.{has_answer, said_in}
 use Rattle.rje_jobs.specs.declared.job.Job.{Job}
 use Rattle.rje_jobs.specs.Blocks.{blocks}
@@ -27,7 +26,7 @@ use Rattle.rje_station.specs.Receiving.{Receiving, MayRefuse, after_receiving, f
 use Rattle.rje_station.specs.Sending.{Sending, after_hearing, after_speaking, first_sending, is_done}
 use Rattle.line_world.specs.Plan.{numbered, plan_of}
 use Rattle.line_world.specs.Turns.{ReceivingTurns, StandsReceiving}
-use Rattle.line_world.proofs.ForPairs.{first_left, refused_block, taken_is}
+use Rattle.line_world.proofs.ForPairs.{first_left, refused_block, replies_by}
 use Rattle.pair_world.proofs.Sends.{SendsBy, again, none_not, sends_first, sends_turn, sends_yielded}
 use Rattle.connection_world.specs.Connection.{IsFrameOf, MayComeAs, OneHearing}
 use Rattle.connection_world.proofs.SideBySide.{Grows, MayHear}
@@ -106,11 +105,7 @@ module _ (counts : CountsBlocks) (receiving : ReceivingTurns) (jobs : List Job) 
     said = going.3.core.says;
     arrived = subst (λ x. MayBeHeardAs x (sound_heard h.what)) (said_sound (say_in s.core.place) s.rest f due) up.sound;
     refusal = block_alone h.refused (sound_heard h.what) (sound_heard h.what) (refused_block h.what _ h.refused may) refl;
-    replied =
-        reply
-        ∙ ap (λ x. (receiver_news r.core x h.wish).reply) (taken_is h.what _ h.refused may)
-        ∙ ap (λ x. (receiver_news x (taken (sound_heard h.what) h.refused) h.wish).reply) p.core
-        ∙ receiver_core_replies plan p.h (sound_heard h.what) h.refused h.wish p.spoken some.1;
+    replied = reply ∙ replies_by plan p.h r h.what (sound_heard h.what) h.refused h.wish p.core may refl p.spoken some.1;
     heard = hears.down;
   }
 

@@ -3,7 +3,7 @@ pub use Rattle.line_world.proofs.Attempts.{none_unfit}
 pub use Rattle.line_world.proofs.Broken.{AsCounted, FittingTurn, Keeps, cuts_kept, damage_kept, fits_within, no_turn}
 pub use Rattle.line_world.proofs.Calm.{ended_owes, stays_calm}
 pub use Rattle.line_world.proofs.Carried.{damage_fault, line_hears, nothing_carried, reply_carried, reply_fault, reply_written, same_refusal, same_sound}
-pub use Rattle.line_world.proofs.Comings.{Told, reply_told, said_told}
+pub use Rattle.line_world.proofs.Comings.{Told, first_left, reply_told, said_told}
 pub use Rattle.line_world.proofs.Noted.{answer_noted, hearing_noted, turn_noted}
 pub use Rattle.line_world.proofs.OneDirection.{ToldDown, breaks_replied, breaks_said, no_reply_told, outstanding_is, replies_by, reply_told_as, rested, sent_is_due, turn_of, unanswered}
 pub use Rattle.line_world.proofs.Planned.{begins}

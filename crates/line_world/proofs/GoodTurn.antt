@@ -1,5 +1,5 @@
 -- What a good turn of a schedule makes of the turn of its conversation.
-use Rattle.std.proofs.Common.{◌≡◌, ℕ, zero, suc, false, List, [], ◌∷◌, ◌++◌, map, reverse, slice_get, Some, refl, ap, sym, ◌∙◌, subst}
+use Rattle.std.proofs.Common.{◌≡◌, ℕ, zero, suc, false, List, [], ◌∷◌, ◌++◌, slice_get, Some, ap, sym, ◌∙◌, subst}
 use Rattle.std.specs.List.{AllByRecursion}
 use Rattle.std.proofs.lemmas.Option.{same_Some}
 use Rattle.bsc_link.specs.declared.sound.Sound.{Sound}
@@ -14,7 +14,7 @@ use Rattle.bsc_history.specs.Conversation.{IsAt}
 use Rattle.line_world.specs.Damage.{Tells}
 use Rattle.bsc_history.specs.Fate.{sound_of, sound_of_reply, after_fate}
 use Rattle.line_world.specs.GoodTurn.{AllArrives, IsGood}
-use Rattle.line_world.specs.Run.{TellsTurn, TellsSchedule, spoken_of, spoken_turns}
+use Rattle.line_world.specs.Run.{TellsTurn, spoken_of, spoken_turns}
 use Rattle.bsc_history.proofs.ForRuns.{IsClean}
 use Rattle.line_world.proofs.Comings.{after_arrives}
 use Rattle.line_world.proofs.SoFar.{one_more}

@@ -1,14 +1,13 @@
 -- The loop of a run: the turns so far are those of a history, and both stations stand where it left them.
-use Rattle.std.proofs.Common.{◌≡◌, ◌⊎◌, inl, inr, ℕ, zero, suc, ◌+◌, ◌<◌, ◌==◌, true, false, ◌&&◌, List, [], ◌∷◌, ◌++◌, length, map, reverse, take, drop, slice_get, Some, if◌then◌else◌, refl, ap, sym, ◌∙◌, subst, arith, rules}
+use Rattle.std.proofs.Common.{◌≡◌, ◌⊎◌, inl, inr, ℕ, suc, ◌+◌, ◌<◌, ◌==◌, true, false, ◌&&◌, List, [], ◌∷◌, ◌++◌, length, drop, slice_get, Some, if◌then◌else◌, refl, ap, sym, ◌∙◌, subst, arith, rules}
 use Rattle.std.proofs.lemmas.Bool.{true≢false}
 use Rattle.bsc_link.specs.declared.outcome.Outcome.{Outcome}
 use Rattle.bsc_link.specs.declared.sound.Sound.{Sound}
 use Rattle.bsc_link.specs.Sender.{say_in, outcome_in}
 use Rattle.rje_jobs.specs.declared.job.Job.{Job}
 use Rattle.rje_jobs.specs.Blocks.{blocks}
-use Rattle.rje_station.specs.Hearing.{sound_heard}
 use Rattle.rje_station.specs.Receiving.{Receiving, first_receiving}
-use Rattle.rje_station.specs.Sending.{Sending, first_sending, outcome_of, IsWrittenOf}
+use Rattle.rje_station.specs.Sending.{Sending, first_sending, outcome_of}
 use Rattle.line_world.specs.declared.fate.Fate.{Fate}
 use Rattle.bsc_history.specs.declared.sound_turn.SoundTurn.{SoundTurn}
 use Rattle.line_world.specs.declared.spoken.Spoken.{Spoken}
@@ -23,10 +22,8 @@ use Rattle.line_world.specs.Damage.{HasBadCut, IsNoDamage}
 use Rattle.line_world.specs.Drive.{IsDrive}
 use Rattle.line_world.specs.Inside.Driving.{TakesTurn, BreaksIn, IsTurnFault}
 use Rattle.line_world.specs.Faults.{fault_at}
-use Rattle.bsc_history.specs.Fate.{sound_of, after_fate}
 use Rattle.line_world.specs.Plan.{plan_of}
 use Rattle.bsc_history.specs.ReplyRule.{replying}
-use Rattle.bsc_history.specs.SayingRule.{saying}
 use Rattle.line_world.specs.Run.{TellsTurn, TellsSchedule, BreaksTurn, BreaksFirst, IsDriveFault, as_it_is, spoken_of, spoken_turns}
 use Rattle.line_world.proofs.Comings.{said_told}
 use Rattle.line_world.proofs.OneDirection.{breaks_replied, breaks_said, turn_of}

@@ -1,43 +1,32 @@
 -- One turn of two stations is one turn of the conversation.
-use Rattle.std.proofs.Common.{◌≡◌, ◌≢◌, inl, inr, ℕ, ◌<◌, Bool, false, ◌&&◌, List, [], ◌∷◌, ◌++◌, length, take, slice_get, Option, Some, None, refl, ap, sym, ◌∙◌, subst, arith, length-append}
-use Rattle.bsc_codes.specs.declared.block.Block.{Block}
-use Rattle.bsc_frame.specs.declared.frame.Frame.TheVariants as frame
-use Rattle.bsc_frame.specs.declared.heard.Heard.TheVariants as heard
+use Rattle.std.proofs.Common.{◌≡◌, inl, inr, ℕ, ◌<◌, Bool, false, ◌&&◌, List, [], ◌∷◌, ◌++◌, length, take, slice_get, Option, Some, None, refl, ap, sym, ◌∙◌, subst, arith, length-append}
 use Rattle.bsc_frame.specs.Laws.{OneHearing, EveryHearing, WrittenIsTransmission}
 use Rattle.bsc_link.specs.declared.reply.Reply.{Reply}
-use Rattle.bsc_link.specs.declared.say.Say.{Say}
 use Rattle.bsc_link.specs.declared.sound.Sound.{Sound}
-use Rattle.bsc_link.specs.declared.wish.Wish.{Wish}
 use Rattle.bsc_link.specs.Sender.{say_in, counts_block, line_for}
-use Rattle.bsc_link.specs.Receiver.{receiver_news}
 use Rattle.rje_jobs.specs.declared.job.Job.{Job}
 use Rattle.rje_jobs.specs.Blocks.{blocks}
-use Rattle.rje_station.specs.Hearing.{sound_heard}
 use Rattle.rje_station.specs.declared.event.Event.TheVariants as event
 use Rattle.rje_station.specs.Laws.{TraceGoesOn}
 use Rattle.rje_station.specs.Receiving.{Receiving, received_events, after_replying, trace_after_reply}
-use Rattle.rje_station.specs.Sending.{Sending, IsWrittenOf, after_speaking}
+use Rattle.rje_station.specs.Sending.{Sending, IsWrittenOf}
 use Rattle.rje_station.specs.Trace.{IsTraceOf}
-use Rattle.line_world.specs.declared.fate.Fate.{Fate}
 use Rattle.bsc_history.specs.declared.sound_turn.SoundTurn.{SoundTurn}
 use Rattle.line_world.specs.declared.spoken.Spoken.{Spoken}
-use Rattle.bsc_history.specs.declared.spoken_turn.SpokenTurn.{SpokenTurn}
 use Rattle.line_world.specs.declared.turn.Turn.{Turn}
 use Rattle.bsc_history.specs.History.{Plan, History, is_over}
 use Rattle.bsc_history.specs.Known.{known, gives_up_now}
 use Rattle.bsc_history.specs.Conversation.{IsAt, IsSpokenOver, MayBeSpoken, is_block}
-use Rattle.bsc_history.specs.Cores.{taken}
 use Rattle.bsc_history.specs.Got.{brings_block}
-use Rattle.line_world.specs.Inside.Driving.{GoesUp, GoesDown, GoesDownAfter, IsReplyCarried, TakesTurn}
-use Rattle.line_world.specs.Carrying.{IsCarried}
-use Rattle.bsc_history.specs.Fate.{sound_of, sound_of_reply, after_fate, MayBeHeardAs}
+use Rattle.line_world.specs.Inside.Driving.{GoesUp, TakesTurn}
+use Rattle.bsc_history.specs.Fate.{sound_of, after_fate}
 use Rattle.line_world.specs.Plan.{plan_of}
 use Rattle.bsc_history.specs.ReplyRule.{replying}
 use Rattle.bsc_history.specs.SayingRule.{saying}
-use Rattle.line_world.specs.Run.{TellsTurn, TellsSchedule, IsDue, FitsReply, AllFit}
+use Rattle.line_world.specs.Run.{TellsTurn, TellsSchedule, IsDue, AllFit}
 use Rattle.line_world.specs.Traces.{sender_events, receiver_events}
 use Rattle.line_world.specs.Turns.{StandsSending, StandsReceiving, SendingTurns, ReceivingTurns, after_turn}
-use Rattle.bsc_history.proofs.ForRuns.{conversations_may_be_spoken, comes, no-answer, receiver_core_replies, conversations_are_spoken, spoken-more, sender_core_says, sender_core_counts}
+use Rattle.bsc_history.proofs.ForRuns.{conversations_may_be_spoken, conversations_are_spoken, spoken-more, sender_core_says, sender_core_counts}
 use Rattle.line_world.proofs.Comings.{Told, said_told}
 use Rattle.line_world.proofs.OneDirection.{ToldDown, no_reply_told, outstanding_is, replies_by, reply_told_as, rested, sent_is_due, turn_of, unanswered}
 use Rattle.line_world.proofs.Planned.{begins}

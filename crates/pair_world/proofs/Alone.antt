@@ -1,5 +1,5 @@
 -- One station speaks alone: one turn of its direction.
-use Rattle.std.proofs.Common.{◌≡◌, ◌≢◌, inl, inr, ℕ, ◌<◌, Bool, true, false, not, ◌&&◌, List, ◌∷◌, length, drop, slice_get, Option, Some, None, if◌then◌else◌, refl, ap, sym, ◌∙◌, subst}
+use Rattle.std.proofs.Common.{◌≡◌, ◌≢◌, inl, inr, ℕ, ◌<◌, Bool, true, false, not, ◌&&◌, List, ◌∷◌, length, drop, slice_get, Some, None, if◌then◌else◌, refl, ap, sym, ◌∙◌}
 use Rattle.std.proofs.lemmas.Bool.{true≢false, cases_Bool}
 use Rattle.bsc_codes.specs.declared.block.Block.{Block}
 use Rattle.bsc_frame.specs.declared.frame.Frame.TheVariants as frame
@@ -7,7 +7,6 @@ use Rattle.bsc_frame.specs.declared.heard.Heard.{Heard}
 use Rattle.bsc_frame.specs.declared.heard.Heard.TheVariants as heard
 use Rattle.bsc_frame.specs.Laws.{OneHearing, EveryHearing, WrittenIsTransmission}
 use Rattle.bsc_link.specs.declared.receiver_place.ReceiverPlace.{ReceiverPlace}
-use Rattle.bsc_link.specs.declared.reply.Reply.{Reply}
 use Rattle.bsc_link.specs.declared.say.Say.{Say}
 use Rattle.bsc_link.specs.declared.sound.Sound.{Sound}
 use Rattle.bsc_link.specs.declared.wish.Wish.{Wish}
@@ -16,7 +15,6 @@ use Rattle.bsc_link.specs.Receiver.{ReceiverState, receiver_hears, receiver_news
 use Rattle.bsc_link.specs.Sender.{is_enough}
 use Rattle.rje_jobs.specs.declared.job.Job.{Job}
 use Rattle.rje_jobs.specs.Blocks.{blocks}
-use Rattle.rje_jobs.specs.Joined.{joined}
 use Rattle.rje_station.specs.Hearing.{sound_heard}
 use Rattle.rje_station.specs.JoinedJobs.{begun_in}
 use Rattle.rje_station.specs.Laws.{CountsBlocks, TraceGoesOn}
@@ -29,19 +27,15 @@ use Rattle.bsc_history.specs.declared.spoken_turn.SpokenTurn.{SpokenTurn}
 use Rattle.line_world.specs.declared.turn.Turn.{Turn}
 use Rattle.bsc_history.specs.History.{Plan, History, is_over}
 use Rattle.bsc_history.specs.Known.{known}
-use Rattle.bsc_history.specs.Got.{got}
 use Rattle.bsc_history.specs.Conversation.{Follows, IsAt, MayBeSpoken, is_block}
-use Rattle.bsc_history.specs.Cores.{taken}
-use Rattle.line_world.specs.Inside.Driving.{IsReplyCarried}
-use Rattle.line_world.specs.Carrying.{IsCarried}
 use Rattle.bsc_history.specs.Fate.{sound_of, sound_of_reply, after_fate, MayBeHeardAs}
-use Rattle.line_world.specs.Plan.{plan_of, numbered}
+use Rattle.line_world.specs.Plan.{plan_of}
 use Rattle.bsc_history.specs.ReplyRule.{replying}
-use Rattle.line_world.specs.Run.{TellsTurn, FitsReply}
+use Rattle.line_world.specs.Run.{TellsTurn}
 use Rattle.bsc_history.specs.SayingRule.{saying}
 use Rattle.line_world.specs.Turns.{StandsReceiving, ReceivingTurns, after_turn}
 use Rattle.line_world.proofs.ForPairs.{Told, ToldDown, after_end, after_more, cases_end, no_reply_told, outstanding_is, refused_block, replies_by, reply_told_as, rested, said_told, sent_is_due, turn_ends, turn_hears, turn_of, unanswered}
-use Rattle.bsc_history.proofs.ForRuns.{counted-brought, comes, no-answer, receiver_core_replies, is_block-sound}
+use Rattle.bsc_history.proofs.ForRuns.{counted-brought, is_block-sound}
 use Rattle.pair_world.specs.Contending.{own_turn, other_turn, other_heard}
 use Rattle.bsc_history.specs.Pair.{without_enq, as_counted}
 use Rattle.pair_world.specs.Inside.PairDriving.{GoesAcross, SpeaksAlone, after_end_of}

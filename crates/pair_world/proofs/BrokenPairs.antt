@@ -1,5 +1,5 @@
 -- Where a looked-at fate breaks a rule there is no conversation of two stations that both have jobs.
-use Rattle.std.proofs.Common.{Bool, ◌≡◌, inl, inr, ℕ, false, List, ◌∷◌, length, refl, sym, ◌∙◌, subst}
+use Rattle.std.proofs.Common.{Bool, ◌≡◌, inl, inr, ℕ, false, List, length, refl, sym, ◌∙◌, subst}
 use Rattle.std.proofs.lemmas.Bool.{cases_order}
 use Rattle.std.proofs.lemmas.Option.{same_Some}
 use Rattle.bsc_codes.specs.declared.block.Block.{Block}
@@ -8,7 +8,7 @@ use Rattle.bsc_link.specs.declared.sound.Sound.{Sound}
 use Rattle.bsc_history.specs.declared.spoken_turn.SpokenTurn.{SpokenTurn}
 use Rattle.bsc_history.specs.History.{Plan}
 use Rattle.bsc_history.specs.Known.{gives_up_now}
-use Rattle.bsc_history.specs.Pair.{SpokenPair, PairHistory, up, down, is_bid_out, sound_counted, as_counted}
+use Rattle.bsc_history.specs.Pair.{PairHistory, up, down, is_bid_out, sound_counted, as_counted}
 use Rattle.bsc_history.specs.PairCount.{down_gives_up}
 use Rattle.bsc_history.specs.PairSchedule.{PairPlace, IsPairAt, IsPairSpokenOver, IsPairConversationOver}
 use Rattle.line_world.specs.declared.fate.Fate.{Fate}

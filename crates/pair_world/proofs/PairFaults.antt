@@ -1,12 +1,10 @@
 -- A fate that breaks a rule, in a turn of a run of two stations that both have jobs.
-use Rattle.std.proofs.Common.{◌≡◌, inl, inr, ℕ, suc, ◌+◌, Bool, true, false, not, ◌&&◌, List, ◌∷◌, ◌++◌, length, take, drop, slice_get, Some, None, refl, ap, sym, ◌∙◌, subst}
+use Rattle.std.proofs.Common.{◌≡◌, inl, inr, ℕ, suc, ◌+◌, Bool, true, false, not, List, ◌∷◌, ◌++◌, length, drop, slice_get, Some, None, refl, sym, ◌∙◌, subst}
 use Rattle.bsc_link.specs.declared.sound.Sound.{Sound}
 use Rattle.bsc_link.specs.Contender.{takes_enq}
 use Rattle.bsc_link.specs.Sender.{is_enough}
 use Rattle.rje_jobs.specs.declared.job.Job.{Job}
 use Rattle.rje_jobs.specs.Blocks.{blocks}
-use Rattle.rje_station.specs.Hearing.{sound_heard}
-use Rattle.rje_station.specs.Sending.{IsWrittenOf}
 use Rattle.rje_station.specs.Station.{Contending, due_at}
 use Rattle.line_world.specs.declared.fate.Fate.{Fate}
 use Rattle.bsc_history.specs.declared.sound_turn.SoundTurn.{SoundTurn}
@@ -17,10 +15,9 @@ use Rattle.line_world.specs.declared.turn_fault.TurnFault.TheVariants as Fault
 use Rattle.bsc_history.specs.History.{History, is_over}
 use Rattle.bsc_history.specs.Known.{tries, holds}
 use Rattle.bsc_history.specs.Outcome.{gave_up_before}
-use Rattle.bsc_history.specs.Conversation.{MayBeSpoken, is_block}
+use Rattle.bsc_history.specs.Conversation.{MayBeSpoken}
 use Rattle.line_world.specs.Damage.{HasBadCut, IsNoDamage}
 use Rattle.line_world.specs.Faults.{fault_at}
-use Rattle.bsc_history.specs.Fate.{sound_of, after_fate}
 use Rattle.line_world.specs.Plan.{plan_of}
 use Rattle.bsc_history.specs.ReplyRule.{replying}
 use Rattle.line_world.specs.Run.{TellsTurn, BreaksTurn}

@@ -1,18 +1,16 @@
 -- The loop of a run of two stations that both have jobs: the turns so far are those of a history, and both stations stand where it left them.
-use Rattle.std.proofs.Common.{Bool, ◌≡◌, ◌⊎◌, inl, inr, ℕ, ◌+◌, ◌<◌, ◌==◌, false, List, [], ◌∷◌, ◌++◌, length, map, reverse, take, drop, slice_get, Option, Some, None, refl, ap, sym, ◌∙◌, subst, arith}
+use Rattle.std.proofs.Common.{Bool, ◌≡◌, ◌⊎◌, inl, inr, ℕ, ◌+◌, ◌<◌, ◌==◌, false, List, [], ◌∷◌, ◌++◌, length, drop, slice_get, Option, Some, None, refl, ap, sym, ◌∙◌, subst}
 use Rattle.bsc_link.specs.declared.outcome.Outcome.{Outcome}
 use Rattle.bsc_link.specs.declared.rank.Rank.{Rank}
 use Rattle.bsc_link.specs.Sender.{is_enough}
 use Rattle.rje_jobs.specs.declared.job.Job.{Job}
 use Rattle.rje_jobs.specs.Blocks.{blocks}
-use Rattle.bsc_codes.specs.declared.block.Block.{Block}
-use Rattle.rje_station.specs.Receiving.{Receiving}
 use Rattle.rje_station.specs.Sending.{Sending, outcome_of}
 use Rattle.rje_station.specs.Station.{Contending, first_contending}
 use Rattle.line_world.specs.declared.spoken.Spoken.{Spoken}
 use Rattle.bsc_history.specs.History.{Plan, History}
-use Rattle.bsc_history.specs.Known.{tries, holds, gives_up_now}
-use Rattle.bsc_history.specs.Outcome.{gave_up_before, outcome, outcome_by}
+use Rattle.bsc_history.specs.Known.{tries, holds}
+use Rattle.bsc_history.specs.Outcome.{gave_up_before, outcome_by}
 use Rattle.line_world.specs.Plan.{plan_of}
 use Rattle.pair_world.specs.declared.pair_spoken.PairSpoken.{PairSpoken}
 use Rattle.pair_world.specs.declared.pair_turn.PairTurn.{PairTurn}
@@ -22,7 +20,7 @@ use Rattle.bsc_history.specs.PairConversation.{down_outcome}
 use Rattle.pair_world.specs.Inside.PairDriving.{TakesPair}
 use Rattle.bsc_history.specs.PairSchedule.{NothingIsDue}
 use Rattle.pair_world.specs.PairDrive.{SendsAfter, StandPair, IsPairDrive}
-use Rattle.pair_world.specs.PairRun.{TellsPair, TellsPairs, pair_of, spoken_pairs}
+use Rattle.pair_world.specs.PairRun.{TellsPair, TellsPairs, pair_of}
 use Rattle.pair_world.proofs.Alone.{Laws}
 use Rattle.pair_world.proofs.Contends.{contends_first}
 use Rattle.pair_world.proofs.PairRuns.{StandsPairRun, cases_jobs, primary_more, secondary_more, both_more, nothing_due}

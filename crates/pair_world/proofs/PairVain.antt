@@ -1,5 +1,5 @@
 -- Both speak at once: one turn of each direction, of which nothing arrives.
-use Rattle.std.proofs.Common.{◌≡◌, ◌≢◌, inl, inr, Bool, false, List, [], ◌∷◌, None, refl, ap, sym, ◌∙◌, subst}
+use Rattle.std.proofs.Common.{◌≡◌, ◌≢◌, inl, inr, Bool, false, List, ◌∷◌, None, refl, ap, sym, ◌∙◌}
 use Rattle.std.proofs.lemmas.Bool.{true≢false}
 use Rattle.std.proofs.lemmas.Option.{same_Some}
 use Rattle.bsc_codes.specs.declared.block.Block.{Block}
@@ -7,8 +7,7 @@ use Rattle.bsc_link.specs.declared.say.Say.{Say}
 use Rattle.bsc_link.specs.declared.sound.Sound.{Sound}
 use Rattle.rje_jobs.specs.declared.job.Job.{Job}
 use Rattle.rje_jobs.specs.Blocks.{blocks}
-use Rattle.rje_station.specs.Sending.{after_speaking, after_hearing}
-use Rattle.rje_station.specs.Station.{Contending, due_at, after_own_speaking, after_answer, contender_said, contender_answered}
+use Rattle.rje_station.specs.Station.{Contending, due_at}
 use Rattle.line_world.specs.declared.fate.Fate.TheVariants as fates
 use Rattle.line_world.specs.declared.spoken.Spoken.{Spoken}
 use Rattle.bsc_history.specs.declared.spoken_turn.SpokenTurn.{SpokenTurn}
@@ -17,18 +16,15 @@ use Rattle.bsc_history.specs.History.{History, is_over}
 use Rattle.bsc_history.specs.Got.{got}
 use Rattle.bsc_history.specs.Conversation.{Follows}
 use Rattle.bsc_history.specs.Cores.{receiver_after}
-use Rattle.line_world.specs.Damage.{AreHeardAs}
 use Rattle.line_world.specs.Plan.{plan_of}
 use Rattle.bsc_history.specs.SayingRule.{saying}
-use Rattle.line_world.specs.Turns.{after_turn}
 use Rattle.line_world.proofs.ForPairs.{Told, after_end, after_more, reply_told, turn_of, cases_end}
-use Rattle.pair_world.specs.Contending.{own_turn, other_turn}
+use Rattle.pair_world.specs.Contending.{other_turn}
 use Rattle.bsc_history.specs.Pair.{as_counted}
 use Rattle.pair_world.specs.Inside.PairDriving.{SpeaksInVain, after_end_of}
 use Rattle.pair_world.specs.PairDrive.{ReceivesAfter}
 use Rattle.pair_world.proofs.Alone.{Laws, HasSpoken, spoken_last, spoken_on, quiet_place, end_more, end_jobs}
 use Rattle.bsc_history.proofs.ForRuns.{vain-follows}
-use Rattle.rje_station.proofs.Due.{spoken_of_due, answered_of_due, due_kept}
 
 module _ (laws : Laws) (jobs : List Job) (own : History) (g bid_out : Bool) (s s' : Contending) (turn : Turn) (t : Spoken) (goes : is_over own ≡ false) (due_is : due_at s ≡ saying (plan_of (blocks jobs)) g own)
     (something : due_at s ≢ Say.Nothing) (vain : SpeaksInVain turn.pause s s' t) where

@@ -1,16 +1,16 @@
 -- Where a sending station stands after a history, whatever counts for giving up.
-use Rattle.std.proofs.Common.{◌≡◌, ◌≢◌, inl, inr, ℕ, ◌+◌, ◌<◌, ◌==◌, Bool, true, false, ◌||◌, List, [], ◌∷◌, length, if◌then◌else◌, refl, ap, sym, ◌∙◌, subst, arith, rules}
+use Rattle.std.proofs.Common.{◌≡◌, ◌≢◌, inl, inr, ℕ, ◌<◌, ◌==◌, Bool, true, false, ◌||◌, List, [], ◌∷◌, length, if◌then◌else◌, refl, ap, sym, ◌∙◌, subst, arith, rules}
 use Rattle.std.proofs.lemmas.Bool.{cases_Bool}
 use Rattle.bsc_link.specs.declared.say.Say.{Say}
 use Rattle.bsc_link.specs.declared.sender_place.SenderPlace.{SenderPlace}
-use Rattle.bsc_link.specs.Sender.{SenderState, say_in, sender_hears, sender_sent_end, sender_yielded, counts_block, line_for, is_enough}
+use Rattle.bsc_link.specs.Sender.{SenderState, say_in, sender_sent_end, sender_yielded, is_enough}
 use Rattle.rje_jobs.specs.declared.job.Job.{Job}
 use Rattle.rje_jobs.specs.Blocks.{blocks}
 use Rattle.rje_station.specs.Laws.{CountsBlocks, HasCounted}
-use Rattle.rje_station.specs.Sending.{Sending, first_sending, next_for, next_in, is_done, after_speaking, after_hearing}
+use Rattle.rje_station.specs.Sending.{Sending, first_sending, is_done, after_speaking, after_hearing}
 use Rattle.bsc_history.specs.declared.spoken_turn.SpokenTurn.{SpokenTurn}
-use Rattle.bsc_history.specs.History.{Plan, History, what_follows, is_over}
-use Rattle.bsc_history.specs.Known.{known, is_counting, has_grant, tries_on, holds_on}
+use Rattle.bsc_history.specs.History.{Plan, History, is_over}
+use Rattle.bsc_history.specs.Known.{known, has_grant, tries_on, holds_on}
 use Rattle.bsc_history.specs.SayingRule.{saying}
 use Rattle.bsc_history.specs.Conversation.{Follows}
 use Rattle.bsc_history.specs.Cores.{hears_after}

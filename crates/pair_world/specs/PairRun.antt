@@ -1,5 +1,5 @@
 -- The run of two stations that both have jobs over a schedule of losses and damage. Own profile.
-use Rattle.std.specs.Prelude.{◌≡◌, ◌⊎◌, ℕ, ◌+◌, false, List, [], ◌∷◌, length, map, reverse, take, slice_get, Option, Some, None}
+use Rattle.std.specs.Prelude.{◌≡◌, ◌⊎◌, ℕ, ◌+◌, false, List, length, map, reverse, take, slice_get, Option, Some, None}
 use Rattle.std.specs.List.{AllByRecursion}
 use Rattle.bsc_codes.specs.declared.block.Block.{Block}
 use Rattle.bsc_link.specs.declared.outcome.Outcome.{Outcome}

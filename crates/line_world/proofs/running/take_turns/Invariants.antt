@@ -1,5 +1,4 @@
 -- The turns so far are those of a history, and both stations stand where it left them.
-use Rattle.std.proofs.Common.{◌≡◌}
 use Rattle.line_world.proofs.RunLoop.{Running}
 use Rattle.line_world.proofs.running.take_turns.Given as goal
 

@@ -1,5 +1,4 @@
 -- The turns so far are those of a history, and both stations stand where it left them.
-use Rattle.std.proofs.Common.{◌≡◌}
 use Rattle.pair_world.proofs.PairLoop.{PairRunning}
 use Rattle.pair_world.proofs.pairing.take_turns.Given as goal
 

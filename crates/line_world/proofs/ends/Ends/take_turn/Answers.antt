@@ -1,5 +1,5 @@
 -- Where the reply isn't carried, the turn comes to nothing. The lines stay those of which no call fails.
-use Rattle.std.proofs.Common.{rules, ◌≡◌, false, Err, ◌∙◌, ap}
+use Rattle.std.proofs.Common.{rules, ◌≡◌, false, Err}
 use Rattle.bsc_link.specs.Sender.{say_in}
 use Rattle.rje_station.specs.Sending.{is_end}
 use Rattle.line_world.proofs.Calm.{stays_calm, not_end}
