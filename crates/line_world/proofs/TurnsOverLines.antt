@@ -58,11 +58,3 @@ arrival_after Say.Nothing r what t e = rw e refl
 
 pub arrival_is : (r r' : Receiving) (t : SpokenTurn) → ReceiverTakes r r' t → r'.arrival ≡ Some (record { sound = t.arrived; refused = t.refused })
 arrival_is r r' t p = ap (λ x. x.arrival) p.state ∙ arrival_after t.said r p.what t refl ∙ ap (λ x. Some (record { sound = x; refused = t.refused })) (sym p.arrived)
-
--- ---- Both.
-
-abbrev pub BothSoFar : Sending → Receiving → ℕ → Sending → Receiving → Type 0
-BothSoFar s r n s' r' = (h : History) × SenderTook s h s' × ReceiverTook r h r' × (length h ≡ n)
-
-pub both_on : (s near s' : Sending) (r far r' : Receiving) (n : ℕ) (t : SpokenTurn) → BothSoFar s r n near far → SenderTakes near s' t → ReceiverTakes far r' t → BothSoFar s r (n + 1) s' r'
-both_on s near s' r far r' n t (h, sent, received, long) takes hears = (t ∷ h, (near, sent, takes), (far, received, hears), omega (arith, long))

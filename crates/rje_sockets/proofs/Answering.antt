@@ -12,10 +12,11 @@ use Rattle.rje_station.specs.Receiving.{Receiving, after_refusal, with_reply}
 use Rattle.line_world.specs.AnyLines.{Turns}
 use Rattle.rje_commands.specs.declared.command_fault.CommandFault.{CommandFault}
 use Rattle.rje_sockets.specs.declared.broken_off.BrokenOff.{BrokenOff}
-use Rattle.rje_sockets.specs.declared.exchange.Left.{Left}
+use Rattle.rje_sockets.specs.declared.left.Left.{Left}
 use Rattle.rje_sockets.specs.declared.keeper.Keeper.{Keeper}
-use Rattle.rje_sockets.specs.Answering.{Answered, BreaksOff, BreaksOffNow, KeptSoFar, answers}
-use Rattle.rje_sockets.specs.Keeping.{GoesOnKeeping}
+use Rattle.rje_sockets.specs.Answering.{Answered, answers}
+use Rattle.rje_sockets.specs.Inside.Keeping.{GoesOnKeeping}
+use Rattle.rje_sockets.specs.Inside.BreakingOff.{BreaksOff, BreaksOffNow, KeptSoFar}
 use Rattle.rje_sockets.specs.OverLine.{LineTells, ReceiverTurn}
 use Rattle.rje_sockets.specs.Patience.{Leaves}
 use Rattle.rje_sockets.specs.Watching.{SawReceiver}

@@ -22,14 +22,14 @@ use Rattle.rje_sockets.specs.declared.broken_off.BrokenOff.{BrokenOff}
 use Rattle.rje_files.specs.declared.entry.Entry.{Entry}
 use Rattle.rje_sockets.specs.declared.keeper.Keeper.{Keeper}
 use Rattle.rje_sockets.specs.declared.kept_file.KeptFile.{KeptFile}
-use Rattle.rje_sockets.specs.InFront.{HasFront, IsOpened}
 use Rattle.rje_sockets.proofs.InFront.{left_alone, opened_as, opened_untold}
 use Rattle.rje_sockets.specs.declared.marker.Marker.{Marker}
-use Rattle.rje_sockets.specs.BothFiles.{BreaksBoth, GoesOnHolding, HeldSoFar, HoldsBoth, Progress, kept_of, progress_of}
 use Rattle.rje_sockets.specs.BothWays.{FailsInOthers, FailsInOwn, StationTurn, TakesOthers, TakesOwn, Took, after_answering_other, after_own_turn}
 use Rattle.rje_sockets.specs.Ending.{MarksSent}
-use Rattle.rje_sockets.specs.Keeping.{AreKept, GoesOnKeeping, KeepsJobs, kept_after}
-use Rattle.rje_sockets.specs.Marking.{GoesOnMarking, Marks}
+use Rattle.rje_sockets.specs.Inside.Marking.{GoesOnMarking, Marks}
+use Rattle.rje_sockets.specs.Inside.Keeping.{AreKept, GoesOnKeeping, KeepsJobs, kept_after}
+use Rattle.rje_sockets.specs.Inside.BothFiles.{BreaksBoth, GoesOnHolding, HeldSoFar, HoldsBoth, Progress, kept_of, progress_of}
+use Rattle.rje_sockets.specs.Inside.Opening.{HasFront, IsOpened}
 use Rattle.rje_sockets.proofs.BothWays.{others_fail}
 use Rattle.rje_sockets.proofs.Keeping.{Comes, goes_on, heard_comes, nothing}
 use Rattle.rje_sockets.proofs.Marked.{stays, written_over}

@@ -18,7 +18,7 @@ use Rattle.rje_station.proofs.PassedOver.{passed_enq, passed_unrefused}
 use Rattle.rje_station.specs.declared.line_fault.LineFault.TheVariants.{Closed}
 use Rattle.rje_station.specs.declared.station_fault.StationFault.TheVariants as fault
 use Rattle.rje_sockets.specs.declared.broken_off.BrokenOff.{BrokenOff}
-use Rattle.rje_sockets.specs.declared.exchange.Left.{Left}
+use Rattle.rje_sockets.specs.declared.left.Left.{Left}
 use Rattle.rje_sockets.specs.BothWays.{AreOver, ExchangesTo, Fails, FailsInOthers, NextTurn, Others, Own, StationTurn, TakesOthers, TakesOwn, TakesTurnsTo, Took, TookOver, TurnOver, Waits, after_answering_other, has_listened, quiet_in_a_row}
 use Rattle.rje_sockets.specs.OverLine.{HeardAndReplied, LineTells, SpokeAndHeard}
 use Rattle.rje_sockets.specs.Patience.{was_quiet}

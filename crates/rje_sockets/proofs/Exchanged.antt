@@ -19,21 +19,22 @@ use Rattle.rje_commands.specs.CommandFault.{IsFailing, status_of}
 use Rattle.rje_commands.specs.Commands.{OfFile}
 use Rattle.rje_commands.proofs.Inputs.{of_file}
 use Rattle.rje_sockets.specs.declared.broken_off.BrokenOff.{BrokenOff}
-use Rattle.rje_sockets.specs.declared.exchange.Left.{Left}
+use Rattle.rje_sockets.specs.declared.left.Left.{Left}
 use Rattle.rje_orders.specs.declared.order.Destination.{Destination}
 use Rattle.rje_sockets.specs.declared.keeper.Keeper.{Keeper}
 use Rattle.rje_sockets.specs.declared.kept_file.KeptFile.{KeptFile}
 use Rattle.rje_sockets.specs.declared.marker.Marker.{Marker}
 use Rattle.rje_sockets.specs.declared.socket_commands.ending.Ending.{Ending}
-use Rattle.rje_sockets.specs.BothFiles.{GoesOnHolding, HeldSoFar, HoldsBoth, Progress, progress_of}
 use Rattle.rje_sockets.specs.BothWays.{ExchangesTo}
-use Rattle.rje_sockets.specs.BrokenOff.{of_broken_off}
 use Rattle.rje_sockets.specs.Ending.{MakesJobFile, MarksSent}
-use Rattle.rje_sockets.specs.Exchanging.{Exchanges, ExchangesLeft, MakesBoth, ending_of_both, exchanged_text, is_idle}
-use Rattle.rje_sockets.specs.InFront.{IsDestinationFault, IsOpened, LooksInto}
+use Rattle.rje_sockets.specs.Exchanging.{ExchangesLeft, MakesBoth, ending_of_both, exchanged_text, is_idle}
+use Rattle.rje_sockets.specs.InFront.{LooksInto}
 use Rattle.rje_sockets.specs.Inside.Sending.{IsExchangeFault, IsOutgoing, IsSendFault}
-use Rattle.rje_sockets.specs.Keeping.{IsOfFile, KeepsJobs}
 use Rattle.rje_sockets.specs.LeavingBoth.{LeavesBoth, LeavesExchange}
+use Rattle.rje_sockets.specs.Inside.Keeping.{IsOfFile, KeepsJobs}
+use Rattle.rje_sockets.specs.Inside.Opening.{IsDestinationFault, IsOpened}
+use Rattle.rje_sockets.specs.Inside.BreakingOff.{of_broken_off}
+use Rattle.rje_sockets.specs.Inside.BothFiles.{GoesOnHolding, HeldSoFar, HoldsBoth, Progress, progress_of, Exchanges}
 use Rattle.rje_sockets.specs.OverLine.{LineTells}
 use Rattle.rje_sockets.proofs.BothFiles.{holds_written}
 use Rattle.rje_sockets.proofs.Growing.{none_kept}

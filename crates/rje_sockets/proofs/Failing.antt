@@ -27,7 +27,8 @@ use Rattle.rje_orders.specs.declared.order.ExchangeOrder.{ExchangeOrder}
 use Rattle.rje_orders.specs.declared.order.SocketOrder.{SocketOrder}
 use Rattle.rje_orders.specs.declared.order.Existing.TheVariants.{Replace}
 use Rattle.rje_sockets.specs.Ending.{IsRefusedFile, IsUnsentFault}
-use Rattle.rje_sockets.specs.InFront.{IsDestinationFault, IsRefusedDestination, IsStandingFault, LooksInto}
+use Rattle.rje_sockets.specs.InFront.{IsRefusedDestination, IsStandingFault, LooksInto}
+use Rattle.rje_sockets.specs.Inside.Opening.{IsDestinationFault}
 use Rattle.rje_sockets.specs.Inside.Sending.{IsExchangeFault, IsSendFault}
 use Rattle.rje_sockets.specs.NamedFiles.{NamesOne, NamesWritten}
 use Rattle.rje_sockets.specs.SocketCommand.{IsSocketFault}

@@ -14,8 +14,9 @@ use Rattle.rje_sockets.specs.Ending.{MakesJobFile}
 use Rattle.rje_orders.specs.declared.order.Destination.{Destination}
 use Rattle.rje_sockets.specs.declared.keeper.Keeper.{Keeper}
 use Rattle.rje_sockets.specs.declared.kept_file.KeptFile.{KeptFile}
-use Rattle.rje_sockets.specs.InFront.{IsOpened, StandInFront}
-use Rattle.rje_sockets.specs.Keeping.{AreKept, GoesOnKeeping, KeepsJobs}
+use Rattle.rje_sockets.specs.InFront.{StandInFront}
+use Rattle.rje_sockets.specs.Inside.Keeping.{AreKept, GoesOnKeeping, KeepsJobs}
+use Rattle.rje_sockets.specs.Inside.Opening.{IsOpened}
 use Rattle.rje_stores.specs.Store.{FileMap, Discloses, Extends, IsSame, Sets}
 
 -- a file has its front

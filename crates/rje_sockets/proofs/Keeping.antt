@@ -17,10 +17,11 @@ use Rattle.rje_station.specs.Receiving.{Receiving, after_receiving, jobs_after, 
 use Rattle.rje_files.specs.declared.entry.Entry.{Entry}
 use Rattle.rje_sockets.specs.declared.keeper.Keeper.{Keeper}
 use Rattle.rje_sockets.specs.declared.kept_file.KeptFile.{KeptFile}
-use Rattle.rje_sockets.specs.InFront.{HasFront, IsOpened}
 use Rattle.rje_stores.specs.declared.store.Place.{Place}
 use Rattle.rje_stores.specs.declared.store.Place.TheVariants.{Growing, Once}
-use Rattle.rje_sockets.specs.Keeping.{AreKept, GoesOnKeeping, kept_after, whole_in_front}
+use Rattle.rje_sockets.specs.Answering.{whole_in_front}
+use Rattle.rje_sockets.specs.Inside.Keeping.{AreKept, GoesOnKeeping, kept_after}
+use Rattle.rje_sockets.specs.Inside.Opening.{HasFront, IsOpened}
 use Rattle.rje_stores.specs.Store.{FileMap}
 
 -- JOBS THAT COME

@@ -8,17 +8,17 @@ use Rattle.rje_station.specs.declared.line_fault.LineFault.TheVariants.{Closed}
 use Rattle.rje_station.specs.declared.station_fault.StationFault.TheVariants as fault
 use Rattle.rje_commands.specs.declared.command_fault.CommandFault.{CommandFault}
 use Rattle.rje_sockets.specs.declared.broken_off.BrokenOff.{BrokenOff}
-use Rattle.rje_sockets.specs.declared.exchange.Left.{Left}
+use Rattle.rje_sockets.specs.declared.left.Left.{Left}
 use Rattle.rje_sockets.specs.declared.keeper.Keeper.{Keeper}
 use Rattle.rje_sockets.specs.declared.kept_file.KeptFile.{KeptFile}
 use Rattle.rje_sockets.specs.declared.marker.Marker.{Marker}
 use Rattle.rje_stores.specs.declared.store.Place.TheVariants.{Growing}
 use Rattle.rje_sockets.specs.Answering.{HasWhole}
-use Rattle.rje_sockets.specs.BothFiles.{BreaksBoth, GoesOnHolding, HeldSoFar, HoldsBoth, progress_of}
 use Rattle.rje_sockets.specs.BothWays.{AreOver, ExchangesTo, LeavesFrom, StationTurn, Took, Waits, quiet_in_a_row}
 use Rattle.rje_sockets.specs.Ending.{MakesJobFile, MarksSent}
-use Rattle.rje_sockets.specs.Keeping.{IsOfFile, KeepsJobs}
-use Rattle.rje_sockets.specs.LeavingBoth.{CameTo, HasCounted, LeavesBoth, MarksAlone}
+use Rattle.rje_sockets.specs.LeavingBoth.{CameTo, LeavesBoth, MarksAlone}
+use Rattle.rje_sockets.specs.Inside.Keeping.{IsOfFile, KeepsJobs}
+use Rattle.rje_sockets.specs.Inside.BothFiles.{BreaksBoth, GoesOnHolding, HeldSoFar, HoldsBoth, progress_of, HasCounted}
 use Rattle.rje_sockets.specs.OverLine.{LineTells}
 use Rattle.rje_sockets.specs.Watching.{nobody_hears, nobody_sees}
 use Rattle.rje_sockets.proofs.BothFiles.{holds_written}

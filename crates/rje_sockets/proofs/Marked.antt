@@ -16,7 +16,8 @@ use Rattle.rje_commands.specs.declared.command_fault.CommandFault.{CommandFault}
 use Rattle.rje_commands.specs.Commands.{OfFile}
 use Rattle.rje_sockets.specs.Ending.{MarksSent}
 use Rattle.rje_sockets.specs.Inside.Sending.{IsOutgoing}
-use Rattle.rje_sockets.specs.Marking.{GoesOnMarking, Marks, MarksCounted, MarksItsCount, MarksNoMore, WereCounted}
+use Rattle.rje_sockets.specs.Marking.{MarksItsCount, MarksNoMore}
+use Rattle.rje_sockets.specs.Inside.Marking.{GoesOnMarking, Marks, MarksCounted, WereCounted}
 use Rattle.rje_sockets.specs.OverLine.{LineTells, Sends}
 use Rattle.rje_sockets.specs.Watching.{SawSender}
 use Rattle.rje_stores.specs.Store.{FileMap, Discloses, IsSame, SetsByte}

@@ -9,11 +9,11 @@ use Rattle.rje_commands.specs.declared.command_fault.CommandFault.{CommandFault}
 use Rattle.rje_commands.specs.declared.command_fault.CommandFault.TheVariants as told
 use Rattle.rje_commands.specs.CommandFault.{is_of_output, of_station}
 use Rattle.rje_sockets.specs.declared.broken_off.BrokenOff.{BrokenOff}
-use Rattle.rje_sockets.specs.declared.exchange.Left.{Left}
+use Rattle.rje_sockets.specs.declared.left.Left.{Left}
 use Rattle.rje_sockets.specs.declared.socket_commands.ending.Ending.{Ending}
-use Rattle.rje_sockets.specs.BrokenOff.{of_broken_off}
 use Rattle.rje_orders.specs.declared.order.Destination.{Destination}
 use Rattle.rje_sockets.specs.InFront.{LooksInto}
+use Rattle.rje_sockets.specs.Inside.BreakingOff.{of_broken_off}
 use Rattle.rje_sockets.specs.NamedFiles.{NamesOne, NamesWritten}
 
 pub names_more : (R S V W : List ℕ → Type 0) → ((n : List ℕ) → R n → S n) → ((n : List ℕ) → V n → W n) → (f : CommandFault) → NamesOne R V f → NamesOne S W f

@@ -8,7 +8,7 @@ use Rattle.rje_sockets.specs.declared.marker.Marker.{Marker}
 use Rattle.rje_sockets.specs.declared.socket_commands.ending.Ending.{Ending}
 use Rattle.rje_sockets.specs.Ending.{MarksSent, SendsLeft, ending_of, sent_text}
 use Rattle.rje_sockets.specs.Inside.Sending.{IsOutgoing}
-use Rattle.rje_sockets.specs.Marking.{Marks}
+use Rattle.rje_sockets.specs.Inside.Marking.{Marks}
 use Rattle.rje_sockets.specs.OverLine.{LineTells, Sends, SendsOver}
 use Rattle.rje_sockets.specs.Watching.{SawSender}
 use Rattle.rje_sockets.proofs.Watched.{sends_unseen}

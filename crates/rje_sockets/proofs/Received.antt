@@ -11,17 +11,18 @@ use Rattle.rje_station.specs.Receiving.{Receiving, after_receiving, first_receiv
 use Rattle.rje_sockets.specs.declared.broken_off.BrokenOff.{BrokenOff}
 use Rattle.rje_commands.specs.declared.command_fault.CommandFault.{CommandFault}
 use Rattle.rje_commands.specs.declared.command_fault.CommandFault.TheVariants as told
-use Rattle.rje_sockets.specs.declared.exchange.Left.{Left}
+use Rattle.rje_sockets.specs.declared.left.Left.{Left}
 use Rattle.rje_files.specs.declared.entry.Entry.{Entry}
 use Rattle.rje_orders.specs.declared.order.Destination.{Destination}
 use Rattle.rje_sockets.specs.declared.keeper.Keeper.{Keeper}
 use Rattle.rje_sockets.specs.declared.kept_file.KeptFile.{KeptFile}
-use Rattle.rje_sockets.specs.InFront.{IsOpened}
 use Rattle.rje_sockets.specs.declared.socket_commands.ending.Ending.{Ending}
 use Rattle.rje_stores.specs.declared.store.Place.TheVariants.{Growing}
-use Rattle.rje_sockets.specs.Answering.{BreaksOff, BreaksOffNow, HasWhole, KeepsAnswered, KeptSoFar}
+use Rattle.rje_sockets.specs.Answering.{HasWhole, KeepsAnswered, whole_in_front}
 use Rattle.rje_sockets.specs.Ending.{MakesJobFile, Receives, ending_of_left, received_text}
-use Rattle.rje_sockets.specs.Keeping.{AreKept, GoesOnKeeping, IsOfFile, KeepsJobs, whole_in_front}
+use Rattle.rje_sockets.specs.Inside.Keeping.{AreKept, GoesOnKeeping, IsOfFile, KeepsJobs}
+use Rattle.rje_sockets.specs.Inside.BreakingOff.{BreaksOff, BreaksOffNow, KeptSoFar}
+use Rattle.rje_sockets.specs.Inside.Opening.{IsOpened}
 use Rattle.rje_sockets.specs.Patience.{Leaves}
 use Rattle.rje_sockets.specs.OverLine.{LineTells}
 use Rattle.rje_stores.specs.Store.{FileMap, Discloses, IsSame}

@@ -6,14 +6,16 @@ use Rattle.bsc_history.specs.History.{History}
 use Rattle.rje_jobs.specs.declared.job.Job.{Job}
 use Rattle.rje_station.specs.JoinedJobs.{begun_in}
 use Rattle.rje_station.specs.Line.{one_more}
-use Rattle.rje_station.specs.Receiving.{Receiving, MayRefuse, after_abandon, after_receiving, after_refusal, first_receiving, with_reply}
+use Rattle.rje_station.specs.Receiving.{Receiving, MayRefuse, after_receiving, first_receiving, with_reply}
 use Rattle.line_world.specs.AnyLines.{ReceiverTook}
 use Rattle.rje_orders.specs.declared.order.Destination.{Destination}
-use Rattle.rje_sockets.specs.declared.broken_off.BrokenOff.{BrokenOff}
-use Rattle.rje_sockets.specs.declared.keeper.Keeper.{Keeper}
 use Rattle.rje_sockets.specs.Ending.{MakesJobFile}
-use Rattle.rje_sockets.specs.Keeping.{GoesOnKeeping, whole_in_front}
 use Rattle.rje_stores.specs.Store.{FileMap, Discloses, IsSame}
+use Rattle.std.specs.List.{prefix_len}
+
+-- how many jobs, from the first on, have come to their ends
+abbrev pub whole_in_front : List Job → ℕ
+whole_in_front jobs = prefix_len (λ job. job.whole) jobs
 
 -- how many transmissions there are after some turns of a receiving station, the newest first: one more for each of its replies
 abbrev pub answers : History → ℕ → ℕ
@@ -41,26 +43,3 @@ KeepsAnswered into files made before after =
     × (((after ≡ sent) × HasWhole far.jobs into files made)
     ⊎ ((after ≡ one_more sent) × ((what : Heard) × (refused : Bool) × MayRefuse what (begun_in far.jobs) refused
     × HasWhole (after_receiving far what refused Wish.Go).jobs into files made)))
-
--- what a receiving station changes beside itself: what its keeper keeps, how many transmissions its line has begun, and the files
-abbrev pub KeptSoFar : Type 0
-KeptSoFar = Keeper × ℕ × Option FileMap
-
--- It broke off in this turn. A job couldn't be kept, or the line failed as it listened: it replied to nothing, and no more is kept. Or the line
--- failed as it replied, and what came is kept.
-abbrev pub BreaksOffNow : (r r' : Receiving) → (was is : KeptSoFar) → BrokenOff → Type 0
-BreaksOffNow r r' (k, sent, f) (k', sent', g) (BrokenOff.File fault) =
-    (what : Heard) × (refused : Bool) × MayRefuse what (begun_in r.jobs) refused × (r' ≡ after_abandon (after_receiving r what refused Wish.Go))
-    × (sent' ≡ sent) × GoesOnKeeping k k' r.jobs r.jobs f g
-BreaksOffNow r r' (k, sent, f) (k', sent', g) (BrokenOff.Line fault) =
-    ((r' ≡ after_refusal fault r) × (sent' ≡ sent) × GoesOnKeeping k k' r.jobs r.jobs f g)
-    ⊎ ((what : Heard) × (refused : Bool) × MayRefuse what (begun_in r.jobs) refused × (r' ≡ after_refusal fault (after_receiving r what refused Wish.Go))
-    × (sent' ≡ one_more sent) × GoesOnKeeping k k' r.jobs r'.jobs f g)
-
--- it took some turns, in which what came whole was kept, and then it broke off
-pub record BreaksOff (r r' : Receiving) (was is : KeptSoFar) (broken : BrokenOff) : Type 0 where
-  pub far : Receiving
-  pub mid : KeptSoFar
-  pub answered : Answered r far was.1 mid.1
-  pub kept : GoesOnKeeping was.0 mid.0 r.jobs far.jobs was.2 mid.2
-  pub breaks : BreaksOffNow far r' mid is broken

@@ -16,7 +16,7 @@ use Rattle.rje_station.specs.declared.line_fault.LineFault.TheVariants.{Closed}
 use Rattle.rje_station.specs.declared.station_fault.StationFault.{StationFault}
 use Rattle.rje_station.specs.declared.station_fault.StationFault.TheVariants as fault
 use Rattle.rje_sockets.specs.declared.broken_off.BrokenOff.{BrokenOff}
-use Rattle.rje_sockets.specs.declared.exchange.Left.{Left}
+use Rattle.rje_sockets.specs.declared.left.Left.{Left}
 use Rattle.rje_sockets.specs.OverLine.{HeardAndReplied, LineTells, SpokeAndHeard}
 use Rattle.rje_sockets.specs.Watching.{SawReceiver, SawSender, nobody_hears, nobody_sees}
 

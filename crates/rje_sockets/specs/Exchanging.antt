@@ -14,11 +14,8 @@ use Rattle.rje_orders.specs.declared.order.Destination.{Destination}
 use Rattle.rje_orders.specs.declared.order.Meeting.{Meeting}
 use Rattle.rje_orders.specs.declared.order.Meeting.TheVariants.{Calls, Listens}
 use Rattle.rje_commands.specs.Commands.{OfFile}
-use Rattle.rje_sockets.specs.declared.exchange.Left.{Left}
-use Rattle.rje_sockets.specs.declared.keeper.Keeper.{Keeper}
-use Rattle.rje_sockets.specs.declared.marker.Marker.{Marker}
+use Rattle.rje_sockets.specs.declared.left.Left.{Left}
 use Rattle.rje_sockets.specs.declared.socket_commands.ending.Ending.{Ending}
-use Rattle.rje_sockets.specs.BothFiles.{HoldsBoth}
 use Rattle.rje_sockets.specs.BothWays.{ExchangesTo}
 use Rattle.rje_print.specs.ReportTexts.{counted_line, outcome_line}
 use Rattle.rje_sockets.specs.Ending.{MakesJobFile, MarksSent, ending_status, received_text}
@@ -50,17 +47,6 @@ exchanged_text counted given outcome jobs = counted_line counted given ++ outcom
 abbrev pub MakesBoth : (file : List ℕ) → Contending → (send : List ℕ) → (into : Destination) → (files made : Option FileMap) → Type 0
 MakesBoth file s send into files made =
     (marked : Option FileMap) × MarksSent file s.sender.counted send files marked × MakesJobFile s.receiver.jobs into marked made
-
--- one transmission was made each way over a line: the station took some turns there and left so; what it counted is marked in the one file, what
--- came is kept in the other, and just the lines of both were printed
-pub record Exchanges (ending : Ending) (s : Contending) (marker : Marker) (keeper : Keeper) (was is : Outside) : Type 0 where
-  pub left : Left
-  pub station : Contending
-  pub exchanges : ExchangesTo left s was.0 station is.0
-  pub makes : marker.name.now ≢ keeper.file.into.jobs.now → (files : Option FileMap) → HoldsBoth marker s.sender.counted keeper s.receiver.jobs files was.1
-      → MakesBoth marker.file.items station marker.name.now keeper.file.into files is.1
-  pub ending_is : ending ≡ ending_of_both (outcome_of station.sender) (is_idle (length s.sender.jobs) station.receiver.jobs) left
-  pub text_is : Appends was.2 is.2 (exchanged_text station.sender.counted (length s.sender.jobs) (outcome_of station.sender) station.receiver.jobs)
 
 -- what was left of the job file of the one name was exchanged over a line for the jobs of the other station: a new station of this rank took some
 -- turns there and left so; the jobs that it counted are Sent in that file now, the file of the destination is that of the entries in front and

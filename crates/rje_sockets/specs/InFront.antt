@@ -1,19 +1,14 @@
 -- What stands in a file in front of the jobs that are received into it, and why it isn't received into (own profile).
 use Rattle.std.specs.Prelude.{◌≡◌, ◌≢◌, ◌⊎◌, ℕ, List, [], length, Option, IfSome}
 use Rattle.rje_files.specs.declared.entry.Entry.{Entry}
-use Rattle.rje_files.specs.declared.job_file.version.FileVersion.TheVariants.{Second}
 use Rattle.rje_files.specs.FileFault.{IsFileFault}
-use Rattle.rje_files.specs.JobFile.{HasEntries, IsEntryFile, IsEntryFileOf}
+use Rattle.rje_files.specs.JobFile.{HasEntries, IsEntryFile}
 use Rattle.rje_orders.specs.declared.order.Destination.{Destination}
 use Rattle.rje_orders.specs.declared.order.Existing.{Existing}
 use Rattle.rje_orders.specs.declared.order.Existing.TheVariants.{Replace, Refuse, Append}
 use Rattle.rje_commands.specs.declared.command_fault.CommandFault.{CommandFault}
-use Rattle.rje_commands.specs.CommandFault.{IsFailing, status_of}
+use Rattle.rje_commands.specs.CommandFault.{status_of}
 use Rattle.rje_commands.specs.Commands.{AreEntriesOf, OfFile}
-use Rattle.rje_sockets.specs.declared.front.Front.{Front}
-use Rattle.rje_sockets.specs.declared.kept_file.KeptFile.{KeptFile}
-use Rattle.rje_sockets.specs.NamedFiles.{NamesOne}
-use Rattle.rje_stores.specs.declared.store.Place.TheVariants.{Growing, Once}
 use Rattle.rje_stores.specs.Store.{FileMap}
 
 -- the entries in front of the jobs that come into the file of this name: none where they replace what it holds; where a file that holds jobs is
@@ -22,18 +17,6 @@ abbrev pub StandInFront : Existing → (name : List ℕ) → (files : Option Fil
 StandInFront Replace name files front = front ≡ []
 StandInFront Refuse name files front = (front ≡ []) × IfSome files (λ known. AreEntriesOf (known name) [])
 StandInFront Append name files front = IfSome files (λ known. AreEntriesOf (known name) front)
-
--- it is the version 2 file of these entries, and counts them
-abbrev pub HasFront : List Entry → Front → Type 0
-HasFront entries front = IsEntryFileOf Second entries front.bytes.items × (front.jobs ≡ length entries)
-
--- the file of a destination with these entries in front of what comes, where the files are these: a device or a pipe has none, and where the
--- files are told it is neither
-pub record IsOpened (front : List Entry) (file : KeptFile) (files : Option FileMap) : Type 0 where
-  pub stand : StandInFront file.into.existing file.into.jobs.now files front
-  pub has : HasFront front file.front
-  pub once : file.place ≡ Once → front ≡ []
-  pub grows : IfSome files (λ _. file.place ≡ Growing)
 
 -- why this file isn't received into: jobs that it holds are not to be replaced, and it is no job file; or it holds some, and such a file is
 -- refused
@@ -50,11 +33,6 @@ HasStandingFault into files fault = (file : List ℕ) × IsStandingFault into fi
 -- the file that is received into is read where its jobs are not replaced
 abbrev pub LooksInto : Destination → (name : List ℕ) → Type 0
 LooksInto into name = (into.existing ≢ Replace) × (name ≡ into.jobs.now)
-
--- a line, an output, memory or that file fails, or the file isn't received into
-abbrev pub IsDestinationFault : Destination → (files : Option FileMap) → CommandFault → Type 0
-IsDestinationFault into files fault =
-    (IsFailing (status_of fault) × NamesOne (LooksInto into) (λ name. name ≡ into.jobs.now) fault) ⊎ HasStandingFault into files fault
 
 -- the file isn't received into, and it isn't for want of memory
 abbrev pub IsRefusedDestination : Destination → (files : Option FileMap) → Type 0

@@ -20,10 +20,6 @@ CameTo s s' =
     (turns : List StationTurn) × (near : Contending) × Took s.contender.rank s turns near
     × (LeavesFrom near s' ⊎ ((broken : BrokenOff) × Fails near s' broken))
 
--- so many jobs it had counted then
-abbrev pub HasCounted : Contending → ℕ → Type 0
-HasCounted s n = (last : Contending) × CameTo s last × (last.sender.counted ≡ n)
-
 -- the file of this name became that of the same entries as this file's, in which just so many of those that were not Sent are Sent as it had
 -- counted, and no other file changed
 abbrev pub MarksAlone : Contending → (file name : List ℕ) → (files made : Option FileMap) → Type 0

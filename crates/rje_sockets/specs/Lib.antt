@@ -1,7 +1,5 @@
 pub mod InFront
-pub mod Keeping
 pub mod Answering
-pub mod BrokenOff
 pub mod NamedFiles
 pub mod OverLine
 pub mod Inside
@@ -11,7 +9,6 @@ pub mod Marking
 pub mod Tracing
 pub mod Watching
 pub mod BothWays
-pub mod BothFiles
 pub mod LeavingBoth
 pub mod Exchanging
 pub mod Looping

@@ -10,7 +10,6 @@ use Rattle.bsc_link.specs.declared.say.Say.{Say}
 use Rattle.bsc_link.specs.declared.sound.Sound.{Sound}
 use Rattle.line_world.specs.AnyLines.{BothTake, IsThrough, ReceiverTakes, SenderTakes, Turns, unhindered}
 use Rattle.line_world.specs.declared.spoken.Spoken.{Spoken}
-use Rattle.rje_station.specs.declared.arrival.Arrival.{Arrival}
 use Rattle.rje_station.specs.Hearing.{Hearing, HearsSound}
 use Rattle.rje_station.specs.Line.{Passes, Talk, one_more}
 use Rattle.rje_station.specs.Receiving.{Receiving, Replied, with_reply}

@@ -5,7 +5,7 @@ use Rattle.bsc_history.specs.History.{History}
 use Rattle.line_world.specs.AnyLines.{Turns}
 use Rattle.rje_station.specs.declared.arrival.Arrival.{Arrival}
 use Rattle.rje_station.specs.Receiving.{Receiving, after_abandon}
-use Rattle.rje_sockets.specs.declared.exchange.Left.{Left}
+use Rattle.rje_sockets.specs.declared.left.Left.{Left}
 use Rattle.rje_sockets.specs.OverLine.{LineTells, ReceiverTurn}
 use Rattle.rje_sockets.specs.Watching.{SawReceiver, nobody_hears}
 

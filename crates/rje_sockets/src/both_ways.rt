@@ -10,16 +10,16 @@ ghost use Rattle.rje_station.specs.declared.station_fault.StationFault.TheVarian
 ghost use Rattle.rje_station.specs.Station.{due_at, is_deaf, after_other_refusal};
 ghost use Rattle.rje_commands.specs.CommandFault.{IsFailing, of_station, status_of};
 ghost use Rattle.rje_sockets.specs.BothWays.{has_listened, AreOver, FailsInOwn, FailsInOthers, TakesOwn, TakesOthers, TakesTurnsTo, Waits};
-ghost use Rattle.rje_sockets.specs.BothFiles.{BreaksBoth, GoesOnHolding, kept_of, progress_of};
-ghost use Rattle.rje_sockets.specs.BrokenOff.{of_broken_off};
-ghost use Rattle.rje_sockets.specs.Keeping.{GoesOnKeeping};
-ghost use Rattle.rje_sockets.specs.LeavingBoth.{HasCounted};
-ghost use Rattle.rje_sockets.specs.Marking.{GoesOnMarking};
+ghost use Rattle.rje_sockets.specs.Inside.Marking.{GoesOnMarking};
+ghost use Rattle.rje_sockets.specs.Inside.Keeping.{GoesOnKeeping};
+ghost use Rattle.rje_sockets.specs.Inside.BreakingOff.{of_broken_off};
+ghost use Rattle.rje_sockets.specs.Inside.BothFiles.{BreaksBoth, GoesOnHolding, kept_of, progress_of, HasCounted};
 ghost use Rattle.rje_sockets.specs.NamedFiles.{NamesWritten};
 ghost use Rattle.rje_sockets.specs.OverLine.{HeardAndReplied, SpokeAndHeard};
 
 use crate::broken_off::BrokenOff;
-use crate::exchange::{Left, MAX_HEARINGS, MAX_QUIET, quiet_after};
+use crate::left::Left;
+use crate::one_way::{MAX_HEARINGS, MAX_QUIET, quiet_after};
 use crate::keeper::Keeper;
 use crate::marker::Marker;
 use crate::watch::Watch;

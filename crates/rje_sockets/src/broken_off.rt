@@ -1,6 +1,6 @@
 //! Why a receiving station broke a transmission off.
 ghost use Rattle.std.specs.Prelude.{◌≡◌};
-ghost use Rattle.rje_sockets.specs.BrokenOff.{of_broken_off};
+ghost use Rattle.rje_sockets.specs.Inside.BreakingOff.{of_broken_off};
 ghost use Rattle.rje_sockets.specs.declared.broken_off.BrokenOff.TheVariants.{Line};
 
 use rje_commands::CommandFault;

@@ -4,7 +4,8 @@ ghost use Rattle.rje_files.specs.declared.entry.Entry.{Entry};
 ghost use Rattle.rje_files.specs.declared.job_file.version.FileVersion.TheVariants.{Second};
 ghost use Rattle.rje_files.specs.FileFault.{IsFileFault};
 ghost use Rattle.rje_files.specs.JobFile.{HasEntries, IsEntryFile, IsEntryFileOf};
-ghost use Rattle.rje_sockets.specs.InFront.{HasFront, IsDestinationFault, StandInFront};
+ghost use Rattle.rje_sockets.specs.InFront.{StandInFront};
+ghost use Rattle.rje_sockets.specs.Inside.Opening.{HasFront, IsDestinationFault};
 ghost use Rattle.rje_stores.specs.Store.{Discloses, IsSame};
 
 use rje_commands::{CommandFault, read_if_there};

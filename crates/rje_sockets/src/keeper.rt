@@ -8,8 +8,8 @@ ghost use Rattle.rje_files.specs.Entry.{entry_of};
 ghost use Rattle.rje_files.specs.JobFile.{IsEntryFileOf};
 ghost use Rattle.rje_jobs.specs.declared.job.Job.{Job as Item};
 ghost use Rattle.rje_sockets.specs.Ending.{MakesJobFile};
-ghost use Rattle.rje_sockets.specs.InFront.{HasFront};
-ghost use Rattle.rje_sockets.specs.Keeping.{AreKept, KeepsJobs, kept_after};
+ghost use Rattle.rje_sockets.specs.Inside.Keeping.{AreKept, KeepsJobs, kept_after};
+ghost use Rattle.rje_sockets.specs.Inside.Opening.{HasFront};
 ghost use Rattle.rje_sockets.specs.NamedFiles.{NamesWritten};
 ghost use Rattle.rje_stores.specs.Store.{FileMap, Discloses, IsSame, Sets};
 

@@ -1,7 +1,7 @@
 //! The file that the jobs of a transmission are kept in.
 ghost use Rattle.std.specs.Prelude.{◌≡◌, List, IfOk, IfErr, OnOk};
 ghost use Rattle.rje_files.specs.declared.entry.Entry.{Entry};
-ghost use Rattle.rje_sockets.specs.InFront.{IsDestinationFault, IsOpened};
+ghost use Rattle.rje_sockets.specs.Inside.Opening.{IsDestinationFault, IsOpened};
 ghost use Rattle.rje_stores.specs.Store.{Discloses, IsSame};
 
 use crate::front::Front;

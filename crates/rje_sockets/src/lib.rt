@@ -1,14 +1,16 @@
-//! The program's commands over sockets: one transmission over a line, whose jobs are kept as they come and marked as they are counted.
+//! The program's commands over sockets: one transmission over a line, or one each way, whose jobs are kept as they come and marked as they are
+//! counted.
 #![tactic(auto)]
 
 mod both_ways;
 mod broken_off;
 mod connection;
-mod exchange;
 mod front;
 mod keeper;
 mod kept_file;
+mod left;
 mod marker;
+mod one_way;
 mod over_sockets;
 mod parting;
 mod socket_commands;

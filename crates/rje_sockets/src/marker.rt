@@ -7,7 +7,7 @@ ghost use Rattle.rje_files.specs.Unsent.{IsLeft};
 ghost use Rattle.rje_commands.specs.CommandFault.{IsFailing, status_of};
 ghost use Rattle.rje_commands.specs.declared.command_fault.CommandFault.TheVariants.{OutOfStep};
 ghost use Rattle.rje_sockets.specs.Ending.{MarksSent};
-ghost use Rattle.rje_sockets.specs.Marking.{GoesOnMarking};
+ghost use Rattle.rje_sockets.specs.Inside.Marking.{GoesOnMarking};
 ghost use Rattle.rje_sockets.specs.NamedFiles.{NamesWritten};
 ghost use Rattle.rje_stores.specs.Store.{FileMap, Discloses, IsSame};
 

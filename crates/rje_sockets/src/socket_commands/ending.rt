@@ -2,7 +2,7 @@
 ghost use Rattle.std.specs.Prelude.{◌≡◌};
 ghost use Rattle.rje_sockets.specs.Ending.{ending_of, ending_of_left, ending_status};
 
-use crate::exchange::Left;
+use crate::left::Left;
 use bsc_link::Outcome;
 
 /// How a transmission ended that no fault ended.

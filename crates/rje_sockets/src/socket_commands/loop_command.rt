@@ -10,7 +10,7 @@ ghost use Rattle.rje_sockets.specs.OverLine.{BothTook};
 ghost use Rattle.rje_sockets.specs.NamedFiles.{NamesOne};
 ghost use Rattle.rje_stores.specs.Store.{Discloses, IsSame};
 
-use crate::exchange::take_turns;
+use crate::one_way::take_turns;
 use crate::socket_commands::Ending;
 use crate::socket_line::SocketLine;
 use crate::tracer::Tracer;

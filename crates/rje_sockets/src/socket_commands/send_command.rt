@@ -9,13 +9,14 @@ ghost use Rattle.rje_commands.specs.Commands.{OfFile};
 ghost use Rattle.rje_commands.specs.CommandFault.{IsFailing, is_of_output, status_of};
 ghost use Rattle.rje_sockets.specs.Ending.{ending_of, sent_text, IsRefusedFile, IsUnsentFault, MarksSent, SendsLeft, EndsSending};
 ghost use Rattle.rje_sockets.specs.Inside.Sending.{IsOutgoing, IsSendFault};
-ghost use Rattle.rje_sockets.specs.Marking.{Marks, MarksCounted, MarksNoMore};
+ghost use Rattle.rje_sockets.specs.Marking.{MarksNoMore};
+ghost use Rattle.rje_sockets.specs.Inside.Marking.{Marks, MarksCounted};
 ghost use Rattle.rje_stores.specs.Store.{FileMap, Discloses, IsSame};
 ghost use Rattle.rje_sockets.specs.NamedFiles.{NamesOne, NamesWritten};
 ghost use Rattle.rje_sockets.specs.OverLine.{OverConnection, Sends};
 
 use crate::connection::connected;
-use crate::exchange::send_all;
+use crate::one_way::send_all;
 use crate::marker::Marker;
 use crate::parting::{HearsOut, Leaves, Parting, parts_in_step};
 use crate::socket_commands::Ending;

@@ -1,6 +1,6 @@
 use Rattle.std.proofs.Common.{rules, inl, refl}
 use Rattle.rje_sockets.specs.declared.broken_off.BrokenOff.{BrokenOff}
-use Rattle.rje_sockets.specs.BothFiles.{BreaksBoth, progress_of}
+use Rattle.rje_sockets.specs.Inside.BothFiles.{BreaksBoth, progress_of}
 use Rattle.rje_sockets.proofs.BothFiles.{breaks_others, breaks_own, ended_jobs, goes_on_kept, goes_on_marked, holds_first, others_count, own_jobs, refusal_count, same_count}
 use Rattle.rje_sockets.proofs.BothWays.{ends_hung_up, ends_long, ends_over, fails_as, forty_quiet, so_first, so_others, so_own, took}
 use Rattle.rje_sockets.proofs.LeavingBoth.{came_near, counted_on}

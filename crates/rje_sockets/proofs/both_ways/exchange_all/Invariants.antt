@@ -1,6 +1,5 @@
 use Rattle.std.specs.Prelude.{◌≡◌, ◌⊎◌}
-use Rattle.rje_sockets.specs.BothFiles.{GoesOnHolding, progress_of}
-use Rattle.rje_sockets.specs.LeavingBoth.{HasCounted}
+use Rattle.rje_sockets.specs.Inside.BothFiles.{GoesOnHolding, progress_of, HasCounted}
 use Rattle.rje_sockets.proofs.BothWays.{SoFar}
 use Rattle.rje_sockets.proofs.both_ways.exchange_all.Given as goal
 

@@ -2,8 +2,8 @@ use Rattle.std.proofs.Common.{rules, ◌≡◌, ◌∙◌, ap, refl, subst, sym,
 use Rattle.rje_station.specs.Receiving.{Receiving, with_reply}
 use Rattle.rje_station.specs.Station.{after_other_ended, after_own_reply}
 use Rattle.rje_sockets.specs.declared.broken_off.BrokenOff.{BrokenOff}
-use Rattle.rje_sockets.specs.BothFiles.{kept_of}
-use Rattle.rje_sockets.specs.Keeping.{GoesOnKeeping}
+use Rattle.rje_sockets.specs.Inside.Keeping.{GoesOnKeeping}
+use Rattle.rje_sockets.specs.Inside.BothFiles.{kept_of}
 use Rattle.rje_sockets.proofs.BothFiles.{answer_leaves, other_kept, refusal_leaves}
 use Rattle.rje_sockets.specs.OverLine.{HeardAndReplied}
 use Rattle.rje_sockets.proofs.OverLine.{last_passed, other_owes, reply_passed}

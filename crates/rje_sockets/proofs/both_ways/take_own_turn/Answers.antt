@@ -1,6 +1,6 @@
 use Rattle.std.proofs.Common.{rules, ap, subst, ◌∙◌}
 use Rattle.rje_station.specs.Sending.{Sending}
-use Rattle.rje_sockets.specs.Marking.{GoesOnMarking}
+use Rattle.rje_sockets.specs.Inside.Marking.{GoesOnMarking}
 use Rattle.rje_sockets.specs.OverLine.{SpokeAndHeard}
 use Rattle.rje_sockets.proofs.OverLine.{end_passed, own_passed, said_due, said_once}
 use Rattle.rje_sockets.proofs.both_ways.take_own_turn.Goals.{in-End, in_default+in_ok-heard-in_default}

@@ -1,16 +1,16 @@
 use Rattle.std.proofs.Common.{rules, ◌≡◌, ◌∙◌, IfOk, OnOk, IfErr, inl, inr, refl, ap, sym, subst}
 use Rattle.rje_station.specs.Receiving.{Receiving}
-use Rattle.rje_sockets.specs.Answering.{BreaksOff, KeepsAnswered}
-use Rattle.rje_sockets.specs.Keeping.{GoesOnKeeping}
+use Rattle.rje_sockets.specs.Answering.{KeepsAnswered}
 use Rattle.rje_sockets.specs.Patience.{Leaves}
 use Rattle.rje_commands.specs.declared.command_fault.CommandFault.{CommandFault}
 use Rattle.rje_commands.specs.CommandFault.{IsFailing, status_of}
 use Rattle.rje_sockets.specs.declared.socket_commands.ending.Ending.{Ending}
-use Rattle.rje_sockets.specs.BrokenOff.{of_broken_off}
 use Rattle.rje_sockets.specs.Ending.{MakesJobFile, Receives, ending_of_left}
 use Rattle.std.specs.Prelude.{IfSome}
 use Rattle.rje_sockets.specs.declared.kept_file.KeptFile.{KeptFile}
-use Rattle.rje_sockets.specs.InFront.{IsOpened}
+use Rattle.rje_sockets.specs.Inside.Opening.{IsOpened}
+use Rattle.rje_sockets.specs.Inside.Keeping.{GoesOnKeeping}
+use Rattle.rje_sockets.specs.Inside.BreakingOff.{BreaksOff, of_broken_off}
 use Rattle.rje_sockets.specs.NamedFiles.{NamesWritten}
 use Rattle.rje_sockets.specs.OverLine.{LineTells}
 use Rattle.rje_sockets.proofs.NamedFiles.{output_of_none, received_names}

@@ -1,6 +1,6 @@
 use Rattle.std.proofs.Common.{rules, ◌≡◌, ℕ, Ok, Err, OnOk, subst, sym}
 use Rattle.rje_files.specs.Unsent.{IsLeft}
-use Rattle.rje_sockets.specs.Marking.{GoesOnMarking}
+use Rattle.rje_sockets.specs.Inside.Marking.{GoesOnMarking}
 use Rattle.rje_sockets.specs.Ending.{MarksSent}
 use Rattle.rje_sockets.proofs.Marked.{all_marked, counted_alone, counted_over}
 use Rattle.rje_sockets.proofs.socket_commands.send_command.transmit.Goals as goal

@@ -1,21 +1,18 @@
--- What a receiver has in its file of the jobs of a transmission while they come (own profile).
-use Rattle.std.specs.Prelude.{◌≡◌, ◌+◌, ◌≤◌, ◌++◌, ℕ, Bool, List, [], ◌∷◌, length, map, take, Option, Some, None, ⊤, if◌then◌else◌}
-use Rattle.std.specs.List.{prefix_len, slice_get}
-use Rattle.rje_jobs.specs.declared.job.Job.{Job}
+-- What a receiver has in its file of the jobs of a transmission while they come (own profile); no promise rests on it.
+use Rattle.rje_stores.specs.Store.{Discloses, FileMap, IsSame, Sets}
 use Rattle.rje_files.specs.declared.entry.Entry.{Entry}
+use Rattle.rje_files.specs.JobFile.{IsEntryFileOf}
+use Rattle.rje_jobs.specs.declared.job.Job.{Job}
+use Rattle.std.specs.Prelude.{List, Option, length, map, ℕ, take, ⊤, None, Some, ◌≡◌, ◌+◌, ◌≤◌, ◌++◌, ◌∷◌, [], if◌then◌else◌}
 use Rattle.rje_files.specs.declared.job_file.version.FileVersion.TheVariants.{Second}
 use Rattle.rje_files.specs.Entry.{entry_of}
-use Rattle.rje_files.specs.JobFile.{IsEntryFileOf}
-use Rattle.rje_sockets.specs.declared.broken_off.BrokenOff.{BrokenOff}
-use Rattle.rje_sockets.specs.declared.keeper.Keeper.{Keeper}
-use Rattle.rje_sockets.specs.InFront.{IsOpened}
-use Rattle.rje_stores.specs.declared.store.Place.{Place}
 use Rattle.rje_stores.specs.declared.store.Place.TheVariants.{Growing, Once}
-use Rattle.rje_stores.specs.Store.{FileMap, Discloses, IsSame, Sets}
-
--- how many jobs, from the first on, have come to their ends
-abbrev pub whole_in_front : List Job → ℕ
-whole_in_front jobs = prefix_len (λ job. job.whole) jobs
+use Rattle.rje_sockets.specs.declared.keeper.Keeper.{Keeper}
+use Rattle.rje_sockets.specs.Answering.{whole_in_front}
+use Rattle.rje_sockets.specs.Inside.Opening.{IsOpened}
+use Rattle.rje_sockets.specs.declared.broken_off.BrokenOff.{BrokenOff}
+use Rattle.rje_stores.specs.declared.store.Place.{Place}
+use Rattle.std.specs.List.{slice_get}
 
 -- where there are some, the file of this name became the version 2 file of the entries in front and these jobs, which has so many bytes, and no
 -- other file changed; where there are none, no file changed

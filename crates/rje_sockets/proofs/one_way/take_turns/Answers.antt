@@ -1,7 +1,7 @@
 use Rattle.std.proofs.Common.{rules, ◌≡◌, subst, [], ◌∷◌, refl, arith, Err, None}
 use Rattle.line_world.specs.AnyLines.{BothTake}
 use Rattle.rje_sockets.proofs.Watched.{both_fault, both_over}
-use Rattle.rje_sockets.proofs.exchange.take_turns.Goals as goal
+use Rattle.rje_sockets.proofs.one_way.take_turns.Goals as goal
 
 pub loop-init : goal.loop-init
 loop-init g c = ([], refl, refl)

@@ -1,6 +1,6 @@
 use Rattle.std.proofs.Common.{subst}
-use Rattle.rje_sockets.specs.Marking.{GoesOnMarking}
-use Rattle.rje_sockets.proofs.exchange.speak_hear_and_mark.Goals as goal
+use Rattle.rje_sockets.specs.Inside.Marking.{GoesOnMarking}
+use Rattle.rje_sockets.proofs.one_way.speak_hear_and_mark.Goals as goal
 
 pub returns-clause-marked : goal.returns-clause-marked
 returns-clause-marked g c =

@@ -1,11 +1,10 @@
 //! Stations that take turns over a line, until the transmission ends.
 ghost use Rattle.std.specs.Prelude.{◌≡◌, ◌⊎◌, ◌<◌, ◌+◌, ℕ, true, false, if◌then◌else◌, IfOk, OnOk, IfErr, OnErr};
 ghost use Rattle.bsc_history.specs.declared.spoken_turn.SpokenTurn.{SpokenTurn};
-ghost use Rattle.rje_sockets.specs.Answering.{BreaksOff, BreaksOffNow};
 ghost use Rattle.rje_commands.specs.CommandFault.{IsFailing, of_station, status_of};
-ghost use Rattle.rje_sockets.specs.BrokenOff.{of_broken_off};
-ghost use Rattle.rje_sockets.specs.Keeping.{GoesOnKeeping};
-ghost use Rattle.rje_sockets.specs.Marking.{GoesOnMarking, WereCounted};
+ghost use Rattle.rje_sockets.specs.Inside.Marking.{GoesOnMarking, WereCounted};
+ghost use Rattle.rje_sockets.specs.Inside.Keeping.{GoesOnKeeping};
+ghost use Rattle.rje_sockets.specs.Inside.BreakingOff.{BreaksOff, BreaksOffNow, of_broken_off};
 ghost use Rattle.rje_sockets.specs.NamedFiles.{NamesWritten};
 ghost use Rattle.rje_sockets.specs.OverLine.{BothTook, ReceiverTurn, Sends, SenderTurn};
 ghost use Rattle.rje_sockets.specs.Patience.{HearsOut, Leaves, was_quiet};
@@ -13,6 +12,7 @@ ghost use Rattle.line_world.specs.AnyLines.{SenderFails, SendsToFault, BothTake,
 
 use crate::broken_off::BrokenOff;
 use crate::keeper::Keeper;
+use crate::left::Left;
 use crate::marker::Marker;
 use crate::watch::Watch;
 use bsc_link::{Say, Sound, Wish};
@@ -25,15 +25,6 @@ pub const MAX_QUIET: u32 = 40;
 
 /// After so many hearings in all it leaves too.
 pub const MAX_HEARINGS: u32 = 1_000_000_000;
-
-/// How a receiving station left a transmission.
-#[derive(Clone, Copy, Debug, PartialEq, Eq)]
-pub enum Left {
-    /// The sender ended it.
-    Ended,
-    /// It gave up hope of the sender.
-    Abandoned,
-}
 
 /// Sends what the station has, to the end of its transmission. Each job is marked in its file as soon as it is counted; where that fails, no
 /// more are, and the transmission goes on.

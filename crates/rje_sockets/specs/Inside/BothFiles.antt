@@ -1,14 +1,21 @@
--- What a station that sends and receives has in its two files, whatever ends its transmissions (own profile).
-use Rattle.std.specs.Prelude.{◌≡◌, ◌≢◌, ℕ, List, Option}
+-- What a station that sends and receives holds in its two files while it takes its turns (own profile); no promise rests on it.
+use Rattle.rje_stores.specs.Store.{FileMap}
 use Rattle.rje_jobs.specs.declared.job.Job.{Job}
+use Rattle.rje_sockets.specs.declared.keeper.Keeper.{Keeper}
+use Rattle.std.specs.Prelude.{List, Option, ℕ, length, ◌≡◌, ◌≢◌}
+use Rattle.rje_sockets.specs.declared.marker.Marker.{Marker}
 use Rattle.rje_station.specs.Station.{Contending}
 use Rattle.rje_sockets.specs.declared.broken_off.BrokenOff.{BrokenOff}
-use Rattle.rje_sockets.specs.declared.keeper.Keeper.{Keeper}
-use Rattle.rje_sockets.specs.declared.marker.Marker.{Marker}
-use Rattle.rje_sockets.specs.BothWays.{Fails, StationTurn, Took}
-use Rattle.rje_sockets.specs.Keeping.{KeepsJobs}
-use Rattle.rje_sockets.specs.Marking.{Marks}
-use Rattle.rje_stores.specs.Store.{FileMap}
+use Rattle.rje_sockets.specs.BothWays.{Fails, StationTurn, Took, ExchangesTo}
+use Rattle.rje_sockets.specs.LeavingBoth.{CameTo}
+use Rattle.std.specs.Io.KnownBytes.{Appends}
+use Rattle.rje_sockets.specs.declared.socket_commands.ending.Ending.{Ending}
+use Rattle.rje_sockets.specs.declared.left.Left.{Left}
+use Rattle.rje_sockets.specs.Exchanging.{MakesBoth, ending_of_both, exchanged_text, is_idle}
+use Rattle.rje_sockets.specs.Inside.Marking.{Marks}
+use Rattle.rje_sockets.specs.Inside.Keeping.{KeepsJobs}
+use Rattle.rje_sockets.specs.OverLine.{Outside}
+use Rattle.rje_station.specs.Sending.{outcome_of}
 
 -- since the files were these, the marker marked what is counted in its file, and the keeper kept these jobs in its own: as if all marks had
 -- been made before the first job came
@@ -47,3 +54,18 @@ pub record BreaksBoth (s s' : Contending) (was is : HeldSoFar) (broken : BrokenO
   pub took : Took s.contender.rank s turns near
   pub fails : Fails near s' broken
   pub holds : GoesOnHolding was is (progress_of s) (near.sender.counted, kept_of near s' broken)
+
+-- so many jobs it had counted then
+abbrev pub HasCounted : Contending → ℕ → Type 0
+HasCounted s n = (last : Contending) × CameTo s last × (last.sender.counted ≡ n)
+
+-- one transmission was made each way over a line: the station took some turns there and left so; what it counted is marked in the one file, what
+-- came is kept in the other, and just the lines of both were printed
+pub record Exchanges (ending : Ending) (s : Contending) (marker : Marker) (keeper : Keeper) (was is : Outside) : Type 0 where
+  pub left : Left
+  pub station : Contending
+  pub exchanges : ExchangesTo left s was.0 station is.0
+  pub makes : marker.name.now ≢ keeper.file.into.jobs.now → (files : Option FileMap) → HoldsBoth marker s.sender.counted keeper s.receiver.jobs files was.1
+      → MakesBoth marker.file.items station marker.name.now keeper.file.into files is.1
+  pub ending_is : ending ≡ ending_of_both (outcome_of station.sender) (is_idle (length s.sender.jobs) station.receiver.jobs) left
+  pub text_is : Appends was.2 is.2 (exchanged_text station.sender.counted (length s.sender.jobs) (outcome_of station.sender) station.receiver.jobs)

@@ -1,6 +1,6 @@
-use Rattle.rje_sockets.specs.Keeping.{GoesOnKeeping}
+use Rattle.rje_sockets.specs.Inside.Keeping.{GoesOnKeeping}
 use Rattle.rje_sockets.proofs.Patience.{HearsSoFar}
-use Rattle.rje_sockets.proofs.exchange.hear_out.Given as goal
+use Rattle.rje_sockets.proofs.one_way.hear_out.Given as goal
 
 abbrev pub invariant-loop : goal.invariant-loop
 invariant-loop g l = record {

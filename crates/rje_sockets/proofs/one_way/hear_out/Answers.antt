@@ -2,7 +2,7 @@ use Rattle.std.proofs.Common.{rules, ◌≡◌, Err}
 use Rattle.rje_sockets.proofs.Answering.{took_answered}
 use Rattle.rje_sockets.proofs.Keeping.{goes_nowhere, goes_on_twice}
 use Rattle.rje_sockets.proofs.Patience.{hears_first, hears_on, hears_end, hears_quiet, hears_long}
-use Rattle.rje_sockets.proofs.exchange.hear_out.Goals as goal
+use Rattle.rje_sockets.proofs.one_way.hear_out.Goals as goal
 
 pub loop-init : goal.loop-init
 loop-init g c = record {

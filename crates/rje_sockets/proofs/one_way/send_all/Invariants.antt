@@ -1,7 +1,7 @@
 use Rattle.std.specs.Prelude.{◌≡◌, ◌⊎◌}
-use Rattle.rje_sockets.specs.Marking.{GoesOnMarking, WereCounted}
+use Rattle.rje_sockets.specs.Inside.Marking.{GoesOnMarking, WereCounted}
 use Rattle.rje_sockets.proofs.OverLine.{SendsSoFar}
-use Rattle.rje_sockets.proofs.exchange.send_all.Given as goal
+use Rattle.rje_sockets.proofs.one_way.send_all.Given as goal
 
 abbrev pub invariant-loop : goal.invariant-loop
 invariant-loop g l = record {

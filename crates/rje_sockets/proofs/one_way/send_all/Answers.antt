@@ -3,7 +3,7 @@ use Rattle.bsc_history.specs.History.{History}
 use Rattle.line_world.specs.AnyLines.{SenderTook}
 use Rattle.rje_sockets.proofs.Marked.{counts_on, marks_nothing, marks_on}
 use Rattle.rje_sockets.proofs.OverLine.{sends_fault, sends_long, sends_on, sends_over, so_far_took}
-use Rattle.rje_sockets.proofs.exchange.send_all.Goals as goal
+use Rattle.rje_sockets.proofs.one_way.send_all.Goals as goal
 
 pub loop-init : goal.loop-init
 loop-init g c = record {

@@ -4,7 +4,7 @@ use Rattle.bsc_link.specs.declared.sound.Sound.{Sound}
 use Rattle.bsc_link.specs.Sender.{say_in}
 use Rattle.rje_sockets.proofs.OverLine.{end_passed, said_more, spoke_as, turn_passed}
 use Rattle.rje_sockets.proofs.Watched.{end_turn, more_turn}
-use Rattle.rje_sockets.proofs.exchange.speak_and_hear.Goals as goal
+use Rattle.rje_sockets.proofs.one_way.speak_and_hear.Goals as goal
 
 pub returns-in-Ok-End-clause-turn : goal.returns-in-Ok-End-clause-turn
 returns-in-Ok-End-clause-turn g c is =

@@ -10,7 +10,7 @@ use Rattle.rje_sockets.proofs.Keeping.{goes_nowhere, turn_kept}
 use Rattle.rje_sockets.proofs.NamedFiles.{station_names}
 use Rattle.rje_sockets.proofs.OverLine.{last_passed, over_owes, reply_passed}
 use Rattle.rje_sockets.proofs.Watched.{last_turn, reply_turn}
-use Rattle.rje_sockets.proofs.exchange.hear_keep_and_speak.Goals as goal
+use Rattle.rje_sockets.proofs.one_way.hear_keep_and_speak.Goals as goal
 
 pub returns-in-Ok-clause-turn : goal.returns-in-Ok-clause-turn
 returns-in-Ok-clause-turn g c =
