@@ -50,7 +50,7 @@ none_answered r n = record { history = []; took = refl; sent = refl }
 -- just its replies were transmitted
 just_replies : {W : Type 0} (Saw : SawReceiver W) (was is : Receiving × LineTells × W) (h : History) → Turns (λ _. ReceiverTurn Saw) was h is → is.1.1 ≡ answers h was.1.1
 just_replies Saw was is [] same = ap (λ a. a.1.1) same
-just_replies Saw was is (x ∷ past) (near, before, (takes, (heard, hears, sends, once), saw)) = once ∙ ap (with_reply x.reply) (just_replies Saw was near past before)
+just_replies Saw was is (x ∷ past) (near, before, (takes, go, (heard, hears, sends, once), saw)) = once ∙ ap (with_reply x.reply) (just_replies Saw was near past before)
 
 pub took_answered : {W : Type 0} (Saw : SawReceiver W) (was is : Receiving × LineTells × W) (h : History) → Turns (λ _. ReceiverTurn Saw) was h is → Answered was.0 is.0 was.1.1 is.1.1
 took_answered Saw was is h took = record { history = h; took = receiver_took Saw was is h took; sent = just_replies Saw was is h took }

@@ -1,5 +1,5 @@
 -- What passed over a line that tells its bytes, in a station's turn and in all of them.
-use Rattle.std.proofs.Common.{◌≡◌, inl, inr, ℕ, ◌+◌, ◌-◌, ◌^◌, Bool, true, false, List, ◌∷◌, length, Option, Some, None, Result, Ok, Err, IfOk, refl, ap, sym, ◌∙◌, arith}
+use Rattle.std.proofs.Common.{◌≡◌, inl, inr, ℕ, ◌+◌, ◌-◌, ◌^◌, Bool, true, false, List, ◌∷◌, length, Option, Some, None, Result, Ok, Err, IfOk, refl, ap, sym, ◌∙◌, arith, subst}
 use Rattle.std.specs.Prelude.{◌≢◌}
 use Rattle.std.proofs.lemmas.Bool.{true≢false}
 use Rattle.bsc_codes.specs.declared.block.Block.{Block}
@@ -136,6 +136,6 @@ module _ {W : Type 0} (Saw : SawSender W) (was : Sending × LineTells × W) (n :
   sends_fault s' fault fails = (p.0, near.0, sender_took Saw was near p.0 p.1, fails)
 
 -- over a connection
-pub over_connection : {X E : Type 0} (r : Result X E) (Holds : LineTells → LineTells → X → Type 0) (m n : ℕ) → IfOk r (Holds (None, m) (None, n)) → IfOk r (λ x. OverConnection (λ t u. Holds t u x))
-over_connection (Ok x) Holds m n holds = (m, n, holds)
-over_connection (Err e) Holds m n holds = tt
+pub over_connection : {X E : Type 0} (r : Result X E) (Holds : LineTells → LineTells → X → Type 0) (m n : ℕ) → m ≡ 0 → IfOk r (Holds (None, m) (None, n)) → IfOk r (λ x. OverConnection (λ t u. Holds t u x))
+over_connection (Ok x) Holds m n new holds = (n, subst (λ (k : ℕ). Holds (None, k) (None, n) x) new holds)
+over_connection (Err e) Holds m n new holds = tt

@@ -186,8 +186,8 @@ pub nothing_kept : (into : Destination) (f made : Option FileMap) (before after 
 nothing_kept into None made before after same silent = tt
 nothing_kept into (Some f) made before after same silent = (first_receiving, before, none_answered first_receiving before, inl (silent, ([], [], refl, inr (refl, same))))
 
--- some replies were transmitted, and what they answer is kept
-pub keeps_so_many : (into : Destination) (f made : Option FileMap) (before after : ℕ) → IfSome f (λ _. KeepsAnswered into f made before after)
-    → IfSome f (λ _. (n : ℕ) × (m : ℕ) × KeepsAnswered into f made n m)
-keeps_so_many into None made before after kept = tt
-keeps_so_many into (Some f) made before after kept = (before, after, kept)
+-- on a new line some replies were transmitted, and what they answer is kept
+pub keeps_so_many : (into : Destination) (f made : Option FileMap) (before after : ℕ) → before ≡ 0 → IfSome f (λ _. KeepsAnswered into f made before after)
+    → IfSome f (λ _. (n : ℕ) × KeepsAnswered into f made 0 n)
+keeps_so_many into None made before after new kept = tt
+keeps_so_many into (Some f) made before after new kept = (after, subst (λ (k : ℕ). KeepsAnswered into (Some f) made k after) new kept)

@@ -26,7 +26,7 @@ use Rattle.rje_sockets.specs.Watching.{SawBoth, SawReceiver, SawSender, nobody_h
 pub end_turn : {W : Type 0} (Saw : SawSender W) (s s' : Sending) (t u : LineTells) (w w' : W) → s.over ≡ false → say_in s.core.place ≡ Say.End → s' ≡ after_speaking s
     → SpokeAndHeard s.rest t u Say.End Sound.Quiet → Saw w w' Say.End Sound.Quiet → (x : SpokenTurn) × SenderTurn Saw (s, t, w) (s', u, w') x
 end_turn Saw s s' t u w w' live end e passed saw =
-    (heard_turn Say.End Sound.Quiet, (record { live = live; said = sym end; done = λ x. refl; state = e }, passed, saw))
+    (heard_turn Say.End Sound.Quiet, (record { live = live; said = sym end; done = λ x. refl; state = e }, refl, passed, saw))
 
 -- it said something else, and heard this
 pub more_turn : {W : Type 0} (Saw : SawSender W) (s near s' : Sending) (t u : LineTells) (w w' : W) (said : Say) (heard : Sound) → said ≡ say_in s.core.place → s.over ≡ false
@@ -38,6 +38,7 @@ more_turn Saw s near s' t u w w' said heard is live spoke listens e passed saw =
       heard_turn say heard,
       (
         record { live = live; said = refl; done = λ end. absurd (no_end say more end); state = e ∙ ap (λ x. after_hearing x heard false) spoke ∙ sym (hears say s heard more) },
+        refl,
         subst (λ x. SpokeAndHeard s.rest t u x heard) is passed,
         subst (λ x. Saw w w' x heard) is saw,
       ),
@@ -59,7 +60,7 @@ pub reply_turn : {W : Type 0} (Saw : SawReceiver W) (r heard r' : Receiving) (t 
     → reply ≡ heard.due → HeardAndReplied what t u reply → Saw w w' arrival reply → (x : SpokenTurn) × ReceiverTurn Saw (r, t, w) (r', u, w') x
 reply_turn Saw r heard r' t u w w' what refused arrival reply may is state came due passed saw =
     let seen = seen_as Saw r heard t u w w' what refused arrival reply is came due passed saw in
-    (arrived_turn Say.Bid r what refused, (record { what = what; arrived = refl; may = may; reply = refl; state = state ∙ ap after_replying is }, seen.0, seen.1))
+    (arrived_turn Say.Bid r what refused, (record { what = what; arrived = refl; may = may; reply = refl; state = state ∙ ap after_replying is }, refl, seen.0, seen.1))
 
 -- it was over
 pub last_turn : {W : Type 0} (Saw : SawReceiver W) (r heard r' : Receiving) (t u : LineTells) (w w' : W) (what : Heard) (refused : Bool) (arrival : Arrival) (reply : Option Reply)
@@ -67,7 +68,7 @@ pub last_turn : {W : Type 0} (Saw : SawReceiver W) (r heard r' : Receiving) (t u
     → reply ≡ heard.due → HeardAndReplied what t u reply → Saw w w' arrival reply → (x : SpokenTurn) × ReceiverTurn Saw (r, t, w) (r', u, w') x
 last_turn Saw r heard r' t u w w' what refused arrival reply may is state came due passed saw =
     let seen = seen_as Saw r heard t u w w' what refused arrival reply is came due passed saw in
-    (arrived_turn Say.End r what refused, (record { what = what; arrived = refl; may = may; reply = refl; state = state ∙ is }, seen.0, seen.1))
+    (arrived_turn Say.End r what refused, (record { what = what; arrived = refl; may = may; reply = refl; state = state ∙ is }, refl, seen.0, seen.1))
 
 -- WHOEVER WATCHES, the same turns were taken
 
@@ -76,7 +77,7 @@ sender_took Saw was is h took = turns_as (λ _. SenderTurn Saw) (λ _. SenderTak
 
 pub sends_unseen : {W : Type 0} (Saw : SawSender W) (s s' : Sending) (t u : LineTells) (w w' : W) → Sends Saw (s, t, w) (s', u, w') → SendsOver s t s' u
 sends_unseen Saw s s' t u w w' (h, took, through) =
-    (h, turns_as (λ _. SenderTurn Saw) (λ _. SenderTurn nobody_sees) (λ a. (a.0, a.1, tt)) (λ past a b x turn. (turn.0, turn.1, tt)) (s, t, w) h (s', u, w') took, through)
+    (h, turns_as (λ _. SenderTurn Saw) (λ _. SenderTurn nobody_sees) (λ a. (a.0, a.1, tt)) (λ past a b x turn. (turn.0, turn.1, turn.2, tt)) (s, t, w) h (s', u, w') took, through)
 
 pub receiver_took : {W : Type 0} (Saw : SawReceiver W) (was is : Receiving × LineTells × W) (h : History) → Turns (λ _. ReceiverTurn Saw) was h is → ReceiverTook was.0 h is.0
 receiver_took Saw was is h took = turns_as (λ _. ReceiverTurn Saw) (λ _. ReceiverTakes) (λ a. a.0) (λ past a b x turn. turn.0) was h is took
@@ -84,7 +85,7 @@ receiver_took Saw was is h took = turns_as (λ _. ReceiverTurn Saw) (λ _. Recei
 receiver_unseen : {W : Type 0} (Saw : SawReceiver W) (r r' : Receiving) (t u : LineTells) (w w' : W) (h : History) → Turns (λ _. ReceiverTurn Saw) (r, t, w) h (r', u, w')
     → Turns (λ _. ReceiverTurn nobody_hears) (r, t, tt) h (r', u, tt)
 receiver_unseen Saw r r' t u w w' h took =
-    turns_as (λ _. ReceiverTurn Saw) (λ _. ReceiverTurn nobody_hears) (λ a. (a.0, a.1, tt)) (λ past a b x turn. (turn.0, turn.1, tt)) (r, t, w) h (r', u, w') took
+    turns_as (λ _. ReceiverTurn Saw) (λ _. ReceiverTurn nobody_hears) (λ a. (a.0, a.1, tt)) (λ past a b x turn. (turn.0, turn.1, turn.2, tt)) (r, t, w) h (r', u, w') took
 
 pub leaves_unseen : {W : Type 0} (Saw : SawReceiver W) (left : Left) (r r' : Receiving) (t u : LineTells) (w w' : W) → Leaves Saw left (r, t, w) (r', u, w') → LeavesSo left r t r' u
 leaves_unseen Saw Left.Ended r r' t u w w' (h, on, took, over) = (h, on, receiver_unseen Saw r r' t u w w' h took, over)

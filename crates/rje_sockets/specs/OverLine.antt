@@ -1,6 +1,6 @@
 -- What passes over a line that tells its bytes, in a station's turn and in all of them, and what a watch beside it is told: each turn that was
 -- taken, once and in order, and nothing else (own profile). Of a line that doesn't tell its bytes nothing is said here.
-use Rattle.std.specs.Prelude.{◌≡◌, ℕ, List, Option, Some, None, map}
+use Rattle.std.specs.Prelude.{◌≡◌, false, ℕ, List, Option, Some, None, map}
 use Rattle.bsc_codes.specs.declared.block.Block.{Block}
 use Rattle.bsc_frame.specs.declared.heard.Heard.{Heard}
 use Rattle.bsc_history.specs.History.{History}
@@ -8,6 +8,7 @@ use Rattle.bsc_history.specs.declared.spoken_turn.SpokenTurn.{SpokenTurn}
 use Rattle.bsc_link.specs.declared.reply.Reply.{Reply}
 use Rattle.bsc_link.specs.declared.say.Say.{Say}
 use Rattle.bsc_link.specs.declared.sound.Sound.{Sound}
+use Rattle.bsc_link.specs.declared.wish.Wish.{Wish}
 use Rattle.line_world.specs.AnyLines.{BothTake, IsThrough, ReceiverTakes, SenderTakes, Turns, unhindered}
 use Rattle.line_world.specs.declared.spoken.Spoken.{Spoken}
 use Rattle.rje_station.specs.Hearing.{Hearing, HearsSound}
@@ -40,9 +41,10 @@ abbrev pub HeardAndReplied : Heard → (t u : LineTells) → Option Reply → Ty
 HeardAndReplied what t u reply =
     (heard : Option Talk) × Passes t.0 heard (λ t u. Hearing t u what) × Passes heard u.0 (Replied reply) × (u.1 ≡ with_reply reply t.1)
 
--- a sending station took a turn; the line sent and gave so, and the watch saw just that
+-- a sending station took a turn, in which it didn't ask to wait; the line sent and gave so, and the watch saw just that
 abbrev pub SenderTurn : {W : Type 0} → SawSender W → Sending × LineTells × W → Sending × LineTells × W → SpokenTurn → Type 0
-SenderTurn Saw (s, t, w) (s', u, w') x = SenderTakes s s' x × SpokeAndHeard s.rest t u x.said x.heard × Saw w w' x.said x.heard
+SenderTurn Saw (s, t, w) (s', u, w') x =
+    SenderTakes s s' x × (x.pause ≡ false) × SpokeAndHeard s.rest t u x.said x.heard × Saw w w' x.said x.heard
 
 -- it took some turns to its end
 abbrev pub Sends : {W : Type 0} → SawSender W → Sending × LineTells × W → Sending × LineTells × W → Type 0
@@ -52,10 +54,10 @@ Sends Saw was is = (h : History) × Turns (λ _. SenderTurn Saw) was h is × IsT
 abbrev pub SendsOver : Sending → LineTells → Sending → LineTells → Type 0
 SendsOver s t s' u = Sends nobody_sees (s, t, tt) (s', u, tt)
 
--- a receiving station took a turn; the line gave and sent so, and the watch saw just that
+-- a receiving station took a turn, in which it didn't ask to wait; the line gave and sent so, and the watch saw just that
 abbrev pub ReceiverTurn : {W : Type 0} → SawReceiver W → Receiving × LineTells × W → Receiving × LineTells × W → SpokenTurn → Type 0
 ReceiverTurn Saw (r, t, w) (r', u, w') x =
-    (takes : ReceiverTakes r r' x) × HeardAndReplied takes.what t u x.reply × Saw w w' (record { sound = x.arrived; refused = x.refused }) x.reply
+    (takes : ReceiverTakes r r' x) × (x.wish ≡ Wish.Go) × HeardAndReplied takes.what t u x.reply × Saw w w' (record { sound = x.arrived; refused = x.refused }) x.reply
 
 -- both took a turn, and the watch saw just that
 abbrev pub BothTurn : {W : Type 0} → SawBoth W → Sending × Receiving × W → Sending × Receiving × W → Spoken → Type 0
@@ -65,6 +67,6 @@ BothTurn Saw (s, r, w) (s', r', w') x = BothTake (Some x) s s' r r' × Saw w w' 
 abbrev pub BothTook : {W : Type 0} → SawBoth W → Sending × Receiving × W → Sending × Receiving × W → Type 0
 BothTook Saw was is = (turns : List Spoken) × Turns (λ _. BothTurn Saw) was turns is × IsThrough is.0 (map unhindered turns)
 
--- over a connection, which tells no bytes
+-- over a new connection, which tells no bytes, and on which nothing was transmitted before
 abbrev pub OverConnection : (LineTells → LineTells → Type 0) → Type 0
-OverConnection Holds = (m : ℕ) × (n : ℕ) × Holds (None, m) (None, n)
+OverConnection Holds = (n : ℕ) × Holds (None, 0) (None, n)

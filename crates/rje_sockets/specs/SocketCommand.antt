@@ -33,7 +33,7 @@ Transmits (SocketOrder.Exchange order) ending files made before after =
 abbrev pub LeavesFiles : SocketOrder → (files made : Option FileMap) → Type 0
 LeavesFiles (SocketOrder.Loop order) files made = Discloses files made IsSame
 LeavesFiles (SocketOrder.Send order) files made = MarksNoMore ⊤ order.jobs.now files made
-LeavesFiles (SocketOrder.Receive order) files made = IfSome files (λ _. (before : ℕ) × (after : ℕ) × KeepsAnswered order.into files made before after)
+LeavesFiles (SocketOrder.Receive order) files made = IfSome files (λ _. (after : ℕ) × KeepsAnswered order.into files made 0 after)
 LeavesFiles (SocketOrder.Exchange order) files made =
     IfSome files (λ _. LeavesExchange ⊤ (rank_at order.place) order.send.now order.received files made)
 

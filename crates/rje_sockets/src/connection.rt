@@ -1,4 +1,6 @@
 //! Connections, and whether the time-out is longer than they take.
+ghost use Rattle.std.specs.Prelude.{◌≡◌, IfOk};
+
 use crate::socket_line::SocketLine;
 use crate::timed_stream::TimedStream;
 use bsc_link::Rank;
@@ -19,7 +21,9 @@ pub(crate) fn connected<'r, R: Net + Clock, E: Write>(
     address: SocketAddr,
     timeout: u16,
     err: &mut E,
-) -> io::Result<TimedLine<'r, R>> {
+) -> io::Result<TimedLine<'r, R>>
+    ensures unused { IfOk result (λ line. line.transmissions ≡ 0) }
+{
     let start = Instant::now(rt).ok();
     let longest = Duration::from_millis(u64::from(timeout.max(MIN_CONNECTING)));
     let stream = TcpStream::connect_timeout(rt, &address, longest)?;
@@ -33,7 +37,9 @@ pub(crate) fn accepted<'r, R: Net + Clock>(
     rt: &'r R,
     address: SocketAddr,
     timeout: u16,
-) -> io::Result<(TimedLine<'r, R>, SocketAddr)> {
+) -> io::Result<(TimedLine<'r, R>, SocketAddr)>
+    ensures unused { IfOk result (λ met. met.0.transmissions ≡ 0) }
+{
     let listener = TcpListener::bind(rt, address)?;
     let (stream, peer) = listener.accept()?;
     let line = SocketLine::new(TimedStream::new(rt, stream), timeout, Rank::Secondary)?;

@@ -47,7 +47,10 @@ pub struct SocketLine<S> {
 impl<S: OpenStream + Drop> SocketLine<S> {
     /// A line over this connection for a station of this rank, on which a hearing waits so many milliseconds, at least 1, for more bytes, and
     /// a transmission for the peer to take its bytes. A secondary gives way to a bid that crosses its own.
-    pub fn new(stream: S, milliseconds: u16, rank: Rank) -> io::Result<SocketLine<S>> {
+    pub fn new(stream: S, milliseconds: u16, rank: Rank) -> io::Result<SocketLine<S>>
+        ensures unused { IfOk result (λ line. line.transmissions ≡ 0) }
+        ensures calm { IfOk result (λ line. (line.failures ≡ 0) × (line.last_fault ≡ None)) }
+    {
         let time = Some(Duration::from_millis(u64::from(milliseconds)));
         stream.set_nodelay(true)?;
         stream.set_read_timeout(time)?;

@@ -278,7 +278,9 @@ fn met<'r, R: Net + Clock, E: Write>(
     place: Meeting,
     timeout: u16,
     err: &mut E,
-) -> io::Result<(TimedLine<'r, R>, SocketAddr)> {
+) -> io::Result<(TimedLine<'r, R>, SocketAddr)>
+    ensures unused { IfOk result (λ met. met.0.transmissions ≡ 0) }
+{
     match place {
         Meeting::Calls(address) => Ok((connected(rt, address, timeout, err)?, address)),
         Meeting::Listens(address) => accepted(rt, address, timeout),

@@ -48,9 +48,8 @@ pub fn receive<'a, R: Net + Clock, S: Store, O: Write, E: Write>(
         Receives ending order.entry.into (t, S.files store.old, O.contents out.old)
         (u, S.files store.new, O.contents out.new))) }
     ensures fault { IfErr result (IsDestinationFault order.entry.into (S.files store.old)) }
-    ensures kept { IfSome (S.files store.old) (λ _. (before : ℕ) × (after : ℕ)
-        × KeepsAnswered order.entry.into (S.files store.old) (S.files store.new)
-        before after) }
+    ensures kept { IfSome (S.files store.old) (λ _. (after : ℕ)
+        × KeepsAnswered order.entry.into (S.files store.old) (S.files store.new) 0 after) }
     ensures files_kept { IfErr result (λ fault. status_of fault ≡ 1
         → Discloses (S.files store.old) (S.files store.new) IsSame) }
     ensures silent { IfErr result (λ fault. status_of fault ≡ 1 → out.new ≡ out.old) }

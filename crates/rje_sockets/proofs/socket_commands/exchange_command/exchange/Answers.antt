@@ -33,7 +33,7 @@ returns g c =
     let opened = opened_before front keeper.file f looked c.look_before_meeting.ensures.same c.in_ok-keeper.ensures.opened.1 in
     record {
       exchanged = over_connection c.exchange_files-ending.result (λ t u ending. ExchangesLeft ending (rank_at c.args.order.place) c.args.order.send.now into
-          (t, f, g.O.Write.contents c.args.out.now) (u, g.S.Store.files c.exchange_files-ending.new.store, g.O.Write.contents c.exchange_files-ending.new.out)) _ _
+          (t, f, g.O.Write.contents c.args.out.now) (u, g.S.Store.files c.exchange_files-ending.new.store, g.O.Write.contents c.exchange_files-ending.new.out)) _ _ c.in-Ok.ensures.unused
           (exchanges_left c.exchange_files-ending.result (None, _) (None, _) (rank_at c.args.order.place) c.args.order.send.now into jobs c.in_ok-station.station marker
           front keeper f begun (g.S.Store.files c.exchange_files-ending.new.store)
           (g.O.Write.contents c.args.out.now) (g.O.Write.contents c.exchange_files-ending.new.out) out copy first

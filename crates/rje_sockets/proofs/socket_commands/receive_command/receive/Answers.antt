@@ -17,15 +17,15 @@ returns-clause-received g c =
     let had = g.O.Write.contents c.args.out.now in
     let has = g.O.Write.contents c.received-ending.new.out in
     subst (λ (into : Destination). IfOk c.received-ending.result (λ ending. OverConnection (λ t u. Receives ending into (t, files, had) (u, made, has)))) c.in_ok-file.ensures.into
-    (over_connection c.received-ending.result (λ t u ending. Receives ending c.in_ok-file.file.into (t, files, had) (u, made, has)) _ _
+    (over_connection c.received-ending.result (λ t u ending. Receives ending c.in_ok-file.file.into (t, files, had) (u, made, has)) _ _ c.in-Ok.ensures.unused
     (c.received-ending.ensures.received opened.0 files opened.1 c.in_ok-file.ensures.same))
 
 pub returns-clause-kept : goal.returns-clause-kept
 returns-clause-kept g c =
     let opened = c.in_ok-file.ensures.opened in
     let files = g.S.Store.files c.args.store.now in
-    subst (λ (into : Destination). IfSome files (λ _. (n : ℕ) × (m : ℕ) × KeepsAnswered into files (g.S.Store.files c.received-ending.new.store) n m)) c.in_ok-file.ensures.into
-    (keeps_so_many c.in_ok-file.file.into files (g.S.Store.files c.received-ending.new.store) _ _ (c.received-ending.ensures.kept opened.0 files opened.1 c.in_ok-file.ensures.same))
+    subst (λ (into : Destination). IfSome files (λ _. (n : ℕ) × KeepsAnswered into files (g.S.Store.files c.received-ending.new.store) 0 n)) c.in_ok-file.ensures.into
+    (keeps_so_many c.in_ok-file.file.into files (g.S.Store.files c.received-ending.new.store) _ _ c.in-Ok.ensures.unused (c.received-ending.ensures.kept opened.0 files opened.1 c.in_ok-file.ensures.same))
 
 pub returns-clause-fault : goal.returns-clause-fault
 returns-clause-fault g c = receive_fails_so c.received-ending.result c.args.order.into (g.S.Store.files c.args.store.now) c.received-ending.ensures.status (search rules)
@@ -38,8 +38,8 @@ returns-clause-silent g c = not_refused c.received-ending.result _ c.received-en
 
 pub returns-in_err-file-clause-kept : goal.returns-in_err-file-clause-kept
 returns-in_err-file-clause-kept g c =
-    keeps_so_many c.args.order.into (g.S.Store.files c.args.store.now) (g.S.Store.files c.open.new.store) 0 0 (nothing_kept c.args.order.into (g.S.Store.files c.args.store.now) (g.S.Store.files c.open.new.store) 0 0 c.open.ensures.same refl)
+    keeps_so_many c.args.order.into (g.S.Store.files c.args.store.now) (g.S.Store.files c.open.new.store) 0 0 refl (nothing_kept c.args.order.into (g.S.Store.files c.args.store.now) (g.S.Store.files c.open.new.store) 0 0 c.open.ensures.same refl)
 
 pub returns-in_default-clause-kept : goal.returns-in_default-clause-kept
 returns-in_default-clause-kept g c =
-    keeps_so_many c.args.order.into (g.S.Store.files c.args.store.now) (g.S.Store.files c.open.new.store) 0 0 (nothing_kept c.args.order.into (g.S.Store.files c.args.store.now) (g.S.Store.files c.open.new.store) 0 0 c.open.ensures.same refl)
+    keeps_so_many c.args.order.into (g.S.Store.files c.args.store.now) (g.S.Store.files c.open.new.store) 0 0 refl (nothing_kept c.args.order.into (g.S.Store.files c.args.store.now) (g.S.Store.files c.open.new.store) 0 0 c.open.ensures.same refl)

@@ -23,7 +23,7 @@ returns g c =
     let copy = marked_after marker.file.items marker.name.now 0 f read (g.S.Store.files c.begin.new.store) c.read_outgoing.ensures.same c.in_ok-begin.ensures.begun in
     let fails = left_fails c.transmit.result marker.file.items jobs out.left c.transmit.ensures.status in
     record {
-      sent = over_connection c.transmit.result (λ t u ending. SendsLeft ending c.args.order.jobs.now (t, f, g.O.Write.contents c.args.out.now) (u, made, g.O.Write.contents c.transmit.new.out)) _ _
+      sent = over_connection c.transmit.result (λ t u ending. SendsLeft ending c.args.order.jobs.now (t, f, g.O.Write.contents c.args.out.now) (u, made, g.O.Write.contents c.transmit.new.out)) _ _ c.in-Ok.ensures.unused
           (sends_outgoing _ c.transmit.result (None, _) (None, _) _ _ c.args.order.jobs.now jobs marker c.in_ok-station.station c.transmit.new.station f (g.S.Store.files c.begin.new.store) made
           (g.O.Write.contents c.args.out.now) (g.O.Write.contents c.transmit.new.out) out copy first c.transmit.ensures.took c.transmit.ensures.ended
           c.transmit.ensures.printed c.transmit.ensures.marked);
