@@ -75,7 +75,8 @@ impl<'a> PairEnd<'a> {
             (λ what. Hearing (talk_of self.old.line) (talk_of self.new.line) what) }
         ensures arrival { self.new.station.receiver.arrival ≡ Some result.0 }
         ensures live { self.new.station.failed ≡ false }
-        ensures owes { self.new.station.receiver.over ≡ true → self.new.station.receiver.due ≡ None }
+        ensures owes { self.new.station.receiver.over ≡ true
+            → self.new.station.receiver.due ≡ None }
     {
         let Ok(reply) = self.station.hear_other(&mut self.line, wish) else {
             unreachable!()
