@@ -1,7 +1,5 @@
 -- What a line transmitted of a receiving station's replies, and what is kept by then.
-use Rattle.std.proofs.Common.{◌≡◌, inl, inr, ℕ, Bool, [], ◌∷◌, Option, refl, ap, ◌∙◌}
-use Rattle.bsc_frame.specs.declared.heard.Heard.{Heard}
-use Rattle.bsc_link.specs.declared.wish.Wish.{Wish}
+use Rattle.std.proofs.Common.{◌≡◌, inl, inr, ℕ, Bool, [], ◌∷◌, refl, ap, ◌∙◌}
 use Rattle.bsc_history.specs.History.{History}
 use Rattle.rje_station.specs.declared.line_fault.LineFault.{LineFault}
 use Rattle.rje_station.specs.declared.station_fault.StationFault.{StationFault}
@@ -10,18 +8,14 @@ use Rattle.rje_station.specs.StationFault.{IfLine, IsCause}
 use Rattle.rje_station.specs.Line.{one_more}
 use Rattle.rje_station.specs.Receiving.{Receiving, after_refusal, with_reply}
 use Rattle.line_world.specs.AnyLines.{Turns}
-use Rattle.rje_commands.specs.declared.command_fault.CommandFault.{CommandFault}
 use Rattle.rje_sockets.specs.declared.broken_off.BrokenOff.{BrokenOff}
 use Rattle.rje_sockets.specs.declared.left.Left.{Left}
-use Rattle.rje_sockets.specs.declared.keeper.Keeper.{Keeper}
 use Rattle.rje_sockets.specs.Answering.{Answered, answers}
-use Rattle.rje_sockets.specs.Inside.Keeping.{GoesOnKeeping}
-use Rattle.rje_sockets.specs.Inside.BreakingOff.{BreaksOff, BreaksOffNow, KeptSoFar}
+use Rattle.rje_sockets.specs.Inside.BreakingOff.{BreaksOffNow, KeptSoFar}
 use Rattle.rje_sockets.specs.OverLine.{LineTells, ReceiverTurn}
 use Rattle.rje_sockets.specs.Patience.{Leaves}
 use Rattle.rje_sockets.specs.Watching.{SawReceiver}
 use Rattle.rje_sockets.proofs.Watched.{receiver_took}
-use Rattle.rje_stores.specs.Store.{FileMap}
 
 -- ONE TURN
 

@@ -1,5 +1,5 @@
 -- One transmission each way over one line: what it makes of the two files, and what is printed of it (own profile).
-use Rattle.std.specs.Prelude.{◌≡◌, ◌≢◌, ◌++◌, ◌==◌, ℕ, Bool, true, false, List, [], ◌∷◌, length, Option, Some}
+use Rattle.std.specs.Prelude.{◌≡◌, ◌++◌, ◌==◌, ℕ, Bool, true, false, List, [], ◌∷◌, length, Option, Some}
 use Rattle.std.specs.Io.KnownBytes.{Appends}
 use Rattle.bsc_link.specs.declared.outcome.Outcome.{Outcome}
 use Rattle.bsc_link.specs.declared.rank.Rank.{Rank}

@@ -1,5 +1,5 @@
 -- What stands in a file in front of the jobs that are received into it, and why it isn't received into (own profile).
-use Rattle.std.specs.Prelude.{◌≡◌, ◌≢◌, ◌⊎◌, ℕ, List, [], length, Option, IfSome}
+use Rattle.std.specs.Prelude.{◌≡◌, ◌≢◌, ℕ, List, [], Option, IfSome}
 use Rattle.rje_files.specs.declared.entry.Entry.{Entry}
 use Rattle.rje_files.specs.FileFault.{IsFileFault}
 use Rattle.rje_files.specs.JobFile.{HasEntries, IsEntryFile}

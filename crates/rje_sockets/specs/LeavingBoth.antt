@@ -1,5 +1,5 @@
 -- What a station that sends and receives leaves in its two files, whatever ends its transmissions (own profile).
-use Rattle.std.specs.Prelude.{◌≡◌, ◌⊎◌, ℕ, List, Option}
+use Rattle.std.specs.Prelude.{◌⊎◌, ℕ, List, Option}
 use Rattle.bsc_link.specs.declared.rank.Rank.{Rank}
 use Rattle.rje_files.specs.declared.entry.Entry.{Entry}
 use Rattle.rje_files.specs.Entry.{jobs_in}

@@ -1,5 +1,5 @@
 -- What a sender has marked in its file of the jobs that it has counted (own profile).
-use Rattle.std.specs.Prelude.{◌≡◌, ◌⊎◌, ℕ, false, List, Option}
+use Rattle.std.specs.Prelude.{◌⊎◌, ℕ, List, Option}
 use Rattle.bsc_history.specs.History.{History}
 use Rattle.rje_files.specs.declared.entry.Entry.{Entry}
 use Rattle.rje_files.specs.Entry.{jobs_in}

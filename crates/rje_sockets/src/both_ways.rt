@@ -18,10 +18,10 @@ ghost use Rattle.rje_sockets.specs.NamedFiles.{NamesWritten};
 ghost use Rattle.rje_sockets.specs.OverLine.{HeardAndReplied, SpokeAndHeard};
 
 use crate::broken_off::BrokenOff;
-use crate::left::Left;
-use crate::one_way::{MAX_HEARINGS, MAX_QUIET, quiet_after};
 use crate::keeper::Keeper;
+use crate::left::Left;
 use crate::marker::Marker;
+use crate::one_way::{MAX_HEARINGS, MAX_QUIET, quiet_after};
 use crate::watch::Watch;
 use bsc_link::{Rank, Say, Sound, Wish};
 use rje_station::{Line, LineFault, Station, StationFault};

@@ -20,9 +20,9 @@ ghost use Rattle.rje_stores.specs.declared.store.Place.TheVariants.{Growing};
 
 use crate::both_ways::exchange_all;
 use crate::connection::{TimedLine, accepted, connected, tell_if_short};
-use crate::left::Left;
 use crate::keeper::Keeper;
 use crate::kept_file::KeptFile;
+use crate::left::Left;
 use crate::marker::Marker;
 use crate::parting::{HearsOut, Leaves, Parting, parts_in_step};
 use crate::socket_commands::Ending;

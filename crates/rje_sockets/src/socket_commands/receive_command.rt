@@ -16,10 +16,10 @@ ghost use Rattle.rje_stores.specs.Store.{FileMap, Discloses, IsSame};
 
 use crate::broken_off::BrokenOff;
 use crate::connection::{accepted, tell_if_short};
-use crate::left::Left;
-use crate::one_way::receive_all;
 use crate::keeper::Keeper;
 use crate::kept_file::KeptFile;
+use crate::left::Left;
+use crate::one_way::receive_all;
 use crate::socket_commands::Ending;
 use crate::tracer::Tracer;
 use crate::watch::{Unwatched, Watch};

@@ -16,8 +16,8 @@ ghost use Rattle.rje_sockets.specs.NamedFiles.{NamesOne, NamesWritten};
 ghost use Rattle.rje_sockets.specs.OverLine.{OverConnection, Sends};
 
 use crate::connection::connected;
-use crate::one_way::send_all;
 use crate::marker::Marker;
+use crate::one_way::send_all;
 use crate::parting::{HearsOut, Leaves, Parting, parts_in_step};
 use crate::socket_commands::Ending;
 use crate::tracer::Tracer;

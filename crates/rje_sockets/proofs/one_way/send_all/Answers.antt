@@ -1,6 +1,4 @@
-use Rattle.std.proofs.Common.{rules, ◌≡◌, refl, subst, inl, Err, []}
-use Rattle.bsc_history.specs.History.{History}
-use Rattle.line_world.specs.AnyLines.{SenderTook}
+use Rattle.std.proofs.Common.{rules, ◌≡◌, refl, inl, Err, []}
 use Rattle.rje_sockets.proofs.Marked.{counts_on, marks_nothing, marks_on}
 use Rattle.rje_sockets.proofs.OverLine.{sends_fault, sends_long, sends_on, sends_over, so_far_took}
 use Rattle.rje_sockets.proofs.one_way.send_all.Goals as goal
