@@ -1,15 +1,11 @@
-//! What no clause says of the program: printed texts, statuses, and that commands succeed where memory is ample.
+//! What no clause says of the program, and its scripts can't show: over stores, lines, clocks, readers and writers of the tests' own.
 mod commands;
 mod exchanging;
-mod job_commands;
 mod receiving;
 mod sending;
-mod socket_commands;
 mod stores;
 mod told_line;
 mod traced;
-mod trials;
-mod words;
 
 use arrayvec::ArrayVec;
 use line_world::MemoryLine;

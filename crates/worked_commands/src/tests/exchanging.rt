@@ -32,12 +32,11 @@ fn one_job(rt: &impl Abort, state: u8, record: u8) -> Written {
     joined(rt, &[header, &[state], rest, &[record]])
 }
 
-/// An end of this rank exchanges the file `out` for the file of this name over this line: it ends with this status and writes these texts.
+/// An end of this rank exchanges the file `out` for the file `got` over this line: it ends with this status and writes these texts.
 fn assert_ends(
     rt: &(impl Abort + AllocGlobal),
     rank: Rank,
     line: &mut impl Line,
-    received: &str,
     store: &mut impl Store,
     status: u8,
     text: &[u8],
@@ -51,7 +50,7 @@ fn assert_ends(
         line,
         "out",
         Destination {
-            jobs: received,
+            jobs: "got",
             existing: Existing::Replace,
         },
         store,
@@ -73,7 +72,7 @@ fn assert_exchanges(
     let mut store = store_of(rt.alloc(), "out", one_job(rt, 0, 0xC1).as_slice())?;
     let mut line = ToldLine::new(coming);
     let text = b"counted 1 of 1 jobs\noutcome done\nhanded 1 jobs, 1 whole\n";
-    assert_ends(rt, rank, &mut line, "got", &mut store, 0, text, b"");
+    assert_ends(rt, rank, &mut line, &mut store, 0, text, b"");
     assert!(rt; line.sent.as_slice() == joined(rt, said).as_slice());
     assert_file(rt, &mut store, "out", one_job(rt, 1, 0xC1).as_slice());
     assert_file(rt, &mut store, "got", one_job(rt, 2, 0xC2).as_slice());
@@ -93,16 +92,7 @@ fn assert_breaks_off(
     let mut store = store_of(rt.alloc(), "out", one_job(rt, 0, 0xC1).as_slice())?;
     let mut line = line_of(rt.alloc(), coming)?;
     line.fail_at(call);
-    assert_ends(
-        rt,
-        Rank::Primary,
-        &mut line,
-        "got",
-        &mut store,
-        3,
-        text,
-        told,
-    );
+    assert_ends(rt, Rank::Primary, &mut line, &mut store, 3, text, told);
     assert_file(rt, &mut store, "out", one_job(rt, state, 0xC1).as_slice());
     Ok(())
 }
@@ -142,7 +132,7 @@ fn an_exchange_of_nothing_is_well_after_40_quiet_hearings(rt: HostRuntime) -> Re
     for rank in [Rank::Primary, Rank::Secondary] {
         let mut store = store_of(rt.alloc(), "out", NO_JOBS)?;
         let mut line = ToldLine::new(&[]);
-        assert_ends(&rt, rank, &mut line, "got", &mut store, 0, text, b"");
+        assert_ends(&rt, rank, &mut line, &mut store, 0, text, b"");
         assert!(rt; line.sent.is_empty());
         assert_file(&rt, &mut store, "got", NO_JOBS);
     }
@@ -151,36 +141,7 @@ fn an_exchange_of_nothing_is_well_after_40_quiet_hearings(rt: HostRuntime) -> Re
     let text = b"counted 1 of 1 jobs\noutcome done\nhanded 0 jobs, 0 whole\n";
     let mut store = store_of(rt.alloc(), "out", one_job(&rt, 0, 0xC1).as_slice())?;
     let mut line = ToldLine::new(&[ACK0, ACK1]);
-    assert_ends(
-        &rt,
-        Rank::Primary,
-        &mut line,
-        "got",
-        &mut store,
-        4,
-        text,
-        b"",
-    );
-    Ok(())
-}
-
-#[test]
-fn one_file_cannot_hold_both_directions(rt: HostRuntime) -> Result<(), Fail> {
-    let mut store = store_of(rt.alloc(), "out", one_job(&rt, 0, 0xC1).as_slice())?;
-    let mut line = ToldLine::new(&[]);
-    let told = b"rje: can't write out\n";
-    assert_ends(
-        &rt,
-        Rank::Primary,
-        &mut line,
-        "out",
-        &mut store,
-        3,
-        b"",
-        told,
-    );
-    assert!(rt; line.sent.is_empty());
-    assert_file(&rt, &mut store, "out", one_job(&rt, 0, 0xC1).as_slice());
+    assert_ends(&rt, Rank::Primary, &mut line, &mut store, 4, text, b"");
     Ok(())
 }
 
@@ -212,14 +173,5 @@ fn of_two_files_that_cannot_be_written_the_sent_one_is_told(rt: HostRuntime) {
     let mut line = ToldLine::new(&[ACK0, ACK1]);
     let text = b"";
     let told = b"rje: can't write out\n";
-    assert_ends(
-        &rt,
-        Rank::Primary,
-        &mut line,
-        "got",
-        &mut store,
-        3,
-        text,
-        told,
-    );
+    assert_ends(&rt, Rank::Primary, &mut line, &mut store, 3, text, told);
 }

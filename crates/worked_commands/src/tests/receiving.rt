@@ -2,7 +2,7 @@
 ghost use Rattle.std.specs.Prelude.{None};
 
 use super::told_line::ToldLine;
-use super::{FILE, NO_JOBS, Written, assert_file, line_of, store_of};
+use super::{Written, assert_file, line_of};
 use rje_orders::{Destination, Existing};
 use rje_sockets::receive_over;
 use rje_station::Line;
@@ -27,14 +27,14 @@ const FAILED: &[u8] = b"rje: line failed\n";
 
 const NOT_WRITTEN: &[u8] = b"rje: can't write got\n";
 
-/// What is received into in most tests.
+/// What is received into.
 const REPLACED: Destination = Destination {
     jobs: "got",
     existing: Existing::Replace,
 };
 
 /// What comes over this line is received into the file `got` of this store: it ends with this status and writes these texts.
-pub(super) fn assert_receives(
+fn assert_receives(
     rt: &(impl Abort + AllocGlobal),
     line: &mut impl Line,
     store: &mut impl Store,
@@ -103,50 +103,9 @@ const TRANSMISSION: [&[u8]; 3] = [
     b"\x32\x32\x37",
 ];
 
-#[test]
-fn a_transmission_is_received_into_a_job_file(rt: HostRuntime) -> Result<(), Fail> {
-    let mut line = line_of(rt.alloc(), &TRANSMISSION)?;
-    let mut store = MemoryStore::new(rt.alloc());
-    assert_receives(&rt, &mut line, &mut store, 0, ONE_JOB, b"");
-    assert_file(&rt, &mut store, "got", RECEIVED);
-    Ok(())
-}
-
-/// The version 2 file of the job of `FILE`, and after it the one that is received.
-const ADDED: &[u8] =
+/// The version 2 file of two such jobs.
+const TWO_RECEIVED: &[u8] =
     b"RJ37\x00\x02\x00\x00\x00\x00\x00\x00\x00\x02        \x02\x00\x00\x00\x00\x00\x00\x00\x00\x00\x01\x00\x01\xC1        \x02\x00\x00\x00\x00\x00\x00\x00\x00\x00\x01\x00\x01\xC1";
-
-/// The transmission is received into the file `got`, which holds a job, with this choice for that job: it ends with this status, reports
-/// this, and leaves this file.
-fn assert_receives_beside(
-    rt: &(impl Abort + AllocGlobal),
-    existing: Existing,
-    status: u8,
-    told: &[u8],
-    file: &[u8],
-) -> Result<(), Fail> {
-    let mut line = line_of(rt.alloc(), &TRANSMISSION)?;
-    let mut store = store_of(rt.alloc(), "got", FILE)?;
-    let into = Destination {
-        jobs: "got",
-        existing,
-    };
-    let mut out = Written::new();
-    let mut err = Written::new();
-    let ended = receive_over(rt.alloc(), &mut line, into, &mut store, &mut out, &mut err);
-    assert!(rt; ended == status);
-    assert!(rt; err.as_slice() == told);
-    assert_file(rt, &mut store, "got", file);
-    Ok(())
-}
-
-#[test]
-fn jobs_that_a_file_holds_are_replaced_refused_or_kept(rt: HostRuntime) -> Result<(), Fail> {
-    let refused = b"rje: got holds jobs\n";
-    assert_receives_beside(&rt, Existing::Replace, 0, b"", RECEIVED)?;
-    assert_receives_beside(&rt, Existing::Refuse, 1, refused, FILE)?;
-    assert_receives_beside(&rt, Existing::Append, 0, b"", ADDED)
-}
 
 #[test]
 fn a_receiver_leaves_after_40_quiet_hearings(rt: HostRuntime) -> Result<(), Fail> {
@@ -160,16 +119,6 @@ fn a_receiver_leaves_after_40_quiet_hearings(rt: HostRuntime) -> Result<(), Fail
     let mut line = line_of(rt.alloc(), &TRANSMISSION[..2])?;
     line.fail_at(44);
     assert_receives(&rt, &mut line, &mut store, 3, ONE_JOB, FAILED);
-    Ok(())
-}
-
-#[test]
-fn a_babbling_peer_is_told(rt: HostRuntime) -> Result<(), Fail> {
-    let mut line = line_of(rt.alloc(), &[&[0x00; 8193]])?;
-    let mut store = MemoryStore::new(rt.alloc());
-    let text = b"handed 0 jobs, 0 whole\n";
-    assert_receives(&rt, &mut line, &mut store, 3, text, b"rje: babble\n");
-    assert_file(&rt, &mut store, "got", NO_JOBS);
     Ok(())
 }
 
@@ -248,42 +197,29 @@ impl Store for FillingStore {
 
 #[test]
 fn a_job_that_cannot_be_kept_is_not_acknowledged(rt: HostRuntime) -> Result<(), Fail> {
-    let answers: [&[u8]; 3] = [
-        b"\x32\x32\x10\x70\xFF",
-        b"\x32\x32\x10\x61\xFF",
-        b"\x32\x32\x10\x70\xFF",
-    ];
-    for room in 0..3 {
+    let two_jobs = b"handed 2 jobs, 2 whole\n".as_slice();
+    for (room, answer, status, text, told) in [
+        (
+            0,
+            b"\x32\x32\x10\x70\xFF".as_slice(),
+            3,
+            ONE_JOB,
+            NOT_WRITTEN,
+        ),
+        (1, b"\x32\x32\x10\x61\xFF", 3, two_jobs, NOT_WRITTEN),
+        (2, b"\x32\x32\x10\x70\xFF", 0, two_jobs, b""),
+    ] {
         let mut line = line_of(rt.alloc(), &TWO_JOBS)?;
         let mut store = FillingStore {
             files: MemoryStore::new(rt.alloc()),
             room,
         };
-        let mut out = Written::new();
-        let mut err = Written::new();
-        let ended = receive_over(
-            rt.alloc(),
-            &mut line,
-            REPLACED,
-            &mut store,
-            &mut out,
-            &mut err,
-        );
-        assert!(rt; line.sent() == answers[room as usize]);
-        let (status, told) = if room < 2 {
-            (3, NOT_WRITTEN)
-        } else {
-            (0, b"".as_slice())
-        };
-        assert!(rt; ended == status);
-        assert!(rt; err.as_slice() == told);
+        assert_receives(&rt, &mut line, &mut store, status, text, told);
+        assert!(rt; line.sent() == answer);
         match room {
             0 => assert!(rt; store.read(rt.alloc(), "got") == Err(StoreFault::Missing)),
             1 => assert_file(&rt, &mut store, "got", RECEIVED),
-            _ => {
-                let held = store.read(rt.alloc(), "got").expect(&rt, "a file");
-                assert!(rt; held.len() == RECEIVED.len() + RECEIVED.len() - 14);
-            }
+            _ => assert_file(&rt, &mut store, "got", TWO_RECEIVED),
         }
     }
     Ok(())

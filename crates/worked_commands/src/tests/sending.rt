@@ -2,12 +2,10 @@
 ghost use Rattle.std.specs.Prelude.{None};
 
 use super::receiving::FillingStore;
-use super::{FILE, Written, assert_file, joined, line_of, store_of};
+use super::{Written, assert_file, joined, line_of, store_of};
 use line_world::MemoryLine;
-use rje_orders::{Destination, Existing};
-use rje_program::command;
-use rje_sockets::{receive_over, send_over};
-use rje_stores::{MemoryStore, Place, Store, StoreFault};
+use rje_sockets::send_over;
+use rje_stores::{Place, Store, StoreFault};
 use std::alloc::Global;
 use std::process::Abort;
 use std::test::Fail;
@@ -63,116 +61,41 @@ fn assert_sends(
     assert!(rt; err.as_slice() == told);
 }
 
-#[test]
-fn what_was_sent_is_passed_over(rt: HostRuntime) -> Result<(), Fail> {
-    let mut store = store_of(rt.alloc(), "jobs", three_jobs(&rt, [0, 1, 0]).as_slice())?;
-    let mut line = line_of(rt.alloc(), &[ACK0, ACK1, ACK0])?;
-    let text = b"counted 2 of 2 jobs\noutcome done\n";
-    assert_sends(&rt, &mut line, &mut store, 0, text, b"");
-    assert_file(
-        &rt,
-        &mut store,
-        "jobs",
-        three_jobs(&rt, [1, 1, 1]).as_slice(),
-    );
+/// Of three jobs, the second of which was sent before, those that are left are sent over a line on which these answers come and this call fails
+/// (0: none): it ends with this status, writes these texts, and leaves the jobs in these states.
+fn assert_marks(
+    rt: &(impl Abort + AllocGlobal),
+    answers: &[&[u8]],
+    call: u64,
+    status: u8,
+    text: &[u8],
+    told: &[u8],
+    states: [u8; 3],
+) -> Result<(), Fail> {
+    let mut store = store_of(rt.alloc(), "jobs", three_jobs(rt, [0, 1, 0]).as_slice())?;
+    let mut line = line_of(rt.alloc(), answers)?;
+    line.fail_at(call);
+    assert_sends(rt, &mut line, &mut store, status, text, told);
+    assert_file(rt, &mut store, "jobs", three_jobs(rt, states).as_slice());
     Ok(())
 }
 
 #[test]
-fn what_was_not_counted_is_sent_by_the_next(rt: HostRuntime) -> Result<(), Fail> {
-    let mut store = store_of(rt.alloc(), "jobs", three_jobs(&rt, [0, 1, 0]).as_slice())?;
-    let mut line = line_of(rt.alloc(), &[ACK0, RVI])?;
-    let text = b"counted 1 of 2 jobs\noutcome turned\n";
-    assert_sends(&rt, &mut line, &mut store, 4, text, b"");
-    assert_file(
-        &rt,
-        &mut store,
-        "jobs",
-        three_jobs(&rt, [1, 1, 0]).as_slice(),
-    );
-    let mut line = line_of(rt.alloc(), &[ACK0, ACK1])?;
-    let text = b"counted 1 of 1 jobs\noutcome done\n";
-    assert_sends(&rt, &mut line, &mut store, 0, text, b"");
-    assert_file(
-        &rt,
-        &mut store,
-        "jobs",
-        three_jobs(&rt, [1, 1, 1]).as_slice(),
-    );
-    Ok(())
-}
+fn what_was_counted_is_marked_however_a_transmission_ends(rt: HostRuntime) -> Result<(), Fail> {
+    // Seven tries in silence, an RVI, and an EOT in place of an answer.
+    let given_up = b"counted 0 of 2 jobs\noutcome gave up\n";
+    let turned = b"counted 1 of 2 jobs\noutcome turned\n";
+    let ended = b"counted 1 of 2 jobs\noutcome ended\n";
+    assert_marks(&rt, &[], 0, 4, given_up, b"", [0, 1, 0])?;
+    assert_marks(&rt, &[ACK0, RVI], 0, 4, turned, b"", [1, 1, 0])?;
+    assert_marks(&rt, &[ACK0, ACK1, EOT], 0, 4, ended, b"", [1, 1, 0])?;
 
-#[test]
-fn a_transmission_that_ends_otherwise_is_told_with_status_4(rt: HostRuntime) -> Result<(), Fail> {
-    // Seven tries in silence, and an EOT in place of an answer.
-    for (pieces, text, counted) in [
-        (
-            [].as_slice(),
-            b"counted 0 of 2 jobs\noutcome gave up\n".as_slice(),
-            0,
-        ),
-        (
-            [ACK0, ACK1, EOT].as_slice(),
-            b"counted 1 of 2 jobs\noutcome ended\n".as_slice(),
-            1,
-        ),
-    ] {
-        let mut store = store_of(rt.alloc(), "jobs", three_jobs(&rt, [0, 1, 0]).as_slice())?;
-        let mut line = line_of(rt.alloc(), pieces)?;
-        assert_sends(&rt, &mut line, &mut store, 4, text, b"");
-        assert_file(
-            &rt,
-            &mut store,
-            "jobs",
-            three_jobs(&rt, [counted, 1, 0]).as_slice(),
-        );
-    }
-    Ok(())
-}
-
-#[test]
-fn a_receiver_that_babbles_is_told_behind_the_lines(rt: HostRuntime) -> Result<(), Fail> {
-    let mut store = store_of(rt.alloc(), "jobs", three_jobs(&rt, [0, 1, 0]).as_slice())?;
-    let mut line = line_of(rt.alloc(), &[ACK0, ACK1, &[0x00; 8193]])?;
-    let text = b"counted 1 of 2 jobs\noutcome open\n";
-    assert_sends(&rt, &mut line, &mut store, 3, text, b"rje: babble\n");
-    assert_file(
-        &rt,
-        &mut store,
-        "jobs",
-        three_jobs(&rt, [1, 1, 0]).as_slice(),
-    );
-    Ok(())
-}
-
-#[test]
-fn what_was_counted_is_marked_after_a_fault_of_the_line(rt: HostRuntime) -> Result<(), Fail> {
-    let mut store = store_of(rt.alloc(), "jobs", three_jobs(&rt, [0, 1, 0]).as_slice())?;
-    let mut line = line_of(rt.alloc(), &[ACK0, ACK1])?;
-
-    // The bid and its answer, the first block and its answer, and then the second block.
-    line.fail_at(5);
-    let text = b"counted 1 of 2 jobs\noutcome open\n";
-    assert_sends(&rt, &mut line, &mut store, 3, text, b"rje: line failed\n");
-    assert_file(
-        &rt,
-        &mut store,
-        "jobs",
-        three_jobs(&rt, [1, 1, 0]).as_slice(),
-    );
-    Ok(())
-}
-
-#[test]
-fn an_older_file_is_written_back_as_version_2(rt: HostRuntime) -> Result<(), Fail> {
-    let sent =
-        b"RJ37\x00\x02\x00\x00\x00\x00\x00\x00\x00\x01        \x01\x00\x00\x00\x00\x00\x00\x00\x00\x00\x01\x00\x01\xC1";
-    let mut store = store_of(rt.alloc(), "jobs", FILE)?;
-    let mut line = line_of(rt.alloc(), &[ACK0, ACK1])?;
-    let text = b"counted 1 of 1 jobs\noutcome done\n";
-    assert_sends(&rt, &mut line, &mut store, 0, text, b"");
-    assert_file(&rt, &mut store, "jobs", sent);
-    Ok(())
+    // Babble, and a second block that the line doesn't take.
+    let open = b"counted 1 of 2 jobs\noutcome open\n";
+    let babble = [ACK0, ACK1, &[0x00; 8193]];
+    assert_marks(&rt, &babble, 0, 3, open, b"rje: babble\n", [1, 1, 0])?;
+    let failed = b"rje: line failed\n";
+    assert_marks(&rt, &[ACK0, ACK1], 5, 3, open, failed, [1, 1, 0])
 }
 
 /// One file under any name, which can't be written.
@@ -223,23 +146,23 @@ fn nothing_is_sent_that_cannot_be_marked(rt: HostRuntime) -> Result<(), Fail> {
 fn a_file_that_cannot_be_written_back_is_told_behind_the_lines(
     rt: HostRuntime,
 ) -> Result<(), Fail> {
-    let text = b"counted 1 of 1 jobs\noutcome done\n";
-    let mut store = FillingStore::new(store_of(
-        rt.alloc(),
-        "jobs",
-        three_jobs(&rt, [0, 1, 1]).as_slice(),
-    )?);
-    let mut line = line_of(rt.alloc(), &[ACK0, ACK1])?;
-    assert_sends(&rt, &mut line, &mut store, 3, text, NOT_WRITTEN);
-    let mut store = FillingStore::new(store_of(
-        rt.alloc(),
-        "jobs",
-        three_jobs(&rt, [0, 1, 1]).as_slice(),
-    )?);
-    let mut line = line_of(rt.alloc(), &[ACK0, ACK1])?;
-    line.fail_at(3);
-    let text = b"counted 0 of 1 jobs\noutcome open\n";
-    assert_sends(&rt, &mut line, &mut store, 3, text, b"rje: line failed\n");
+    for (call, text, told) in [
+        (
+            0,
+            b"counted 1 of 1 jobs\noutcome done\n".as_slice(),
+            NOT_WRITTEN,
+        ),
+        (
+            3,
+            b"counted 0 of 1 jobs\noutcome open\n",
+            b"rje: line failed\n",
+        ),
+    ] {
+        let files = store_of(rt.alloc(), "jobs", three_jobs(&rt, [0, 1, 1]).as_slice())?;
+        let mut line = line_of(rt.alloc(), &[ACK0, ACK1])?;
+        line.fail_at(call);
+        assert_sends(&rt, &mut line, &mut FillingStore::new(files), 3, text, told);
+    }
     Ok(())
 }
 
@@ -353,84 +276,5 @@ fn marks_that_fail_are_made_at_the_end(rt: HostRuntime) -> Result<(), Fail> {
     assert!(rt; store.written == 2);
     assert!(rt; store.set == 1);
     assert!(rt; store.file.as_slice() == three_jobs(&rt, [1, 1, 1]).as_slice());
-    Ok(())
-}
-
-#[test]
-fn a_byte_is_set_where_there_is_one(rt: HostRuntime) -> Result<(), Fail> {
-    let mut store = MemoryStore::new(rt.alloc());
-    assert!(rt; store.set_byte(rt.alloc(), "jobs", 0, 1) == Err(StoreFault::Missing));
-    store.write("jobs", &[7, 8, 9])?;
-    assert!(rt; store.set_byte(rt.alloc(), "jobs", 1, 1) == Ok(()));
-    assert!(rt; store.set_byte(rt.alloc(), "jobs", 3, 1) == Err(StoreFault::Failed));
-    assert_file(&rt, &mut store, "jobs", &[7, 1, 9]);
-    Ok(())
-}
-
-#[test]
-fn a_job_that_was_cut_is_kept_as_cut_and_cannot_be_sent(rt: HostRuntime) -> Result<(), Fail> {
-    let block = b"\x32\x32\x02\xC1\x1E\x26\xD9\x86\xFF";
-    let pieces = [
-        b"\x32\x32\x2D".as_slice(),
-        block.as_slice(),
-        b"\x32\x32\x37".as_slice(),
-    ];
-    let mut line = line_of(rt.alloc(), &pieces)?;
-    let mut store = MemoryStore::new(rt.alloc());
-    let mut out = Written::new();
-    let mut err = Written::new();
-    let ended = receive_over(
-        rt.alloc(),
-        &mut line,
-        Destination {
-            jobs: "jobs",
-            existing: Existing::Replace,
-        },
-        &mut store,
-        &mut out,
-        &mut err,
-    );
-    assert!(rt; ended == 0);
-    assert!(rt; out.as_slice() == b"handed 1 jobs, 0 whole\n".as_slice());
-    let mut out = Written::new();
-    let mut input: &[u8] = b"";
-    let words = ["show", "jobs"];
-    let ended = command(
-        rt.alloc(),
-        &words,
-        &mut store,
-        &mut input,
-        &mut out,
-        &mut err,
-    );
-    assert!(rt; ended == 0);
-    assert!(rt; out.as_slice() == b"1 unset normal cut 1 records\n".as_slice());
-    let mut line = line_of(rt.alloc(), &[ACK0])?;
-    assert_sends(
-        &rt,
-        &mut line,
-        &mut store,
-        1,
-        b"",
-        b"rje: job 1 can't be sent\n",
-    );
-    Ok(())
-}
-
-#[test]
-fn the_number_of_a_bad_job_is_that_in_the_file(rt: HostRuntime) -> Result<(), Fail> {
-    let mut store = MemoryStore::new(rt.alloc());
-    let file = three_jobs(&rt, [1, 0, 3]);
-    store.write("jobs", file.as_slice())?;
-    let mut line = line_of(rt.alloc(), &[ACK0])?;
-    assert_sends(
-        &rt,
-        &mut line,
-        &mut store,
-        1,
-        b"",
-        b"rje: job 3 can't be sent\n",
-    );
-    assert_file(&rt, &mut store, "jobs", file.as_slice());
     Ok(())
 }

@@ -131,22 +131,6 @@ const CUT: [&[u8]; 2] = [
 const TRACED: [&str; 3] = ["loop", "jobs", "--trace"];
 
 #[test]
-fn a_loop_tells_each_turn_with_its_time(rt: HostRuntime) -> Result<(), Fail> {
-    let mut err = Written::new();
-    assert_loop(&rt, &TRACED, 100, &mut err)?;
-    assert!(rt; err.as_slice() == TRACE);
-    Ok(())
-}
-
-#[test]
-fn a_loop_tells_nothing_where_it_is_not_asked_to(rt: HostRuntime) -> Result<(), Fail> {
-    let mut err = Written::new();
-    assert_loop(&rt, &TRACED[..2], 100, &mut err)?;
-    assert!(rt; err.is_empty());
-    Ok(())
-}
-
-#[test]
 fn a_trace_goes_quiet_where_the_clock_fails(rt: HostRuntime) -> Result<(), Fail> {
     for (looks, told) in [
         (0, b"".as_slice()),
@@ -154,6 +138,7 @@ fn a_trace_goes_quiet_where_the_clock_fails(rt: HostRuntime) -> Result<(), Fail>
         (2, CUT[1]),
         (3, CUT[0]),
         (4, TRACE),
+        (100, TRACE),
     ] {
         let mut err = Written::new();
         assert_loop(&rt, &TRACED, looks, &mut err)?;
