@@ -11,13 +11,6 @@ const LOST: Place = Place {
     ..GOOD
 };
 
-/// This schedule is found to be fair, or not.
-fn assert_fair(rt: &(impl Abort + AllocGlobal), places: &[Place], fair: bool) -> Result<(), Fail> {
-    let turns = schedule(rt.alloc(), places)?;
-    assert!(rt; is_fair(&turns) == fair);
-    Ok(())
-}
-
 // HOW MANY TURNS
 
 /// For jobs of these numbers of records of 80 bytes, this many turns are enough.
@@ -48,41 +41,6 @@ fn a_job_that_cannot_be_sent_has_no_number_of_turns(rt: HostRuntime) -> Result<(
 
 // FAIR SCHEDULES
 
-/// Schedules, and whether each is fair.
-type Cases = &'static [(&'static [Place], bool)];
-
-/// Each of these schedules is found to be fair, or not.
-fn assert_each(rt: &(impl Abort + AllocGlobal), cases: Cases) -> Result<(), Fail> {
-    for (places, fair) in cases {
-        assert_fair(rt, places, *fair)?;
-    }
-    Ok(())
-}
-
-static ALL_LOST: Cases = &[
-    (&[], true),
-    (&[LOST, LOST, LOST, LOST, LOST, LOST, LOST], true),
-    (&[LOST, LOST, LOST, LOST, LOST, LOST, LOST, LOST], false),
-];
-
-#[test]
-fn fewer_than_eight_turns_may_all_be_lost(rt: HostRuntime) -> Result<(), Fail> {
-    assert_each(&rt, ALL_LOST)
-}
-
-static WAITING: Cases = &[
-    (&[GOOD], true),
-    (&[HOLD], false),
-    (&[TURN], false),
-    (&[PAUSE], false),
-    (&[GOOD, GOOD, PAUSE], false),
-];
-
-#[test]
-fn on_a_fair_line_nobody_asks_to_wait(rt: HostRuntime) -> Result<(), Fail> {
-    assert_each(&rt, WAITING)
-}
-
 const NOISE: Place = Place {
     up: Way::Damaged(&[0x32, 0x32, 0xC1]),
     ..GOOD
@@ -93,30 +51,46 @@ const IN_PIECES: Place = Place {
     ..GOOD
 };
 
-static PAIRS: Cases = &[
+/// Schedules, and whether each is fair.
+static SCHEDULES: &[(&[Place], bool)] = &[
+    // Fewer than eight turns may all be lost.
+    (&[], true),
+    (&[LOST, LOST, LOST, LOST, LOST, LOST, LOST], true),
+    (&[LOST, LOST, LOST, LOST, LOST, LOST, LOST, LOST], false),
+    // On a fair line neither end asks the other to wait.
+    (&[GOOD], true),
+    (&[HOLD], false),
+    (&[TURN], false),
+    (&[PAUSE], false),
+    (&[GOOD, GOOD, PAUSE], false),
+    // Two neighbouring turns in which all arrives are a good pair.
     (&[LOST, LOST, LOST, LOST, LOST, LOST, GOOD, GOOD], true),
     (&[LOST, LOST, LOST, LOST, LOST, LOST, IN_PIECES, GOOD], true),
     (&[LOST, LOST, LOST, LOST, LOST, LOST, NOISE, GOOD], false),
     (&[LOST, LOST, LOST, LOST, LOST, LOST, GOOD, NOISE], false),
     (&[GOOD, LOST, GOOD, LOST, GOOD, LOST, GOOD, LOST], false),
-];
-
-// The schedules of the first and the third table of talks/fair.
-static FIVE_LOST: &[Place] = &[
-    LOST, LOST, LOST, LOST, LOST, GOOD, GOOD, LOST, LOST, LOST, LOST, LOST, GOOD, GOOD, LOST, LOST,
-    LOST, LOST, LOST, GOOD, GOOD,
-];
-
-static SIX_LOST: &[Place] = &[
-    GOOD, GOOD, LOST, LOST, LOST, LOST, LOST, LOST, GOOD, GOOD, LOST, LOST, LOST, LOST, LOST, LOST,
-    GOOD, GOOD, LOST, LOST, LOST, LOST, LOST, LOST,
+    // The schedules of the first and the third table of talks/fair.
+    (
+        &[
+            LOST, LOST, LOST, LOST, LOST, GOOD, GOOD, LOST, LOST, LOST, LOST, LOST, GOOD, GOOD,
+            LOST, LOST, LOST, LOST, LOST, GOOD, GOOD,
+        ],
+        true,
+    ),
+    (
+        &[
+            GOOD, GOOD, LOST, LOST, LOST, LOST, LOST, LOST, GOOD, GOOD, LOST, LOST, LOST, LOST,
+            LOST, LOST, GOOD, GOOD, LOST, LOST, LOST, LOST, LOST, LOST,
+        ],
+        false,
+    ),
 ];
 
 #[test]
-fn two_neighbouring_turns_in_which_all_arrives_are_a_good_pair(
-    rt: HostRuntime,
-) -> Result<(), Fail> {
-    assert_each(&rt, PAIRS)?;
-    assert_fair(&rt, FIVE_LOST, true)?;
-    assert_fair(&rt, SIX_LOST, false)
+fn each_schedule_is_fair_or_is_not(rt: HostRuntime) -> Result<(), Fail> {
+    for (places, fair) in SCHEDULES {
+        let turns = schedule(rt.alloc(), places)?;
+        assert!(rt; is_fair(&turns) == *fair);
+    }
+    Ok(())
 }

@@ -13,16 +13,16 @@ use std::alloc::Global;
 use std::process::Abort;
 use std::test::Fail;
 
-const ACK0: [u8; 5] = [0x32, 0x32, 0x10, 0x70, 0xFF];
+pub(super) const ACK0: [u8; 5] = [0x32, 0x32, 0x10, 0x70, 0xFF];
 
 const ACK1: [u8; 5] = [0x32, 0x32, 0x10, 0x61, 0xFF];
 
 /// The block of the record C1 that ends its job.
-const BLOCK: [u8; 9] = [0x32, 0x32, 0x02, 0xC1, 0x1E, 0x03, 0x18, 0x5D, 0xFF];
+pub(super) const BLOCK: [u8; 9] = [0x32, 0x32, 0x02, 0xC1, 0x1E, 0x03, 0x18, 0x5D, 0xFF];
 
-const EOT: [u8; 4] = [0x32, 0x32, 0x37, 0xFF];
+pub(super) const EOT: [u8; 4] = [0x32, 0x32, 0x37, 0xFF];
 
-const OVER: Option<StationFault> = Some(StationFault::Over);
+pub(super) const OVER: Option<StationFault> = Some(StationFault::Over);
 
 /// A line in memory on which these come, one in each hearing, and whose call of this number fails, or none where it is 0.
 fn line_of(alloc: Global, pieces: &[&[u8]], failing: u64) -> Result<MemoryLine, Fail> {

@@ -1,14 +1,11 @@
 //! Transmissions that are cut or changed: what the line's quiet says of them, and that nothing is handed out but what was sent.
-use super::failing_lines::is_the_job;
+use super::failing_lines::{BLOCK, is_the_job};
 use super::stations::{one_piece, open_receiver};
 use bsc_frame::{Heard, Listener};
 use bsc_link::{Reply, Wish};
 use rje_station::StationFault;
 use std::process::Abort;
 use std::test::Fail;
-
-/// The block of the record C1 that ends its job.
-const BLOCK: [u8; 9] = [0x32, 0x32, 0x02, 0xC1, 0x1E, 0x03, 0x18, 0x5D, 0xFF];
 
 /// Transmissions, without the pad after them; how many bytes of each are quiet, and from how many on it is a text that is spoiled.
 const TRANSMISSIONS: [(&[u8], usize, usize); 6] = [

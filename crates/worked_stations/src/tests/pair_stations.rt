@@ -1,5 +1,6 @@
 //! Two stations that both have jobs, by hand over lines in memory: a conversation, what isn't taken or can't be read, and lines of which
 //! a call fails.
+use super::failing_lines::{ACK0, EOT, OVER};
 use super::stations::{ENQ, FAILED, assert_events, one_piece, syns, transparent_block};
 use super::{assert_same_jobs, job_of, unfit_job};
 use bsc_link::{Outcome, Rank, Reply, Say, Sound, Wish};
@@ -12,13 +13,7 @@ use std::test::Fail;
 
 const RANKS: [Rank; 2] = [Rank::Primary, Rank::Secondary];
 
-const ACK0: [u8; 5] = [0x32, 0x32, 0x10, 0x70, 0xFF];
-
 const ACK1: [u8; 4] = [0x32, 0x32, 0x10, 0x61];
-
-const EOT: [u8; 4] = [0x32, 0x32, 0x37, 0xFF];
-
-const OVER: Option<StationFault> = Some(StationFault::Over);
 
 /// A station at its end of a line.
 #[derive(Drop)]
@@ -539,26 +534,11 @@ fn assert_left(rt: &(impl Abort + AllocGlobal), end: &mut End<'_>, handed: usize
     assert!(rt; end.answer(rt, &ACK0) == Ok(Sound::Ack0));
 }
 
-/// The other's EOT was lost before its bid came.
-fn assert_not_heard(rt: &(impl Abort + AllocGlobal), rank: Rank) -> Result<(), Fail> {
-    let jobs = [job_of(rt, 1, 1)?];
-    let mut end = end_of(rt, rank, &jobs);
-    assert_left(rt, &mut end, 0);
-    Ok(())
-}
-
-#[test]
-fn once_the_other_ended_a_station_no_longer_hears_it(rt: HostRuntime) -> Result<(), Fail> {
-    for rank in RANKS {
-        assert_not_heard(&rt, rank)?;
-    }
-    Ok(())
-}
-
-/// The other's EOT was lost after a block.
-fn assert_job_is_kept(rt: &(impl Abort + AllocGlobal), rank: Rank) -> Result<(), Fail> {
+/// The other's EOT was lost before its bid came, and then after a block of it.
+fn assert_each_left(rt: &(impl Abort + AllocGlobal), rank: Rank) -> Result<(), Fail> {
     let jobs = [job_of(rt, 1, 1)?];
     let card = transparent_block(rt, 80)?;
+    assert_left(rt, &mut end_of(rt, rank, &jobs), 0);
     let mut end = end_of(rt, rank, &jobs);
     assert!(rt; end.hear_bytes(rt, &ENQ).is_ok());
     assert!(rt; end.hear(card).is_ok());
@@ -570,9 +550,9 @@ fn assert_job_is_kept(rt: &(impl Abort + AllocGlobal), rank: Rank) -> Result<(),
 }
 
 #[test]
-fn once_the_other_ended_its_job_is_kept(rt: HostRuntime) -> Result<(), Fail> {
+fn once_the_other_ended_it_is_not_heard_and_its_job_is_kept(rt: HostRuntime) -> Result<(), Fail> {
     for rank in RANKS {
-        assert_job_is_kept(&rt, rank)?;
+        assert_each_left(&rt, rank)?;
     }
     Ok(())
 }

@@ -425,17 +425,11 @@ fn assert_call_fails(
 }
 
 #[test]
-fn each_call_of_the_senders_line_fails_once(rt: HostRuntime) -> Result<(), Fail> {
+fn each_call_of_the_senders_or_the_receivers_line_fails_once(rt: HostRuntime) -> Result<(), Fail> {
     for (i, counts) in COUNTS.iter().enumerate() {
-        assert_call_fails(&rt, true, i as u64 + 1, *counts)?;
-    }
-    Ok(())
-}
-
-#[test]
-fn each_call_of_the_receivers_line_fails_once(rt: HostRuntime) -> Result<(), Fail> {
-    for (i, counts) in COUNTS.iter().enumerate() {
-        assert_call_fails(&rt, false, i as u64 + 1, *counts)?;
+        for of_sender in [true, false] {
+            assert_call_fails(&rt, of_sender, i as u64 + 1, *counts)?;
+        }
     }
     Ok(())
 }
