@@ -196,8 +196,8 @@ class Steady:
 
 
 class Drawn:
-    """Each message takes up to `most` seconds. So many are lost, so many are spoiled (texts, and others as well unless `texts_alone`),
-    and so many texts refused. EOT is lost more rarely, and never spoiled."""
+    """Each message takes up to `most` seconds. The share `lost` of them is lost, the share `spoils` spoiled (of texts, and of others as well
+    unless `texts_alone`), and the share `refused` of the texts refused. EOT is lost more rarely, and never spoiled."""
 
     # What comes at once with something else isn't heard at all: so it doesn't.
     apart = 0.002

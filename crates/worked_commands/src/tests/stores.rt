@@ -1,22 +1,6 @@
-//! What no clause says: files of the system, and that files in memory are there.
-use rje_stores::{FileStore, MemoryStore, Store, StoreFault};
+//! What no clause says: that files in memory are there. What the system's files do stands in commands/.
+use rje_stores::{MemoryStore, Store, StoreFault};
 use std::test::Fail;
-use std::{fs, process};
-
-#[test]
-fn files_are_read_back(rt: HostRuntime) -> Result<(), Fail> {
-    let name = format!(in rt.alloc();
-        "/tmp/rje_files_are_read_back_{}",
-        process::id(rt.process())
-    )?;
-    let mut files = FileStore::new(&rt, rt.alloc());
-    files.write(name.as_str(), b"A\n")?;
-    assert!(rt; files.read(rt.alloc(), name.as_str())?.as_slice() == b"A\n".as_slice());
-    fs::remove_file(&rt, name.as_str())?;
-    assert!(rt; files.read(rt.alloc(), "/tmp").err() == Some(StoreFault::Failed));
-    assert!(rt; files.read(rt.alloc(), name.as_str()).err() == Some(StoreFault::Missing));
-    Ok(())
-}
 
 #[test]
 fn files_in_memory_are_read_back(rt: HostRuntime) -> Result<(), Fail> {
