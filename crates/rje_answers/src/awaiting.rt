@@ -11,8 +11,8 @@ use std::marker::Model;
 /// How many hearings in vain an answer is awaited for.
 const MAX_VAIN: u8 = 2;
 
-/// After a wait in vain, how many hearings have to be quiet after an answer that counts: things are said two apart, or three where a secondary
-/// listens before it bids again, and their answers may come as far apart.
+/// After a wait in vain, how many hearings have to be quiet after an answer that counts: things are said two hearings apart, or three where a
+/// secondary listens before it bids again, and their answers may come as far apart.
 const MAX_QUIET: u8 = 4;
 
 /// Awaits the answer to what was said last. The event table stands in `specs/Awaiting.antt`.
