@@ -1,9 +1,10 @@
 -- Why a file of a name isn't read, or not written (own profile).
-use Rattle.std.specs.Prelude.{◌≡◌, ℕ, List, Option, ⊤}
+use Rattle.std.specs.Prelude.{◌≡◌, ◌≢◌, ◌⊎◌, ℕ, List, Option, ⊤}
 use Rattle.rje_files.specs.FileFault.{IsFileFault}
 use Rattle.rje_files.specs.JobFile.{IsEntryFile}
 use Rattle.rje_commands.specs.declared.command_fault.CommandFault.{CommandFault}
 use Rattle.rje_commands.specs.Commands.{OfFile}
+use Rattle.rje_stores.specs.declared.store.StoreFault.{StoreFault}
 use Rattle.rje_stores.specs.Store.{FileMap}
 
 -- there is no memory for what has this name, or it can't be read
@@ -11,6 +12,12 @@ abbrev pub IsReadFault : List ℕ → CommandFault → Type 0
 IsReadFault name CommandFault.OutOfMemory = ⊤
 IsReadFault name (CommandFault.CannotRead named) = named.now ≡ name
 IsReadFault name _ = ⊥
+
+-- it is that which comes of this fault of a store
+abbrev pub IsReadFaultOf : List ℕ → StoreFault → CommandFault → Type 0
+IsReadFaultOf name fault CommandFault.OutOfMemory = fault ≡ StoreFault.OutOfMemory
+IsReadFaultOf name fault (CommandFault.CannotRead named) = (fault ≢ StoreFault.OutOfMemory) × (named.now ≡ name)
+IsReadFaultOf name fault _ = ⊥
 
 -- or it is no job file
 abbrev pub IsInputFault : List ℕ → Option FileMap → CommandFault → Type 0
@@ -24,6 +31,14 @@ IsWriteFault name (CommandFault.CannotWrite named) = named.now ≡ name
 IsWriteFault name (CommandFault.InUse named) = named.now ≡ name
 IsWriteFault name (CommandFault.Unsynced named) = named.now ≡ name
 IsWriteFault name _ = ⊥
+
+-- it is that which comes of this fault of a store
+abbrev pub IsWriteFaultOf : List ℕ → StoreFault → CommandFault → Type 0
+IsWriteFaultOf name fault CommandFault.OutOfMemory = fault ≡ StoreFault.OutOfMemory
+IsWriteFaultOf name fault (CommandFault.CannotWrite named) = ((fault ≡ StoreFault.Missing) ⊎ (fault ≡ StoreFault.Failed)) × (named.now ≡ name)
+IsWriteFaultOf name fault (CommandFault.InUse named) = (fault ≡ StoreFault.InUse) × (named.now ≡ name)
+IsWriteFaultOf name fault (CommandFault.Unsynced named) = (fault ≡ StoreFault.Unsynced) × (named.now ≡ name)
+IsWriteFaultOf name fault _ = ⊥
 
 -- what has this name can't be had for the command alone, or not be read then
 abbrev pub IsHoldFault : List ℕ → CommandFault → Type 0

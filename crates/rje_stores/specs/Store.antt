@@ -1,8 +1,10 @@
 -- What a store of files is: names with their bytes, where it discloses them.
 use Rattle.std.specs.Prelude.{◌≡◌, ℕ, ◌<◌, ◌≤◌, List, length, set, Option, Some, None, ⊤, bytes_eq, if◌then◌else◌}
 use Rattle.std.specs.Option.{IsSomeAnd}
+use Rattle.std.specs.declared.io.ErrorKind.{ErrorKind}
 use Rattle.rje_files.specs.Growth.{grown}
 use Rattle.rje_stores.specs.declared.reading.TheConstants.{MAX_INPUT}
+use Rattle.rje_stores.specs.declared.store.StoreFault.{StoreFault}
 
 -- the files: the bytes of each name that has some
 abbrev pub FileMap : Type 0
@@ -49,3 +51,9 @@ IsTooLong file = IsSomeAnd file (λ bytes. MAX_INPUT < length bytes)
 -- there is such a file, and it has fewer than `count` bytes
 abbrev pub HasFewer : ℕ → Option (List ℕ) → Type 0
 HasFewer count file = IsSomeAnd file (λ bytes. length bytes < count)
+
+-- what an error of the system comes to: no memory, no such file, or a store that fails
+abbrev pub of_error : ErrorKind → StoreFault
+of_error ErrorKind.OutOfMemory = StoreFault.OutOfMemory
+of_error ErrorKind.NotFound = StoreFault.Missing
+of_error _ = StoreFault.Failed

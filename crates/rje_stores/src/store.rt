@@ -1,8 +1,9 @@
 //! The files that the program reads and writes by name.
 ghost use Rattle.std.specs.Prelude.{◌≡◌, ◌≢◌, ℕ, ◌<◌, ◌≤◌, ◌↔◌, ◌++◌, List, Option, length, IfOk, IfSome, IsErrOf, IsOkUnless, OnOk, OnErr, false};
+ghost use Rattle.std.specs.IoError.{error_kind};
 ghost use Rattle.rje_files.specs.Growth.{grown};
 ghost use Rattle.rje_stores.specs.declared.store.StoreFault.TheVariants.{OutOfMemory};
-ghost use Rattle.rje_stores.specs.Store.{FileMap, Discloses, IsSame, Sets, SetsByte, Extends, Has, IsMissing};
+ghost use Rattle.rje_stores.specs.Store.{FileMap, Discloses, IsSame, Sets, SetsByte, Extends, Has, IsMissing, of_error};
 
 use crate::reading::MAX_INPUT;
 use std::alloc::{AllocError, Global};
@@ -30,7 +31,7 @@ pub enum StoreFault {
 }
 
 impl From<io::Error> for StoreFault {
-    ghost from_gives = { λ _ _. Unit {0} };
+    ghost from_gives = { λ error fault. fault ≡ of_error (error_kind error) };
 
     fn from(error: io::Error) -> StoreFault {
         match error.kind() {

@@ -2,7 +2,7 @@
 ghost use Rattle.std.specs.Prelude.{◌≡◌, IfOk, IfErr};
 ghost use Rattle.rje_files.specs.JobFile.{HasEntries, HasJobs};
 ghost use Rattle.rje_commands.specs.Commands.{OfDeck, OfFile};
-ghost use Rattle.rje_commands.specs.NamedFile.{IsReadFault, IsInputFault};
+ghost use Rattle.rje_commands.specs.NamedFile.{IsReadFault, IsReadFaultOf, IsInputFault};
 ghost use Rattle.rje_stores.specs.Store.{Discloses, IsSame};
 
 use crate::command_fault::CommandFault;
@@ -86,7 +86,8 @@ pub fn read_job_file<'a, S: Store>(
 
 /// Why the input of this name isn't read.
 pub(super) fn not_read(name: &str, fault: StoreFault) -> CommandFault<'_>
-    ensures { IsReadFault name.entry.now result }
+    ensures named { IsReadFault name.entry.now result }
+    ensures of { IsReadFaultOf name.entry.now fault result }
 {
     match fault {
         StoreFault::OutOfMemory => CommandFault::OutOfMemory,

@@ -2,7 +2,7 @@
 ghost use Rattle.std.specs.Prelude.{◌≡◌, ◌≢◌, ◌≤◌, ◌+◌, length, IfOk, IfSome, OnOk, OnErr, IfErr, true};
 ghost use Rattle.std.specs.List.{flat_map};
 ghost use Rattle.rje_files.specs.Growth.{grown};
-ghost use Rattle.rje_commands.specs.NamedFile.{IsWriteFault};
+ghost use Rattle.rje_commands.specs.NamedFile.{IsWriteFault, IsWriteFaultOf};
 ghost use Rattle.rje_commands.specs.CommandFault.{is_of_output};
 ghost use Rattle.rje_stores.specs.Store.{Discloses, Extends, IsSame, Sets, SetsByte};
 ghost use Rattle.std.specs.Io.KnownBytes.{Appends};
@@ -166,7 +166,8 @@ pub fn set_byte_of_file<'a, S: Store>(
 
 /// Why the file of this name isn't written.
 pub(super) fn not_written(name: &str, fault: StoreFault) -> CommandFault<'_>
-    ensures { IsWriteFault name.entry.now result }
+    ensures named { IsWriteFault name.entry.now result }
+    ensures of { IsWriteFaultOf name.entry.now fault result }
 {
     match fault {
         StoreFault::OutOfMemory => CommandFault::OutOfMemory,
