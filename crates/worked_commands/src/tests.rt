@@ -1,7 +1,9 @@
 //! What no clause says of the program, and its scripts can't show: over stores, lines, clocks, readers and writers of the tests' own.
 mod commands;
+mod connections;
 mod exchanging;
 mod receiving;
+mod scripted_stream;
 mod sending;
 mod stores;
 mod told_line;
