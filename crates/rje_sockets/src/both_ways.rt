@@ -90,6 +90,7 @@ fn may_bid_at_once<'a>(station: &Station<'a>) -> bool
 /// Whether both transmissions are over.
 fn is_over<'a>(station: &Station<'a>) -> bool
     ensures over { result ≡ true → AreOver station.now }
+    ensures all { AreOver station.now → result ≡ true }
 {
     station.due() == Say::Nothing && station.receiver().is_over()
 }
