@@ -19,10 +19,10 @@ use Rattle.rje_station.specs.declared.line_fault.LineFault.TheVariants.{Closed}
 use Rattle.rje_station.specs.declared.station_fault.StationFault.TheVariants as fault
 use Rattle.rje_sockets.specs.declared.broken_off.BrokenOff.{BrokenOff}
 use Rattle.rje_sockets.specs.declared.left.Left.{Left}
-use Rattle.rje_sockets.specs.BothWays.{AreOver, ExchangesTo, Fails, FailsInOthers, NextTurn, Others, Own, StationTurn, TakesOthers, TakesOwn, TakesTurnsTo, Took, TookOver, TurnOver, Waits, after_answering_other, has_listened, quiet_in_a_row}
+use Rattle.rje_sockets.specs.BothWays.{AreOver, ExchangesTo, Fails, FailsInOthers, IsNext, NextTurn, Others, Own, StationTurn, TakesOthers, TakesOwn, TakesTurnsTo, Took, TookOver, TurnOver, Waits, after_answering_other, has_listened, quiet_in_a_row}
 use Rattle.rje_sockets.specs.OverLine.{HeardAndReplied, LineTells, SpokeAndHeard}
 use Rattle.rje_sockets.specs.Patience.{was_quiet}
-use Rattle.rje_sockets.specs.Watching.{SawReceiver, SawSender, nobody_hears, nobody_sees}
+use Rattle.rje_sockets.specs.Watching.{NobodySawReceiver, NobodySawSender, SawReceiver, SawSender}
 
 -- THE OTHER'S TURN
 
@@ -84,7 +84,7 @@ module _ {W : Type 0} (Sent : SawSender W) (Came : SawReceiver W) (was : Contend
   -- whoever watches, these turns were taken
   pub took_turns : (turns : List StationTurn) (is : Contending × LineTells × W) → TookOver Sent Came was turns is → Took was.0.contender.rank was.0 turns is.0
   took_turns turns is took =
-      turns_as (TurnOver Sent Came was.0.contender.rank) (NextTurn was.0.contender.rank) (λ a. a.0) (λ past a b x turn. (turn.0, turn.1)) was turns is took
+      turns_as _ (NextTurn was.0.contender.rank) (λ a. a.0) (λ past a b x turn. (turn.0, turn.1.0)) was turns is took
 
   -- it took so many turns, so many of the last of them the other's and quiet; and whether it has listened since
   pub record SoFar (n quiet : ℕ) (listened : Bool) (is : Contending × LineTells × W) : Type 0 where
@@ -106,7 +106,7 @@ module _ {W : Type 0} (Sent : SawSender W) (Came : SawReceiver W) (was : Contend
         → ((said : Say) × (heard : Sound) × TakesOwn near.0 is.0 said heard × SpokeAndHeard near.0.sender.rest near.1 is.1 said heard × Sent near.2 is.2 said heard) → SoFar (n + 1) 0 now is
     so_own is now first bids (said, heard, takes, passed, saw) = record {
       turns = Own said heard ∷ p.turns;
-      took = (near, p.took, (subst (λ (b : Bool). due_at near.0 ≡ Say.Bid → (b ≡ true) ⊎ (near.0.receiver.over ≡ true)) p.listened_is bids, takes, passed, saw));
+      took = (near, p.took, (subst (λ (b : Bool). due_at near.0 ≡ Say.Bid → (b ≡ true) ⊎ (near.0.receiver.over ≡ true)) p.listened_is bids, (takes, passed, saw)));
       long = omega (arith, p.long);
       quiet_is = refl;
       few = omega arith;
@@ -126,7 +126,7 @@ module _ {W : Type 0} (Sent : SawSender W) (Came : SawReceiver W) (was : Contend
       with_others (arrival, reply, takes, passed, saw, came) = Others arrival reply ∷ p.turns
 
       others_took : Listens listened → (c : CameNow) → TookOver Sent Came was (with_others c) is
-      others_took next (arrival, reply, takes, passed, saw, came) = (near, p.took, (subst Listens p.listened_is next, takes, passed, saw))
+      others_took next (arrival, reply, takes, passed, saw, came) = (near, p.took, (subst Listens p.listened_is next, (takes, passed, saw)))
 
       others_quiet : (c : CameNow) → quiet_in_a_row (with_others c) ≡ (if was_quiet is.0.receiver.arrival then quiet + 1 else 0)
       others_quiet (arrival, reply, takes, passed, saw, came) =
@@ -169,13 +169,13 @@ module _ {W : Type 0} (Sent : SawSender W) (Came : SawReceiver W) (was : Contend
 
 -- whoever watches, they end so
 turns_unseen : {W : Type 0} (Sent : SawSender W) (Came : SawReceiver W) (s s' : Contending) (t u : LineTells) (w w' : W) (turns : List StationTurn)
-    → TookOver Sent Came (s, t, w) turns (s', u, w') → TookOver nobody_sees nobody_hears (s, t, tt) turns (s', u, tt)
+    → TookOver Sent Came (s, t, w) turns (s', u, w') → TookOver NobodySawSender NobodySawReceiver (s, t, tt) turns (s', u, tt)
 turns_unseen Sent Came s s' t u w w' turns took =
-    turns_as (TurnOver Sent Came s.contender.rank) (TurnOver nobody_sees nobody_hears s.contender.rank) (λ a. (a.0, a.1, tt)) unseen (s, t, w) turns (s', u, w') took where
-      unseen : (past : List StationTurn) (a b : Contending × LineTells × _) (x : StationTurn) → TurnOver Sent Came s.contender.rank past a b x
-          → TurnOver nobody_sees nobody_hears s.contender.rank past (a.0, a.1, tt) (b.0, b.1, tt) x
-      unseen past a b (Own said heard) (next, takes, passed, saw) = (next, takes, passed, tt)
-      unseen past a b (Others arrival reply) (next, takes, passed, saw) = (next, takes, passed, tt)
+    turns_as _ _ (λ a. (a.0, a.1, tt)) unseen (s, t, w) turns (s', u, w') took where
+      unseen : (past : List StationTurn) (a b : Contending × LineTells × _) (x : StationTurn) → IsNext s.contender.rank past a.0 x × TurnOver Sent Came a b x
+          → IsNext s.contender.rank past a.0 x × TurnOver NobodySawSender NobodySawReceiver (a.0, a.1, tt) (b.0, b.1, tt) x
+      unseen past a b (Own said heard) (next, (takes, passed, saw)) = (next, (takes, passed, tt))
+      unseen past a b (Others arrival reply) (next, (takes, passed, saw)) = (next, (takes, passed, tt))
 
 pub exchanges_unseen : {W : Type 0} (Sent : SawSender W) (Came : SawReceiver W) (left : Left) (s s' : Contending) (t u : LineTells) (w w' : W)
     → TakesTurnsTo Sent Came left (s, t, w) (s', u, w') → ExchangesTo left s t s' u

@@ -20,7 +20,7 @@ use Rattle.rje_sockets.specs.LeavingBoth.{CameTo, LeavesBoth, MarksAlone}
 use Rattle.rje_sockets.specs.Inside.Keeping.{IsOfFile, KeepsJobs}
 use Rattle.rje_sockets.specs.Inside.BothFiles.{BreaksBoth, GoesOnHolding, HeldSoFar, HoldsBoth, progress_of, HasCounted}
 use Rattle.rje_sockets.specs.OverLine.{LineTells}
-use Rattle.rje_sockets.specs.Watching.{nobody_hears, nobody_sees}
+use Rattle.rje_sockets.specs.Watching.{NobodySawReceiver, NobodySawSender}
 use Rattle.rje_sockets.proofs.BothFiles.{holds_written}
 use Rattle.rje_sockets.proofs.BothWays.{took_turns}
 use Rattle.rje_sockets.proofs.Growing.{still_keeps}
@@ -40,11 +40,11 @@ counted_on s near start had has came before (inr new) = inr (near, came, sym new
 -- WHEN THEY ENDED
 
 came_left : (s s' : Contending) (t u : LineTells) (left : Left) → ExchangesTo left s t s' u → CameTo s s'
-came_left s s' t u Left.Ended (turns, near, mid, took, ends) = (turns, near, took_turns nobody_sees nobody_hears (s, t, tt) turns (near, mid, tt) took, inl (by ends)) where
+came_left s s' t u Left.Ended (turns, near, mid, took, ends) = (turns, near, took_turns NobodySawSender NobodySawReceiver (s, t, tt) turns (near, mid, tt) took, inl (by ends)) where
   by : (AreOver near × (s' ≡ near) × (u ≡ mid)) ⊎ (Waits near × (s' ≡ after_other_refusal (fault.Line Closed) near)) → LeavesFrom near s'
   by (inl (over, same, told)) = inl same
   by (inr (waits, closed)) = inr (inr closed)
-came_left s s' t u Left.Abandoned (turns, near, took, ends) = (turns, near, took_turns nobody_sees nobody_hears (s, t, tt) turns (near, u, tt) took, inl (by ends)) where
+came_left s s' t u Left.Abandoned (turns, near, took, ends) = (turns, near, took_turns NobodySawSender NobodySawReceiver (s, t, tt) turns (near, u, tt) took, inl (by ends)) where
   by : ((quiet_in_a_row turns ≡ 40) × (s' ≡ after_other_ended near)) ⊎ ((length turns ≡ 1000000000) × (s' ≡ near)) → LeavesFrom near s'
   by (inl (quiet, ended)) = inr (inl ended)
   by (inr (long, same)) = inl same

@@ -20,7 +20,7 @@ use Rattle.line_world.proofs.TurnsOverLines.{arrived_turn, heard_turn, hears, no
 use Rattle.rje_sockets.specs.declared.left.Left.{Left}
 use Rattle.rje_sockets.specs.OverLine.{BothTook, BothTurn, HeardAndReplied, LineTells, ReceiverTurn, SenderTurn, Sends, SendsOver, SpokeAndHeard}
 use Rattle.rje_sockets.specs.Patience.{Leaves, LeavesSo}
-use Rattle.rje_sockets.specs.Watching.{SawBoth, SawReceiver, SawSender, nobody_hears, nobody_sees}
+use Rattle.rje_sockets.specs.Watching.{NobodySawReceiver, NobodySawSender, SawBoth, SawReceiver, SawSender}
 
 -- it said EOT
 pub end_turn : {W : Type 0} (Saw : SawSender W) (s s' : Sending) (t u : LineTells) (w w' : W) → s.over ≡ false → say_in s.core.place ≡ Say.End → s' ≡ after_speaking s
@@ -77,15 +77,15 @@ sender_took Saw was is h took = turns_as (λ _. SenderTurn Saw) (λ _. SenderTak
 
 pub sends_unseen : {W : Type 0} (Saw : SawSender W) (s s' : Sending) (t u : LineTells) (w w' : W) → Sends Saw (s, t, w) (s', u, w') → SendsOver s t s' u
 sends_unseen Saw s s' t u w w' (h, took, through) =
-    (h, turns_as (λ _. SenderTurn Saw) (λ _. SenderTurn nobody_sees) (λ a. (a.0, a.1, tt)) (λ past a b x turn. (turn.0, turn.1, turn.2, tt)) (s, t, w) h (s', u, w') took, through)
+    (h, turns_as (λ _. SenderTurn Saw) (λ _. SenderTurn NobodySawSender) (λ a. (a.0, a.1, tt)) (λ past a b x turn. (turn.0, turn.1, turn.2, tt)) (s, t, w) h (s', u, w') took, through)
 
 pub receiver_took : {W : Type 0} (Saw : SawReceiver W) (was is : Receiving × LineTells × W) (h : History) → Turns (λ _. ReceiverTurn Saw) was h is → ReceiverTook was.0 h is.0
 receiver_took Saw was is h took = turns_as (λ _. ReceiverTurn Saw) (λ _. ReceiverTakes) (λ a. a.0) (λ past a b x turn. turn.0) was h is took
 
 receiver_unseen : {W : Type 0} (Saw : SawReceiver W) (r r' : Receiving) (t u : LineTells) (w w' : W) (h : History) → Turns (λ _. ReceiverTurn Saw) (r, t, w) h (r', u, w')
-    → Turns (λ _. ReceiverTurn nobody_hears) (r, t, tt) h (r', u, tt)
+    → Turns (λ _. ReceiverTurn NobodySawReceiver) (r, t, tt) h (r', u, tt)
 receiver_unseen Saw r r' t u w w' h took =
-    turns_as (λ _. ReceiverTurn Saw) (λ _. ReceiverTurn nobody_hears) (λ a. (a.0, a.1, tt)) (λ past a b x turn. (turn.0, turn.1, turn.2, tt)) (r, t, w) h (r', u, w') took
+    turns_as (λ _. ReceiverTurn Saw) (λ _. ReceiverTurn NobodySawReceiver) (λ a. (a.0, a.1, tt)) (λ past a b x turn. (turn.0, turn.1, turn.2, tt)) (r, t, w) h (r', u, w') took
 
 pub leaves_unseen : {W : Type 0} (Saw : SawReceiver W) (left : Left) (r r' : Receiving) (t u : LineTells) (w w' : W) → Leaves Saw left (r, t, w) (r', u, w') → LeavesSo left r t r' u
 leaves_unseen Saw Left.Ended r r' t u w w' (h, on, took, over) = (h, on, receiver_unseen Saw r r' t u w w' h took, over)

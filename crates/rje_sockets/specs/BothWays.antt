@@ -18,7 +18,7 @@ use Rattle.rje_station.specs.declared.station_fault.StationFault.TheVariants as 
 use Rattle.rje_sockets.specs.declared.broken_off.BrokenOff.{BrokenOff}
 use Rattle.rje_sockets.specs.declared.left.Left.{Left}
 use Rattle.rje_sockets.specs.OverLine.{HeardAndReplied, LineTells, SpokeAndHeard}
-use Rattle.rje_sockets.specs.Watching.{SawReceiver, SawSender, nobody_hears, nobody_sees}
+use Rattle.rje_sockets.specs.Watching.{NobodySawReceiver, NobodySawSender, SawReceiver, SawSender}
 
 -- after its own turn: after EOT it doesn't listen
 abbrev pub after_own_turn : Contending → Say → Sound → Contending
@@ -68,10 +68,11 @@ abbrev pub IsNext : Rank → List StationTurn → Contending → StationTurn →
 IsNext rank past s (Own said heard) = due_at s ≡ Say.Bid → (has_listened rank past ≡ true) ⊎ (s.receiver.over ≡ true)
 IsNext rank past s (Others arrival reply) = (due_at s ≡ Say.Nothing) ⊎ ((due_at s ≡ Say.Bid) × (has_listened rank past ≡ false))
 
--- it took these turns, the newest first
+-- it was to take this turn next, and took it
 abbrev pub NextTurn : Rank → List StationTurn → Contending → Contending → StationTurn → Type 0
 NextTurn rank past s s' t = IsNext rank past s t × Takes s s' t
 
+-- it took these turns, the newest first
 abbrev pub Took : Rank → Contending → List StationTurn → Contending → Type 0
 Took rank = Turns (NextTurn rank)
 
@@ -101,13 +102,13 @@ abbrev pub SawTurn : {W : Type 0} → SawSender W → SawReceiver W → (was is 
 SawTurn Sent Came was is (Own said heard) = Sent was is said heard
 SawTurn Sent Came was is (Others arrival reply) = Came was is arrival reply
 
--- it took a turn, in its order; the line did so, and the watch saw just that
-abbrev pub TurnOver : {W : Type 0} → SawSender W → SawReceiver W → Rank → List StationTurn → Contending × LineTells × W → Contending × LineTells × W → StationTurn → Type 0
-TurnOver Sent Came rank past (s, t, w) (s', u, w') x = IsNext rank past s x × (takes : Takes s s' x) × PassedIn s s' x takes t u × SawTurn Sent Came w w' x
+-- it took a turn; the line did so, and the watch saw just that
+abbrev pub TurnOver : {W : Type 0} → SawSender W → SawReceiver W → Contending × LineTells × W → Contending × LineTells × W → StationTurn → Type 0
+TurnOver Sent Came (s, t, w) (s', u, w') x = (takes : Takes s s' x) × PassedIn s s' x takes t u × SawTurn Sent Came w w' x
 
--- it took these turns so
+-- it took these turns so, each in its order, the newest first
 abbrev pub TookOver : {W : Type 0} → SawSender W → SawReceiver W → Contending × LineTells × W → List StationTurn → Contending × LineTells × W → Type 0
-TookOver Sent Came was = Turns (TurnOver Sent Came was.0.contender.rank) was
+TookOver Sent Came was = Turns (λ past a b x. IsNext was.0.contender.rank past a.0 x × TurnOver Sent Came a b x) was
 
 -- it took some turns so, until both transmissions were over, or the other hung up for which it waited; or until forty of the other's turns in
 -- a row brought nothing, or a billion turns were taken in all
@@ -121,7 +122,7 @@ TakesTurnsTo Sent Came Left.Abandoned was (s', u, w') =
 
 -- over a line that nobody watches
 abbrev pub ExchangesTo : Left → Contending → LineTells → Contending → LineTells → Type 0
-ExchangesTo left s t s' u = TakesTurnsTo nobody_sees nobody_hears left (s, t, tt) (s', u, tt)
+ExchangesTo left s t s' u = TakesTurnsTo NobodySawSender NobodySawReceiver left (s, t, tt) (s', u, tt)
 
 -- a fault of the line ended its own turn: as it spoke, or as it listened
 abbrev pub FailsInOwn : Contending → Contending → StationFault → Type 0

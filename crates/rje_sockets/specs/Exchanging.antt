@@ -42,8 +42,8 @@ ending_of_both _ _ _ = Ending.Other
 abbrev pub exchanged_text : (counted given : ℕ) → Option Outcome → List Job → List ℕ
 exchanged_text counted given outcome jobs = counted_line counted given ++ outcome_line outcome ++ received_text jobs
 
--- the file of the one name became that of the same entries as this file's, in which just so many of those that were not Sent are Sent as the station counted, and the
--- file of the destination became that of the entries in front and its jobs; no other file changed
+-- the file of the one name became that of the same entries as this file's, in which just so many of those that were not Sent are Sent as the
+-- station counted, and the file of the destination became that of the entries in front and its jobs; no other file changed
 abbrev pub MakesBoth : (file : List ℕ) → Contending → (send : List ℕ) → (into : Destination) → (files made : Option FileMap) → Type 0
 MakesBoth file s send into files made =
     (marked : Option FileMap) × MarksSent file s.sender.counted send files marked × MakesJobFile s.receiver.jobs into marked made

@@ -26,7 +26,7 @@ IsStandingFault into file (CommandFault.HoldsJobs name) =
     (into.existing ≡ Refuse) × (name.now ≡ into.jobs.now) × ((entries : List Entry) × HasEntries entries file × (entries ≢ []))
 IsStandingFault into file _ = ⊥
 
--- so it is of the file of a destination: where the files are told, that of its name
+-- so it is of the file of a destination: where the store discloses its files, that of its name
 abbrev pub HasStandingFault : Destination → (files : Option FileMap) → CommandFault → Type 0
 HasStandingFault into files fault = (file : List ℕ) × IsStandingFault into file fault × OfFile into.jobs.now files (λ read. file ≡ read)
 

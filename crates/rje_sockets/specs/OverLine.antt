@@ -1,4 +1,4 @@
--- What passes over a line that tells its bytes, in a station's turn and in all of them, and what a watch beside it is told: each turn that was
+-- What passes over a line that tells its bytes, in a station's turn and in all of them, and what a watch beside it sees: each turn that was
 -- taken, once and in order, and nothing else (own profile). Of a line that doesn't tell its bytes nothing is said here.
 use Rattle.std.specs.Prelude.{◌≡◌, false, ℕ, List, Option, Some, None, map}
 use Rattle.bsc_codes.specs.declared.block.Block.{Block}
@@ -16,7 +16,7 @@ use Rattle.rje_station.specs.Line.{Passes, Talk, one_more}
 use Rattle.rje_station.specs.Receiving.{Receiving, Replied, with_reply}
 use Rattle.rje_station.specs.Sending.{Sending, Spoke}
 use Rattle.rje_stores.specs.Store.{FileMap}
-use Rattle.rje_sockets.specs.Watching.{SawBoth, SawReceiver, SawSender, nobody_sees}
+use Rattle.rje_sockets.specs.Watching.{NobodySawSender, SawBoth, SawReceiver, SawSender}
 
 -- what a line tells: its bytes, where it tells them, and how many transmissions it has begun
 abbrev pub LineTells : Type 0
@@ -52,7 +52,7 @@ Sends Saw was is = (h : History) × Turns (λ _. SenderTurn Saw) was h is × IsT
 
 -- over a line that nobody watches
 abbrev pub SendsOver : Sending → LineTells → Sending → LineTells → Type 0
-SendsOver s t s' u = Sends nobody_sees (s, t, tt) (s', u, tt)
+SendsOver s t s' u = Sends NobodySawSender (s, t, tt) (s', u, tt)
 
 -- a receiving station took a turn, in which it didn't ask to wait; the line gave and sent so, and the watch saw just that
 abbrev pub ReceiverTurn : {W : Type 0} → SawReceiver W → Receiving × LineTells × W → Receiving × LineTells × W → SpokenTurn → Type 0

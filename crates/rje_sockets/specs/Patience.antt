@@ -7,7 +7,7 @@ use Rattle.rje_station.specs.declared.arrival.Arrival.{Arrival}
 use Rattle.rje_station.specs.Receiving.{Receiving, after_abandon}
 use Rattle.rje_sockets.specs.declared.left.Left.{Left}
 use Rattle.rje_sockets.specs.OverLine.{LineTells, ReceiverTurn}
-use Rattle.rje_sockets.specs.Watching.{SawReceiver, nobody_hears}
+use Rattle.rje_sockets.specs.Watching.{NobodySawReceiver, SawReceiver}
 
 -- how many of the last turns brought nothing, without a break
 abbrev pub quiet_turns : History → ℕ
@@ -37,4 +37,4 @@ Leaves Saw Left.Abandoned was (r', u, w) = (far : Receiving) × HearsOut Saw Lef
 
 -- over a line that nobody watches
 abbrev pub LeavesSo : Left → Receiving → LineTells → Receiving → LineTells → Type 0
-LeavesSo left r t r' u = Leaves nobody_hears left (r, t, tt) (r', u, tt)
+LeavesSo left r t r' u = Leaves NobodySawReceiver left (r, t, tt) (r', u, tt)

@@ -1,4 +1,4 @@
--- What a watch is told of a turn: two values of a watch, what was said and heard, and nothing else (own profile).
+-- What a watch sees of a turn: it is a relation of two values of the watch, and of what was said and heard (own profile).
 use Rattle.std.specs.Prelude.{Option, ⊤}
 use Rattle.bsc_link.specs.declared.reply.Reply.{Reply}
 use Rattle.bsc_link.specs.declared.say.Say.{Say}
@@ -19,8 +19,8 @@ abbrev pub SawBoth : Type 0 → Type 1
 SawBoth W = W → W → Spoken → Type 0
 
 -- where nobody watches
-abbrev pub nobody_sees : SawSender ⊤
-nobody_sees w w' said heard = ⊤
+abbrev pub NobodySawSender : SawSender ⊤
+NobodySawSender w w' said heard = ⊤
 
-abbrev pub nobody_hears : SawReceiver ⊤
-nobody_hears w w' arrival reply = ⊤
+abbrev pub NobodySawReceiver : SawReceiver ⊤
+NobodySawReceiver w w' arrival reply = ⊤

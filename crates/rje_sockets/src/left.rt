@@ -1,10 +1,10 @@
-//! How a station left a transmission.
+//! How a station left the transmission that it received.
 
 /// How a receiving station left a transmission.
 #[derive(Clone, Copy, Debug, PartialEq, Eq)]
 pub enum Left {
-    /// The sender ended it.
+    /// The other station ended it.
     Ended,
-    /// It gave up hope of the sender.
+    /// It gave up hope of the other station.
     Abandoned,
 }

@@ -31,6 +31,7 @@ HeldSoFar = Marker × Keeper × Option FileMap
 abbrev pub Progress : Type 0
 Progress = ℕ × List Job
 
+-- that of this station
 abbrev pub progress_of : Contending → Progress
 progress_of s = (s.sender.counted, s.receiver.jobs)
 

@@ -18,7 +18,7 @@ abbrev pub HasFront : List Entry → Front → Type 0
 HasFront entries front = IsEntryFileOf Second entries front.bytes.items × (front.jobs ≡ length entries)
 
 -- the file of a destination with these entries in front of what comes, where the files are these: a device or a pipe has none, and where the
--- files are told it is neither
+-- store discloses its files it is neither
 pub record IsOpened (front : List Entry) (file : KeptFile) (files : Option FileMap) : Type 0 where
   pub stand : StandInFront file.into.existing file.into.jobs.now files front
   pub has : HasFront front file.front
