@@ -12,8 +12,8 @@ use std::io::Write;
 /// Gives the help or the version that was asked for, or reports why the words ask for nothing that can be done. Returns the exit status.
 pub fn tell_words<O: Write, E: Write>(fault: &WordsFault, out: &mut O, err: &mut E) -> u8
     ensures help { result ≡ 0 → IsHelp fault.now }
-    ensures status { (result ≡ words_status fault.now) ⊎ ((result ≡ 3) ⊎ (result ≡ 141)) }
-    ensures closed { result ≡ 141 → IsHelp fault.now }
+    ensures status { (result ≡ words_status fault.now)
+        ⊎ (IsHelp fault.now × ((result ≡ 3) ⊎ (result ≡ 141))) }
     ensures silent { (IsHelp fault.now → ⊥) → out.new ≡ out.old }
     ensures quiet { (result ≡ 0) ⊎ (result ≡ 141) → err.new ≡ err.old }
 {
@@ -24,10 +24,8 @@ pub fn tell_words<O: Write, E: Write>(fault: &WordsFault, out: &mut O, err: &mut
         | WordsFault::BadAddress
         | WordsFault::NoMeeting
         | WordsFault::NewAndAppend => {
-            match writeln!(err, "rje: {fault}") {
-                Ok(()) => 2,
-                Err(_) => CommandFault::Output.status(),
-            }
+            let _ = writeln!(err, "rje: {fault}");
+            2
         }
     }
 }
@@ -36,8 +34,7 @@ pub fn tell_words<O: Write, E: Write>(fault: &WordsFault, out: &mut O, err: &mut
 fn tell_error<O: Write, E: Write>(error: &Error, out: &mut O, err: &mut E) -> u8
     ensures help { result ≡ 0 → IsHelpError error.now }
     ensures status { (result ≡ error_status (kind_of error.now))
-        ⊎ ((result ≡ 3) ⊎ (result ≡ 141)) }
-    ensures closed { result ≡ 141 → IsHelpError error.now }
+        ⊎ (IsHelpError error.now × ((result ≡ 3) ⊎ (result ≡ 141))) }
     ensures silent { (IsHelpError error.now → ⊥) → out.new ≡ out.old }
     ensures quiet { (result ≡ 0) ⊎ (result ≡ 141) → err.new ≡ err.old }
 {
@@ -45,10 +42,8 @@ fn tell_error<O: Write, E: Write>(error: &Error, out: &mut O, err: &mut E) -> u8
         return tell(&CommandFault::OutOfMemory, err);
     }
     if error.use_stderr() {
-        return match write!(err, "{error}") {
-            Ok(()) => 2,
-            Err(_) => CommandFault::Output.status(),
-        };
+        let _ = write!(err, "{error}");
+        return 2;
     }
     match write!(out, "{error}") {
         Ok(()) => 0,

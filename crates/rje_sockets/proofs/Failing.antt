@@ -100,20 +100,20 @@ unsent_status file (told.File _) is = inl refl
 unsent_status file (told.BadJob number) is = inl refl
 unsent_status file _ is = absurd is
 
-pub send_status : (Written : List ℕ → Type 0) (name : List ℕ) (files : Option FileMap) (f : CommandFault) (status : ℕ) → IsSendFault Written name files f → (status ≡ 3) ⊎ (status ≡ status_of f)
-    → (status ≡ 0) ⊎ ((status ≡ 4) ⊎ ((status ≡ 1) ⊎ IsFailing status))
-send_status Written name files f status is (inl three) = inr (inr (inr (inl three)))
-send_status Written name files f status (inl (fails, names)) (inr told) = inr (inr (inr (subst IsFailing (sym told) fails)))
-send_status Written name files f status (inr (file, is, read)) (inr told) = elim (unsent_status file f is) [
-  | inl one ↦ inr (inr (inl (told ∙ one)))
-  | inr fails ↦ inr (inr (inr (subst IsFailing (sym told) fails)))
-]
+-- the status that is told
+told_status : (f : CommandFault) (status : ℕ) → (status_of f ≡ 1) ⊎ IsFailing (status_of f) → status ≡ status_of f → (status ≡ 0) ⊎ ((status ≡ 4) ⊎ ((status ≡ 1) ⊎ IsFailing status))
+told_status f status (inl one) told = inr (inr (inl (told ∙ one)))
+told_status f status (inr fails) told = inr (inr (inr (subst IsFailing (sym told) fails)))
 
-pub send_refuses : (Written : List ℕ → Type 0) (name : List ℕ) (files : Option FileMap) (f : CommandFault) (status : ℕ) → IsSendFault Written name files f → (status ≡ 3) ⊎ (status ≡ status_of f)
+pub send_status : (Written : List ℕ → Type 0) (name : List ℕ) (files : Option FileMap) (f : CommandFault) (status : ℕ) → IsSendFault Written name files f → status ≡ status_of f
+    → (status ≡ 0) ⊎ ((status ≡ 4) ⊎ ((status ≡ 1) ⊎ IsFailing status))
+send_status Written name files f status (inl (fails, names)) told = told_status f status (inr fails) told
+send_status Written name files f status (inr (file, is, read)) told = told_status f status (unsent_status file f is) told
+
+pub send_refuses : (Written : List ℕ → Type 0) (name : List ℕ) (files : Option FileMap) (f : CommandFault) (status : ℕ) → IsSendFault Written name files f → status ≡ status_of f
     → status ≡ 1 → OfFile name files IsRefusedFile
-send_refuses Written name files f status is (inl three) one = absurd (omega (arith, three, one))
-send_refuses Written name files f status (inl (fails, names)) (inr told) one = absurd (never_1 (status_of f) fails (sym told ∙ one))
-send_refuses Written name files f status (inr (file, is, read)) (inr told) one = of_file IsRefusedFile file (f, is, sym told ∙ one) name files read
+send_refuses Written name files f status (inl (fails, names)) told one = absurd (never_1 (status_of f) fails (sym told ∙ one))
+send_refuses Written name files f status (inr (file, is, read)) told one = of_file IsRefusedFile file (f, is, sym told ∙ one) name files read
 
 -- WHAT IS RECEIVED INTO
 
@@ -124,36 +124,28 @@ standing_status into file (told.File _) is = inl refl
 standing_status into file (told.HoldsJobs name) is = inl refl
 standing_status into file _ is = absurd is
 
--- the status that is told
-told_status : (f : CommandFault) (status : ℕ) → (status_of f ≡ 1) ⊎ IsFailing (status_of f) → (status ≡ 3) ⊎ (status ≡ status_of f) → (status ≡ 0) ⊎ ((status ≡ 4) ⊎ ((status ≡ 1) ⊎ IsFailing status))
-told_status f status is (inl three) = inr (inr (inr (inl three)))
-told_status f status (inl one) (inr told) = inr (inr (inl (told ∙ one)))
-told_status f status (inr fails) (inr told) = inr (inr (inr (subst IsFailing (sym told) fails)))
-
-pub destination_status : (into : Destination) (files : Option FileMap) (f : CommandFault) (status : ℕ) → IsDestinationFault into files f → (status ≡ 3) ⊎ (status ≡ status_of f)
+pub destination_status : (into : Destination) (files : Option FileMap) (f : CommandFault) (status : ℕ) → IsDestinationFault into files f → status ≡ status_of f
     → (status ≡ 0) ⊎ ((status ≡ 4) ⊎ ((status ≡ 1) ⊎ IsFailing status))
 destination_status into files f status (inl (fails, names)) told = told_status f status (inr fails) told
 destination_status into files f status (inr (file, is, read)) told = told_status f status (standing_status into file f is) told
 
-pub destination_refuses : (into : Destination) (files : Option FileMap) (f : CommandFault) (status : ℕ) → IsDestinationFault into files f → (status ≡ 3) ⊎ (status ≡ status_of f)
+pub destination_refuses : (into : Destination) (files : Option FileMap) (f : CommandFault) (status : ℕ) → IsDestinationFault into files f → status ≡ status_of f
     → status ≡ 1 → IsRefusedDestination into files
-destination_refuses into files f status is (inl three) one = absurd (omega (arith, three, one))
-destination_refuses into files f status (inl (fails, names)) (inr told) one = absurd (never_1 (status_of f) fails (sym told ∙ one))
-destination_refuses into files f status (inr (file, is, read)) (inr told) one = (f, (file, is, read), sym told ∙ one)
+destination_refuses into files f status (inl (fails, names)) told one = absurd (never_1 (status_of f) fails (sym told ∙ one))
+destination_refuses into files f status (inr (file, is, read)) told one = (f, (file, is, read), sym told ∙ one)
 
 -- or what is sent
-pub exchange_status : (send : List ℕ) (into : Destination) (files : Option FileMap) (f : CommandFault) (status : ℕ) → IsExchangeFault send into files f → (status ≡ 3) ⊎ (status ≡ status_of f)
+pub exchange_status : (send : List ℕ) (into : Destination) (files : Option FileMap) (f : CommandFault) (status : ℕ) → IsExchangeFault send into files f → status ≡ status_of f
     → (status ≡ 0) ⊎ ((status ≡ 4) ⊎ ((status ≡ 1) ⊎ IsFailing status))
 exchange_status send into files f status (inl (fails, names)) told = told_status f status (inr fails) told
 exchange_status send into files f status (inr (inl (file, is, read))) told = told_status f status (unsent_status file f is) told
 exchange_status send into files f status (inr (inr (file, is, read))) told = told_status f status (standing_status into file f is) told
 
-pub exchange_refuses : (send : List ℕ) (into : Destination) (files : Option FileMap) (f : CommandFault) (status : ℕ) → IsExchangeFault send into files f → (status ≡ 3) ⊎ (status ≡ status_of f)
+pub exchange_refuses : (send : List ℕ) (into : Destination) (files : Option FileMap) (f : CommandFault) (status : ℕ) → IsExchangeFault send into files f → status ≡ status_of f
     → status ≡ 1 → OfFile send files IsRefusedFile ⊎ IsRefusedDestination into files
-exchange_refuses send into files f status is (inl three) one = absurd (omega (arith, three, one))
-exchange_refuses send into files f status (inl (fails, names)) (inr told) one = absurd (never_1 (status_of f) fails (sym told ∙ one))
-exchange_refuses send into files f status (inr (inl (file, is, read))) (inr told) one = inl (of_file IsRefusedFile file (f, is, sym told ∙ one) send files read)
-exchange_refuses send into files f status (inr (inr (file, is, read))) (inr told) one = inr (f, (file, is, read), sym told ∙ one)
+exchange_refuses send into files f status (inl (fails, names)) told one = absurd (never_1 (status_of f) fails (sym told ∙ one))
+exchange_refuses send into files f status (inr (inl (file, is, read))) told one = inl (of_file IsRefusedFile file (f, is, sym told ∙ one) send files read)
+exchange_refuses send into files f status (inr (inr (file, is, read))) told one = inr (f, (file, is, read), sym told ∙ one)
 
 pub exchange_fails_so : {X : Type 0} (r : Result X CommandFault) (send : List ℕ) (into : Destination) (files : Option FileMap) → IfErr r (λ fault. IsFailing (status_of fault))
     → IfErr r (NamesOne (λ n. (n ≡ send) ⊎ LooksInto into n) (λ n. (n ≡ send) ⊎ (n ≡ into.jobs.now))) → IfErr r (IsExchangeFault send into files)
