@@ -5,3 +5,4 @@ pub mod Keeping
 pub mod Marking
 pub mod BreakingOff
 pub mod BothFiles
+pub mod Reading

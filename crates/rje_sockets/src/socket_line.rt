@@ -1,7 +1,10 @@
 //! A line over a connection.
-ghost use Rattle.std.specs.Prelude.{◌≡◌, ◌+◌, ◌-◌, ◌^◌, ◌<◌, ◌≤◌, length, min, IfOk, None, ⊤};
+ghost use Rattle.std.specs.Prelude.{◌≡◌, ◌+◌, ◌-◌, ◌^◌, ◌<◌, ◌≤◌, length, min, IfErr, IfOk, OnErr, OnOk, None, Some, ⊤};
 ghost use Rattle.std.specs.Io.{ReadsAtMost};
-ghost use Rattle.rje_station.specs.Line.{IsWithin};
+ghost use Rattle.std.specs.Io.KnownBytes.{Appends, IsAtEnd, ReadConsumes};
+ghost use Rattle.rje_station.specs.Line.{IsWithin, Rose, one_more};
+ghost use Rattle.rje_station.specs.declared.line_fault.LineFault.TheVariants.{Closed};
+ghost use Rattle.rje_sockets.specs.Inside.Reading.{came_of, waited_in_vain};
 
 use crate::timed_stream::TimedStream;
 use bsc_codes::PAD;
@@ -94,6 +97,7 @@ impl<C: Clock, S> SocketLine<TimedStream<C, S>> {
 impl<S> SocketLine<S> {
     /// Counts a failure.
     fn failed(&mut self, fault: LineFault) -> LineFault
+        ensures still { self.new.stream ≡ self.old.stream }
         ensures counted { self.new.failures ≡ min (self.old.failures + 1) (2 ^ 64 - 1) }
         ensures grows { self.old.failures ≤ self.new.failures }
         ensures none { self.new.transmissions ≡ self.old.transmissions }
@@ -118,7 +122,17 @@ impl<S: Read + Write> Line for SocketLine<S> {
 
     ghost talk = { λ _. None };
 
-    fn transmit(&mut self, bytes: &[u8]) -> Result<(), LineFault> {
+    fn transmit(&mut self, bytes: &[u8]) -> Result<(), LineFault>
+        ensures grows { self.old.failures ≤ self.new.failures }
+        ensures failed { OnErr result (Rose self.old.failures self.new.failures) }
+        ensures fault { IfErr result (λ fault. self.new.last_fault ≡ Some fault) }
+        ensures same { OnOk result (self.new.last_fault ≡ self.old.last_fault) }
+        ensures begun { self.new.transmissions ≡ one_more self.old.transmissions }
+
+        // Done only where the stream took all of it.
+        ensures taken { OnOk result
+            (Appends (S.contents self.old.stream) (S.contents self.new.stream) bytes.now) }
+    {
         self.transmissions = self.transmissions.saturating_add(1);
         self.answers.say(Said::of(bytes));
         self.handover.clear();
@@ -129,7 +143,19 @@ impl<S: Read + Write> Line for SocketLine<S> {
         }
     }
 
-    fn listen(&mut self, piece: &mut [u8]) -> Result<Came, LineFault> {
+    fn listen(&mut self, piece: &mut [u8]) -> Result<Came, LineFault>
+        requires room { 0 < length piece.old }
+        ensures grows { self.old.failures ≤ self.new.failures }
+        ensures failed { OnErr result (Rose self.old.failures self.new.failures) }
+        ensures fault { IfErr result (λ fault. self.new.last_fault ≡ Some fault) }
+        ensures same { OnOk result (self.new.last_fault ≡ self.old.last_fault) }
+        ensures none { self.new.transmissions ≡ self.old.transmissions }
+        ensures within { IfOk result (λ came. IsWithin came (length piece.new)) }
+
+        // Closed only where the stream gives no more.
+        ensures closed { IfErr result (λ fault. fault ≡ Closed
+            → IsAtEnd (S.remaining self.new.stream)) }
+    {
         if self.answers.awaits() && !self.babbles {
             match await_answer(&mut self.stream, &mut self.answers) {
                 Ok(Given::Nothing) => self.babbles = true,
@@ -154,18 +180,18 @@ impl<S: Read + Write> Line for SocketLine<S> {
 }
 
 /// What is given of what comes where an answer is awaited: nothing, where more comes than one hearing takes.
-fn await_answer<S: Read>(stream: &mut S, answers: &mut Answers) -> Result<Given<Reply>, LineFault> {
+fn await_answer<S: Read>(stream: &mut S, answers: &mut Answers) -> Result<Given<Reply>, LineFault>
+    ensures closed { IfErr result (λ fault. fault ≡ Closed → IsAtEnd (S.remaining stream.new)) }
+{
     let mut piece = [0; MAX_PIECE];
     let mut taken: usize = 0;
     for _ in 0..MAX_PIECES {
-        let given = match read_on(stream, &mut piece) {
-            Ok(0) => return Err(LineFault::Closed),
-            Ok(count) => {
+        let given = match came_in(stream, &mut piece)? {
+            Came::Bytes(count) => {
                 taken = taken.saturating_add(count);
                 answers.hear(&piece[..count])
             }
-            Err(error) if is_time_out(error.kind()) => answers.quiet(),
-            Err(_) => return Err(LineFault::Failed),
+            Came::Quiet => answers.quiet(),
         };
         if given != Given::Nothing || taken > MAX_HEARD {
             return Ok(given);
@@ -182,32 +208,29 @@ fn read_through<S: Read>(
 ) -> Result<Came, LineFault>
     requires room { 0 < length piece.old }
     ensures within { IfOk result (λ came. IsWithin came (length piece.new)) }
+    ensures closed { IfErr result (λ fault. fault ≡ Closed → IsAtEnd (S.remaining stream.new)) }
 {
-    match read_on(stream, piece) {
-        Ok(0) => Err(LineFault::Closed),
-        Ok(count) => {
-            // Only after EOT is an answer looked for that nobody awaits.
-            if answers.has_ended() {
-                answers.hear(&piece[..count]);
-            }
-            Ok(Came::Bytes(count))
+    let came = came_in(stream, piece)?;
+    match came {
+        // Only after EOT is an answer looked for that nobody awaits.
+        Came::Bytes(count) if answers.has_ended() => {
+            answers.hear(&piece[..count]);
         }
-        Err(error) if is_time_out(error.kind()) => {
+        Came::Bytes(_) => {}
+        Came::Quiet => {
             answers.quiet();
-            Ok(Came::Quiet)
         }
-        Err(_) => Err(LineFault::Failed),
     }
+    Ok(came)
 }
 
 /// Hears what comes until the other end hangs up, or for long.
 fn hear_out<S: Read>(stream: &mut S, answers: &mut Answers) {
     let mut piece = [0; MAX_PIECE];
     for _ in 0..MAX_LAST_PIECES {
-        match read_on(stream, &mut piece) {
-            Ok(0) => return,
-            Ok(count) => answers.hear(&piece[..count]),
-            Err(error) if is_time_out(error.kind()) => answers.quiet(),
+        match came_in(stream, &mut piece) {
+            Ok(Came::Bytes(count)) => answers.hear(&piece[..count]),
+            Ok(Came::Quiet) => answers.quiet(),
             Err(_) => return,
         };
         if answers.strayed() {
@@ -216,9 +239,31 @@ fn hear_out<S: Read>(stream: &mut S, answers: &mut Answers) {
     }
 }
 
+/// What comes of one read.
+fn came_in<S: Read>(stream: &mut S, piece: &mut [u8]) -> Result<Came, LineFault>
+    requires room { 0 < length piece.old }
+    ensures within { IfOk result (λ came. IsWithin came (length piece.new)) }
+    ensures closed { IfErr result (λ fault. fault ≡ Closed → IsAtEnd (S.remaining stream.new)) }
+{
+    came_of(read_on(stream, piece))
+}
+
+/// What a read comes to: it is quiet where it waited in vain, and the line is closed where the stream gives no more.
+fn came_of(read: io::Result<usize>) -> Result<Came, LineFault>
+    ensures { result ≡ came_of read }
+{
+    match read {
+        Ok(0) => Err(LineFault::Closed),
+        Ok(count) => Ok(Came::Bytes(count)),
+        Err(error) if is_time_out(error.kind()) => Ok(Came::Quiet),
+        Err(_) => Err(LineFault::Failed),
+    }
+}
+
 /// Reads, and reads again where it was interrupted.
 fn read_on<S: Read>(stream: &mut S, piece: &mut [u8]) -> io::Result<usize>
-    ensures { ReadsAtMost result piece.new }
+    ensures bound { ReadsAtMost result piece.new }
+    ensures bytes { ReadConsumes (S.remaining stream.old) (S.remaining stream.new) result piece.new }
 {
     for _ in 0..MAX_INTERRUPTIONS {
         match stream.read(piece) {
@@ -230,6 +275,8 @@ fn read_on<S: Read>(stream: &mut S, piece: &mut [u8]) -> io::Result<usize>
 }
 
 /// Whether a read that fails so waited in vain.
-fn is_time_out(kind: ErrorKind) -> bool {
+fn is_time_out(kind: ErrorKind) -> bool
+    ensures { result ≡ waited_in_vain kind }
+{
     matches!(kind, ErrorKind::WouldBlock | ErrorKind::TimedOut)
 }
