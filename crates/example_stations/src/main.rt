@@ -29,8 +29,9 @@ fn main(rt: HostRuntime) -> Result<()> {
         if said == Say::End {
             break;
         }
-        receiver.speak(&mut far)?;
-        carry(alloc, &far, &mut near)?;
+        if receiver.speak(&mut far)?.is_some() {
+            carry(alloc, &far, &mut near)?;
+        }
         sender.hear(&mut near, false)?;
     }
     println!(rt;
