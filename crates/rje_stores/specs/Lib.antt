@@ -1,2 +1,5 @@
 pub mod Store
 pub mod MemoryStore
+pub mod Disk
+pub mod Replacing
+pub mod Inside

@@ -1,29 +1,31 @@
 //! The system's files.
-ghost use Rattle.std.specs.Prelude.{None};
+ghost use Rattle.std.specs.Prelude.{◌≡◌, None, IfOk};
 
 mod beside;
 mod growing;
 mod locks;
 
+use crate::disk::{Disk, FileKind};
 use crate::reading::read_all;
 use crate::store::{Place, Store, StoreFault};
+use crate::system_disk::SystemDisk;
 use beside::{lead_to_one, replace, resolved, try_beside};
 use growing::Growing;
 use locks::FileLock;
 use std::alloc::Global;
-use std::fs::{self, File, OpenFile, OpenOptions, Permissions};
-use std::io::{self, ErrorKind, Seek, SeekFrom, Write};
+use std::fs::{File, Permissions};
+use std::io::{self, ErrorKind};
 use std::rt::Files;
 
-/// The system's files. It discloses none of them. A file on disk is replaced whole or not at all, by way of a file beside it; a device or a
+/// The files on a disk. It discloses none of them. A file is replaced whole or not at all, by way of a file beside it; a device or a
 /// pipe is written where it is. A file that it has for itself is locked, by way of another file beside it, until `release` or the end of
 /// the process.
 #[derive(Drop)]
-pub struct FileStore<'a, R: Files> {
-    rt: &'a R,
+pub struct FileStore<D: Disk> {
+    disk: D,
     alloc: Global,
-    growing: Option<Growing<R::File>>,
-    locks: Vec<FileLock>,
+    growing: Option<Growing<D>>,
+    locks: Vec<FileLock<D::File>>,
 }
 
 /// What stands under a name that can be written.
@@ -37,77 +39,75 @@ enum Target {
     Device,
 }
 
-impl<'a, R: Files<File = File>> FileStore<'a, R> {
+impl<'a, R: Files<File = File>> FileStore<SystemDisk<'a, R>> {
     /// The files that the runtime reaches.
     pub fn new(rt: &'a R, alloc: Global) -> Self {
+        FileStore::over(SystemDisk::new(rt), alloc)
+    }
+}
+
+impl<D: Disk> FileStore<D> {
+    /// The files on this disk.
+    pub fn over(disk: D, alloc: Global) -> Self {
         FileStore {
-            rt,
+            disk,
             alloc,
             growing: None,
             locks: Vec::new(alloc),
         }
     }
 
+    /// The disk.
+    pub fn disk(&self) -> &D {
+        &self.disk
+    }
+
     /// Gives up all locks, and leaves nothing of them beside the files.
     pub fn release(&mut self) {
         for lock in self.locks.iter() {
-            lock.remove(self.rt);
+            lock.remove(&mut self.disk);
         }
         self.locks.clear();
     }
 
     /// The file of this name was replaced: the lock of it is that of the file which stands there now.
     fn follow(&mut self, name: &str) {
-        let rt = self.rt;
         for lock in self.locks.iter_mut() {
             if lock.is_of(name) {
-                lock.follow(rt);
+                lock.follow(&self.disk);
             }
         }
     }
 
-    /// What stands under this path, where it can be written.
-    fn target(&self, path: &str) -> io::Result<Target> {
-        match self.rt.metadata(path) {
-            Ok(found) if found.is_dir() => Err(io::Error::from(ErrorKind::IsADirectory)),
-            Ok(found) if found.is_file() => {
-                OpenOptions::new().write(true).open(self.rt, path)?;
-                Ok(Target::File(found.permissions()))
+    fn put(&mut self, name: &str, bytes: &[u8]) -> Result<(), StoreFault> {
+        let path = resolved(&self.disk, self.alloc, name)?;
+        match target_of(&self.disk, path.as_str())? {
+            Target::Device => Ok(self.disk.write_device(path.as_str(), bytes)?),
+            Target::New => replace(&mut self.disk, self.alloc, path.as_str(), None, bytes),
+            Target::File(mode) => {
+                replace(&mut self.disk, self.alloc, path.as_str(), Some(mode), bytes)
             }
-            Ok(_) => Ok(Target::Device),
-            Err(error) if error.kind() == ErrorKind::NotFound => Ok(Target::New),
-            Err(error) => Err(error),
-        }
-    }
-
-    fn put(&self, name: &str, bytes: &[u8]) -> Result<(), StoreFault> {
-        let path = resolved(self.rt, self.alloc, name)?;
-        match self.target(path.as_str())? {
-            Target::Device => Ok(fs::write(self.rt, path.as_str(), bytes)?),
-            Target::New => replace(self.rt, self.alloc, path.as_str(), None, bytes),
-            Target::File(mode) => replace(self.rt, self.alloc, path.as_str(), Some(mode), bytes),
         }
     }
 
     /// Changes a byte where the file is, on disk.
-    fn put_byte(&self, name: &str, place: usize, byte: u8) -> io::Result<()> {
-        let path = resolved(self.rt, self.alloc, name)?;
-        let mut file = OpenOptions::new().write(true).open(self.rt, path.as_str())?;
-        let found = file.metadata()?;
-        if !found.is_file() || found.len() <= place as u64 {
+    fn put_byte(&mut self, name: &str, place: usize, byte: u8) -> io::Result<()> {
+        let path = resolved(&self.disk, self.alloc, name)?;
+        let file = self.disk.open_to_write(path.as_str())?;
+        let found = self.disk.status_of(&file)?;
+        if found.kind != FileKind::Regular || found.len <= place as u64 {
             return Err(io::Error::from(ErrorKind::InvalidInput));
         }
-        file.seek(SeekFrom::Start(place as u64))?;
-        file.write_all(&[byte])?;
-        file.sync_data()
+        self.disk.write_at(&file, place as u64, &[byte])?;
+        self.disk.sync_bytes(&file)
     }
 
-    fn place(&self, name: &str) -> io::Result<Place> {
-        let path = resolved(self.rt, self.alloc, name)?;
-        match self.target(path.as_str())? {
+    fn place(&mut self, name: &str) -> io::Result<Place> {
+        let path = resolved(&self.disk, self.alloc, name)?;
+        match target_of(&self.disk, path.as_str())? {
             Target::Device => Ok(Place::Once),
             Target::New | Target::File(_) => {
-                try_beside(self.rt, self.alloc, path.as_str())?;
+                try_beside(&mut self.disk, self.alloc, path.as_str())?;
                 Ok(Place::Growing)
             }
         }
@@ -118,17 +118,35 @@ impl<'a, R: Files<File = File>> FileStore<'a, R> {
             Some(growing) if growing.is_of(name) => growing,
             other => {
                 if let Some(other) = other {
-                    other.settle(self.rt);
+                    other.settle(&mut self.disk);
                 }
-                Growing::open(self.rt, self.alloc, name)?
+                Growing::open(&mut self.disk, self.alloc, name)?
             }
         };
-        self.growing = Some(growing.extended(self.rt, self.alloc, front, tail)?);
+        self.growing = Some(growing.extended(&mut self.disk, self.alloc, front, tail)?);
         Ok(())
     }
 }
 
-impl<'a, R: Files<File = File>> Store for FileStore<'a, R> {
+/// What stands under this path, where it can be written.
+fn target_of<D: Disk>(disk: &D, path: &str) -> io::Result<Target>
+    ensures { IfOk result (λ target. target ≡ Target.Device → D.is_device disk.now path.now) }
+{
+    match disk.status(path) {
+        Ok(found) => match found.kind {
+            FileKind::Folder => Err(io::Error::from(ErrorKind::IsADirectory)),
+            FileKind::Regular => {
+                disk.try_to_write(path)?;
+                Ok(Target::File(found.mode))
+            }
+            FileKind::Device => Ok(Target::Device),
+        },
+        Err(error) if error.kind() == ErrorKind::NotFound => Ok(Target::New),
+        Err(error) => Err(error),
+    }
+}
+
+impl<D: Disk> Store for FileStore<D> {
     ghost files = { λ _. None };
 
     fn lock(&mut self, alloc: Global, name: &str) -> Result<(), StoreFault> {
@@ -137,7 +155,7 @@ impl<'a, R: Files<File = File>> Store for FileStore<'a, R> {
         }
         // The room first: a lock that there is no room for would leave its file.
         self.locks.reserve(1)?;
-        if let Some(lock) = FileLock::take(self.rt, alloc, name)? {
+        if let Some(lock) = FileLock::take(&mut self.disk, alloc, name)? {
             if self.locks.push(lock).is_err() {
                 return Err(StoreFault::OutOfMemory);
             }
@@ -146,7 +164,7 @@ impl<'a, R: Files<File = File>> Store for FileStore<'a, R> {
     }
 
     fn read(&mut self, alloc: Global, name: &str) -> Result<Vec<u8>, StoreFault> {
-        read_all(alloc, &mut fs::open(self.rt, name)?)
+        read_all(alloc, &mut self.disk.open_to_read(name)?)
     }
 
     fn write(&mut self, name: &str, bytes: &[u8]) -> Result<(), StoreFault> {
@@ -164,7 +182,7 @@ impl<'a, R: Files<File = File>> Store for FileStore<'a, R> {
         if one == other {
             return Ok(true);
         }
-        Ok(lead_to_one(self.rt, alloc, one, other)?)
+        Ok(lead_to_one(&self.disk, alloc, one, other)?)
     }
 
     fn extend(
@@ -192,7 +210,7 @@ impl<'a, R: Files<File = File>> Store for FileStore<'a, R> {
 
     fn settle(&mut self) {
         if let Some(growing) = self.growing.take() {
-            growing.settle(self.rt);
+            growing.settle(&mut self.disk);
         }
     }
 }

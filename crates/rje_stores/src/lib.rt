@@ -1,12 +1,16 @@
 //! Stores of files: how a program reads and writes files by their names.
 #![tactic(auto)]
 
+mod disk;
 mod file_store;
 mod memory_store;
 mod reading;
 mod store;
+mod system_disk;
 
+pub use disk::{Disk, FileKind, FileStatus};
 pub use file_store::FileStore;
 pub use memory_store::MemoryStore;
 pub use reading::{MAX_INPUT, read_all};
 pub use store::{Place, Store, StoreFault, grown_bytes};
+pub use system_disk::SystemDisk;

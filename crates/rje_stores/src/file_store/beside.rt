@@ -1,10 +1,14 @@
 //! Files beside a file, by way of which it is replaced whole or not at all.
+ghost use Rattle.std.specs.Prelude.{◌≡◌, IfOk, OnOk, IsErrOf, ℕ, List, true, string_bytes};
+ghost use Rattle.rje_stores.specs.Disk.{Asked, Call, SyncFolder, call_of, is_synced, has_synced_name};
+ghost use Rattle.rje_stores.specs.Replacing.{Adds, IsBeside, IsNewBeside, IsOnDisk, IsWhole, LeadsTo, MayReplace, MayTry};
+ghost use Rattle.rje_stores.specs.Inside.Filling.{AddsSync, Fills, MayFill};
+
+use crate::disk::{Disk, FileKind};
 use crate::store::StoreFault;
 use std::alloc::Global;
-use std::fs::{self, OpenFile, OpenOptions, Permissions};
-use std::io::{self, ErrorKind, Write};
-use std::os::unix::fs::MetadataExt;
-use std::rt::Files;
+use std::fs::Permissions;
+use std::io::{self, ErrorKind};
 
 /// How many names are tried for a file beside another.
 const MAX_NAMES: u32 = 1000;
@@ -17,19 +21,21 @@ pub(super) struct Beside<F: Drop> {
 }
 
 /// The path of the file that a symbolic link leads to, where it leads to one; else the name itself.
-pub(super) fn resolved<R: Files>(rt: &R, alloc: Global, name: &str) -> io::Result<String> {
-    if is_link_to_file(rt, name) {
-        Ok(rt.canonicalize(alloc, name)?.into_string())
+pub(super) fn resolved<D: Disk>(disk: &D, alloc: Global, name: &str) -> io::Result<String>
+    ensures { IfOk result (λ path. LeadsTo D.leads name.now (string_bytes path)) }
+{
+    if is_link_to_file(disk, name) {
+        disk.whole_path(alloc, name)
     } else {
         Ok(String::from_str(alloc, name)?)
     }
 }
 
 /// Whether this is a symbolic link, and not one to a device or a pipe.
-fn is_link_to_file<R: Files>(rt: &R, name: &str) -> bool {
-    match rt.symlink_metadata(name) {
-        Ok(link) if link.is_symlink() => match rt.metadata(name) {
-            Ok(found) => found.is_file(),
+fn is_link_to_file<D: Disk>(disk: &D, name: &str) -> bool {
+    match disk.is_link(name) {
+        Ok(true) => match disk.status(name) {
+            Ok(found) => found.kind == FileKind::Regular,
             Err(_) => true,
         },
         _ => false,
@@ -37,80 +43,106 @@ fn is_link_to_file<R: Files>(rt: &R, name: &str) -> bool {
 }
 
 /// Whether both names lead to one file that is there, by links and dots or as two names of it.
-pub(super) fn lead_to_one<R: Files>(
-    rt: &R,
+pub(super) fn lead_to_one<D: Disk>(
+    disk: &D,
     alloc: Global,
     one: &str,
     other: &str,
 ) -> io::Result<bool> {
-    let Some(one) = whole_path(rt, alloc, one)? else {
+    let Some(one) = whole_path(disk, alloc, one)? else {
         return Ok(false);
     };
-    let Some(other) = whole_path(rt, alloc, other)? else {
+    let Some(other) = whole_path(disk, alloc, other)? else {
         return Ok(false);
     };
-    let found = rt.metadata(one.as_str())?;
-    let also = rt.metadata(other.as_str())?;
-    Ok(one.as_str() == other.as_str() || found.dev() == also.dev() && found.ino() == also.ino())
+    let found = disk.status(one.as_str())?;
+    let also = disk.status(other.as_str())?;
+    Ok(one.as_str() == other.as_str() || found.device == also.device && found.inode == also.inode)
 }
 
 /// The path of the file that a name leads to, without links and dots, where there is one.
-fn whole_path<R: Files>(rt: &R, alloc: Global, name: &str) -> io::Result<Option<String>> {
-    match rt.canonicalize(alloc, name) {
-        Ok(path) => Ok(Some(path.into_string())),
+fn whole_path<D: Disk>(disk: &D, alloc: Global, name: &str) -> io::Result<Option<String>> {
+    match disk.whole_path(alloc, name) {
+        Ok(path) => Ok(Some(path)),
         Err(error) if error.kind() == ErrorKind::NotFound => Ok(None),
         Err(error) => Err(error),
     }
 }
 
 /// Looks whether a file can be made beside this one, and leaves none.
-pub(super) fn try_beside<R: Files>(rt: &R, alloc: Global, path: &str) -> io::Result<()> {
-    open_folder(rt, path)?;
-    let beside = create_beside(rt, alloc, path)?;
-    rt.remove_file(beside.path.as_str())
+pub(super) fn try_beside<D: Disk>(disk: &mut D, alloc: Global, path: &str) -> io::Result<()>
+    ensures { D.discloses → Adds (MayTry path.now) (D.asked disk.old) (D.asked disk.new) }
+{
+    disk.open_folder(path)?;
+    let beside = create_beside(disk, alloc, path)?;
+    disk.remove(beside.path.as_str())
 }
 
 /// Puts a file of these bytes in the place of this one, with this mode, on disk: whole, or nothing changes. Unsynced where the new file is in
 /// its place and only its name may not be on disk.
-pub(super) fn replace<R: Files>(
-    rt: &R,
+pub(super) fn replace<D: Disk>(
+    disk: &mut D,
     alloc: Global,
     path: &str,
     mode: Option<Permissions>,
     bytes: &[u8],
-) -> Result<(), StoreFault> {
-    let folder = open_folder(rt, path)?;
-    let Beside {
-        mut file,
-        path: beside,
-    } = create_beside(rt, alloc, path)?;
-    let done = match fill(&mut file, mode, bytes) {
-        Ok(()) => rt.rename(beside.as_str(), path),
-        Err(error) => Err(error),
-    };
-    match done {
-        Ok(()) => sync_folder(&folder),
+) -> Result<(), StoreFault>
+    ensures asks { D.discloses
+        → Adds (MayReplace path.now bytes.now) (D.asked disk.old) (D.asked disk.new) }
+    ensures on_disk { D.discloses → OnOk result (IsOnDisk path.now bytes.now (D.asked disk.new)) }
+    ensures in_place { D.discloses → IsErrOf result StoreFault.Unsynced
+        → IsWhole path.now bytes.now (D.asked disk.new) }
+{
+    // Opened before anything is written, since a name that was changed in a folder that can't be opened is not known to be on disk.
+    let folder = disk.open_folder(path)?;
+    let beside = create_beside(disk, alloc, path)?;
+    match put_in_place(disk, &beside, path, mode, bytes) {
+        Ok(()) => sync_folder(disk, &folder),
         Err(error) => {
-            let _ = rt.remove_file(beside.as_str());
+            let _ = disk.remove(beside.path.as_str());
             Err(StoreFault::from(error))
         }
     }
 }
 
+/// Gives a path to a new file beside it, once that has these bytes and is on disk.
+fn put_in_place<D: Disk>(
+    disk: &mut D,
+    beside: &Beside<D::File>,
+    path: &str,
+    mode: Option<Permissions>,
+    bytes: &[u8],
+) -> io::Result<()>
+    requires { D.discloses → IsNewBeside path.now (D.opened beside.now.file)
+        (string_bytes beside.now.path) (D.asked disk.old) }
+    ensures asks { D.discloses
+        → Adds (MayReplace path.now bytes.now) (D.asked disk.old) (D.asked disk.new) }
+    ensures whole { D.discloses → OnOk result (IsWhole path.now bytes.now (D.asked disk.new)) }
+{
+    fill(disk, &beside.file, mode, bytes)?;
+    disk.rename(beside.path.as_str(), path)
+}
+
+/// The name beside this one that has this number.
+fn name_beside(alloc: Global, path: &str, number: u32) -> io::Result<String>
+    ensures { IfOk result (λ name. IsBeside path.now (string_bytes name)) }
+{
+    Ok(format!(in alloc; "{path}.rje-{number}")?)
+}
+
 /// A new file beside this one.
-pub(super) fn create_beside<R: Files>(
-    rt: &R,
+pub(super) fn create_beside<D: Disk>(
+    disk: &mut D,
     alloc: Global,
     path: &str,
-) -> io::Result<Beside<R::File>> {
+) -> io::Result<Beside<D::File>>
+    ensures asks { D.discloses → Adds (MayTry path.now) (D.asked disk.old) (D.asked disk.new) }
+    ensures new { D.discloses → IfOk result (λ beside. IsNewBeside path.now
+        (D.opened beside.file) (string_bytes beside.path) (D.asked disk.new)) }
+{
     for number in 0..MAX_NAMES {
-        let beside = format!(in alloc; "{path}.rje-{number}")?;
-        match OpenOptions::new()
-            .read(true)
-            .write(true)
-            .create_new(true)
-            .open(rt, beside.as_str())
-        {
+        let beside = name_beside(alloc, path, number)?;
+        match disk.create(beside.as_str()) {
             Ok(file) => return Ok(Beside { file, path: beside }),
             Err(error) if error.kind() == ErrorKind::AlreadyExists => {}
             Err(error) => return Err(error),
@@ -120,10 +152,10 @@ pub(super) fn create_beside<R: Files>(
 }
 
 /// A second name, beside the first, for the file that is there.
-pub(super) fn link_beside<R: Files>(rt: &R, alloc: Global, path: &str) -> io::Result<String> {
+pub(super) fn link_beside<D: Disk>(disk: &mut D, alloc: Global, path: &str) -> io::Result<String> {
     for number in 0..MAX_NAMES {
-        let beside = format!(in alloc; "{path}.rje-{number}")?;
-        match rt.hard_link(path, beside.as_str()) {
+        let beside = name_beside(alloc, path, number)?;
+        match disk.link(path, beside.as_str()) {
             Ok(()) => return Ok(beside),
             Err(error) if error.kind() == ErrorKind::AlreadyExists => {}
             Err(error) => return Err(error),
@@ -132,33 +164,46 @@ pub(super) fn link_beside<R: Files>(rt: &R, alloc: Global, path: &str) -> io::Re
     Err(io::Error::from(ErrorKind::AlreadyExists))
 }
 
-/// Writes the bytes and has them on disk.
-fn fill<F: Write + OpenFile>(
-    file: &mut F,
+/// Gives a new file its mode, writes the bytes and has all on disk.
+fn fill<D: Disk>(
+    disk: &mut D,
+    file: &D::File,
     mode: Option<Permissions>,
     bytes: &[u8],
-) -> io::Result<()> {
-    if let Some(mode) = mode {
-        file.set_permissions(mode)?;
+) -> io::Result<()>
+    ensures asks { D.discloses
+        → Adds (MayFill (D.opened file.now)) (D.asked disk.old) (D.asked disk.new) }
+    ensures filled { D.discloses → OnOk result
+        (Fills (D.opened file.now).number bytes.now (D.asked disk.old) (D.asked disk.new)) }
+{
+    match mode {
+        Some(mode) => {
+            disk.set_mode(file, mode)?;
+            fill_on_disk(disk, file, bytes)
+        }
+        None => fill_on_disk(disk, file, bytes),
     }
-    file.write_all(bytes)?;
-    file.sync_all()
 }
 
-/// The folder of this file. It is opened before anything is written, since a name that was changed in a folder that can't be opened is not
-/// known to be on disk.
-pub(super) fn open_folder<R: Files>(rt: &R, path: &str) -> io::Result<R::File> {
-    let folder = match path.rsplit_once('/') {
-        Some(("", _)) => "/",
-        Some((folder, _)) => folder,
-        None => ".",
-    };
-    fs::open(rt, folder)
+/// Writes the bytes and has them on disk.
+fn fill_on_disk<D: Disk>(disk: &mut D, file: &D::File, bytes: &[u8]) -> io::Result<()>
+    ensures asks { D.discloses
+        → Adds (MayFill (D.opened file.now)) (D.asked disk.old) (D.asked disk.new) }
+    ensures filled { D.discloses → OnOk result
+        (Fills (D.opened file.now).number bytes.now (D.asked disk.old) (D.asked disk.new)) }
+{
+    disk.fill(file, bytes)?;
+    disk.sync(file)
 }
 
 /// Puts the names in this folder on disk, one of which has just been given to another file.
-pub(super) fn sync_folder<F: OpenFile>(folder: &F) -> Result<(), StoreFault> {
-    match folder.sync_all() {
+pub(super) fn sync_folder<D: Disk>(disk: &mut D, folder: &D::Folder) -> Result<(), StoreFault>
+    ensures asks { D.discloses
+        → AddsSync (D.folder_of folder.now) (D.asked disk.old) (D.asked disk.new) }
+    ensures synced { D.discloses
+        → OnOk result (has_synced_name (D.folder_of folder.now) (D.asked disk.new) ≡ true) }
+{
+    match disk.sync_folder(folder) {
         Ok(()) => Ok(()),
         // Some file systems keep no names to be put on disk.
         Err(error) if error.kind() == ErrorKind::InvalidInput => Ok(()),

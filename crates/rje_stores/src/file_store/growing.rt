@@ -4,24 +4,23 @@
 //! brought up to date from the first, changed and extended, put on disk, and renamed to the file's name, and the first stays as the older
 //! one, by a second name that it was given before. So a growth costs as much as its bytes and the last one's, whatever the file's length,
 //! and no bytes under the file's name are ever changed.
-use super::beside::{Beside, create_beside, link_beside, open_folder, resolved, sync_folder};
+use super::beside::{Beside, create_beside, link_beside, resolved, sync_folder};
+use crate::disk::{Disk, FileKind};
 use crate::store::StoreFault;
 use std::alloc::Global;
-use std::fs::{self, OpenFile};
-use std::io::{self, ErrorKind, Read, Seek, SeekFrom, Write};
-use std::rt::Files;
+use std::io::{self, ErrorKind};
 
 /// A file that grows.
 #[derive(Drop)]
-pub(super) struct Growing<F: Drop> {
+pub(super) struct Growing<D: Disk> {
     name: String,
     path: String,
-    folder: F,
-    newest: F,
+    folder: D::Folder,
+    newest: D::File,
     len: u64,
     // Made here, so that nobody else has a name for it.
     own: bool,
-    older: Option<Older<F>>,
+    older: Option<Older<D::File>>,
 }
 
 /// A copy that is older by a growth.
@@ -32,18 +31,14 @@ struct Older<F: Drop> {
     len: u64,
 }
 
-impl<F: Read + Write + Seek + OpenFile + Drop> Growing<F> {
+impl<D: Disk> Growing<D> {
     /// The file of this name as it is.
-    pub(super) fn open<R: Files<File = F>>(
-        rt: &R,
-        alloc: Global,
-        name: &str,
-    ) -> io::Result<Growing<F>> {
-        let path = resolved(rt, alloc, name)?;
-        let folder = open_folder(rt, path.as_str())?;
-        let newest = fs::open(rt, path.as_str())?;
-        let found = newest.metadata()?;
-        if !found.is_file() {
+    pub(super) fn open(disk: &mut D, alloc: Global, name: &str) -> io::Result<Growing<D>> {
+        let path = resolved(disk, alloc, name)?;
+        let folder = disk.open_folder(path.as_str())?;
+        let newest = disk.open_to_copy(path.as_str())?;
+        let found = disk.status_of(&newest)?;
+        if found.kind != FileKind::Regular {
             return Err(io::Error::from(ErrorKind::InvalidInput));
         }
         Ok(Growing {
@@ -51,7 +46,7 @@ impl<F: Read + Write + Seek + OpenFile + Drop> Growing<F> {
             path,
             folder,
             newest,
-            len: found.len(),
+            len: found.len,
             own: false,
             older: None,
         })
@@ -63,7 +58,7 @@ impl<F: Read + Write + Seek + OpenFile + Drop> Growing<F> {
     }
 
     /// Removes what stands beside the file.
-    pub(super) fn settle<R: Files>(self, rt: &R) {
+    pub(super) fn settle(self, disk: &mut D) {
         let Growing {
             name: _,
             path: _,
@@ -81,38 +76,38 @@ impl<F: Read + Write + Seek + OpenFile + Drop> Growing<F> {
             },
         ) = older
         {
-            let _ = rt.remove_file(path.as_str());
+            let _ = disk.remove(path.as_str());
         }
     }
 
     /// The file with one piece in front, in place of as many bytes, and another at the end. Where that fails, the file is as it was; but where it
     /// is unsynced it has them, and the disk may not.
-    pub(super) fn extended<R: Files<File = F>>(
+    pub(super) fn extended(
         self,
-        rt: &R,
+        disk: &mut D,
         alloc: Global,
         front: &[u8],
         tail: &[u8],
-    ) -> Result<Growing<F>, StoreFault> {
+    ) -> Result<Growing<D>, StoreFault> {
         let Growing {
             name,
             path,
             folder,
-            mut newest,
+            newest,
             len,
             own,
             older,
         } = self;
         let Older {
-            mut file,
+            file,
             path: beside,
             len: older_len,
         } = match older {
             Some(older) => older,
-            None => first_copy(rt, alloc, path.as_str())?,
+            None => first_copy(disk, alloc, path.as_str())?,
         };
-        let second = match grown(&mut newest, len, &mut file, older_len, front, tail) {
-            Ok(()) => put_in_place(rt, alloc, &folder, path.as_str(), beside.as_str(), own),
+        let second = match grown(disk, &newest, len, &file, older_len, front, tail) {
+            Ok(()) => put_in_place(disk, alloc, &folder, path.as_str(), beside.as_str(), own),
             Err(error) => Err(StoreFault::from(error)),
         };
         match second {
@@ -133,7 +128,7 @@ impl<F: Read + Write + Seek + OpenFile + Drop> Growing<F> {
                 },
             }),
             Err(fault) => {
-                let _ = rt.remove_file(beside.as_str());
+                let _ = disk.remove(beside.as_str());
                 Err(fault)
             }
         }
@@ -141,35 +136,35 @@ impl<F: Read + Write + Seek + OpenFile + Drop> Growing<F> {
 }
 
 /// An empty copy.
-fn first_copy<R: Files>(rt: &R, alloc: Global, path: &str) -> io::Result<Older<R::File>> {
-    let Beside { file, path } = create_beside(rt, alloc, path)?;
+fn first_copy<D: Disk>(disk: &mut D, alloc: Global, path: &str) -> io::Result<Older<D::File>> {
+    let Beside { file, path } = create_beside(disk, alloc, path)?;
     Ok(Older { file, path, len: 0 })
 }
 
 /// Gives the copy beside the file its name, on disk. The file, where it is our own, stays by a second name, which is returned; where it
 /// gets none, the next growth copies it whole.
-fn put_in_place<R: Files>(
-    rt: &R,
+fn put_in_place<D: Disk>(
+    disk: &mut D,
     alloc: Global,
-    folder: &R::File,
+    folder: &D::Folder,
     path: &str,
     beside: &str,
     own: bool,
 ) -> Result<Option<String>, StoreFault> {
     let second = if own {
-        link_beside(rt, alloc, path).ok()
+        link_beside(disk, alloc, path).ok()
     } else {
         None
     };
-    let turned = match rt.rename(beside, path) {
-        Ok(()) => sync_folder(folder),
+    let turned = match disk.rename(beside, path) {
+        Ok(()) => sync_folder(disk, folder),
         Err(error) => Err(StoreFault::from(error)),
     };
     match turned {
         Ok(()) => Ok(second),
         Err(fault) => {
             if let Some(second) = second {
-                let _ = rt.remove_file(second.as_str());
+                let _ = disk.remove(second.as_str());
             }
             Err(fault)
         }
@@ -177,10 +172,11 @@ fn put_in_place<R: Files>(
 }
 
 /// Makes the older copy the newest one's extension, on disk.
-fn grown<F: Read + Write + Seek + OpenFile>(
-    newest: &mut F,
+fn grown<D: Disk>(
+    disk: &mut D,
+    newest: &D::File,
     len: u64,
-    older: &mut F,
+    older: &D::File,
     older_len: u64,
     front: &[u8],
     tail: &[u8],
@@ -189,13 +185,9 @@ fn grown<F: Read + Write + Seek + OpenFile>(
         return Err(io::Error::from(ErrorKind::InvalidInput));
     }
     if older_len == 0 {
-        older.set_permissions(newest.metadata()?.permissions())?;
+        disk.set_mode(older, disk.status_of(newest)?.mode)?;
     }
-    newest.seek(SeekFrom::Start(older_len))?;
-    older.seek(SeekFrom::Start(older_len))?;
-    io::copy(newest, older)?;
-    older.write_all(tail)?;
-    older.seek(SeekFrom::Start(0))?;
-    older.write_all(front)?;
-    older.sync_all()
+    disk.go_on(older, newest, older_len, tail)?;
+    disk.write_at(older, 0, front)?;
+    disk.sync(older)
 }

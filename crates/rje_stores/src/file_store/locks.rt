@@ -4,48 +4,50 @@
 //! given up. The file itself is locked too, where it is there, since it may have a second name. The system gives up both when the process
 //! ends.
 use super::beside::resolved;
+use crate::disk::{Disk, FileKind};
 use crate::store::StoreFault;
 use std::alloc::Global;
-use std::fs::{File, OpenFile, OpenOptions, Permissions, TryLockError};
+use std::fs::{Permissions, TryLockError};
 use std::io::{self, ErrorKind};
-use std::os::unix::fs::{MetadataExt, PermissionsExt};
-use std::rt::Files;
+use std::os::unix::fs::PermissionsExt;
 
 /// How many times to lock the file beside another anew where it was removed meanwhile.
 const MAX_TRIES: u32 = 1000;
 
 /// The lock of the file of a name.
 #[derive(Drop)]
-pub(super) struct FileLock {
+pub(super) struct FileLock<F: Drop> {
     name: String,
     path: String,
     beside: String,
     // Locked as long as they are open.
-    lock: File,
-    own: Option<File>,
+    lock: F,
+    own: Option<F>,
 }
 
-impl FileLock {
+impl<F: Drop> FileLock<F> {
     /// The lock of the file of this name; missing where neither that nor the file beside can be. `None` where a device or a pipe stands there,
     /// which is never replaced, or a folder, which is never written.
-    pub(super) fn take<R: Files<File = File>>(
-        rt: &R,
+    pub(super) fn take<D: Disk<File = F>>(
+        disk: &mut D,
         alloc: Global,
         name: &str,
-    ) -> Result<Option<FileLock>, StoreFault> {
-        let path = resolved(rt, alloc, name)?;
+    ) -> Result<Option<FileLock<F>>, StoreFault> {
+        let path = resolved(disk, alloc, name)?;
         let beside = lock_beside(alloc, path.as_str())?;
         let name = String::from_str(alloc, name)?;
-        let (own, otherwise) = match rt.metadata(path.as_str()) {
-            Ok(found) if found.is_file() => (open_to_lock(rt, path.as_str()), StoreFault::Failed),
+        let (own, otherwise) = match disk.status(path.as_str()) {
+            Ok(found) if found.kind == FileKind::Regular => {
+                (open_to_lock(disk, path.as_str()), StoreFault::Failed)
+            }
             Ok(_) => return Ok(None),
             Err(_) => (None, StoreFault::Missing),
         };
-        let lock = match lock_of(rt, beside.as_str()) {
+        let lock = match lock_of(disk, beside.as_str()) {
             Err(StoreFault::Failed | StoreFault::Missing) => return Err(otherwise),
             taken => taken?,
         };
-        match own.as_ref().map_or(Ok(()), locked) {
+        match own_locked(disk, own.as_ref()) {
             Ok(()) => Ok(Some(FileLock {
                 name,
                 path,
@@ -54,7 +56,7 @@ impl FileLock {
                 own,
             })),
             Err(fault) => {
-                let _ = rt.remove_file(beside.as_str());
+                let _ = disk.remove(beside.as_str());
                 Err(fault)
             }
         }
@@ -62,11 +64,13 @@ impl FileLock {
 
     /// Locks the file that stands there now in place of the one that it has replaced, which the disk would keep until the end. Where it can't
     /// be locked, the file beside still is.
-    pub(super) fn follow<R: Files<File = File>>(&mut self, rt: &R) {
-        self.own = match open_to_lock(rt, self.path.as_str()) {
-            Some(file) if locked(&file).is_ok() => Some(file),
-            _ => None,
-        };
+    pub(super) fn follow<D: Disk<File = F>>(&mut self, disk: &D) {
+        self.own = None;
+        if let Some(file) = open_to_lock(disk, self.path.as_str()) {
+            if locked(disk, &file).is_ok() {
+                self.own = Some(file);
+            }
+        }
     }
 
     /// Whether this is the lock of the file of this name.
@@ -76,9 +80,9 @@ impl FileLock {
 
     /// Removes the file beside, unless another process has done so: then the name may be another file's. It is locked until this value is let
     /// go, so whoever opened it before finds that it has no name any more.
-    pub(super) fn remove<R: Files>(&self, rt: &R) {
-        if is_there(&self.lock) {
-            let _ = rt.remove_file(self.beside.as_str());
+    pub(super) fn remove<D: Disk<File = F>>(&self, disk: &mut D) {
+        if is_there(disk, &self.lock) {
+            let _ = disk.remove(self.beside.as_str());
         }
     }
 }
@@ -92,20 +96,20 @@ fn lock_beside(alloc: Global, path: &str) -> io::Result<String> {
 }
 
 /// The file of this path, open, where that can be.
-fn open_to_lock<R: Files<File = File>>(rt: &R, path: &str) -> Option<File> {
-    match OpenOptions::new().read(true).write(true).open(rt, path) {
+fn open_to_lock<D: Disk>(disk: &D, path: &str) -> Option<D::File> {
+    match disk.open_to_lock(path) {
         Ok(file) => Some(file),
-        Err(_) => OpenOptions::new().read(true).open(rt, path).ok(),
+        Err(_) => disk.open_to_read(path).ok(),
     }
 }
 
 /// The file of this path, made where there is none, and locked. Whoever gives up its lock removes it first, so one that has no name any
 /// more when it is locked was left by a process that has gone: then there is another one, or none.
-fn lock_of<R: Files<File = File>>(rt: &R, path: &str) -> Result<File, StoreFault> {
+fn lock_of<D: Disk>(disk: &mut D, path: &str) -> Result<D::File, StoreFault> {
     for _ in 0..MAX_TRIES {
-        let file = open_lock(rt, path)?;
-        locked(&file)?;
-        if is_there(&file) {
+        let file = open_lock(disk, path)?;
+        locked(disk, &file)?;
+        if is_there(disk, &file) {
             return Ok(file);
         }
     }
@@ -113,38 +117,41 @@ fn lock_of<R: Files<File = File>>(rt: &R, path: &str) -> Result<File, StoreFault
 }
 
 /// Whether an open file has a name.
-fn is_there(file: &File) -> bool {
-    match file.metadata() {
-        Ok(found) => found.nlink() != 0,
+fn is_there<D: Disk>(disk: &D, file: &D::File) -> bool {
+    match disk.status_of(file) {
+        Ok(found) => found.links != 0,
         Err(_) => false,
     }
 }
 
 /// A lock's file, which is empty, and which any user may read: so one that was left keeps no one out. Another user's can perhaps only be read.
-fn open_lock<R: Files<File = File>>(rt: &R, path: &str) -> io::Result<File> {
-    let opened = OpenOptions::new()
-        .read(true)
-        .write(true)
-        .create(true)
-        .open(rt, path);
-    let file = match opened {
+fn open_lock<D: Disk>(disk: &mut D, path: &str) -> io::Result<D::File> {
+    let file = match disk.open_or_create(path) {
         Err(error) if error.kind() == ErrorKind::PermissionDenied => {
-            OpenOptions::new().read(true).open(rt, path).or(Err(error))?
+            disk.open_to_read(path).or(Err(error))?
         }
         opened => opened?,
     };
-    if file.metadata()?.len() != 0 {
+    if disk.status_of(&file)?.len != 0 {
         return Err(io::Error::from(ErrorKind::AlreadyExists));
     }
-    let _ = file.set_permissions(Permissions::from_mode(0o644));
+    let _ = disk.set_mode(&file, Permissions::from_mode(0o644));
     Ok(file)
 }
 
 /// Locks an open file: in use where another process has it.
-fn locked(file: &File) -> Result<(), StoreFault> {
-    match file.try_lock() {
+fn locked<D: Disk>(disk: &D, file: &D::File) -> Result<(), StoreFault> {
+    match disk.try_lock(file) {
         Ok(()) => Ok(()),
         Err(TryLockError::WouldBlock) => Err(StoreFault::InUse),
         Err(TryLockError::Error(error)) => Err(StoreFault::from(error)),
+    }
+}
+
+/// Locks the file itself, where it is there.
+fn own_locked<D: Disk>(disk: &D, own: Option<&D::File>) -> Result<(), StoreFault> {
+    match own {
+        Some(file) => locked(disk, file),
+        None => Ok(()),
     }
 }
