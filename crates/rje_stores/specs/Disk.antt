@@ -110,11 +110,11 @@ filled bytes (_ ∷ _) = None
 
 -- a file that goes on from `place` as another one, and then with these bytes
 abbrev pub gone_on : (place : ℕ) → (from bytes had : List ℕ) → Option (List ℕ)
-gone_on place from bytes had = if nat_eq (length had) place then Some (had ++ drop place from ++ bytes) else None
+gone_on place from bytes had = if nat_eq (length had) place then Some (had ++ (drop place from ++ bytes)) else None
 
 -- a file with these bytes at a place of it, in place of what it had there
 abbrev pub overwritten : (place : ℕ) → (bytes had : List ℕ) → Option (List ℕ)
-overwritten place bytes had = if nat_lt (length had) place then None else Some (take place had ++ bytes ++ drop (place + length bytes) had)
+overwritten place bytes had = if nat_lt (length had) place then None else Some (take place had ++ (bytes ++ drop (place + length bytes) had))
 
 -- the bytes of a file after these calls, where they show them
 abbrev pub bytes_of : ℕ → List Asked → Option (List ℕ)

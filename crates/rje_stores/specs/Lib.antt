@@ -3,3 +3,4 @@ pub mod MemoryStore
 pub mod Disk
 pub mod Replacing
 pub mod Inside
+pub mod FileStore

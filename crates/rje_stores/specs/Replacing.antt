@@ -56,6 +56,10 @@ Each P (asked ∷ calls) before = P (call_of asked) (calls ++ before) × Each P 
 abbrev pub Adds : (Call → List Asked → Type 0) → (before after : List Asked) → Type 0
 Adds P before after = (calls : List Asked) × (after ≡ calls ++ before) × Each P calls before
 
+-- what may be asked by one rule or by another
+abbrev pub Either : (Call → List Asked → Type 0) → (Call → List Asked → Type 0) → Call → List Asked → Type 0
+Either P Q call before = P call before ⊎ Q call before
+
 -- the last of these calls made this file, new and empty, beside a path
 abbrev pub IsNewBeside : List ℕ → Opened → List ℕ → List Asked → Type 0
 IsNewBeside path file name after = (before : List Asked) × (after ≡ Done (Create name) ∷ before) × (file ≡ record { name = name; number = length before }) × IsBeside path name

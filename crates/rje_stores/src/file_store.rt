@@ -1,12 +1,14 @@
 //! The system's files.
-ghost use Rattle.std.specs.Prelude.{◌≡◌, None, IfOk};
+ghost use Rattle.std.specs.Prelude.{◌≡◌, ◌≢◌, ◌≤◌, ◌⊎◌, None, false, length, IfOk, OnOk, IsErrOf};
+ghost use Rattle.rje_stores.specs.Replacing.{Adds, Either};
+ghost use Rattle.rje_stores.specs.FileStore.{HasSet, IsWritten, MayLook, MayPut, MaySet, MaySettle, copy_of};
 
 mod beside;
 mod growing;
 mod locks;
 
 use crate::disk::{Disk, FileKind};
-use crate::reading::read_all;
+use crate::reading::{MAX_INPUT, read_all};
 use crate::store::{Place, Store, StoreFault};
 use crate::system_disk::SystemDisk;
 use beside::{lead_to_one, replace, resolved, try_beside};
@@ -48,7 +50,10 @@ impl<'a, R: Files<File = File>> FileStore<SystemDisk<'a, R>> {
 
 impl<D: Disk> FileStore<D> {
     /// The files on this disk.
-    pub fn over(disk: D, alloc: Global) -> Self {
+    pub fn over(disk: D, alloc: Global) -> Self
+        ensures disk { result.disk ≡ disk }
+        ensures settled { copy_of result.growing ≡ None }
+    {
         FileStore {
             disk,
             alloc,
@@ -58,7 +63,9 @@ impl<D: Disk> FileStore<D> {
     }
 
     /// The disk.
-    pub fn disk(&self) -> &D {
+    pub fn disk(&self) -> &D
+        ensures { result.now ≡ self.now.disk }
+    {
         &self.disk
     }
 
@@ -71,7 +78,10 @@ impl<D: Disk> FileStore<D> {
     }
 
     /// The file of this name was replaced: the lock of it is that of the file which stands there now.
-    fn follow(&mut self, name: &str) {
+    fn follow(&mut self, name: &str)
+        ensures disk { self.new.disk ≡ self.old.disk }
+        ensures growing { self.new.growing ≡ self.old.growing }
+    {
         for lock in self.locks.iter_mut() {
             if lock.is_of(name) {
                 lock.follow(&self.disk);
@@ -79,35 +89,54 @@ impl<D: Disk> FileStore<D> {
         }
     }
 
-    fn put(&mut self, name: &str, bytes: &[u8]) -> Result<(), StoreFault> {
+    fn put(&mut self, name: &str, bytes: &[u8]) -> Result<(), StoreFault>
+        ensures asks { D.discloses → Adds (MayPut D.leads name.now bytes.now)
+            (D.asked self.old.disk) (D.asked self.new.disk) }
+        ensures on_disk { D.discloses
+            → OnOk result (IsWritten D.leads name.now bytes.now (D.asked self.new.disk)) }
+        ensures growing { self.new.growing ≡ self.old.growing }
+    {
         let path = resolved(&self.disk, self.alloc, name)?;
-        match target_of(&self.disk, path.as_str())? {
-            Target::Device => Ok(self.disk.write_device(path.as_str(), bytes)?),
-            Target::New => replace(&mut self.disk, self.alloc, path.as_str(), None, bytes),
-            Target::File(mode) => {
-                replace(&mut self.disk, self.alloc, path.as_str(), Some(mode), bytes)
-            }
+        let path = path.as_str();
+        match target_of(&self.disk, path)? {
+            Target::Device => Ok(self.disk.write_device(path, bytes)?),
+            Target::New => replace(&mut self.disk, self.alloc, path, None, bytes),
+            Target::File(mode) => replace(&mut self.disk, self.alloc, path, Some(mode), bytes),
         }
     }
 
     /// Changes a byte where the file is, on disk.
-    fn put_byte(&mut self, name: &str, place: usize, byte: u8) -> io::Result<()> {
+    fn put_byte(&mut self, name: &str, place: usize, byte: u8) -> io::Result<()>
+        ensures asks { D.discloses → Adds (MaySet D.leads name.now place byte)
+            (D.asked self.old.disk) (D.asked self.new.disk) }
+        ensures sets { D.discloses
+            → OnOk result (HasSet D.leads name.now place byte (D.asked self.new.disk)) }
+        ensures growing { self.new.growing ≡ self.old.growing }
+    {
         let path = resolved(&self.disk, self.alloc, name)?;
-        let file = self.disk.open_to_write(path.as_str())?;
+        let path = path.as_str();
+        let file = self.disk.open_to_write(path)?;
         let found = self.disk.status_of(&file)?;
-        if found.kind != FileKind::Regular || found.len <= place as u64 {
+        if found.kind != FileKind::Regular {
+            return Err(io::Error::from(ErrorKind::InvalidInput));
+        }
+        if found.len <= place as u64 {
             return Err(io::Error::from(ErrorKind::InvalidInput));
         }
         self.disk.write_at(&file, place as u64, &[byte])?;
         self.disk.sync_bytes(&file)
     }
 
-    fn place(&mut self, name: &str) -> io::Result<Place> {
+    fn place(&mut self, name: &str) -> io::Result<Place>
+        ensures { D.discloses → Adds (MayLook D.leads name.now)
+            (D.asked self.old.disk) (D.asked self.new.disk) }
+    {
         let path = resolved(&self.disk, self.alloc, name)?;
-        match target_of(&self.disk, path.as_str())? {
+        let path = path.as_str();
+        match target_of(&self.disk, path)? {
             Target::Device => Ok(Place::Once),
             Target::New | Target::File(_) => {
-                try_beside(&mut self.disk, self.alloc, path.as_str())?;
+                try_beside(&mut self.disk, self.alloc, path)?;
                 Ok(Place::Growing)
             }
         }
@@ -163,22 +192,38 @@ impl<D: Disk> Store for FileStore<D> {
         Ok(())
     }
 
-    fn read(&mut self, alloc: Global, name: &str) -> Result<Vec<u8>, StoreFault> {
+    fn read(&mut self, alloc: Global, name: &str) -> Result<Vec<u8>, StoreFault>
+        ensures limit { IfOk result (λ bytes. length bytes.items ≤ MAX_INPUT) }
+        ensures disk { self.new.disk ≡ self.old.disk }
+    {
         read_all(alloc, &mut self.disk.open_to_read(name)?)
     }
 
-    fn write(&mut self, name: &str, bytes: &[u8]) -> Result<(), StoreFault> {
+    fn write(&mut self, name: &str, bytes: &[u8]) -> Result<(), StoreFault>
+        ensures asks { D.discloses
+            → Adds (Either (MaySettle (copy_of self.old.growing)) (MayPut D.leads name.now bytes.now))
+            (D.asked self.old.disk) (D.asked self.new.disk) }
+        ensures on_disk { D.discloses
+            → OnOk result (IsWritten D.leads name.now bytes.now (D.asked self.new.disk)) }
+        ensures settled { copy_of self.new.growing ≡ None }
+    {
         self.settle();
         self.put(name, bytes)?;
         self.follow(name);
         Ok(())
     }
 
-    fn look(&mut self, name: &str) -> Result<Place, StoreFault> {
+    fn look(&mut self, name: &str) -> Result<Place, StoreFault>
+        ensures { D.discloses → Adds (MayLook D.leads name.now)
+            (D.asked self.old.disk) (D.asked self.new.disk) }
+    {
         Ok(self.place(name)?)
     }
 
-    fn is_one_file(&mut self, alloc: Global, one: &str, other: &str) -> Result<bool, StoreFault> {
+    fn is_one_file(&mut self, alloc: Global, one: &str, other: &str) -> Result<bool, StoreFault>
+        ensures two { IfOk result (λ is_one. is_one ≡ false → one.now ≢ other.now) }
+        ensures disk { self.new.disk ≡ self.old.disk }
+    {
         if one == other {
             return Ok(true);
         }
@@ -203,12 +248,23 @@ impl<D: Disk> Store for FileStore<D> {
         name: &str,
         place: usize,
         byte: u8,
-    ) -> Result<(), StoreFault> {
+    ) -> Result<(), StoreFault>
+        ensures asks { D.discloses
+            → Adds (Either (MaySettle (copy_of self.old.growing)) (MaySet D.leads name.now place byte))
+            (D.asked self.old.disk) (D.asked self.new.disk) }
+        ensures on_disk { D.discloses
+            → OnOk result (HasSet D.leads name.now place byte (D.asked self.new.disk)) }
+        ensures settled { copy_of self.new.growing ≡ None }
+    {
         self.settle();
         Ok(self.put_byte(name, place, byte)?)
     }
 
-    fn settle(&mut self) {
+    fn settle(&mut self)
+        ensures asks { D.discloses → Adds (MaySettle (copy_of self.old.growing))
+            (D.asked self.old.disk) (D.asked self.new.disk) }
+        ensures settled { copy_of self.new.growing ≡ None }
+    {
         if let Some(growing) = self.growing.take() {
             growing.settle(&mut self.disk);
         }

@@ -3,6 +3,7 @@ mod commands;
 mod connections;
 mod exchanging;
 mod receiving;
+mod recorded_disk;
 mod scripted_stream;
 mod sending;
 mod stores;

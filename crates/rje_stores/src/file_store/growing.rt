@@ -4,6 +4,9 @@
 //! brought up to date from the first, changed and extended, put on disk, and renamed to the file's name, and the first stays as the older
 //! one, by a second name that it was given before. So a growth costs as much as its bytes and the last one's, whatever the file's length,
 //! and no bytes under the file's name are ever changed.
+ghost use Rattle.rje_stores.specs.Replacing.{Adds};
+ghost use Rattle.rje_stores.specs.FileStore.{MaySettle, older_name};
+
 use super::beside::{Beside, create_beside, link_beside, resolved, sync_folder};
 use crate::disk::{Disk, FileKind};
 use crate::store::StoreFault;
@@ -58,7 +61,10 @@ impl<D: Disk> Growing<D> {
     }
 
     /// Removes what stands beside the file.
-    pub(super) fn settle(self, disk: &mut D) {
+    pub(super) fn settle(self, disk: &mut D)
+        ensures { D.discloses → Adds (MaySettle (older_name self.older))
+            (D.asked disk.old) (D.asked disk.new) }
+    {
         let Growing {
             name: _,
             path: _,

@@ -1,5 +1,8 @@
 //! What no clause says: that files in memory are there. What the system's files do stands in commands/.
-use rje_stores::{MemoryStore, Store, StoreFault};
+use super::recorded_disk::RecordedDisk;
+use rje_stores::{FileKind, FileStore, MemoryStore, Store, StoreFault};
+use std::alloc::Global;
+use std::process::Abort;
 use std::test::Fail;
 
 #[test]
@@ -25,5 +28,90 @@ fn a_file_in_memory_grows_and_has_a_byte_set(rt: HostRuntime) -> Result<(), Fail
     assert!(rt; files.read(rt.alloc(), "a")?.as_slice() == b"2-jobs".as_slice());
     assert!(rt; files.set_byte(rt.alloc(), "a", 6, b'-') == Err(StoreFault::Failed));
     assert!(rt; files.extend(rt.alloc(), "b", b"2", b"s").is_err());
+    Ok(())
+}
+
+/// What a disk is asked when a file that is there is written, and its call of this number fails.
+fn asked_to_write(rt: &impl Abort, alloc: Global, fails_at: usize, asked: &[u8]) {
+    let disk = RecordedDisk::new(alloc, Some(FileKind::Regular), 4, fails_at);
+    let mut files = FileStore::over(disk, alloc);
+    let written = files.write("a.job", b"one");
+    assert!(rt; written.is_ok() == (fails_at == 0));
+    assert!(rt; files.disk().asked() == asked);
+}
+
+#[test]
+fn a_file_is_on_disk_before_it_gets_its_name(rt: HostRuntime) -> Result<(), Fail> {
+    let alloc = rt.alloc();
+    asked_to_write(
+        &rt,
+        alloc,
+        0,
+        b"create a.job.rje-0\nmode of a.job.rje-0\nfill a.job.rje-0 with one\nsync a.job.rje-0\nrename a.job.rje-0 to a.job\nsync folder of a.job\n",
+    );
+    asked_to_write(&rt, alloc, 1, b"create a.job.rje-0\n");
+    asked_to_write(
+        &rt,
+        alloc,
+        2,
+        b"create a.job.rje-0\nmode of a.job.rje-0\nremove a.job.rje-0\n",
+    );
+    asked_to_write(
+        &rt,
+        alloc,
+        3,
+        b"create a.job.rje-0\nmode of a.job.rje-0\nfill a.job.rje-0 with one\nremove a.job.rje-0\n",
+    );
+    asked_to_write(
+        &rt,
+        alloc,
+        4,
+        b"create a.job.rje-0\nmode of a.job.rje-0\nfill a.job.rje-0 with one\nsync a.job.rje-0\nremove a.job.rje-0\n",
+    );
+    asked_to_write(
+        &rt,
+        alloc,
+        5,
+        b"create a.job.rje-0\nmode of a.job.rje-0\nfill a.job.rje-0 with one\nsync a.job.rje-0\nrename a.job.rje-0 to a.job\nremove a.job.rje-0\n",
+    );
+    asked_to_write(
+        &rt,
+        alloc,
+        6,
+        b"create a.job.rje-0\nmode of a.job.rje-0\nfill a.job.rje-0 with one\nsync a.job.rje-0\nrename a.job.rje-0 to a.job\nsync folder of a.job\n",
+    );
+    Ok(())
+}
+
+#[test]
+fn a_file_grows_by_way_of_a_copy(rt: HostRuntime) -> Result<(), Fail> {
+    let alloc = rt.alloc();
+    let mut files = FileStore::over(
+        RecordedDisk::new(alloc, Some(FileKind::Regular), 4, 0),
+        alloc,
+    );
+    files.extend(alloc, "a.job", b"2", b"s")?;
+    files.extend(alloc, "a.job", b"3", b"t")?;
+    files.settle();
+    assert!(rt;
+        files.disk().asked()
+            == b"open a.job\ncreate a.job.rje-0\nmode of a.job.rje-0\ngo on with a.job.rje-0 as a.job and s\nwrite to a.job.rje-0: 2\nsync a.job.rje-0\nrename a.job.rje-0 to a.job\nsync folder of a.job\ncreate a.job.rje-0\nmode of a.job.rje-0\ngo on with a.job.rje-0 as a.job.rje-0 and t\nwrite to a.job.rje-0: 3\nsync a.job.rje-0\nlink a.job as a.job.rje-0\nrename a.job.rje-0 to a.job\nsync folder of a.job\nremove a.job.rje-0\n".as_slice()
+    );
+    Ok(())
+}
+
+#[test]
+fn a_byte_is_set_where_the_file_is(rt: HostRuntime) -> Result<(), Fail> {
+    let alloc = rt.alloc();
+    let mut files = FileStore::over(
+        RecordedDisk::new(alloc, Some(FileKind::Regular), 4, 0),
+        alloc,
+    );
+    files.set_byte(alloc, "a.job", 3, b'-')?;
+    assert!(rt; files.set_byte(alloc, "a.job", 4, b'-') == Err(StoreFault::Failed));
+    assert!(rt;
+        files.disk().asked()
+            == b"open a.job\nwrite to a.job: -\nsync bytes of a.job\nopen a.job\n".as_slice()
+    );
     Ok(())
 }
