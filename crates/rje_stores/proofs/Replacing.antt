@@ -11,7 +11,7 @@ use Rattle.std.proofs.lemmas.Option.{same_Some}
 use Rattle.std.proofs.lemmas.List.{take-append-drop, take-set, drop-set}
 use Rattle.rje_stores.specs.Disk.{Asked, Call, Opened, Done, Refused, Failed, Create, Open, OpenLock, SetMode, Fill, GoOn, WriteAt, Sync, SyncBytes, Rename, Link, Remove, SyncFolder, WriteDevice, call_of, standing, bytes_of, is_synced, has_synced_name, changes, takes, names, came_to, failed_by, seen_as, overwritten, has_synced_bytes, IsOpened}
 use Rattle.rje_stores.specs.FileStore.{HasSet, IsSet, MaySet}
-use Rattle.rje_stores.specs.Replacing.{Adds, Each, Either, IsApart, IsBeside, IsNewBeside, IsWhole, IsOnDisk, LeadsTo, MayReplace, MayTry}
+use Rattle.rje_stores.specs.Replacing.{Adds, Each, Either, HasTried, IsApart, IsBeside, IsNewBeside, IsWhole, IsOnDisk, LeadsTo, MayReplace, MayTry}
 use Rattle.rje_stores.specs.Inside.Filling.{AddsSync, Fills, MayFill}
 
 -- nothing was asked
@@ -276,3 +276,9 @@ set_done (Ok _) leads name path file place byte had a b c d led opened is h writ
     let all : d ≡ Done (SyncBytes file) ∷ Done (WriteAt file place (byte ∷ [])) ∷ Done (Open path had) ∷ a =
     synced ∙ ap (λ (l : List Asked). Done (SyncBytes file) ∷ l) (written ∙ ap (λ (l : List Asked). Done (WriteAt file place (byte ∷ [])) ∷ l) opened) in
     (path, led, subst (λ (l : List Asked). IsSet path place byte l) (sym all) (byte_is_set path file place byte had a is h))
+
+-- the file that was made is removed again
+pub tried_done : {A : Type 0} (result : Result A Error) (path : List ℕ) (file : Opened) (name : List ℕ) (a b : List Asked) → IsNewBeside path file name a → b ≡ came_to result (Remove name) ∷ a
+    → OnOk result (HasTried path b)
+tried_done (Err _) path file name a b new made = tt
+tried_done (Ok _) path file name a b (before, e, f, beside) made = (name, before, beside, made ∙ ap (λ (l : List Asked). Done (Remove name) ∷ l) e)

@@ -3,7 +3,7 @@ use Rattle.std.specs.Prelude.{◌≡◌, ◌⊎◌, ℕ, ◌<◌, List, [], ◌�
 use Rattle.rje_stores.specs.declared.file_store.growing.Growing.{Growing}
 use Rattle.rje_stores.specs.declared.file_store.growing.Older.{Older}
 use Rattle.rje_stores.specs.Disk.{Asked, Call, Opened, Done, Open, WriteAt, SyncBytes, Remove, WriteDevice, standing, bytes_of, has_synced_bytes}
-use Rattle.rje_stores.specs.Replacing.{IsOnDisk, LeadsTo, MayReplace, MayTry}
+use Rattle.rje_stores.specs.Replacing.{IsOnDisk, HasTried, LeadsTo, MayReplace, MayTry}
 
 -- the name of the copy that stands beside a file that grows, where there is one
 abbrev pub older_name : {F : Type 0} → Option (Older F) → Option (List ℕ)
@@ -44,3 +44,7 @@ HasSet leads name place byte after = (path : List ℕ) × LeadsTo leads name pat
 -- what may be asked to look at a name: to make a file beside the path that it leads to, and to remove it
 abbrev pub MayLook : (List ℕ → List ℕ → Type 0) → (name : List ℕ) → Call → List Asked → Type 0
 MayLook leads name call before = (path : List ℕ) × LeadsTo leads name path × MayTry path call before
+
+-- the last calls made a file beside the path that a name leads to, and removed it
+abbrev pub HasLooked : (List ℕ → List ℕ → Type 0) → (name : List ℕ) → List Asked → Type 0
+HasLooked leads name after = (path : List ℕ) × LeadsTo leads name path × HasTried path after

@@ -47,6 +47,10 @@ MayTry path (Create name) before = IsBeside path name
 MayTry path (Remove name) before = IsBeside path name
 MayTry path _ before = ⊥
 
+-- the last calls made a file beside a path, and removed it
+abbrev pub HasTried : List ℕ → List Asked → Type 0
+HasTried path after = (name : List ℕ) × (before : List Asked) × IsBeside path name × (after ≡ Done (Remove name) ∷ Done (Create name) ∷ before)
+
 -- of each of these calls, which came after those before, this holds with all the calls before it
 abbrev pub Each : (Call → List Asked → Type 0) → (calls before : List Asked) → Type 0
 Each P [] before = ⊤

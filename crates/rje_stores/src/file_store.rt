@@ -1,7 +1,7 @@
 //! The system's files.
 ghost use Rattle.std.specs.Prelude.{◌≡◌, ◌≢◌, ◌≤◌, ◌⊎◌, None, false, length, IfOk, OnOk, IsErrOf};
 ghost use Rattle.rje_stores.specs.Replacing.{Adds, Either};
-ghost use Rattle.rje_stores.specs.FileStore.{HasSet, IsWritten, MayLook, MayPut, MaySet, MaySettle, copy_of};
+ghost use Rattle.rje_stores.specs.FileStore.{HasLooked, HasSet, IsWritten, MayLook, MayPut, MaySet, MaySettle, copy_of};
 
 mod beside;
 mod growing;
@@ -128,8 +128,10 @@ impl<D: Disk> FileStore<D> {
     }
 
     fn place(&mut self, name: &str) -> io::Result<Place>
-        ensures { D.discloses → Adds (MayLook D.leads name.now)
+        ensures asks { D.discloses → Adds (MayLook D.leads name.now)
             (D.asked self.old.disk) (D.asked self.new.disk) }
+        ensures tried { D.discloses → IfOk result (λ place. place ≡ Place.Growing
+            → HasLooked D.leads name.now (D.asked self.new.disk)) }
     {
         let path = resolved(&self.disk, self.alloc, name)?;
         let path = path.as_str();
@@ -214,8 +216,10 @@ impl<D: Disk> Store for FileStore<D> {
     }
 
     fn look(&mut self, name: &str) -> Result<Place, StoreFault>
-        ensures { D.discloses → Adds (MayLook D.leads name.now)
+        ensures asks { D.discloses → Adds (MayLook D.leads name.now)
             (D.asked self.old.disk) (D.asked self.new.disk) }
+        ensures tried { D.discloses → IfOk result (λ place. place ≡ Place.Growing
+            → HasLooked D.leads name.now (D.asked self.new.disk)) }
     {
         Ok(self.place(name)?)
     }

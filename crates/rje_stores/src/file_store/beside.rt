@@ -1,7 +1,7 @@
 //! Files beside a file, by way of which it is replaced whole or not at all.
 ghost use Rattle.std.specs.Prelude.{◌≡◌, IfOk, OnOk, IsErrOf, ℕ, List, true, string_bytes};
 ghost use Rattle.rje_stores.specs.Disk.{Asked, Call, SyncFolder, call_of, is_synced, has_synced_name};
-ghost use Rattle.rje_stores.specs.Replacing.{Adds, IsBeside, IsNewBeside, IsOnDisk, IsWhole, LeadsTo, MayReplace, MayTry};
+ghost use Rattle.rje_stores.specs.Replacing.{Adds, HasTried, IsBeside, IsNewBeside, IsOnDisk, IsWhole, LeadsTo, MayReplace, MayTry};
 ghost use Rattle.rje_stores.specs.Inside.Filling.{AddsSync, Fills, MayFill};
 
 use crate::disk::{Disk, FileKind};
@@ -71,7 +71,8 @@ fn whole_path<D: Disk>(disk: &D, alloc: Global, name: &str) -> io::Result<Option
 
 /// Looks whether a file can be made beside this one, and leaves none.
 pub(super) fn try_beside<D: Disk>(disk: &mut D, alloc: Global, path: &str) -> io::Result<()>
-    ensures { D.discloses → Adds (MayTry path.now) (D.asked disk.old) (D.asked disk.new) }
+    ensures asks { D.discloses → Adds (MayTry path.now) (D.asked disk.old) (D.asked disk.new) }
+    ensures tried { D.discloses → OnOk result (HasTried path.now (D.asked disk.new)) }
 {
     disk.open_folder(path)?;
     let beside = create_beside(disk, alloc, path)?;
