@@ -62,20 +62,8 @@ added_weaker P Q h a b (calls, e, each) = (calls, e, each_weaker P Q h calls a e
 
 -- what is tried beside a path may be asked to replace its file
 pub tried_may : (path bytes : List ℕ) (call : Call) (before : List Asked) → MayTry path call before → MayReplace path bytes call before
-tried_may path bytes (Create name) before p = p
-tried_may path bytes (Remove name) before p = p
-tried_may path bytes (Open _ _) before p = absurd p
-tried_may path bytes (OpenLock _) before p = absurd p
-tried_may path bytes (SetMode _) before p = absurd p
-tried_may path bytes (Fill _ _) before p = absurd p
-tried_may path bytes (GoOn _ _ _ _) before p = absurd p
-tried_may path bytes (WriteAt _ _ _) before p = absurd p
-tried_may path bytes (Sync _) before p = absurd p
-tried_may path bytes (SyncBytes _) before p = absurd p
-tried_may path bytes (Rename _ _) before p = absurd p
-tried_may path bytes (Link _ _) before p = absurd p
-tried_may path bytes (SyncFolder _) before p = absurd p
-tried_may path bytes (WriteDevice _ _) before p = absurd p
+tried_may path bytes call before (name, beside, inl e) = subst (λ c. MayReplace path bytes c before) (sym e) beside
+tried_may path bytes call before (name, beside, inr e) = subst (λ c. MayReplace path bytes c before) (sym e) beside
 
 -- a number, and a name, is itself
 pub same_number : (n : ℕ) → nat_eq n n ≡ true
@@ -147,17 +135,27 @@ new_apart path name before beside e =
     let before_is : standing path before ≡ Some (length before) = rw (not_beside path name beside) at e in
     omega (arith, standing_below path before (length before) before_is)
 
+-- what came of a call holds of each
+pub whatever_came : (P : Asked → Type 0) (asked : Asked) → P (Done (call_of asked)) → P (Refused (call_of asked)) → P (Failed (call_of asked)) → P asked
+whatever_came P (Done call) p q r = p
+whatever_came P (Refused call) p q r = q
+whatever_came P (Failed call) p q r = r
+
 -- what is asked to write a file leaves each name as it was
+abbrev KeepsName : (name : List ℕ) (before : List Asked) → Call → Type 0
+KeepsName name before call = (standing name (Done call ∷ before) ≡ standing name before) × (standing name (Refused call ∷ before) ≡ standing name before) × (standing name (Failed call ∷ before) ≡ standing name before)
+
+filling_keeps_name : (file : Opened) (name : List ℕ) (call : Call) (before : List Asked) → MayFill file call before → KeepsName name before call
+filling_keeps_name file name call before (inl e) = subst (KeepsName name before) (sym e) (refl, refl, refl)
+filling_keeps_name file name call before (inr (inl (bytes, e))) = subst (KeepsName name before) (sym e) (refl, refl, refl)
+filling_keeps_name file name call before (inr (inr (inl e))) = subst (KeepsName name before) (sym e) (refl, refl, refl)
+filling_keeps_name file name call before (inr (inr (inr (inl (from, place, bytes, e))))) = subst (KeepsName name before) (sym e) (refl, refl, refl)
+filling_keeps_name file name call before (inr (inr (inr (inr (place, bytes, e))))) = subst (KeepsName name before) (sym e) (refl, refl, refl)
+
 filling_keeps_one : (file : Opened) (name : List ℕ) (asked : Asked) (before : List Asked) → MayFill file (call_of asked) before → standing name (asked ∷ before) ≡ standing name before
-filling_keeps_one file name (Done call) before (inl e) = subst (λ c. standing name (Done c ∷ before) ≡ standing name before) (sym e) refl
-filling_keeps_one file name (Done call) before (inr (inl (bytes, e))) = subst (λ c. standing name (Done c ∷ before) ≡ standing name before) (sym e) refl
-filling_keeps_one file name (Done call) before (inr (inr e)) = subst (λ c. standing name (Done c ∷ before) ≡ standing name before) (sym e) refl
-filling_keeps_one file name (Refused call) before (inl e) = subst (λ c. standing name (Refused c ∷ before) ≡ standing name before) (sym e) refl
-filling_keeps_one file name (Refused call) before (inr (inl (bytes, e))) = subst (λ c. standing name (Refused c ∷ before) ≡ standing name before) (sym e) refl
-filling_keeps_one file name (Refused call) before (inr (inr e)) = subst (λ c. standing name (Refused c ∷ before) ≡ standing name before) (sym e) refl
-filling_keeps_one file name (Failed call) before (inl e) = subst (λ c. standing name (Failed c ∷ before) ≡ standing name before) (sym e) refl
-filling_keeps_one file name (Failed call) before (inr (inl (bytes, e))) = subst (λ c. standing name (Failed c ∷ before) ≡ standing name before) (sym e) refl
-filling_keeps_one file name (Failed call) before (inr (inr e)) = subst (λ c. standing name (Failed c ∷ before) ≡ standing name before) (sym e) refl
+filling_keeps_one file name asked before may =
+    let keeps : KeepsName name before (call_of asked) = filling_keeps_name file name (call_of asked) before may in
+    whatever_came (λ a. standing name (a ∷ before) ≡ standing name before) asked keeps.0 keeps.1 keeps.2
 
 filling_keeps : (file : Opened) (name : List ℕ) (calls before : List Asked) → Each (MayFill file) calls before → standing name (calls ++ before) ≡ standing name before
 filling_keeps file name [] before each = refl
@@ -170,7 +168,9 @@ filled_keeps file name a b (calls, e, each) = ap (standing name) e ∙ filling_k
 filling_may_one : (path bytes : List ℕ) (file : Opened) (call : Call) (before : List Asked) → IsApart path file before → MayFill file call before → MayReplace path bytes call before
 filling_may_one path bytes file call before apart (inl e) = subst (λ c. MayReplace path bytes c before) (sym e) apart
 filling_may_one path bytes file call before apart (inr (inl (written, e))) = subst (λ c. MayReplace path bytes c before) (sym e) apart
-filling_may_one path bytes file call before apart (inr (inr e)) = subst (λ c. MayReplace path bytes c before) (sym e) tt
+filling_may_one path bytes file call before apart (inr (inr (inl e))) = subst (λ c. MayReplace path bytes c before) (sym e) tt
+filling_may_one path bytes file call before apart (inr (inr (inr (inl (from, place, written, e))))) = subst (λ c. MayReplace path bytes c before) (sym e) apart
+filling_may_one path bytes file call before apart (inr (inr (inr (inr (place, written, e))))) = subst (λ c. MayReplace path bytes c before) (sym e) apart
 
 filling_may : (path bytes : List ℕ) (file : Opened) (calls before : List Asked) → IsApart path file before → Each (MayFill file) calls before → Each (MayReplace path bytes) calls before
 filling_may path bytes file [] before apart each = tt
@@ -187,7 +187,7 @@ pub fills : (file : Opened) (bytes : List ℕ) (before : List Asked) → Fills f
 fills file bytes before empty = (rw (same_number file.number, empty) refl, rw (same_number file.number) refl)
 
 -- the names of a folder that are put on disk leave each file as it is
-synced_keeps : (path name : List ℕ) (number : ℕ) (asked : Asked) (before : List Asked) → call_of asked ≡ SyncFolder path
+pub synced_keeps : (path name : List ℕ) (number : ℕ) (asked : Asked) (before : List Asked) → call_of asked ≡ SyncFolder path
     → (standing name (asked ∷ before) ≡ standing name before) × (bytes_of number (asked ∷ before) ≡ bytes_of number before) × (is_synced number (asked ∷ before) ≡ is_synced number before)
 synced_keeps path name number (Done call) before e = subst (λ c. (standing name (Done c ∷ before) ≡ standing name before) × (bytes_of number (Done c ∷ before) ≡ bytes_of number before) × (is_synced number (Done c ∷ before) ≡ is_synced number before)) (sym e) (refl, refl, refl)
 synced_keeps path name number (Refused call) before e = subst (λ c. (standing name (Refused c ∷ before) ≡ standing name before) × (bytes_of number (Refused c ∷ before) ≡ bytes_of number before) × (is_synced number (Refused c ∷ before) ≡ is_synced number before)) (sym e) (refl, refl, refl)
@@ -210,11 +210,11 @@ pub new_is_apart : (path : List ℕ) (file : Opened) (name : List ℕ) (after : 
 new_is_apart path file name after (before, e, f, beside) =
     subst (λ (l : List Asked). IsApart path file l) (sym e) (subst (λ (x : Opened). IsApart path x (Done (Create name) ∷ before)) (sym f) (beside, new_apart path name before beside))
 
-new_is_empty : (path : List ℕ) (file : Opened) (name : List ℕ) (after : List Asked) → IsNewBeside path file name after → bytes_of file.number after ≡ Some []
+pub new_is_empty : (path : List ℕ) (file : Opened) (name : List ℕ) (after : List Asked) → IsNewBeside path file name after → bytes_of file.number after ≡ Some []
 new_is_empty path file name after (before, e, f, beside) =
     subst (λ (l : List Asked). bytes_of file.number l ≡ Some []) (sym e) (subst (λ (x : Opened). bytes_of x.number (Done (Create name) ∷ before) ≡ Some []) (sym f) (new_bytes name before))
 
-new_stands : (path : List ℕ) (file : Opened) (name : List ℕ) (after : List Asked) → IsNewBeside path file name after → standing name after ≡ Some file.number
+pub new_stands : (path : List ℕ) (file : Opened) (name : List ℕ) (after : List Asked) → IsNewBeside path file name after → standing name after ≡ Some file.number
 new_stands path file name after (before, e, f, beside) =
     subst (λ (l : List Asked). standing name l ≡ Some file.number) (sym e) (subst (λ (x : Opened). standing name (Done (Create name) ∷ before) ≡ Some x.number) (sym f) (new_name name before))
 

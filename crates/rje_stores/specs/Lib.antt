@@ -4,3 +4,4 @@ pub mod Disk
 pub mod Replacing
 pub mod Inside
 pub mod FileStore
+pub mod Growing

@@ -41,11 +41,9 @@ MayReplace path bytes (Remove name) before = IsBeside path name
 MayReplace path bytes (SyncFolder folder) before = folder ≡ path
 MayReplace path bytes (WriteDevice _ _) before = ⊥
 
--- what may be asked to look whether a file can be made beside a path
+-- what may be asked to look whether a file can be made beside a path: to make one, and to remove it
 abbrev pub MayTry : List ℕ → Call → List Asked → Type 0
-MayTry path (Create name) before = IsBeside path name
-MayTry path (Remove name) before = IsBeside path name
-MayTry path _ before = ⊥
+MayTry path call before = (name : List ℕ) × IsBeside path name × ((call ≡ Create name) ⊎ (call ≡ Remove name))
 
 -- the last calls made a file beside a path, and removed it
 abbrev pub HasTried : List ℕ → List Asked → Type 0

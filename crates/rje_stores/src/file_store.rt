@@ -1,6 +1,7 @@
 //! The system's files.
-ghost use Rattle.std.specs.Prelude.{◌≡◌, ◌≢◌, ◌≤◌, ◌⊎◌, None, false, length, IfOk, OnOk, IsErrOf};
+ghost use Rattle.std.specs.Prelude.{◌≡◌, ◌≢◌, ◌≤◌, ◌⊎◌, None, false, length, string_bytes, IfOk, OnOk};
 ghost use Rattle.rje_stores.specs.Replacing.{Adds, Either};
+ghost use Rattle.rje_stores.specs.Growing.{HasExtended, HasGrowing, IsReady, MayGrow, MayOpen};
 ghost use Rattle.rje_stores.specs.FileStore.{HasLooked, HasSet, IsWritten, MayLook, MayPut, MaySet, MaySettle, copy_of};
 
 mod beside;
@@ -52,7 +53,7 @@ impl<D: Disk> FileStore<D> {
     /// The files on this disk.
     pub fn over(disk: D, alloc: Global) -> Self
         ensures disk { result.disk ≡ disk }
-        ensures settled { copy_of result.growing ≡ None }
+        ensures settled { result.growing ≡ None }
     {
         FileStore {
             disk,
@@ -144,17 +145,43 @@ impl<D: Disk> FileStore<D> {
         }
     }
 
-    fn grow(&mut self, name: &str, front: &[u8], tail: &[u8]) -> Result<(), StoreFault> {
-        let growing = match self.growing.take() {
-            Some(growing) if growing.is_of(name) => growing,
-            other => {
-                if let Some(other) = other {
-                    other.settle(&mut self.disk);
-                }
-                Growing::open(&mut self.disk, self.alloc, name)?
+    /// What it has for the growth of the file of this name, opened where it has nothing.
+    fn growing_of(&mut self, name: &str) -> io::Result<Growing<D>>
+        ensures asks { D.discloses
+            → Adds (Either (MaySettle (copy_of self.old.growing)) (MayOpen D.leads name.now))
+            (D.asked self.old.disk) (D.asked self.new.disk) }
+        ensures growing { D.discloses
+            → IsReady D.leads D.opened D.folder_of self.old.growing (D.asked self.old.disk)
+            → IfOk result (λ growing. HasGrowing D.leads D.opened D.folder_of growing (D.asked self.new.disk)) }
+        ensures name { IfOk result (λ growing. string_bytes growing.name ≡ name.now) }
+        ensures taken { self.new.growing ≡ None }
+    {
+        match self.growing.take() {
+            Some(growing) if growing.is_of(name) => Ok(growing),
+            Some(other) => {
+                other.settle(&mut self.disk);
+                Growing::open(&mut self.disk, self.alloc, name)
             }
-        };
-        self.growing = Some(growing.extended(&mut self.disk, self.alloc, front, tail)?);
+            None => Growing::open(&mut self.disk, self.alloc, name),
+        }
+    }
+
+    fn grow(&mut self, name: &str, front: &[u8], tail: &[u8]) -> Result<(), StoreFault>
+        ensures asks { D.discloses
+            → IsReady D.leads D.opened D.folder_of self.old.growing (D.asked self.old.disk)
+            → Adds (Either (MaySettle (copy_of self.old.growing)) (MayGrow D.leads name.now))
+            (D.asked self.old.disk) (D.asked self.new.disk) }
+        ensures on_disk { D.discloses
+            → IsReady D.leads D.opened D.folder_of self.old.growing (D.asked self.old.disk)
+            → OnOk result (HasExtended D.leads name.now front.now tail.now
+            (D.asked self.old.disk) (D.asked self.new.disk)) }
+        ensures ready { D.discloses
+            → IsReady D.leads D.opened D.folder_of self.old.growing (D.asked self.old.disk)
+            → IsReady D.leads D.opened D.folder_of self.new.growing (D.asked self.new.disk) }
+    {
+        let growing = self.growing_of(name)?;
+        let growing = growing.extended(&mut self.disk, self.alloc, front, tail)?;
+        self.growing = Some(growing);
         Ok(())
     }
 }
@@ -196,7 +223,7 @@ impl<D: Disk> Store for FileStore<D> {
 
     fn read(&mut self, alloc: Global, name: &str) -> Result<Vec<u8>, StoreFault>
         ensures limit { IfOk result (λ bytes. length bytes.items ≤ MAX_INPUT) }
-        ensures disk { self.new.disk ≡ self.old.disk }
+        ensures same { self.new ≡ self.old }
     {
         read_all(alloc, &mut self.disk.open_to_read(name)?)
     }
@@ -207,7 +234,7 @@ impl<D: Disk> Store for FileStore<D> {
             (D.asked self.old.disk) (D.asked self.new.disk) }
         ensures on_disk { D.discloses
             → OnOk result (IsWritten D.leads name.now bytes.now (D.asked self.new.disk)) }
-        ensures settled { copy_of self.new.growing ≡ None }
+        ensures settled { self.new.growing ≡ None }
     {
         self.settle();
         self.put(name, bytes)?;
@@ -226,7 +253,7 @@ impl<D: Disk> Store for FileStore<D> {
 
     fn is_one_file(&mut self, alloc: Global, one: &str, other: &str) -> Result<bool, StoreFault>
         ensures two { IfOk result (λ is_one. is_one ≡ false → one.now ≢ other.now) }
-        ensures disk { self.new.disk ≡ self.old.disk }
+        ensures same { self.new ≡ self.old }
     {
         if one == other {
             return Ok(true);
@@ -240,7 +267,19 @@ impl<D: Disk> Store for FileStore<D> {
         name: &str,
         front: &[u8],
         tail: &[u8],
-    ) -> Result<(), StoreFault> {
+    ) -> Result<(), StoreFault>
+        ensures asks { D.discloses
+            → IsReady D.leads D.opened D.folder_of self.old.growing (D.asked self.old.disk)
+            → Adds (Either (MaySettle (copy_of self.old.growing)) (MayGrow D.leads name.now))
+            (D.asked self.old.disk) (D.asked self.new.disk) }
+        ensures on_disk { D.discloses
+            → IsReady D.leads D.opened D.folder_of self.old.growing (D.asked self.old.disk)
+            → OnOk result (HasExtended D.leads name.now front.now tail.now
+            (D.asked self.old.disk) (D.asked self.new.disk)) }
+        ensures ready { D.discloses
+            → IsReady D.leads D.opened D.folder_of self.old.growing (D.asked self.old.disk)
+            → IsReady D.leads D.opened D.folder_of self.new.growing (D.asked self.new.disk) }
+    {
         self.grow(name, front, tail)?;
         self.follow(name);
         Ok(())
@@ -258,7 +297,7 @@ impl<D: Disk> Store for FileStore<D> {
             (D.asked self.old.disk) (D.asked self.new.disk) }
         ensures on_disk { D.discloses
             → OnOk result (HasSet D.leads name.now place byte (D.asked self.new.disk)) }
-        ensures settled { copy_of self.new.growing ≡ None }
+        ensures settled { self.new.growing ≡ None }
     {
         self.settle();
         Ok(self.put_byte(name, place, byte)?)
@@ -267,7 +306,7 @@ impl<D: Disk> Store for FileStore<D> {
     fn settle(&mut self)
         ensures asks { D.discloses → Adds (MaySettle (copy_of self.old.growing))
             (D.asked self.old.disk) (D.asked self.new.disk) }
-        ensures settled { copy_of self.new.growing ≡ None }
+        ensures settled { self.new.growing ≡ None }
     {
         if let Some(growing) = self.growing.take() {
             growing.settle(&mut self.disk);

@@ -2,7 +2,7 @@
 ghost use Rattle.std.specs.Prelude.{◌≡◌, IfOk, OnOk, IsErrOf, ℕ, List, true, string_bytes};
 ghost use Rattle.rje_stores.specs.Disk.{Asked, Call, SyncFolder, call_of, is_synced, has_synced_name};
 ghost use Rattle.rje_stores.specs.Replacing.{Adds, HasTried, IsBeside, IsNewBeside, IsOnDisk, IsWhole, LeadsTo, MayReplace, MayTry};
-ghost use Rattle.rje_stores.specs.Inside.Filling.{AddsSync, Fills, MayFill};
+ghost use Rattle.rje_stores.specs.Inside.Filling.{AddsSync, Fills, IsSecond, KeepsNames, MayFill, MayLink};
 
 use crate::disk::{Disk, FileKind};
 use crate::store::StoreFault;
@@ -153,7 +153,12 @@ pub(super) fn create_beside<D: Disk>(
 }
 
 /// A second name, beside the first, for the file that is there.
-pub(super) fn link_beside<D: Disk>(disk: &mut D, alloc: Global, path: &str) -> io::Result<String> {
+pub(super) fn link_beside<D: Disk>(disk: &mut D, alloc: Global, path: &str) -> io::Result<String>
+    ensures asks { D.discloses → Adds (MayLink path.now) (D.asked disk.old) (D.asked disk.new) }
+    ensures keeps { D.discloses → KeepsNames (D.asked disk.old) (D.asked disk.new) }
+    ensures second { D.discloses → IfOk result (λ second. IsSecond path.now
+        (string_bytes second) (D.asked disk.old) (D.asked disk.new)) }
+{
     for number in 0..MAX_NAMES {
         let beside = name_beside(alloc, path, number)?;
         match disk.link(path, beside.as_str()) {

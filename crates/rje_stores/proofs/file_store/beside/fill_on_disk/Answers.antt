@@ -14,4 +14,4 @@ returns-clause-asks g c =
     let file = g.D.Disk.opened c.args.file.now in
     λ told. added_call (MayFill file) _ _ _ c.sync.result (Sync file)
     (added_call (MayFill file) _ _ _ c.fill.result (Fill file c.args.bytes.now) (added_none (MayFill file) _) (c.fill.ensures told) (inr (inl (c.args.bytes.now, refl))))
-    (c.sync.ensures told) (inr (inr refl))
+    (c.sync.ensures told) (inr (inr (inl refl)))
