@@ -202,7 +202,8 @@ pub trait Disk {
     /// Puts the names in a folder on disk. An invalid input where its file system keeps no names to be put on disk.
     fn sync_folder(&mut self, folder: &Self::Folder) -> io::Result<()>
         ensures { discloses
-            → asked self.new ≡ came_to result (SyncFolder (folder_of folder.now)) ∷ asked self.old };
+            → asked self.new ≡ came_to result (SyncFolder (folder_of folder.now))
+            ∷ asked self.old };
 
     /// Writes these bytes to the device or the pipe under a name.
     fn write_device(&mut self, name: &str, bytes: &[u8]) -> io::Result<()>

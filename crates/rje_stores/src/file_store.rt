@@ -152,7 +152,8 @@ impl<D: Disk> FileStore<D> {
             (D.asked self.old.disk) (D.asked self.new.disk) }
         ensures growing { D.discloses
             → IsReady D.leads D.opened D.folder_of self.old.growing (D.asked self.old.disk)
-            → IfOk result (λ growing. HasGrowing D.leads D.opened D.folder_of growing (D.asked self.new.disk)) }
+            → IfOk result (λ growing. HasGrowing D.leads D.opened D.folder_of growing
+            (D.asked self.new.disk)) }
         ensures name { IfOk result (λ growing. string_bytes growing.name ≡ name.now) }
         ensures taken { self.new.growing ≡ None }
     {
@@ -230,7 +231,8 @@ impl<D: Disk> Store for FileStore<D> {
 
     fn write(&mut self, name: &str, bytes: &[u8]) -> Result<(), StoreFault>
         ensures asks { D.discloses
-            → Adds (Either (MaySettle (copy_of self.old.growing)) (MayPut D.leads name.now bytes.now))
+            → Adds (Either (MaySettle (copy_of self.old.growing))
+            (MayPut D.leads name.now bytes.now))
             (D.asked self.old.disk) (D.asked self.new.disk) }
         ensures on_disk { D.discloses
             → OnOk result (IsWritten D.leads name.now bytes.now (D.asked self.new.disk)) }
@@ -293,7 +295,8 @@ impl<D: Disk> Store for FileStore<D> {
         byte: u8,
     ) -> Result<(), StoreFault>
         ensures asks { D.discloses
-            → Adds (Either (MaySettle (copy_of self.old.growing)) (MaySet D.leads name.now place byte))
+            → Adds (Either (MaySettle (copy_of self.old.growing))
+            (MaySet D.leads name.now place byte))
             (D.asked self.old.disk) (D.asked self.new.disk) }
         ensures on_disk { D.discloses
             → OnOk result (HasSet D.leads name.now place byte (D.asked self.new.disk)) }

@@ -103,8 +103,8 @@ impl<D: Disk> Growing<D> {
         }
     }
 
-    /// The file with one piece in front, in place of as many bytes, and another at the end. Where that fails, the file is as it was; but where it
-    /// is unsynced it has them, and the disk may not.
+    /// The file with one piece in front, in place of as many bytes, and another at the end. Where that fails, the file is as it was; but where
+    /// it is unsynced it has them, and the disk may not.
     pub(super) fn extended(
         self,
         disk: &mut D,
@@ -112,15 +112,23 @@ impl<D: Disk> Growing<D> {
         front: &[u8],
         tail: &[u8],
     ) -> Result<Growing<D>, StoreFault>
-        ensures asks { D.discloses → D.folder_of self.folder ≡ string_bytes self.path → (had : List ℕ)
+        ensures asks { D.discloses → D.folder_of self.folder ≡ string_bytes self.path
+            → (had : List ℕ)
             → IsGrowing D.opened had self (D.asked disk.old)
-            → Adds (MayReplace (string_bytes self.path) (grown front.now tail.now had)) (D.asked disk.old) (D.asked disk.new) }
-        ensures on_disk { D.discloses → D.folder_of self.folder ≡ string_bytes self.path → (had : List ℕ)
+            → Adds (MayReplace (string_bytes self.path) (grown front.now tail.now had))
+            (D.asked disk.old) (D.asked disk.new) }
+        ensures on_disk { D.discloses → D.folder_of self.folder ≡ string_bytes self.path
+            → (had : List ℕ)
             → IsGrowing D.opened had self (D.asked disk.old)
-            → OnOk result (IsOnDisk (string_bytes self.path) (grown front.now tail.now had) (D.asked disk.new)) }
-        ensures growing { D.discloses → D.folder_of self.folder ≡ string_bytes self.path → (had : List ℕ)
+            → OnOk result
+            (IsOnDisk (string_bytes self.path) (grown front.now tail.now had)
+            (D.asked disk.new)) }
+        ensures growing { D.discloses → D.folder_of self.folder ≡ string_bytes self.path
+            → (had : List ℕ)
             → IsGrowing D.opened had self (D.asked disk.old)
-            → IfOk result (λ growing. IsGrowing D.opened (grown front.now tail.now had) growing (D.asked disk.new)) }
+            → IfOk result
+            (λ growing. IsGrowing D.opened (grown front.now tail.now had) growing
+            (D.asked disk.new)) }
         ensures same { IfOk result (λ growing. (growing.name ≡ self.name)
             × (growing.path ≡ self.path) × (growing.folder ≡ self.folder)) }
     {
@@ -162,22 +170,28 @@ impl<D: Disk> Growing<D> {
         tail: &[u8],
     ) -> Result<Option<String>, StoreFault>
         requires front { older.now.front ≤ length front.now }
-        ensures asks { D.discloses → D.folder_of self.now.folder ≡ string_bytes self.now.path → (had : List ℕ)
+        ensures asks { D.discloses → D.folder_of self.now.folder ≡ string_bytes self.now.path
+            → (had : List ℕ)
             → IsNewest D.opened had self.now (D.asked disk.old)
             → IsOlder D.opened (string_bytes self.now.path) had older.now (D.asked disk.old)
-            → Adds (MayReplace (string_bytes self.now.path) (grown front.now tail.now had)) (D.asked disk.old) (D.asked disk.new) }
-        ensures grows { D.discloses → D.folder_of self.now.folder ≡ string_bytes self.now.path → (had : List ℕ)
+            → Adds (MayReplace (string_bytes self.now.path) (grown front.now tail.now had))
+            (D.asked disk.old) (D.asked disk.new) }
+        ensures grows { D.discloses → D.folder_of self.now.folder ≡ string_bytes self.now.path
+            → (had : List ℕ)
             → IsNewest D.opened had self.now (D.asked disk.old)
             → IsOlder D.opened (string_bytes self.now.path) had older.now (D.asked disk.old)
             → OnOk result (HasGrown (string_bytes self.now.path) (D.opened older.now.file)
             (D.opened self.now.newest) (grown front.now tail.now had) had (D.asked disk.new)) }
-        ensures second { D.discloses → D.folder_of self.now.folder ≡ string_bytes self.now.path → (had : List ℕ)
+        ensures second { D.discloses → D.folder_of self.now.folder ≡ string_bytes self.now.path
+            → (had : List ℕ)
             → IsNewest D.opened had self.now (D.asked disk.old)
             → IsOlder D.opened (string_bytes self.now.path) had older.now (D.asked disk.old)
             → IfOk result (λ second. IfSome second (λ name.
-            IsSecond (string_bytes self.now.path) (string_bytes name) (D.asked disk.old) (D.asked disk.new))) }
+            IsSecond (string_bytes self.now.path) (string_bytes name) (D.asked disk.old)
+            (D.asked disk.new))) }
         ensures own { IfOk result (λ second. IfSome second (λ _. self.now.own ≡ true)) }
-        ensures fits { OnOk result ((length front.now ≤ self.now.len) × (self.now.len + length tail.now < 2 ^ 64)) }
+        ensures fits { OnOk result ((length front.now ≤ self.now.len)
+            × (self.now.len + length tail.now < 2 ^ 64)) }
     {
         let path = self.path.as_str();
         let beside = older.path.as_str();
@@ -197,9 +211,16 @@ impl<D: Disk> Growing<D> {
         ensures path { result.path ≡ self.path }
         ensures folder { result.folder ≡ self.folder }
         ensures newest { result.newest ≡ older.file }
-        ensures len { self.len + length tail.now < 2 ^ 64 → result.len ≡ self.len + length tail.now }
+        ensures len { self.len + length tail.now < 2 ^ 64
+            → result.len ≡ self.len + length tail.now }
         ensures own { result.own ≡ true }
-        ensures older { result.older ≡ option_map (λ path. record { file = self.newest; path = path; len = self.len; front = length front.now }) second }
+        ensures older { result.older ≡ option_map
+            (λ path. record {
+              file = self.newest;
+              path = path;
+              len = self.len;
+              front = length front.now;
+            }) second }
     {
         let Growing {
             name,
@@ -293,10 +314,13 @@ fn put_in_place<D: Disk>(
     ensures asks { D.discloses → D.folder_of folder.now ≡ path.now → IsBeside path.now beside.now
         → (bytes : List ℕ) → IsWhole beside.now bytes (D.asked disk.old)
         → Adds (MayReplace path.now bytes) (D.asked disk.old) (D.asked disk.new) }
-    ensures turned { D.discloses → D.folder_of folder.now ≡ path.now → AreTwo path.now beside.now (D.asked disk.old)
+    ensures turned { D.discloses → D.folder_of folder.now ≡ path.now
+        → AreTwo path.now beside.now (D.asked disk.old)
         → OnOk result (HasTurned path.now beside.now (D.asked disk.old) (D.asked disk.new)) }
-    ensures second { D.discloses → D.folder_of folder.now ≡ path.now → AreTwo path.now beside.now (D.asked disk.old)
-        → IfOk result (λ second. IfSome second (λ name. IsSecond path.now (string_bytes name) (D.asked disk.old) (D.asked disk.new))) }
+    ensures second { D.discloses → D.folder_of folder.now ≡ path.now
+        → AreTwo path.now beside.now (D.asked disk.old)
+        → IfOk result (λ second. IfSome second (λ name.
+        IsSecond path.now (string_bytes name) (D.asked disk.old) (D.asked disk.new))) }
     ensures own { IfOk result (λ second. IfSome second (λ _. own ≡ true)) }
 {
     let second = second_name(disk, alloc, path, own);
@@ -342,7 +366,8 @@ fn rename_on_disk<D: Disk>(
     from: &str,
     to: &str,
 ) -> Result<(), StoreFault>
-    ensures asks { D.discloses → D.folder_of folder.now ≡ to.now → (bytes : List ℕ) → IsBeside to.now from.now
+    ensures asks { D.discloses → D.folder_of folder.now ≡ to.now → (bytes : List ℕ)
+        → IsBeside to.now from.now
         → IsWhole from.now bytes (D.asked disk.old)
         → Adds (MayReplace to.now bytes) (D.asked disk.old) (D.asked disk.new) }
     ensures named { D.discloses → D.folder_of folder.now ≡ to.now
@@ -366,8 +391,10 @@ fn grown<D: Disk>(
     ensures room { OnOk result (length front.now ≤ len) }
     ensures fits { OnOk result (len + length tail.now < 2 ^ 64) }
     ensures turns { D.discloses
-        → IfSome (bytes_of (D.opened older.now.file).number (D.asked disk.old)) (λ bytes. older.now.len ≡ length bytes)
-        → OnOk result (Turns (D.opened older.now.file) (D.opened newest.now) front.now tail.now (D.asked disk.old) (D.asked disk.new)) }
+        → IfSome (bytes_of (D.opened older.now.file).number (D.asked disk.old))
+        (λ bytes. older.now.len ≡ length bytes)
+        → OnOk result (Turns (D.opened older.now.file) (D.opened newest.now) front.now
+        tail.now (D.asked disk.old) (D.asked disk.new)) }
 {
     if len < front.len() as u64 {
         return Err(io::Error::from(ErrorKind::InvalidInput));
@@ -394,8 +421,10 @@ fn gone_on<D: Disk>(
     ensures asks { D.discloses
         → Adds (MayFill (D.opened older.now.file)) (D.asked disk.old) (D.asked disk.new) }
     ensures turns { D.discloses
-        → IfSome (bytes_of (D.opened older.now.file).number (D.asked disk.old)) (λ bytes. older.now.len ≡ length bytes)
-        → OnOk result (Turns (D.opened older.now.file) (D.opened newest.now) front.now tail.now (D.asked disk.old) (D.asked disk.new)) }
+        → IfSome (bytes_of (D.opened older.now.file).number (D.asked disk.old))
+        (λ bytes. older.now.len ≡ length bytes)
+        → OnOk result (Turns (D.opened older.now.file) (D.opened newest.now) front.now
+        tail.now (D.asked disk.old) (D.asked disk.new)) }
 {
     disk.go_on(&older.file, newest, older.len, tail)?;
     disk.write_at(&older.file, 0, front)?;
