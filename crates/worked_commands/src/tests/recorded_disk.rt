@@ -1,4 +1,6 @@
 //! A disk of the tests' own that records what it is asked to change, and fails at one of these calls.
+ghost use Rattle.std.specs.Prelude.{[]};
+
 use rje_stores::{Disk, FileKind, FileStatus};
 use std::alloc::Global;
 use std::fs::{Permissions, TryLockError};
