@@ -1,0 +1,5 @@
+pub mod Pairs
+pub mod Hearings
+pub mod FirstLines
+pub mod Streams
+pub mod TurnLines

@@ -1,0 +1,5 @@
+pub mod Words
+pub mod BlockWords
+pub mod Hearing
+pub mod Stream
+pub mod Turns
