@@ -1,16 +1,110 @@
 //! What no clause says: whole texts, worked by hand from the rules, and the texts of the faults.
+use crate::words::push_fault;
 use crate::{HexFault, stream_text, turns_text};
-use std::fmt::Write;
+use rje_text::TextFault;
 
-/// A bid, its answer, a block of two records for the printer that ends its job, an EOT, and what is left after it.
+/// A bid and blocks with their answers, an EOT, and bytes that are left after it.
 const CAPTURE: [u8; 56] = [
-    0xFF, 0x55, 0x32, 0x32, 0x2D, 0xFF, // a bid after two pads
-    0x32, 0x32, 0x10, 0x70, 0xFF, // ACK0
-    0x32, 0x32, 0x02, 0xC1, 0x1E, 0x03, 0x18, 0x5D, 0xFF, // a record A
-    0x32, 0x32, 0x10, 0x61, 0xFF, // ACK1
-    0x32, 0x32, 0x10, 0x02, 0x10, 0x10, 0x10, 0x03, 0x4D, 0xC1, 0xFF, // no cards
-    0x32, 0x32, 0x3D, 0xFF, // NAK
-    0x32, 0x32, 0x02, 0x03, 0x40, 0x01, 0xFF, // an empty block
-    0x32, 0x32, 0x37, 0xFF, // EOT
-    0x55, 0xFF, 0x32, 0x2D, 0xA0, // noise
+    0xFF, 0x55, 0x32, 0x32, 0x2D, 0xFF, 0x32, 0x32, 0x10, 0x70, 0xFF, 0x32, 0x32, 0x02, 0xC1, 0x1E,
+    0x03, 0x18, 0x5D, 0xFF, 0x32, 0x32, 0x10, 0x61, 0xFF, 0x32, 0x32, 0x10, 0x02, 0x10, 0x10, 0x10,
+    0x03, 0x4D, 0xC1, 0xFF, 0x32, 0x32, 0x3D, 0xFF, 0x32, 0x32, 0x02, 0x03, 0x40, 0x01, 0xFF, 0x32,
+    0x32, 0x37, 0xFF, 0x55, 0xFF, 0x32, 0x2D, 0xA0,
 ];
+
+const CAPTURED: &[u8] = b"2 enq
+6 ack0
+11 block ETX normal 2 unset 1 records |A|
+20 ack1
+25 block ETX transparent 1 unread transparent text that is no cards of 80 bytes
+36 nak
+40 block ETX normal 0 unset 0 records
+47 eot
+53 noise 322DA0
+";
+
+#[test]
+fn a_stream_has_its_text(rt: HostRuntime) {
+    let text = stream_text(rt.alloc(), &CAPTURE);
+    assert!(rt; matches!(&text, Ok(text) if text.as_slice() == CAPTURED));
+}
+
+#[test]
+fn a_stream_without_frames_has_one_line_or_none(rt: HostRuntime) {
+    let nothing = stream_text(rt.alloc(), &[]);
+    assert!(rt; matches!(&nothing, Ok(text) if text.is_empty()));
+    let pads = stream_text(rt.alloc(), &[0xFF, 0x55, 0x32]);
+    assert!(rt; matches!(&pads, Ok(text) if text.is_empty()));
+    let noise = stream_text(rt.alloc(), &[0xFF, 0x00, 0xFF]);
+    assert!(rt; matches!(&noise, Ok(text) if text.as_slice() == b"1 noise 00FF\n".as_slice()));
+}
+
+/// A job of two blocks with an action and blanks, a text that doesn't read, a turn in which nothing came, a text that is cut, and noise.
+const LINES: &[u8] = b"32 32 02 11 27 61 C1 1D 43 00 1E 26 92 45
+3232 02111E03  19A4 ff FF 01
+32 32 02 1E 1D 03 29 57\r
+
+32 32 02 c1
+ff55A0";
+
+const TURNED: &[u8] = b"1 block ETB normal 8 printer 1 records /|A   ?|
+2 block ETX normal 2 1 records |?| +2
+3 block ETX normal 2 unread no count of blanks at 2
+4 quiet
+5 bad
+6 noise A0
+";
+
+#[test]
+fn turns_have_their_text(rt: HostRuntime) {
+    let text = turns_text(rt.alloc(), LINES);
+    assert!(rt; matches!(&text, Ok(text) if text.as_slice() == TURNED));
+    let nothing = turns_text(rt.alloc(), b"");
+    assert!(rt; matches!(&nothing, Ok(text) if text.is_empty()));
+}
+
+/// Lines, and the number of the first that is not bytes in hexadecimal.
+const REFUSED: [(&[u8], usize); 8] = [
+    (b"32\n3 2\n", 2),
+    (b"32 \n", 1),
+    (b" 32", 1),
+    (b"\n\n323", 3),
+    (b"32\r", 1),
+    (b"32\r\r\n", 1),
+    (b"FF\nFG\nFH\n", 2),
+    (b"32\t32", 1),
+];
+
+#[test]
+fn other_lines_are_refused(rt: HostRuntime) {
+    for (lines, number) in REFUSED {
+        let text = turns_text(rt.alloc(), lines);
+        assert!(rt; matches!(&text, Err(HexFault::NotHex(found)) if *found == number));
+    }
+}
+
+#[test]
+fn faults_are_printed(rt: HostRuntime) {
+    let not_hex = format!(in rt.alloc(); "{}", HexFault::NotHex(3));
+    assert!(rt; matches!(&not_hex, Ok(text) if text.as_str() == "line 3 is not bytes in hexadecimal"));
+    let memory = format!(in rt.alloc(); "{}", HexFault::OutOfMemory);
+    assert!(rt; matches!(&memory, Ok(text) if text.as_str() == "out of memory"));
+}
+
+/// What is shown of a fault of a text is what it prints.
+#[test]
+fn faults_of_texts_are_shown_as_they_print(rt: HostRuntime) {
+    let faults = [
+        TextFault::OutOfMemory,
+        TextFault::BadCount(7),
+        TextFault::RecordTooLong(512),
+        TextFault::CardsNot80,
+        TextFault::MixedModes,
+    ];
+    for fault in faults {
+        let mut shown = Vec::new(rt.alloc());
+        let pushed = push_fault(&mut shown, fault);
+        let printed = format!(in rt.alloc(); "{fault}");
+        assert!(rt; pushed.is_ok());
+        assert!(rt; matches!(&printed, Ok(text) if text.as_bytes() == shown.as_slice()));
+    }
+}
