@@ -3,3 +3,7 @@ pub mod Hearings
 pub mod FirstLines
 pub mod Streams
 pub mod TurnLines
+pub mod TextRuns
+pub mod Outcomes
+pub mod ReasonsHold
+pub mod ItemsRead

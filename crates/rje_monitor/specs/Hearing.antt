@@ -10,6 +10,8 @@ use Rattle.bsc_frame.specs.Heard.{IsHeard}
 use Rattle.bsc_frame.specs.Transmission.{Transmission}
 use Rattle.rje_text.specs.declared.mode.Mode.{Mode}
 use Rattle.rje_text.specs.Reading.{mode_of}
+use Rattle.rje_monitor.specs.declared.reason.Reason.{Reason}
+use Rattle.rje_monitor.specs.Reasons.{IsReason, reason_name}
 use Rattle.rje_monitor.specs.Words.{hex}
 use Rattle.rje_monitor.specs.BlockWords.{AreBlockWords}
 
@@ -66,9 +68,13 @@ AreFrameWords so_far Frame.Abort words = words ≡ codes "abort"
 AreFrameWords so_far Frame.Eot words = words ≡ codes "eot"
 AreFrameWords so_far (Frame.Block block) words = AreBlockWords so_far block words
 
+-- the words for bytes that are heard as bad: why they are no transmission
+abbrev pub AreBadWords : (bytes words : List ℕ) → Type 0
+AreBadWords bytes words = (reason : Reason) × IsReason bytes reason × (words ≡ codes "bad " ++ reason_name reason)
+
 -- the words for what was heard of these bytes; of noise its bytes, without the pads in front
 abbrev pub AreWords : Option Mode → Heard → (bytes words : List ℕ) → Type 0
 AreWords so_far (Heard.Frame f) bytes words = AreFrameWords so_far f words
-AreWords so_far Heard.Bad bytes words = words ≡ codes "bad"
+AreWords so_far Heard.Bad bytes words = AreBadWords bytes words
 AreWords so_far Heard.Noise bytes words = words ≡ codes "noise " ++ hex (drop (pads_before bytes) bytes)
 AreWords so_far Heard.Quiet bytes words = words ≡ codes "quiet"

@@ -1,10 +1,14 @@
 //! The words for what was heard.
 ghost use Rattle.std.specs.Prelude.{◌≡◌, ◌++◌, List, ℕ, drop, codes, OnOk};
 ghost use Rattle.rje_monitor.specs.Words.{hex};
-ghost use Rattle.rje_monitor.specs.Hearing.{AreFrameWords, AreWords, pads_before as pads_of};
+ghost use Rattle.bsc_frame.specs.Heard.{IsHeard};
+ghost use Rattle.bsc_frame.specs.declared.heard.Heard.TheVariants as heard;
+ghost use Rattle.rje_monitor.specs.Reasons.{reason_name};
+ghost use Rattle.rje_monitor.specs.Hearing.{AreBadWords, AreFrameWords, AreWords, pads_before as pads_of};
 
 use crate::block_words::push_block;
 use crate::pads::pads_before;
+use crate::reason::Reason;
 use crate::words::push_hex;
 use bsc_frame::{Frame, Heard};
 use rje_text::Mode;
@@ -18,12 +22,13 @@ pub(crate) fn push_heard(
     heard: &Heard,
     bytes: &[u8],
 ) -> Result<(), AllocError>
+    requires { IsHeard bytes.now heard.now }
     ensures { OnOk result ((words : List ℕ) × AreWords so_far heard.now bytes.now words
         × (text.new.items ≡ text.old.items ++ words)) }
 {
     match heard {
         Heard::Frame(frame) => push_frame(alloc, text, so_far, frame),
-        Heard::Bad => text.extend_from_slice(b"bad"),
+        Heard::Bad => push_bad(text, bytes),
         Heard::Noise => push_noise(text, bytes),
         Heard::Quiet => text.extend_from_slice(b"quiet"),
     }
@@ -49,6 +54,28 @@ fn push_frame(
         Frame::Abort => text.extend_from_slice(b"abort"),
         Frame::Eot => text.extend_from_slice(b"eot"),
         Frame::Block(block) => push_block(alloc, text, so_far, block),
+    }
+}
+
+/// Puts the words for bytes that are heard as bad after a text: why they are no transmission.
+fn push_bad(text: &mut Vec<u8>, bytes: &[u8]) -> Result<(), AllocError>
+    requires { IsHeard bytes.now heard.Bad }
+    ensures { OnOk result ((words : List ℕ) × AreBadWords bytes.now words
+        × (text.new.items ≡ text.old.items ++ words)) }
+{
+    let reason = Reason::of(bytes);
+    text.extend_from_slice(b"bad ")?;
+    text.extend_from_slice(reason_text(reason))
+}
+
+fn reason_text(reason: Reason) -> &'static [u8]
+    ensures { result.now ≡ reason_name reason }
+{
+    match reason {
+        Reason::Cut => b"cut",
+        Reason::Check => b"check",
+        Reason::TooLong => b"too long",
+        Reason::Spoiled => b"spoiled",
     }
 }
 

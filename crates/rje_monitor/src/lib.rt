@@ -6,8 +6,11 @@ mod heard_words;
 mod hearing;
 mod hex_fault;
 mod hex_line;
+mod item;
+mod laws;
 mod lines;
 mod pads;
+mod reason;
 mod stream;
 #[cfg(test)]
 mod tests;
@@ -15,5 +18,7 @@ mod turns;
 mod words;
 
 pub use hex_fault::HexFault;
+pub use laws::one_reason;
+pub use reason::Reason;
 pub use stream::stream_text;
 pub use turns::turns_text;

@@ -1,5 +1,6 @@
 //! The text of a stream.
 ghost use Rattle.std.specs.Prelude.{◌≡◌, ◌+◌, ◌<◌, ◌^◌, ◌++◌, List, ℕ, length, IfOk, OnOk};
+ghost use Rattle.bsc_frame.specs.Heard.{IsHeard};
 ghost use Rattle.rje_monitor.specs.Stream.{IsStreamLine, IsStreamText};
 
 use crate::heard_words::push_heard;
@@ -39,7 +40,8 @@ fn push_line(
     heard: &Heard,
     bytes: &[u8],
 ) -> Result<(), AllocError>
-    requires { place + length bytes.now < 2 ^ 64 }
+    requires heard { IsHeard bytes.now heard.now }
+    requires fits { place + length bytes.now < 2 ^ 64 }
     ensures { OnOk result ((line : List ℕ) × IsStreamLine place so_far heard.now bytes.now line
         × (text.new.items ≡ text.old.items ++ line)) }
 {

@@ -1,7 +1,8 @@
 //! What no clause says: whole texts, worked by hand from the rules, and the texts of the faults.
 use crate::words::push_fault;
-use crate::{HexFault, stream_text, turns_text};
+use crate::{HexFault, one_reason, stream_text, turns_text};
 use rje_text::TextFault;
+use std::alloc::{AllocError, Global};
 
 /// A bid and blocks with their answers, an EOT, and bytes that are left after it.
 const CAPTURE: [u8; 56] = [
@@ -50,7 +51,7 @@ const TURNED: &[u8] = b"1 block ETB normal 8 printer 1 records /|A   ?|
 2 block ETX normal 2 1 records |?| +2
 3 block ETX normal 2 unread no count of blanks at 2
 4 quiet
-5 bad
+5 bad cut
 6 noise A0
 ";
 
@@ -60,6 +61,60 @@ fn turns_have_their_text(rt: HostRuntime) {
     assert!(rt; matches!(&text, Ok(text) if text.as_slice() == TURNED));
     let nothing = turns_text(rt.alloc(), b"");
     assert!(rt; matches!(&nothing, Ok(text) if text.is_empty()));
+}
+
+/// Texts that are no transmission: cut off in the data, behind a DLE, in the check; a wrong check, also where bytes follow it; spoiled ones,
+/// one by the first byte of a check; and a block that is whole.
+const BAD_LINES: &[u8] = b"32 32 02
+32 32 10 02 C1 10
+32 32 02 C1 1E 03
+32 32 02 C1 1E 03 18
+32 32 02 C1 1E 03 18 5C
+32 32 02 C1 1E 03 5D 18 FF
+32 32 02 C1 1E 03 19
+FF 32 32 02 C1 01 2D
+32 32 10 02 10 C1 10 2D
+32 32 02 C1 1E 03 18 5D FF";
+
+const BAD: &[u8] = b"1 bad cut
+2 bad cut
+3 bad cut
+4 bad cut
+5 bad check
+6 bad check
+7 bad spoiled
+8 bad spoiled
+9 bad spoiled
+10 block ETX normal 2 unset 1 records |A|
+";
+
+#[test]
+fn bad_texts_have_their_reason(rt: HostRuntime) {
+    let text = turns_text(rt.alloc(), BAD_LINES);
+    assert!(rt; matches!(&text, Ok(text) if text.as_slice() == BAD));
+}
+
+/// A text of this many data bytes, cut off.
+fn long_text(alloc: Global, count: usize) -> Result<Vec<u8>, AllocError> {
+    let mut bytes = Vec::new(alloc);
+    bytes.extend_from_slice(&[0x32, 0x32, 0x02])?;
+    for _ in 0..count {
+        bytes.push(0xC1)?;
+    }
+    stream_text(alloc, bytes.as_slice())
+}
+
+#[test]
+fn a_text_of_513_bytes_is_too_long(rt: HostRuntime) {
+    let full = long_text(rt.alloc(), 512);
+    assert!(rt; matches!(&full, Ok(text) if text.as_slice() == b"0 bad cut\n".as_slice()));
+    let over = long_text(rt.alloc(), 513);
+    assert!(rt; matches!(&over, Ok(text) if text.as_slice() == b"0 bad too long\n".as_slice()));
+}
+
+#[test]
+fn laws_can_be_called() {
+    one_reason();
 }
 
 /// Lines, and the number of the first that is not bytes in hexadecimal.
@@ -85,7 +140,9 @@ fn other_lines_are_refused(rt: HostRuntime) {
 #[test]
 fn faults_are_printed(rt: HostRuntime) {
     let not_hex = format!(in rt.alloc(); "{}", HexFault::NotHex(3));
-    assert!(rt; matches!(&not_hex, Ok(text) if text.as_str() == "line 3 is not bytes in hexadecimal"));
+    assert!(rt;
+        matches!(&not_hex, Ok(text) if text.as_str() == "line 3 is not bytes in hexadecimal")
+    );
     let memory = format!(in rt.alloc(); "{}", HexFault::OutOfMemory);
     assert!(rt; matches!(&memory, Ok(text) if text.as_str() == "out of memory"));
 }

@@ -3,7 +3,8 @@ use Rattle.std.proofs.lemmas.Bool.Decides.{nat_tests}
 use Rattle.std.proofs.lemmas.Grind.{common_steps}
 use Rattle.std.proofs.lemmas.List.{nil_from_length, length-take-le}
 use Rattle.rje_monitor.specs.Stream.{IsTextFrom, IsStreamLine}
-use Rattle.rje_monitor.proofs.Hearings.{some_taken}
+use Rattle.rje_monitor.proofs.Hearings.{some_taken, heard_of_front}
+use Rattle.bsc_frame.specs.Heard.{IsHeard}
 use Rattle.rje_monitor.proofs.Streams.{goes_on, all_text, GoesOn}
 use Rattle.rje_monitor.proofs.stream.stream_text.Goals as goal
 
@@ -46,3 +47,11 @@ returns c =
       text = all_text c.args.capture.now c.loop-rest.text.items c.loop-rest.rest.now c.loop-rest.place c.loop-rest.so_far c.loop-rest.invariant.on
           (nil_from_length _ none);
     }
+
+pub push_line-requires-clause-heard : goal.push_line-requires-clause-heard
+push_line-requires-clause-heard c =
+    let used = c.of-heard.result.used in
+    let bytes = c.loop-rest.rest.now in
+    let front : c.split_at.result.0.now ≡ take used bytes = search rules in
+    subst (λ (b : List ℕ). IsHeard b c.of-heard.result.heard) (sym front)
+    (heard_of_front c.of-heard.result.heard bytes (take used bytes) (drop used bytes) c.of-heard.ensures.heard)
