@@ -219,15 +219,15 @@ class ReceiveIsCalled(ReceiveWaits):
     def begin(self):
         super().begin()
         self.other = Calls(self.port)
-        # One job comes, so the file is another one by then.
-        for message in (ENQ, *OLD[0].messages()):
+        # Two jobs come, so the file is another one by then, and that has grown into a third.
+        for message in (ENQ, *OTHERS[0].messages(), *OTHERS[1].messages()):
             self.other.talk.say(message)
             self.other.talk.hear()
 
     def end(self):
         self.other.talk.say(EOT)
         self.other.talk.close()
-        return self.differences(ended(self.process), (0, "handed 1 jobs, 1 whole\n", ""), received(OLD))
+        return self.differences(ended(self.process), (0, "handed 2 jobs, 2 whole\n", ""), received(OTHERS))
 
 
 class CardsStopped(Holder):
