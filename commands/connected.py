@@ -995,6 +995,7 @@ def check_short(checks, program):
         time.sleep(0.3)
         peer.sendall(A_JOB.messages()[0])
         heard += peer.recv(5, socket.MSG_WAITALL)
+        time.sleep(0.4)
         peer.sendall(EOT)
         peer.shutdown(socket.SHUT_WR)
         printed, told = receiver.communicate(timeout=30)
@@ -1003,6 +1004,27 @@ def check_short(checks, program):
     is_right = (heard, receiver.returncode, printed) == (ACK0 + ACK1, 0, "handed 1 jobs, 1 whole\n")
     checks.check(None if is_right else f"a peer that takes 300 ms: {heard}, {receiver.returncode}, {printed!r}")
     checks.check(None if found and 290 <= int(found[1]) <= 600 else f"a peer that takes 300 ms: told {told!r}")
+
+
+def check_short_bids(checks, program):
+    """The end of an exchange that is called reports how long it took from its first bid until something came, also where it has bid again."""
+    folder, port = tempfile.mkdtemp(), free_port()
+    write_jobs(f"{folder}/jobs", [A_JOB])
+    words = [program, "exchange", f"{folder}/jobs", f"{folder}/got", "--listen", f"127.0.0.1:{port}", "--timeout", "20"]
+    called = subprocess.Popen(words, stdin=subprocess.DEVNULL, stdout=subprocess.PIPE, stderr=subprocess.PIPE, text=True)
+    while not is_listening(port) and called.poll() is None:
+        time.sleep(0.005)
+    with socket.create_connection(("127.0.0.1", port), timeout=10) as peer:
+        heard = peer.recv(4, socket.MSG_WAITALL)
+        time.sleep(0.15)
+        heard += peer.recv(4, socket.MSG_WAITALL)
+        peer.sendall(NOISE)
+        time.sleep(0.1)
+    told = called.communicate(timeout=30)[1]
+    shutil.rmtree(folder)
+    checks.check(None if heard == ENQ + ENQ else f"a peer that is silent for 150 ms heard {heard}")
+    found = re.match(r"rje: time-out of 20 ms is short: the peer took (\d+) ms\n", told)
+    checks.check(None if found and 140 <= int(found[1]) <= 600 else f"a peer that is silent for 150 ms: told {told!r}")
 
 
 def in_parts(program, seeds):
@@ -1053,6 +1075,7 @@ def main(program, library, seeds=2000, beyond=200):
     check_bytes(checks, program)
     check_sayings(checks, program)
     check_short(checks, program)
+    check_short_bids(checks, program)
     figures(f"the single ones took {time.monotonic() - began:.0f} s")
     counts = dict.fromkeys(WITHIN, seeds) | dict.fromkeys(BEYOND, beyond)
     wanted = [(kind, seed) for kind, count in counts.items() for seed in range(count)]

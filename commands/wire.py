@@ -95,6 +95,10 @@ class Still(typing.NamedTuple):
     """The program says nothing for a while."""
 
 
+class Ends(typing.NamedTuple):
+    """The program says that it says no more, and hears on."""
+
+
 class HangsUp(typing.NamedTuple):
     """The peer hangs up."""
 
@@ -165,6 +169,10 @@ SENDS = [
         0, counted(2, 2, "done"), "", {"jobs": marked([LONG, A_JOB], 2)},
     ),
     Talk(
+        "send: a peer that hangs up last", SEND, [A_JOB], says_and_hears((ENQ, ACK0), (A_JOB.blocks[0], ACK1)) + [Says(EOT), Ends(), HangsUp()],
+        0, counted(1, 1, "done"), "", {"jobs": marked([A_JOB], 1)},
+    ),
+    Talk(
         "send: a reverse interrupt", SEND, [LONG, A_JOB],
         says_and_hears((ENQ, ACK0), (FIRST, RVI), (SECOND, ACK0)) + [Says(EOT), HangsUp()],
         4, counted(1, 2, "turned"), "", {"jobs": marked([LONG, A_JOB], 1)},
@@ -218,6 +226,12 @@ EXCHANGES = [
         + says_and_hears((ENQ, ACK0), (FIRST, ACK1), (SECOND, ACK0)) + [Says(EOT)],
         0, EXCHANGED, "", {"jobs": marked([LONG], 1), "got": kept([PRINTED, PUNCHED])},
     ),
+    Talk(
+        "exchange: the end that listens gives way", CALLED, [LONG],
+        [Says(ENQ), *hears_and_says((ENQ, ACK0), (PRINTED.blocks[0], ACK1), (PUNCHED.blocks[0], ACK0)), Hears(EOT)]
+        + says_and_hears((ENQ, ACK0), (FIRST, ACK1), (SECOND, ACK0)) + [Says(EOT)],
+        0, EXCHANGED, "", {"jobs": marked([LONG], 1), "got": kept([PRINTED, PUNCHED])},
+    ),
 ]
 
 
@@ -251,6 +265,16 @@ class Peer:
         finally:
             self.connection.settimeout(PATIENCE)
 
+    def is_ended(self):
+        """Whether the program says within two seconds that it says no more: it hears on for four."""
+        self.connection.settimeout(2)
+        try:
+            return self.connection.recv(1) == b""
+        except OSError:
+            return False
+        finally:
+            self.connection.settimeout(PATIENCE)
+
     def fault_of(self, pieces):
         """Takes the peer's part; what is wrong with the program's, if anything."""
         for number, piece in enumerate(pieces, 1):
@@ -263,6 +287,9 @@ class Peer:
             elif isinstance(piece, Still):
                 if not self.is_still():
                     return f"piece {number} is not silence"
+            elif isinstance(piece, Ends):
+                if not self.is_ended():
+                    return f"piece {number} is not the end of what is said"
             else:
                 self.connection.shutdown(socket.SHUT_WR)
         more = self.came(1)

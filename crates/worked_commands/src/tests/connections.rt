@@ -1,6 +1,7 @@
 //! Connections: what a line does with its stream, the times that it sets and how often it reads, and how long a call waits for an answer.
 use super::scripted_stream::{Notes, ScriptedStream};
-use super::{FILE, Written};
+use super::traced::Ticking;
+use super::{FILE, NO_JOBS, Written};
 use bsc_link::Rank;
 use rje_program::socket_command;
 use rje_sockets::SocketLine;
@@ -8,7 +9,7 @@ use rje_station::{Came, Line, LineFault};
 use rje_stores::{MemoryStore, Store};
 use std::cell::Cell;
 use std::io::{self, ErrorKind};
-use std::net::{Net, SocketAddr};
+use std::net::{Ipv4Addr, Net, OpenListener, SocketAddr, TcpListener};
 use std::process::Abort;
 use std::test::Fail;
 use std::time::{Clock, Duration};
@@ -93,6 +94,92 @@ fn an_end_that_said_eot_hears_the_other_out(rt: HostRuntime) -> Result<(), Fail>
     Ok(())
 }
 
+#[test]
+fn an_answer_comes_in_pieces(rt: HostRuntime) -> Result<(), Fail> {
+    let notes = Notes::new();
+    let coming: &[&[u8]] = &[b"\x32", b"\x32", b"\x10", b"\x70"];
+    let mut line = SocketLine::new(ScriptedStream::new(&notes, coming), 250, Rank::Primary)?;
+    let mut piece = [0; 160];
+    assert!(rt; line.transmit(BID) == Ok(()));
+    assert!(rt; line.listen(&mut piece) == Ok(Came::Bytes(5)));
+    assert!(rt; &piece[..5] == ACK0);
+    Ok(())
+}
+
+#[test]
+fn what_a_silence_cuts_in_two_is_no_answer(rt: HostRuntime) -> Result<(), Fail> {
+    for (coming, in_step) in [
+        ([b"\x32\x32\x10".as_slice(), b"", b"\x70\xFF"], true),
+        ([b"", b"\x32\x32\x10", b"\x70\xFF"], false),
+    ] {
+        let notes = Notes::new();
+        let mut line = SocketLine::new(ScriptedStream::new(&notes, &coming), 250, Rank::Primary)?;
+        let mut piece = [0; 160];
+        assert!(rt; line.transmit(END) == Ok(()));
+        for _ in 0..3 {
+            assert!(rt; line.listen(&mut piece).is_ok());
+        }
+        assert!(rt; line.ends_in_step() == in_step);
+    }
+    Ok(())
+}
+
+#[test]
+fn an_end_that_said_no_eot_leaves_at_once(rt: HostRuntime) -> Result<(), Fail> {
+    let notes = Notes::new();
+    let mut line = SocketLine::new(ScriptedStream::new(&notes, &[ACK0]), 250, Rank::Primary)?;
+    assert!(rt; line.ends_in_step());
+    assert!(rt; notes.reads.get() == 0);
+    assert!(rt; !notes.has_shut_down.get());
+    Ok(())
+}
+
+#[test]
+fn an_end_hears_the_other_out_for_four_seconds(rt: HostRuntime) -> Result<(), Fail> {
+    let notes = Notes::new();
+    let silence: [&[u8]; 20] = [b""; 20];
+    let mut line = SocketLine::new(ScriptedStream::new(&notes, &silence), 900, Rank::Primary)?;
+    assert!(rt; line.transmit(END) == Ok(()));
+    assert!(rt; line.ends_in_step());
+    // Each of a quarter of a second.
+    assert!(rt; notes.reads.get() == 16);
+    Ok(())
+}
+
+#[test]
+fn what_is_left_of_an_answer_goes_with_the_next_transmission(rt: HostRuntime) -> Result<(), Fail> {
+    let notes = Notes::new();
+    let coming: &[&[u8]] = &[ACK0, b""];
+    let mut line = SocketLine::new(ScriptedStream::new(&notes, coming), 250, Rank::Primary)?;
+    let mut piece = [0; 2];
+    assert!(rt; line.transmit(BID) == Ok(()));
+    assert!(rt; line.listen(&mut piece) == Ok(Came::Bytes(2)));
+    assert!(rt; line.transmit(ACK0) == Ok(()));
+    assert!(rt; line.listen(&mut piece) == Ok(Came::Quiet));
+    assert!(rt; notes.reads.get() == 2);
+    Ok(())
+}
+
+#[test]
+fn a_line_babbles_until_the_next_transmission(rt: HostRuntime) -> Result<(), Fail> {
+    let notes = Notes::new();
+    // With the 52nd read there are more than 8,192 bytes, and no answer.
+    let noise: &[u8] = &[0x00; 160];
+    let mut coming = [noise; 53];
+    coming[52] = ACK0;
+    let mut line = SocketLine::new(ScriptedStream::new(&notes, &coming), 250, Rank::Primary)?;
+    let mut piece = [0; 160];
+    assert!(rt; line.transmit(BID) == Ok(()));
+    for _ in 0..60 {
+        assert!(rt; line.listen(&mut piece) == Ok(Came::Bytes(160)));
+        assert!(rt; notes.reads.get() == 52);
+    }
+    assert!(rt; line.transmit(BID) == Ok(()));
+    assert!(rt; line.listen(&mut piece) == Ok(Came::Bytes(5)));
+    assert!(rt; &piece[..5] == ACK0);
+    Ok(())
+}
+
 /// A network on which nobody is reached, and who was called last and for how long.
 #[derive(Drop)]
 struct Unreached<'a, R> {
@@ -162,5 +249,29 @@ fn a_call_waits_for_a_hearing_and_three_seconds_at_least(rt: HostRuntime) -> Res
     let peer = SocketAddr::from(([192, 0, 2, 1], 3780));
     assert!(rt; called(&rt, "40")? == Some((peer, Duration::from_millis(3000))));
     assert!(rt; called(&rt, "5000")? == Some((peer, Duration::from_millis(5000))));
+    Ok(())
+}
+
+/// What is reported of a call that takes 7 milliseconds, to an end that is there, with this time-out.
+fn told_of_a_call<R: Net + Abort + AllocGlobal>(rt: &R, timeout: &str) -> Result<Written, Fail> {
+    let listener = TcpListener::bind(rt, SocketAddr::from((Ipv4Addr::LOCALHOST, 0)))?;
+    let peer = format!(in rt.alloc(); "{}", listener.local_addr()?)?;
+    let words = ["send", "jobs", "--to", peer.as_str(), "--timeout", timeout];
+    let mut store = MemoryStore::new(rt.alloc());
+    store.write("jobs", NO_JOBS)?;
+    let mut out = Written::new();
+    let mut err = Written::new();
+    let clock = Ticking::new(rt, 100);
+    let ended = socket_command(&clock, rt.alloc(), &words, &mut store, &mut out, &mut err);
+    assert!(rt; ended == 0);
+    assert!(rt; out.as_slice() == b"counted 0 of 0 jobs\noutcome done\n".as_slice());
+    Ok(err)
+}
+
+#[test]
+fn a_call_that_takes_as_long_as_a_hearing_is_told(rt: HostRuntime) -> Result<(), Fail> {
+    let told = b"rje: time-out of 7 ms is short: the connection took 7 ms\n".as_slice();
+    assert!(rt; told_of_a_call(&rt, "7")?.as_slice() == told);
+    assert!(rt; told_of_a_call(&rt, "8")?.is_empty());
     Ok(())
 }

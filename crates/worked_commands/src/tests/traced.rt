@@ -61,10 +61,21 @@ fn a_line_tells_who_is_connected(rt: HostRuntime) -> Result<(), Fail> {
 
 /// The network of a runtime, and a clock that goes on by 7 milliseconds with each look at it, and fails after some.
 #[derive(Drop)]
-struct Ticking<'a, R> {
+pub(super) struct Ticking<'a, R> {
     net: &'a R,
     looks: Cell<u64>,
     last: u64,
+}
+
+impl<'a, R> Ticking<'a, R> {
+    /// A clock that fails after this many looks.
+    pub(super) fn new(net: &'a R, last: u64) -> Ticking<'a, R> {
+        Ticking {
+            net,
+            looks: Cell::new(0),
+            last,
+        }
+    }
 }
 
 impl<R: Net> Net for Ticking<'_, R> {
@@ -103,11 +114,7 @@ fn assert_loop<R: Net + Abort + AllocGlobal>(
     looks: u64,
     err: &mut impl Write,
 ) -> Result<(), Fail> {
-    let clock = Ticking {
-        net: rt,
-        looks: Cell::new(0),
-        last: looks,
-    };
+    let clock = Ticking::new(rt, looks);
     let mut store = MemoryStore::new(rt.alloc());
     store.write("jobs", FILE)?;
     let mut out = Written::new();
