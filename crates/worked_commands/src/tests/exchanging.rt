@@ -1,4 +1,5 @@
 //! What `exchange` sends and receives, and what is in its two files then.
+use super::receiving::FillingStore;
 use super::sending::ReadOnly;
 use super::told_line::ToldLine;
 use super::{NO_JOBS, Written, assert_file, joined, line_of, store_of};
@@ -166,12 +167,20 @@ fn the_fault_of_an_exchange_is_told_behind_its_lines(rt: HostRuntime) -> Result<
 }
 
 #[test]
-fn of_two_files_that_cannot_be_written_the_sent_one_is_told(rt: HostRuntime) {
+fn of_two_files_that_cannot_be_written_the_sent_one_is_told(rt: HostRuntime) -> Result<(), Fail> {
+    // The copy that marks go into can't be made.
     let mut store = ReadOnly {
         file: one_job(&rt, 0, 0xC1),
     };
     let mut line = ToldLine::new(&[ACK0, ACK1]);
-    let text = b"";
     let told = b"rje: can't write out\n";
+    assert_ends(&rt, Rank::Primary, &mut line, &mut store, 3, b"", told);
+
+    // It is made, and then neither a mark nor what came can be written.
+    let files = store_of(rt.alloc(), "out", one_job(&rt, 0, 0xC1).as_slice())?;
+    let mut store = FillingStore::new(files);
+    let mut line = ToldLine::new(&[ACK0, ACK1]);
+    let text = b"counted 1 of 1 jobs\noutcome done\nhanded 0 jobs, 0 whole\n";
     assert_ends(&rt, Rank::Primary, &mut line, &mut store, 3, text, told);
+    Ok(())
 }

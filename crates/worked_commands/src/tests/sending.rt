@@ -7,6 +7,7 @@ use line_world::MemoryLine;
 use rje_sockets::send_over;
 use rje_stores::{Place, Store, StoreFault};
 use std::alloc::Global;
+use std::io::{self, ErrorKind, Write};
 use std::process::Abort;
 use std::test::Fail;
 
@@ -163,6 +164,39 @@ fn a_file_that_cannot_be_written_back_is_told_behind_the_lines(
         line.fail_at(call);
         assert_sends(&rt, &mut line, &mut FillingStore::new(files), 3, text, told);
     }
+    Ok(())
+}
+
+/// An output that can't be written.
+#[derive(Drop)]
+struct NoOutput;
+
+impl Write for NoOutput {
+    fn write(&mut self, _bytes: &[u8]) -> io::Result<usize> {
+        Err(io::Error::from(ErrorKind::Other))
+    }
+
+    fn flush(&mut self) -> io::Result<()> {
+        Ok(())
+    }
+}
+
+#[test]
+fn of_a_file_and_an_output_that_fail_the_file_is_told(rt: HostRuntime) -> Result<(), Fail> {
+    let files = store_of(rt.alloc(), "jobs", three_jobs(&rt, [0, 1, 1]).as_slice())?;
+    let mut store = FillingStore::new(files);
+    let mut line = line_of(rt.alloc(), &[ACK0, ACK1])?;
+    let mut err = Written::new();
+    let ended = send_over(
+        rt.alloc(),
+        &mut line,
+        "jobs",
+        &mut store,
+        &mut NoOutput,
+        &mut err,
+    );
+    assert!(rt; ended == 3);
+    assert!(rt; err.as_slice() == NOT_WRITTEN);
     Ok(())
 }
 
