@@ -7,7 +7,8 @@ use std::fs::{Permissions, TryLockError};
 use std::io::{self, ErrorKind, Read};
 use std::os::unix::fs::PermissionsExt;
 
-/// A disk on which the same stands under each name: nothing, or a file of this many bytes, or a device.
+/// A disk on which the same stands under each name: nothing, or a file of this many bytes, or a device. What stands under a name that begins
+/// with /second/ is on a second disk, with the same number.
 #[derive(Drop)]
 pub(super) struct RecordedDisk {
     alloc: Global,
@@ -17,6 +18,7 @@ pub(super) struct RecordedDisk {
     asked: Vec<u8>,
     count: usize,
     fails_at: usize,
+    fault: ErrorKind,
 }
 
 /// An open file, as it was called when it was opened.
@@ -35,6 +37,29 @@ impl RecordedDisk {
             asked: Vec::new(alloc),
             count: 0,
             fails_at,
+            fault: ErrorKind::StorageFull,
+        }
+    }
+
+    /// The same disk, where that call fails so.
+    pub(super) fn failing_by(self, fault: ErrorKind) -> Self {
+        let RecordedDisk {
+            alloc,
+            kind,
+            len,
+            asked,
+            count,
+            fails_at,
+            fault: _,
+        } = self;
+        RecordedDisk {
+            alloc,
+            kind,
+            len,
+            asked,
+            count,
+            fails_at,
+            fault,
         }
     }
 
@@ -50,7 +75,7 @@ impl RecordedDisk {
         self.asked.push(b'\n')?;
         self.count = self.count.saturating_add(1);
         if self.count == self.fails_at {
-            return Err(io::Error::from(ErrorKind::StorageFull));
+            return Err(io::Error::from(self.fault));
         }
         Ok(())
     }
@@ -61,13 +86,13 @@ impl RecordedDisk {
         })
     }
 
-    fn found(&self) -> io::Result<FileStatus> {
+    fn found(&self, device: u64) -> io::Result<FileStatus> {
         match self.kind {
             Some(kind) => Ok(FileStatus {
                 kind,
                 mode: Permissions::from_mode(0o640),
                 len: self.len,
-                device: 1,
+                device,
                 inode: 1,
                 links: 1,
             }),
@@ -99,12 +124,12 @@ impl Disk for RecordedDisk {
 
     ghost is_device = { λ _ _. Unit {0} };
 
-    fn status(&self, _name: &str) -> io::Result<FileStatus> {
-        self.found()
+    fn status(&self, name: &str) -> io::Result<FileStatus> {
+        self.found(if name.starts_with("/second/") { 2 } else { 1 })
     }
 
-    fn status_of(&self, _file: &RecordedFile) -> io::Result<FileStatus> {
-        self.found()
+    fn status_of(&self, file: &RecordedFile) -> io::Result<FileStatus> {
+        self.status(file.name.as_str())
     }
 
     fn is_link(&self, _name: &str) -> io::Result<bool> {

@@ -2,6 +2,7 @@
 use super::recorded_disk::RecordedDisk;
 use rje_stores::{FileKind, FileStore, MemoryStore, Store, StoreFault};
 use std::alloc::Global;
+use std::io::ErrorKind;
 use std::process::Abort;
 use std::test::Fail;
 
@@ -29,6 +30,12 @@ fn a_file_in_memory_grows_and_has_a_byte_set(rt: HostRuntime) -> Result<(), Fail
     assert!(rt; files.set_byte(rt.alloc(), "a", 6, b'-') == Err(StoreFault::Failed));
     assert!(rt; files.extend(rt.alloc(), "b", b"2", b"s").is_err());
     Ok(())
+}
+
+/// The store of a disk on which a file of four bytes stands under each name, and which fails so at its call of this number.
+fn store_failing_at(alloc: Global, fails_at: usize, fault: ErrorKind) -> FileStore<RecordedDisk> {
+    let disk = RecordedDisk::new(alloc, Some(FileKind::Regular), 4, fails_at);
+    FileStore::over(disk.failing_by(fault), alloc)
 }
 
 /// What a disk is asked when a file that is there is written, and its call of this number fails.
@@ -113,5 +120,72 @@ fn a_byte_is_set_where_the_file_is(rt: HostRuntime) -> Result<(), Fail> {
         files.disk().asked()
             == b"open a.job\nwrite to a.job: -\nsync bytes of a.job\nopen a.job\n".as_slice()
     );
+    Ok(())
+}
+
+#[test]
+fn names_that_a_file_system_does_not_keep_are_no_fault(rt: HostRuntime) -> Result<(), Fail> {
+    let alloc = rt.alloc();
+    let mut files = store_failing_at(alloc, 6, ErrorKind::InvalidInput);
+    assert!(rt; files.write("a.job", b"one") == Ok(()));
+    let mut files = store_failing_at(alloc, 6, ErrorKind::StorageFull);
+    assert!(rt; files.write("a.job", b"one") == Err(StoreFault::Unsynced));
+    Ok(())
+}
+
+#[test]
+fn a_growth_that_fails_leaves_nothing_beside_the_file(rt: HostRuntime) -> Result<(), Fail> {
+    let alloc = rt.alloc();
+
+    // The copy can't be put on disk.
+    let mut files = store_failing_at(alloc, 6, ErrorKind::StorageFull);
+    assert!(rt; files.extend(alloc, "a.job", b"2", b"s") == Err(StoreFault::Failed));
+    assert!(rt;
+        files
+            .disk()
+            .asked()
+            .ends_with(b"sync a.job.rje-0\nremove a.job.rje-0\n")
+    );
+
+    // It can't have the name in the second growth, by which the file has a second one.
+    let mut files = store_failing_at(alloc, 15, ErrorKind::StorageFull);
+    files.extend(alloc, "a.job", b"2", b"s")?;
+    assert!(rt; files.extend(alloc, "a.job", b"3", b"t") == Err(StoreFault::Failed));
+    assert!(rt;
+        files.disk().asked().ends_with(
+            b"link a.job as a.job.rje-0\nrename a.job.rje-0 to a.job\nremove a.job.rje-0\nremove a.job.rje-0\n"
+        )
+    );
+
+    // A copy whose front is longer than the one that is to be written is of no use.
+    let mut files = store_failing_at(alloc, 18, ErrorKind::StorageFull);
+    files.extend(alloc, "a.job", b"22", b"s")?;
+    files.extend(alloc, "a.job", b"33", b"t")?;
+    assert!(rt; files.extend(alloc, "a.job", b"4", b"u") == Err(StoreFault::Failed));
+    assert!(rt;
+        files.disk().asked().ends_with(
+            b"sync folder of a.job\nremove a.job.rje-0\ncreate a.job.rje-0\n"
+        )
+    );
+    Ok(())
+}
+
+#[test]
+fn a_device_neither_grows_nor_has_a_byte_set(rt: HostRuntime) -> Result<(), Fail> {
+    let alloc = rt.alloc();
+    let disk = RecordedDisk::new(alloc, Some(FileKind::Device), 4, 0);
+    let mut files = FileStore::over(disk, alloc);
+    assert!(rt; files.set_byte(alloc, "a.job", 0, b'-') == Err(StoreFault::Failed));
+    assert!(rt; files.extend(alloc, "a.job", b"2", b"s") == Err(StoreFault::Failed));
+    assert!(rt; files.disk().asked() == b"open a.job\nopen a.job\n".as_slice());
+    Ok(())
+}
+
+#[test]
+fn a_file_is_one_on_its_disk(rt: HostRuntime) -> Result<(), Fail> {
+    let alloc = rt.alloc();
+    let mut files = store_failing_at(alloc, 0, ErrorKind::StorageFull);
+    assert!(rt; files.is_one_file(alloc, "/first/a.job", "/first/b.job")?);
+    assert!(rt; !files.is_one_file(alloc, "/first/a.job", "/second/a.job")?);
     Ok(())
 }
