@@ -3,6 +3,7 @@ ghost use Rattle.std.specs.Prelude.{[]};
 
 use rje_stores::{Disk, FileKind, FileStatus};
 use std::alloc::Global;
+use std::cell::Cell;
 use std::fs::{Permissions, TryLockError};
 use std::io::{self, ErrorKind, Read};
 use std::os::unix::fs::PermissionsExt;
@@ -19,6 +20,8 @@ pub(super) struct RecordedDisk {
     count: usize,
     fails_at: usize,
     fault: ErrorKind,
+    // How many names each file has.
+    pub(super) links: Cell<u64>,
 }
 
 /// An open file, as it was called when it was opened.
@@ -38,6 +41,7 @@ impl RecordedDisk {
             count: 0,
             fails_at,
             fault: ErrorKind::StorageFull,
+            links: Cell::new(1),
         }
     }
 
@@ -51,6 +55,7 @@ impl RecordedDisk {
             count,
             fails_at,
             fault: _,
+            links,
         } = self;
         RecordedDisk {
             alloc,
@@ -60,6 +65,7 @@ impl RecordedDisk {
             count,
             fails_at,
             fault,
+            links,
         }
     }
 
@@ -94,7 +100,7 @@ impl RecordedDisk {
                 len: self.len,
                 device,
                 inode: 1,
-                links: 1,
+                links: self.links.get(),
             }),
             None => Err(io::Error::from(ErrorKind::NotFound)),
         }

@@ -1,6 +1,7 @@
 //! What no clause says: that files in memory are there. What the system's files do stands in commands/.
+use super::joined;
 use super::recorded_disk::RecordedDisk;
-use rje_stores::{FileKind, FileStore, MemoryStore, Store, StoreFault};
+use rje_stores::{Disk, FileKind, FileStore, MemoryStore, Store, StoreFault, SystemDisk};
 use std::alloc::Global;
 use std::io::ErrorKind;
 use std::process::Abort;
@@ -187,5 +188,37 @@ fn a_file_is_one_on_its_disk(rt: HostRuntime) -> Result<(), Fail> {
     let mut files = store_failing_at(alloc, 0, ErrorKind::StorageFull);
     assert!(rt; files.is_one_file(alloc, "/first/a.job", "/first/b.job")?);
     assert!(rt; !files.is_one_file(alloc, "/first/a.job", "/second/a.job")?);
+    Ok(())
+}
+
+/// What a disk is asked for the lock of a file, where the lock's own file has so many names when it is given up.
+fn asked_to_lock(rt: &(impl Abort + AllocGlobal), links: u64, asked: &[u8]) -> Result<(), Fail> {
+    let alloc = rt.alloc();
+    let disk = RecordedDisk::new(alloc, Some(FileKind::Regular), 0, 0);
+    let mut files = FileStore::over(disk, alloc);
+    files.lock(alloc, "a.job")?;
+    files.disk().links.set(links);
+    files.release();
+    assert!(rt; files.disk().asked() == asked);
+    Ok(())
+}
+
+#[test]
+fn the_file_of_a_lock_that_was_taken_away_is_not_removed(rt: HostRuntime) -> Result<(), Fail> {
+    let lock = b"open or create .a.job.rje-lock\nmode of .a.job.rje-lock\n".as_slice();
+    let removed = joined(&rt, &[lock, b"remove .a.job.rje-lock\n"]);
+    asked_to_lock(&rt, 1, removed.as_slice())?;
+    asked_to_lock(&rt, 0, lock)
+}
+
+#[test]
+fn the_folder_of_a_path_is_the_one_that_is_opened(rt: HostRuntime) -> Result<(), Fail> {
+    let disk = SystemDisk::new(&rt);
+    for (path, folder) in [("/a.job", "/"), ("/dev/a.job", "/dev")] {
+        let found = disk.status_of(&disk.open_folder(path)?)?;
+        let wanted = disk.status(folder)?;
+        assert!(rt; found.device == wanted.device);
+        assert!(rt; found.inode == wanted.inode);
+    }
     Ok(())
 }

@@ -90,6 +90,10 @@ impl<R: Net> Net for Ticking<'_, R> {
     fn connect(&self, address: SocketAddr) -> io::Result<R::Stream> {
         self.net.connect(address)
     }
+
+    fn connect_timeout(&self, address: SocketAddr, time: Duration) -> io::Result<R::Stream> {
+        self.net.connect_timeout(address, time)
+    }
 }
 
 impl<R> Clock for Ticking<'_, R> {
