@@ -227,7 +227,7 @@ EXCHANGES = [
         0, EXCHANGED, "", {"jobs": marked([LONG], 1), "got": kept([PRINTED, PUNCHED])},
     ),
     Talk(
-        "exchange: the end that listens gives way", CALLED, [LONG],
+        "exchange: the end that listens gives way", CALLED + ["--timeout", "300"], [LONG],
         [Says(ENQ), *hears_and_says((ENQ, ACK0), (PRINTED.blocks[0], ACK1), (PUNCHED.blocks[0], ACK0)), Hears(EOT)]
         + says_and_hears((ENQ, ACK0), (FIRST, ACK1), (SECOND, ACK0)) + [Says(EOT)],
         0, EXCHANGED, "", {"jobs": marked([LONG], 1), "got": kept([PRINTED, PUNCHED])},
