@@ -1,9 +1,12 @@
 #!/usr/bin/env python3
 """A second program of what `rje monitor` shows: streams, and the text of each, by the rules of docs/LINE.md, docs/TEXT.md and docs/FORMATS.md.
 
+monitored.py PROGRAM [STREAMS]   prints a line for each fault, and at last how many checks went well
+
 It shares nothing with the crates: it looks for a transmission by the definition, from the front, and reads texts in its own way.
 """
 import random
+import subprocess
 import sys
 
 PADS = {0xFF, 0x55}
@@ -361,13 +364,45 @@ def hex_lines(turns):
     return "".join(turn.hex(" ") + "\n" for turn in turns)
 
 
-if __name__ == "__main__":
-    # The kinds of lines among all streams, to see that each kind is there.
+# ---- The program.
+
+def shown_by(program, capture, *words):
+    """What the program prints for a capture."""
+    ran = subprocess.run([program, "monitor", *words, "-"], input=capture, stdout=subprocess.PIPE, stderr=subprocess.STDOUT, check=False)
+    return ran.stdout.decode("latin-1")
+
+
+def kinds_of(texts):
+    """How many lines of each kind there are."""
     counted = {}
-    for _, shown in streams():
-        for shown_line in shown.splitlines():
-            words = shown_line.split()[1:]
-            kind = " ".join(words[:3] if words[0] == "bad" else words[:1]) + (" unread" if "unread" in words else "")
-            counted[kind] = counted.get(kind, 0) + 1
-    for kind in sorted(counted):
-        print(f"{counted[kind]:7} {kind}", file=sys.stdout)
+    for line in "".join(texts).splitlines():
+        words = line.split()[1:]
+        kind = " ".join(words[:3] if words[0] == "bad" else words[:1]) + (" unread" if "unread" in words else "")
+        counted[kind] = counted.get(kind, 0) + 1
+    return counted
+
+
+def main(program, count):
+    """Compares the program with this one: `count` streams, each by itself, and 20,000 as turns in one capture."""
+    well, texts = 0, []
+    for stream, text in streams(count):
+        texts.append(text)
+        shown = shown_by(program, stream)
+        if shown == text:
+            well += 1
+        else:
+            print(f"of the stream {stream.hex()} it shows {shown!r} in place of {text!r}", flush=True)
+    counted = kinds_of(texts)
+    print("figures: " + ", ".join(f"{counted[kind]} {kind}" for kind in sorted(counted)), flush=True)
+    turns = [stream for stream, _ in streams()]
+    shown, want = shown_by(program, hex_lines(turns).encode(), "--hex").splitlines(), turns_text(turns).splitlines()
+    for one, other in zip(shown, want):
+        if one != other:
+            print(f"of turns it shows {one!r} in place of {other!r}", flush=True)
+    if len(shown) != len(want):
+        print(f"of {len(want)} turns it shows {len(shown)} lines", flush=True)
+    print(well + (shown == want))
+
+
+if __name__ == "__main__":
+    main(sys.argv[1], int(sys.argv[2]) if len(sys.argv) > 2 else 2000)

@@ -1,9 +1,12 @@
 # Completions of rje for bash: source this file.
 _rje() {
     local word=${COMP_WORDS[COMP_CWORD]} before=${COMP_WORDS[COMP_CWORD - 1]} command=${COMP_WORDS[1]}
-    local commands='blocks cards show check print try loop send receive exchange help' words=--help
+    local commands='blocks cards show check print try monitor loop send receive exchange help' words=--help
     case $command in
+    show) words+=' --job --records' ;;
+    print) words+=' --job --printer --punch --raw' ;;
     cards) words+=' --printer --punch --transparent --name --append' ;;
+    monitor) words+=' --hex' ;;
     loop) words+=' --timeout --trace' ;;
     send) words+=' --to --timeout --trace' ;;
     receive) words+=' --listen --new --append --timeout --trace' ;;
@@ -14,7 +17,7 @@ _rje() {
         mapfile -t COMPREPLY < <(compgen -W "$commands --help --version" -- "$word")
     elif [ "$command" = help ]; then
         mapfile -t COMPREPLY < <(compgen -W "$commands" -- "$word")
-    elif [[ $before = --@(name|timeout|to|listen) ]]; then
+    elif [[ $before = --@(job|name|timeout|to|listen) ]]; then
         return
     elif [[ $word = -* ]]; then
         mapfile -t COMPREPLY < <(compgen -W "$words" -- "$word")

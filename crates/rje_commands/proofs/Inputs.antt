@@ -16,13 +16,17 @@ use Rattle.rje_print.specs.Script.{IsScript}
 use Rattle.rje_stores.proofs.Changes.{same_twice, set_after}
 use Rattle.rje_commands.specs.CommandFault.{of_world}
 use Rattle.rje_orders.specs.declared.order.CardsOrder.{CardsOrder}
+use Rattle.rje_monitor.specs.Turns.{IsFirstBadLine}
+use Rattle.rje_orders.specs.declared.order.MonitorOrder.{MonitorOrder}
+use Rattle.rje_orders.specs.declared.order.PrintOrder.{PrintOrder}
+use Rattle.rje_orders.specs.declared.order.ShowOrder.{ShowOrder}
 use Rattle.rje_orders.specs.declared.order.TryOrder.{TryOrder}
 use Rattle.rje_orders.specs.declared.order.FileOrder.{FileOrder}
 use Rattle.rje_commands.specs.declared.command_fault.CommandFault.{CommandFault}
 use Rattle.rje_commands.specs.declared.command_fault.CommandFault.TheVariants as told
-use Rattle.rje_commands.specs.Commands.{AreEntriesOf, AreInFront, IsThere, OfFile, OfFiles, OfDeck, IsFault, MakesFile, deck_job}
+use Rattle.rje_commands.specs.Commands.{AreEntriesOf, AreInFront, IsThere, OfFile, OfFiles, OfDeck, HasFewer, IsFault, MakesFile, deck_job}
 use Rattle.rje_commands.specs.NamedFile.{IsWriteFault}
-use Rattle.rje_commands.specs.Inside.Commands.{IsMadeFault, IsHeld, IsHeldFault, IsMade, IsTryFault, IsTextFault, IsCheckFault}
+use Rattle.rje_commands.specs.Inside.Commands.{IsMadeFault, IsHeld, IsHeldFault, IsMade, IsTryFault, IsTextFault, IsCaptureFault, IsCheckFault, IsChoiceFault}
 use Rattle.rje_stores.specs.Store.{FileMap, Discloses, IsSame, Sets}
 
 module _ (P Q : List ℕ → Type 0) (more : (file : List ℕ) → P file → Q file) where
@@ -167,18 +171,33 @@ whatever (Err e) P Q q = λ _. q
 
 -- why there is no such text is why the command isn't carried out
 module _ (name : Bor (List ℕ)) (files : Option FileMap) (bytes : List ℕ) (is : OfFile name.now files (λ file. bytes ≡ file)) where
-  pub show_fault : (fault : CommandFault) → IsTextFault bytes fault → IsFault (FileOrder.Show name) files None fault
-  show_fault told.OutOfMemory h = tt
-  show_fault (told.File fault) h = of_file (λ file. IsTextFault file (told.File fault)) bytes h name.now files is
-  show_fault _ h = absurd h
-
-  pub print_fault : (fault : CommandFault) → IsTextFault bytes fault → IsFault (FileOrder.Print name) files None fault
-  print_fault told.OutOfMemory h = tt
-  print_fault (told.File fault) h = of_file (λ file. IsTextFault file (told.File fault)) bytes h name.now files is
-  print_fault _ h = absurd h
-
   pub check_fault : (fault : CommandFault) → IsCheckFault bytes fault → IsFault (FileOrder.Check name) files None fault
   check_fault told.OutOfMemory h = tt
   check_fault (told.File fault) h = of_file (λ file. IsCheckFault file (told.File fault)) bytes h name.now files is
   check_fault (told.BadJob number) h = of_file (λ file. IsCheckFault file (told.BadJob number)) bytes h name.now files is
   check_fault _ h = absurd h
+
+-- why there is no text of the chosen jobs is why `show` isn't carried out
+pub show_fault : (order : ShowOrder) (files : Option FileMap) (bytes : List ℕ) → OfFile order.jobs.now files (λ file. bytes ≡ file)
+    → (fault : CommandFault) → IsChoiceFault order.choice bytes fault → IsFault (FileOrder.Show order) files None fault
+show_fault order files bytes is told.OutOfMemory h = tt
+show_fault order files bytes is (told.File fault) h = of_file (λ file. IsTextFault file (told.File fault)) bytes h order.jobs.now files is
+show_fault order files bytes is (told.NoJob number) h = (h.0, of_file (HasFewer number) bytes h.1 order.jobs.now files is)
+show_fault order files bytes is _ h = absurd h
+
+-- and so it is of `print`
+pub print_fault : (order : PrintOrder) (files : Option FileMap) (bytes : List ℕ) → OfFile order.jobs.now files (λ file. bytes ≡ file)
+    → (fault : CommandFault) → IsChoiceFault order.choice bytes fault → IsFault (FileOrder.Print order) files None fault
+print_fault order files bytes is told.OutOfMemory h = tt
+print_fault order files bytes is (told.File fault) h = of_file (λ file. IsTextFault file (told.File fault)) bytes h order.jobs.now files is
+print_fault order files bytes is (told.NoJob number) h = (h.0, of_file (HasFewer number) bytes h.1 order.jobs.now files is)
+print_fault order files bytes is _ h = absurd h
+
+-- and of `monitor`
+pub monitor_fault : (order : MonitorOrder) (files : Option FileMap) (input : Option (List ℕ)) (bytes : List ℕ)
+    → OfDeck order.capture.now files input (λ deck. bytes ≡ deck) → (fault : CommandFault) → IsCaptureFault order.hex bytes fault
+    → IsFault (FileOrder.Monitor order) files input fault
+monitor_fault order files input bytes is told.OutOfMemory h = tt
+monitor_fault order files input bytes is (told.NotHex line) h =
+    (h.0, of_deck (λ read. IsFirstBadLine read line) bytes h.1 order.capture.now files input is)
+monitor_fault order files input bytes is _ h = absurd h

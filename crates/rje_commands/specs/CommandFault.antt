@@ -4,11 +4,12 @@ use Rattle.std.specs.declared.io.ErrorKind.{ErrorKind}
 use Rattle.std.specs.declared.io.ErrorKind.TheVariants.{BrokenPipe}
 use Rattle.rje_jobs.specs.declared.deck_fault.DeckFault.{DeckFault}
 use Rattle.rje_jobs.specs.declared.file_fault.FileFault.{FileFault}
+use Rattle.rje_monitor.specs.declared.hex_fault.HexFault.{HexFault}
 use Rattle.rje_print.specs.declared.script_fault.ScriptFault.{ScriptFault}
 use Rattle.rje_station.specs.declared.station_fault.StationFault.{StationFault}
 use Rattle.line_world.specs.declared.world_fault.WorldFault.{WorldFault}
 use Rattle.rje_commands.specs.declared.command_fault.CommandFault.{CommandFault}
-use Rattle.rje_commands.specs.declared.command_fault.CommandFault.TheVariants.{OutOfMemory, Deck, File, BadJob, Script, NotDamage, BadCut, HoldsJobs, NoCommand, LineFailed, Babble, OutOfStep, CannotRead, CannotWrite, InUse, Unsynced, Output, Closed}
+use Rattle.rje_commands.specs.declared.command_fault.CommandFault.TheVariants.{OutOfMemory, Deck, File, BadJob, NoJob, NotHex, Script, NotDamage, BadCut, HoldsJobs, NoCommand, LineFailed, Babble, OutOfStep, CannotRead, CannotWrite, InUse, Unsynced, Output, Closed}
 
 -- an input that is refused has status 1, out of memory 5
 abbrev pub deck_status : DeckFault → ℕ
@@ -27,6 +28,8 @@ status_of OutOfMemory = 5
 status_of (Deck fault) = deck_status fault
 status_of (File fault) = file_status fault
 status_of (BadJob number) = 1
+status_of (NoJob number) = 1
+status_of (NotHex line) = 1
 status_of (Script line) = 1
 status_of (NotDamage turn) = 1
 status_of (BadCut turn) = 1
@@ -57,6 +60,10 @@ is_of_output _ = false
 abbrev pub of_script : ScriptFault → CommandFault
 of_script ScriptFault.OutOfMemory = OutOfMemory
 of_script (ScriptFault.NotATurn line) = Script line
+
+abbrev pub of_hex : HexFault → CommandFault
+of_hex HexFault.OutOfMemory = OutOfMemory
+of_hex (HexFault.NotHex line) = NotHex line
 
 abbrev pub of_station : StationFault → CommandFault
 of_station StationFault.OutOfMemory = OutOfMemory

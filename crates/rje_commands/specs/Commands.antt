@@ -1,5 +1,5 @@
 -- What the commands over files do, and why they do nothing, by what files, input and output disclose (own profile).
-use Rattle.std.specs.Prelude.{◌≡◌, ◌≢◌, ◌≤◌, ◌⊎◌, ℕ, List, [], ◌∷◌, ◌++◌, codes, length, Option, None, Some, IfSome, true, false, ⊤}
+use Rattle.std.specs.Prelude.{◌≡◌, ◌≢◌, ◌<◌, ◌≤◌, ◌⊎◌, ℕ, List, [], ◌∷◌, ◌++◌, codes, length, Option, None, Some, IfSome, Bool, true, false, ⊤}
 use Rattle.std.specs.Io.KnownBytes.{Appends}
 use Rattle.std.specs.Option.{IsSomeAnd}
 use Rattle.bsc_link.specs.declared.outcome.Outcome.{Outcome}
@@ -20,6 +20,9 @@ use Rattle.rje_orders.specs.declared.device.Device.{Device}
 use Rattle.rje_orders.specs.Device.{select_of, writing}
 use Rattle.rje_orders.specs.declared.order.CardsOrder.{CardsOrder}
 use Rattle.rje_orders.specs.declared.order.FileOrder.{FileOrder}
+use Rattle.rje_monitor.specs.Stream.{IsStreamText}
+use Rattle.rje_monitor.specs.Turns.{IsTurnsText}
+use Rattle.rje_monitor.specs.Turns.{IsFirstBadLine as IsFirstBadTurn}
 use Rattle.rje_print.specs.BlockListing.{IsBlockListing}
 use Rattle.rje_print.specs.JobTexts.{cards_line, IsShown, IsChecked, IsPaper}
 use Rattle.rje_print.specs.ReportTexts.{run_text}
@@ -51,9 +54,9 @@ OfDeck name files input P = (name ≡ codes "-" → IfSome input P) × (name ≢
 abbrev pub PrintsBlocks : List ℕ → Option (List ℕ) → Option (List ℕ) → Type 0
 PrintsBlocks deck before after = (text : List ℕ) × IsBlockListing deck text × Appends before after text
 
--- the bytes are the file of some entries, of either version, and just their lines were printed
-abbrev pub PrintsEntries : List ℕ → Option (List ℕ) → Option (List ℕ) → Type 0
-PrintsEntries file before after = (entries : List Entry) × (text : List ℕ) × HasEntries entries file × IsShown entries text × Appends before after text
+-- the bytes are the file of some entries, of either version, and just a text that is one of these entries was printed
+abbrev pub PrintsEntries : (List Entry → List ℕ → Type 0) → List ℕ → Option (List ℕ) → Option (List ℕ) → Type 0
+PrintsEntries IsText file before after = (entries : List Entry) × (text : List ℕ) × HasEntries entries file × IsText entries text × Appends before after text
 
 -- the bytes are the file of some jobs, of either version, and just a text that is one of these jobs was printed
 abbrev pub PrintsJobs : (List Job → List ℕ → Type 0) → List ℕ → Option (List ℕ) → Option (List ℕ) → Type 0
@@ -112,16 +115,29 @@ pub record IsRunText (file script text : List ℕ) : Type 0 where
 abbrev pub PrintsRun : List ℕ → List ℕ → Option (List ℕ) → Option (List ℕ) → Type 0
 PrintsRun file script before after = (text : List ℕ) × IsRunText file script text × Appends before after text
 
+-- this is the text of what is heard of a capture: of a stream, or of turns in hexadecimal
+abbrev pub IsCaptureText : (hex : Bool) → (capture text : List ℕ) → Type 0
+IsCaptureText false capture text = IsStreamText capture text
+IsCaptureText true capture text = IsTurnsText capture text
+
+-- just that text was printed
+abbrev pub PrintsCapture : (hex : Bool) → List ℕ → Option (List ℕ) → Option (List ℕ) → Type 0
+PrintsCapture hex capture before after = (text : List ℕ) × IsCaptureText hex capture text × Appends before after text
+
 -- what is done where an order is carried out: what files and input were and held, what the files are then, and what was printed before and after
 abbrev pub Does : FileOrder → (files made : Option FileMap) (input before after : Option (List ℕ)) → Type 0
 Does (FileOrder.Blocks deck) files made input before after = OfDeck deck.now files input (λ bytes. PrintsBlocks bytes before after)
 Does (FileOrder.Cards order) files made input before after =
     OfDeck order.deck.now files input (λ bytes. MakesCards order bytes files made before after)
-Does (FileOrder.Show jobs) files made input before after = OfFile jobs.now files (λ bytes. PrintsEntries bytes before after)
+Does (FileOrder.Show order) files made input before after =
+    OfFile order.jobs.now files (λ bytes. PrintsEntries (IsShown order.choice order.records) bytes before after)
 Does (FileOrder.Check jobs) files made input before after = OfFile jobs.now files (λ bytes. PrintsJobs IsChecked bytes before after)
-Does (FileOrder.Print jobs) files made input before after = OfFile jobs.now files (λ bytes. PrintsJobs IsPaper bytes before after)
+Does (FileOrder.Print order) files made input before after =
+    OfFile order.jobs.now files (λ bytes. PrintsEntries (IsPaper order.choice order.form) bytes before after)
 Does (FileOrder.Try order) files made input before after =
     OfFiles order.jobs.now order.script.now files (λ file script. PrintsRun file script before after)
+Does (FileOrder.Monitor order) files made input before after =
+    OfDeck order.capture.now files input (λ bytes. PrintsCapture order.hex bytes before after)
 
 -- WHAT BECOMES OF THE FILES
 
@@ -141,9 +157,9 @@ OfItsDeck _ files input P = ⊥
 
 -- this holds of the job file that the order reads
 abbrev pub OfItsFile : FileOrder → Option FileMap → (List ℕ → Type 0) → Type 0
-OfItsFile (FileOrder.Show jobs) files P = OfFile jobs.now files P
+OfItsFile (FileOrder.Show order) files P = OfFile order.jobs.now files P
 OfItsFile (FileOrder.Check jobs) files P = OfFile jobs.now files P
-OfItsFile (FileOrder.Print jobs) files P = OfFile jobs.now files P
+OfItsFile (FileOrder.Print order) files P = OfFile order.jobs.now files P
 OfItsFile (FileOrder.Try order) files P = OfFile order.jobs.now files P
 OfItsFile (FileOrder.Cards order) files P = (order.append ≡ true) × OfFile order.jobs.now files P
 OfItsFile _ files P = ⊥
@@ -166,14 +182,31 @@ abbrev pub IsBadJob : FileOrder → Option FileMap → ℕ → Type 0
 IsBadJob (FileOrder.Check jobs) files number = OfFile jobs.now files (HasBadJob number)
 IsBadJob order files number = OfItsScript order files (IsFaultOfRun (world.BadJob number))
 
+-- it is a job file of fewer jobs than this
+abbrev pub HasFewer : ℕ → List ℕ → Type 0
+HasFewer number file = (entries : List Entry) × HasEntries entries file × (length entries < number)
+
+-- the one job that the order is for has this number, and its file has fewer
+abbrev pub IsNoJob : FileOrder → Option FileMap → ℕ → Type 0
+IsNoJob (FileOrder.Show order) files number = (order.choice.job ≡ Some number) × OfFile order.jobs.now files (HasFewer number)
+IsNoJob (FileOrder.Print order) files number = (order.choice.job ≡ Some number) × OfFile order.jobs.now files (HasFewer number)
+IsNoJob order files number = ⊥
+
+-- the order is for a capture in hexadecimal, of which the line of this number is the first that is none
+abbrev pub IsNotHex : FileOrder → Option FileMap → (input : Option (List ℕ)) → ℕ → Type 0
+IsNotHex (FileOrder.Monitor order) files input line =
+    (order.hex ≡ true) × OfDeck order.capture.now files input (λ bytes. IsFirstBadTurn bytes line)
+IsNotHex order files input line = ⊥
+
 -- the order reads what has this name
 abbrev pub Reads : FileOrder → List ℕ → Type 0
 Reads (FileOrder.Blocks deck) name = name ≡ deck.now
 Reads (FileOrder.Cards order) name = (name ≡ order.deck.now) ⊎ ((order.append ≡ true) × (name ≡ order.jobs.now))
-Reads (FileOrder.Show jobs) name = name ≡ jobs.now
+Reads (FileOrder.Show order) name = name ≡ order.jobs.now
 Reads (FileOrder.Check jobs) name = name ≡ jobs.now
-Reads (FileOrder.Print jobs) name = name ≡ jobs.now
+Reads (FileOrder.Print order) name = name ≡ order.jobs.now
 Reads (FileOrder.Try order) name = (name ≡ order.jobs.now) ⊎ (name ≡ order.script.now)
+Reads (FileOrder.Monitor order) name = name ≡ order.capture.now
 
 -- the order writes the file of this name
 abbrev pub Writes : FileOrder → List ℕ → Type 0
@@ -192,6 +225,8 @@ IsFault order files input (CommandFault.Unsynced name) = Writes order name.now
 IsFault order files input (CommandFault.Deck fault) = OfItsDeck order files input (λ deck. IsDeckFault deck fault)
 IsFault order files input (CommandFault.File fault) = OfItsFile order files (λ file. IsFileFault IsEntryFile file fault)
 IsFault order files input (CommandFault.BadJob number) = IsBadJob order files number
+IsFault order files input (CommandFault.NoJob number) = IsNoJob order files number
+IsFault order files input (CommandFault.NotHex line) = IsNotHex order files input line
 IsFault order files input (CommandFault.Script line) =
     OfItsScript order files (λ file script. IsEntryFile file × IsFirstBadLine script line)
 IsFault order files input (CommandFault.NotDamage turn) =

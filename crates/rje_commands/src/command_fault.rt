@@ -1,10 +1,11 @@
 //! Why a command fails.
 ghost use Rattle.std.specs.Prelude.{◌≡◌};
 ghost use Rattle.rje_commands.specs.declared.command_fault.CommandFault.TheVariants.{Deck, File, OutOfMemory};
-ghost use Rattle.rje_commands.specs.CommandFault.{of_script, of_station, of_world};
+ghost use Rattle.rje_commands.specs.CommandFault.{of_hex, of_script, of_station, of_world};
 
 use line_world::WorldFault;
 use rje_jobs::{DeckFault, FileFault};
+use rje_monitor::HexFault;
 use rje_print::ScriptFault;
 use rje_station::StationFault;
 use std::alloc::AllocError;
@@ -26,6 +27,12 @@ pub enum CommandFault<'a> {
     /// The job of this number, from 1, can't be sent.
     #[error("job {0} can't be sent")]
     BadJob(usize),
+    /// There is no job of this number, from 1, in the job file.
+    #[error("there is no job {0}")]
+    NoJob(u32),
+    /// The line of this number, from 1, of a capture isn't bytes in hexadecimal digits.
+    #[error("capture line {0} is not hexadecimal")]
+    NotHex(usize),
     /// The line of this number, from 1, of a script isn't a turn.
     #[error("script line {0} is not a turn")]
     Script(usize),
@@ -98,6 +105,8 @@ impl CommandFault<'_> {
             CommandFault::Deck(_)
             | CommandFault::File(_)
             | CommandFault::BadJob(_)
+            | CommandFault::NoJob(_)
+            | CommandFault::NotHex(_)
             | CommandFault::Script(_)
             | CommandFault::NotDamage(_)
             | CommandFault::HoldsJobs(_)
@@ -147,6 +156,17 @@ impl From<ScriptFault> for CommandFault<'_> {
         match fault {
             ScriptFault::OutOfMemory => CommandFault::OutOfMemory,
             ScriptFault::NotATurn(line) => CommandFault::Script(line),
+        }
+    }
+}
+
+impl From<HexFault> for CommandFault<'_> {
+    ghost from_gives = { λ fault told. told ≡ of_hex fault };
+
+    fn from(fault: HexFault) -> Self {
+        match fault {
+            HexFault::OutOfMemory => CommandFault::OutOfMemory,
+            HexFault::NotHex(line) => CommandFault::NotHex(line),
         }
     }
 }

@@ -2,8 +2,10 @@
 mod blocks_command;
 mod cards_command;
 mod check_command;
+mod choosing;
 mod holding;
 mod inputs;
+mod monitor_command;
 mod output;
 mod print_command;
 mod show_command;
@@ -14,6 +16,7 @@ pub use cards_command::cards;
 pub use check_command::check;
 pub use holding::{HeldFile, lock_file, read_if_there};
 pub use inputs::{read_file, read_job_file};
+pub use monitor_command::monitor;
 pub use output::{
     extend_file, look_at_file, look_beside, put, put_lines, set_byte_of_file, write_file,
     write_grown,

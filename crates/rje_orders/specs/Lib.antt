@@ -1,2 +1,3 @@
+pub mod Choice
 pub mod Device
 pub mod Existing

@@ -2,11 +2,13 @@
 ghost use Rattle.std.specs.Prelude.{◌≡◌};
 ghost use Rattle.rje_orders.specs.Existing.{existing_chosen};
 
+use crate::choice::Choice;
 use crate::device::Device;
 use rje_files::JobName;
+use rje_jobs::Form;
 use std::net::SocketAddr;
 
-/// The deck that is standard input.
+/// The deck, or the capture, that is standard input.
 pub const STANDARD_INPUT: &str = "-";
 
 /// What the program is asked for.
@@ -26,13 +28,15 @@ pub enum FileOrder<'a> {
     /// A job file of a deck's job.
     Cards(CardsOrder<'a>),
     /// A line for each job of a job file.
-    Show(&'a str),
+    Show(ShowOrder<'a>),
     /// Whether the jobs of a job file can be sent.
     Check(&'a str),
     /// The listings and the punched cards of a job file.
-    Print(&'a str),
+    Print(PrintOrder<'a>),
     /// The run of a job file's jobs over a script.
     Try(TryOrder<'a>),
+    /// What is heard of bytes as they stood on a line.
+    Monitor(MonitorOrder<'a>),
 }
 
 /// A command over sockets.
@@ -63,6 +67,28 @@ pub struct CardsOrder<'a> {
     pub append: bool,
 }
 
+/// What `show` is asked for.
+#[derive(Clone, Copy, Debug, PartialEq, Eq)]
+pub struct ShowOrder<'a> {
+    /// The job file.
+    pub jobs: &'a str,
+    /// Which of its jobs are shown.
+    pub choice: Choice,
+    /// Whether the records of each of these are shown too.
+    pub records: bool,
+}
+
+/// What `print` is asked for.
+#[derive(Clone, Copy, Debug, PartialEq, Eq)]
+pub struct PrintOrder<'a> {
+    /// The job file.
+    pub jobs: &'a str,
+    /// Which of its jobs are printed.
+    pub choice: Choice,
+    /// How the cards of a job for the punch are printed.
+    pub form: Form,
+}
+
 /// What `try` is asked for.
 #[derive(Clone, Copy, Debug, PartialEq, Eq)]
 pub struct TryOrder<'a> {
@@ -70,6 +96,15 @@ pub struct TryOrder<'a> {
     pub jobs: &'a str,
     /// The script of losses and damage.
     pub script: &'a str,
+}
+
+/// What `monitor` is asked for.
+#[derive(Clone, Copy, Debug, PartialEq, Eq)]
+pub struct MonitorOrder<'a> {
+    /// The capture. `-` is standard input.
+    pub capture: &'a str,
+    /// Whether it is text, a transmission a line in hexadecimal digits, and not the bytes themselves.
+    pub hex: bool,
 }
 
 /// What `loop` is asked for.

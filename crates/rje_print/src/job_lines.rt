@@ -1,11 +1,12 @@
 //! The lines of jobs.
-ghost use Rattle.std.specs.Prelude.{◌≡◌, ◌==◌, ◌+◌, ◌≤◌, ◌++◌, [], length, position};
+ghost use Rattle.std.specs.Prelude.{◌≡◌, ◌==◌, ◌+◌, ◌≤◌, ◌++◌, [], length, position, OnOk};
 ghost use Rattle.rje_print.specs.JobTexts.{select_name, mode_name, state_name};
-ghost use Rattle.rje_print.specs.JobTexts.{name_letters, name_text, entry_line, cards_line, good_line};
+ghost use Rattle.rje_print.specs.JobTexts.{name_letters, name_text, entry_line, cards_line, cut_line, good_line};
 
 use crate::printed_line::{MAX_LINE, PrintedLine, push, push_number};
 use rje_files::{FileEntry, JobName, State};
 use rje_text::{Mode, Select};
+use std::alloc::AllocError;
 
 /// Puts the line of an entry into an empty line.
 #[tactic(auto, unfolding(crate::specs::JobTexts::entry_line))]
@@ -76,6 +77,17 @@ pub fn good_text(count: usize) -> PrintedLine
     push_number(&mut line, count);
     push(&mut line, b" jobs\n");
     line
+}
+
+/// Appends the line that reports that the job of this number is cut.
+pub(crate) fn push_cut(number: usize, text: &mut Vec<u8>) -> Result<(), AllocError>
+    ensures line { OnOk result (text.new.items ≡ text.old.items ++ cut_line number) }
+{
+    let mut line = PrintedLine::new();
+    push(&mut line, b"rje: job ");
+    push_number(&mut line, number);
+    push(&mut line, b" is cut\n");
+    text.extend_from_slice(line.as_slice())
 }
 
 fn select_text(select: Select) -> &'static [u8]

@@ -15,7 +15,7 @@ mod script_fault;
 mod turn_lines;
 
 pub use job_lines::{cards_text, good_text};
-pub use job_texts::{entries_text, papers_text};
+pub use job_texts::{cut_text, entries_text, papers_text};
 pub use listing::print_blocks;
 pub use listing_fault::ListingFault;
 pub use printed_line::{MAX_LINE, PrintedLine};

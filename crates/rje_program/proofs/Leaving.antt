@@ -16,3 +16,4 @@ leaves words (FileOrder.Show jobs) f g input asked same = inl same
 leaves words (FileOrder.Check jobs) f g input asked same = inl same
 leaves words (FileOrder.Print jobs) f g input asked same = inl same
 leaves words (FileOrder.Try order) f g input asked same = inl same
+leaves words (FileOrder.Monitor order) f g input asked same = inl same

@@ -45,7 +45,7 @@ pub fn command<S: Store, I: Read, O: Write, E: Write>(
         Ok(Order::Sockets(_)) => return tell(&CommandFault::NoCommand, err),
         Err(fault) => return tell_words(&fault, out, err),
     };
-    match carry_out(alloc, order, store, input, out) {
+    match carry_out(alloc, order, store, input, out, err) {
         Ok(()) => 0,
         Err(fault) => tell(&fault, err),
     }

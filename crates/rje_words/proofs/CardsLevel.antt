@@ -19,6 +19,7 @@ use Rattle.rje_words.specs.Asking.{device_in, is_on, word_in}
 use Rattle.rje_words.specs.Canonical.{cards_options, in_each_order}
 use Rattle.rje_words.specs.CommandLine.{is_file, names_file, rje_app}
 use Rattle.rje_words.proofs.FileWords.{AreTaken, seen}
+use Rattle.rje_words.proofs.PlainWords.{IsPlain}
 
 -- THE COMMAND `cards`
 
@@ -34,28 +35,6 @@ rule_at i = unwrap_or (slice_get rules i) (new_rule [])
 -- the walk between two words, before any of them stops it
 abbrev at : Held → ℕ → Walk
 at h position = record { held = h; waiting = idle; position = position; is_trailing = false; stopped = None }
-
--- WORDS THAT ARE NO OPTIONS
-
--- clap takes the word for no option
-abbrev pub IsPlain : Text → Type 0
-IsPlain word = (bytes_eq word (codes "--") ≡ false) × (long_of word ≡ None) × (short_of word ≡ None)
-
-pub unhyphened : (c : ℕ) (rest : List ℕ) → (c == 45) ≡ false → IsPlain (c ∷ rest)
-unhyphened c rest h = (rw h refl, rw h refl, rw h refl)
-
-one_character : (c : ℕ) (hyphen : Bool) → (c == 45) ≡ hyphen → IsPlain (c ∷ [])
-one_character c true h = let is : c ≡ 45 = grind (arith, nat_tests) in rw is (refl, refl, refl)
-one_character c false h = unhyphened c [] h
-
-pub deck_plain : (deck : Text) → is_file deck ≡ true → IsPlain deck
-deck_plain [] h = cc
-deck_plain (c ∷ []) h = one_character c (c == 45) refl
-deck_plain (c ∷ d ∷ rest) h = unhyphened c (d ∷ rest) (not-true (c == 45) h)
-
-pub jobs_plain : (jobs : Text) → names_file jobs ≡ true → IsPlain jobs
-jobs_plain [] h = cc
-jobs_plain (c ∷ rest) h = unhyphened c rest (not-true (c == 45) h)
 
 -- AN OPTION
 

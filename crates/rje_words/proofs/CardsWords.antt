@@ -17,7 +17,8 @@ use Rattle.rje_words.specs.declared.words_fault.WordsFault.TheVariants.{Refused,
 use Rattle.rje_words.specs.Asking.{IsFaultOf, IsGivenName, IsOrderOf}
 use Rattle.rje_words.specs.Canonical.{AskOnlyFor, CardsWithOptionsAsked, in_each_order}
 use Rattle.rje_words.specs.Orders.{IsCards}
-use Rattle.rje_words.proofs.CardsLevel.{ArePlain, IsPlain, Part, Seen, Summary, append_parts, are_seen, cards_in, cards_parts, cards_taken, deck_plain, device_parts, flag, jobs_plain, name_parts, named, part_words, summary, unhyphened}
+use Rattle.rje_words.proofs.CardsLevel.{ArePlain, Part, Seen, Summary, append_parts, are_seen, cards_in, cards_parts, cards_taken, device_parts, flag, name_parts, named, part_words, summary}
+use Rattle.rje_words.proofs.PlainWords.{IsPlain, deck_plain, jobs_plain, unhyphened}
 use Rattle.rje_words.proofs.FileWords.{AreTaken, apart, no_socket, only_memory, only_order}
 use Rattle.rje_text.proofs.Both.{both}
 

@@ -6,21 +6,23 @@ use Rattle.std.specs.Str.{bytes_eq}
 use Rattle.std.proofs.lemmas.Bool.{true≢false, not-true}
 use Rattle.std.proofs.lemmas.Bool.Decides.{nat_tests}
 use Rattle.std.proofs.lemmas.Slice.Eq.{bytes_eq-Decides}
-use Rattle.clap.specs.Words.{HasKind, Row, Text, fault_of, subcommand_of}
+use Rattle.clap.specs.Words.{HasKind, Row, Text, fault_of, first_of, one_of, subcommand_of}
 use Rattle.clap.proofs.OnLiterals.{clap_on_literals}
 use Rattle.clap.specs.declared.error.Error.{Error}
 use Rattle.rje_orders.specs.declared.order.Order.{Order}
 use Rattle.rje_orders.specs.declared.order.Order.TheVariants.{Files, Sockets}
-use Rattle.rje_orders.specs.declared.order.FileOrder.TheVariants.{Blocks, Show, Check, Print, Try}
+use Rattle.rje_orders.specs.declared.order.FileOrder.TheVariants.{Blocks, Show, Check, Print, Try, Monitor}
 use Rattle.rje_orders.specs.declared.order.SocketOrder.{SocketOrder}
 use Rattle.rje_orders.specs.declared.order.SocketOrder.TheVariants.{Loop, Send, Receive, Exchange}
 use Rattle.rje_words.specs.declared.words_fault.WordsFault.{WordsFault}
 use Rattle.rje_words.specs.declared.words_fault.WordsFault.TheVariants.{Refused, TwoDevices, BadName, BadAddress, NoMeeting, NewAndAppend}
-use Rattle.rje_words.specs.Asking.{AsksFor, IsFaultOf, IsOrderOf, IsWordsFault, word_in}
-use Rattle.rje_words.specs.Canonical.{AskOnlyFor, BlocksAsked, ShowAsked, CheckAsked, PrintAsked, TryAsked}
+use Rattle.rje_orders.specs.Choice.{devices_chosen}
+use Rattle.rje_words.specs.Asking.{AsksFor, form_chosen, IsFaultOf, IsNumberOf, IsOrderOf, IsWordsFault, is_on, word_in}
+use Rattle.rje_words.specs.Canonical.{AskOnlyFor, flag_words, print_words, BlocksAsked, ShowAsked, CheckAsked, PrintAsked, TryAsked, MonitorAsked}
 use Rattle.rje_words.specs.CommandLine.{rje_app, is_file, names_file}
-use Rattle.rje_words.specs.Orders.{IsBlocks, IsShow, IsCheck, IsPrint, IsTry}
+use Rattle.rje_words.specs.Orders.{IsBlocks, IsShow, IsCheck, IsPrint, IsTry, IsMonitor}
 use Rattle.rje_words.specs.WordsFault.{IsWantOfMemory}
+use Rattle.rje_words.proofs.PlainWords.{IsPlain, deck_plain, jobs_plain}
 
 -- WHAT IS FOUND OF ANY COMMAND
 
@@ -108,25 +110,59 @@ blocks_taken (c ∷ d ∷ rest) h = deck_name_taken c (d ∷ rest) (not-true (c 
 
 -- `show JOBS`, `check JOBS` AND `print JOBS`
 
+-- what is seen of the rows of `show`
+abbrev pub Showing : Type 0
+Showing = Text × Option Text × Bool
+
+abbrev pub show_in : List Row → Showing
+show_in rows = (word_in (codes "JOBS") rows, one_of (codes "job") rows, is_on (codes "records") rows)
+
+module _ (jobs : Text) (h : IsPlain jobs) where
+  pub show_taken : (records : Bool) → fault_of rje_app (codes "show" ∷ jobs ∷ flag_words records (codes "--records")) ≡ []
+  unfolding clap_on_literals
+  show_taken false = rw (h.0, h.1, h.2) refl
+  show_taken true = rw (h.0, h.1, h.2) refl
+
+  pub show_found : (records : Bool) → seen show_in (subcommand_of rje_app (codes "show" ∷ jobs ∷ flag_words records (codes "--records")))
+      ≡ Some (codes "show", (jobs, None, records))
+  unfolding clap_on_literals
+  show_found false = rw (h.0, h.1, h.2) refl
+  show_found true = rw (h.0, h.1, h.2) refl
+
+-- what is seen of the rows of `print`
+abbrev pub Printing : Type 0
+Printing = Text × Option Text × Bool × Bool × Bool
+
+abbrev pub print_in : List Row → Printing
+print_in rows =
+    (word_in (codes "JOBS") rows, one_of (codes "job") rows, is_on (codes "printer") rows, is_on (codes "punch") rows, is_on (codes "raw") rows)
+
+module _ (jobs : Text) (h : IsPlain jobs) where
+  pub print_taken : (printer punch raw : Bool) → fault_of rje_app (codes "print" ∷ jobs ∷ print_words printer punch raw) ≡ []
+  unfolding clap_on_literals
+  print_taken false false false = rw (h.0, h.1, h.2) refl
+  print_taken false false true = rw (h.0, h.1, h.2) refl
+  print_taken false true false = rw (h.0, h.1, h.2) refl
+  print_taken false true true = rw (h.0, h.1, h.2) refl
+  print_taken true false false = rw (h.0, h.1, h.2) refl
+  print_taken true false true = rw (h.0, h.1, h.2) refl
+  print_taken true true false = rw (h.0, h.1, h.2) refl
+  print_taken true true true = rw (h.0, h.1, h.2) refl
+
+  pub print_found : (printer punch raw : Bool) → seen print_in (subcommand_of rje_app (codes "print" ∷ jobs ∷ print_words printer punch raw))
+      ≡ Some (codes "print", (jobs, None, printer, punch, raw))
+  unfolding clap_on_literals
+  print_found false false false = rw (h.0, h.1, h.2) refl
+  print_found false false true = rw (h.0, h.1, h.2) refl
+  print_found false true false = rw (h.0, h.1, h.2) refl
+  print_found false true true = rw (h.0, h.1, h.2) refl
+  print_found true false false = rw (h.0, h.1, h.2) refl
+  print_found true false true = rw (h.0, h.1, h.2) refl
+  print_found true true false = rw (h.0, h.1, h.2) refl
+  print_found true true true = rw (h.0, h.1, h.2) refl
+
 abbrev pub jobs_in : List Row → Text
 jobs_in = word_in (codes "JOBS")
-
-show_name : (c : ℕ) (rest : List ℕ) → (c == 45) ≡ false
-    → seen jobs_in (subcommand_of rje_app (codes "show" ∷ (c ∷ rest) ∷ [])) ≡ Some (codes "show", c ∷ rest)
-unfolding clap_on_literals
-show_name c rest h = rw (h, h) refl
-
-show_name_taken : (c : ℕ) (rest : List ℕ) → (c == 45) ≡ false → fault_of rje_app (codes "show" ∷ (c ∷ rest) ∷ []) ≡ []
-unfolding clap_on_literals
-show_name_taken c rest h = rw (h, h) refl
-
-pub show_found : (jobs : List ℕ) → names_file jobs ≡ true → seen jobs_in (subcommand_of rje_app (codes "show" ∷ jobs ∷ [])) ≡ Some (codes "show", jobs)
-show_found [] h = cc
-show_found (c ∷ rest) h = show_name c rest (not-true (c == 45) h)
-
-pub show_taken : (jobs : List ℕ) → names_file jobs ≡ true → fault_of rje_app (codes "show" ∷ jobs ∷ []) ≡ []
-show_taken [] h = cc
-show_taken (c ∷ rest) h = show_name_taken c rest (not-true (c == 45) h)
 
 check_name : (c : ℕ) (rest : List ℕ) → (c == 45) ≡ false
     → seen jobs_in (subcommand_of rje_app (codes "check" ∷ (c ∷ rest) ∷ [])) ≡ Some (codes "check", c ∷ rest)
@@ -144,23 +180,6 @@ check_found (c ∷ rest) h = check_name c rest (not-true (c == 45) h)
 pub check_taken : (jobs : List ℕ) → names_file jobs ≡ true → fault_of rje_app (codes "check" ∷ jobs ∷ []) ≡ []
 check_taken [] h = cc
 check_taken (c ∷ rest) h = check_name_taken c rest (not-true (c == 45) h)
-
-print_name : (c : ℕ) (rest : List ℕ) → (c == 45) ≡ false
-    → seen jobs_in (subcommand_of rje_app (codes "print" ∷ (c ∷ rest) ∷ [])) ≡ Some (codes "print", c ∷ rest)
-unfolding clap_on_literals
-print_name c rest h = rw (h, h) refl
-
-print_name_taken : (c : ℕ) (rest : List ℕ) → (c == 45) ≡ false → fault_of rje_app (codes "print" ∷ (c ∷ rest) ∷ []) ≡ []
-unfolding clap_on_literals
-print_name_taken c rest h = rw (h, h) refl
-
-pub print_found : (jobs : List ℕ) → names_file jobs ≡ true → seen jobs_in (subcommand_of rje_app (codes "print" ∷ jobs ∷ [])) ≡ Some (codes "print", jobs)
-print_found [] h = cc
-print_found (c ∷ rest) h = print_name c rest (not-true (c == 45) h)
-
-pub print_taken : (jobs : List ℕ) → names_file jobs ≡ true → fault_of rje_app (codes "print" ∷ jobs ∷ []) ≡ []
-print_taken [] h = cc
-print_taken (c ∷ rest) h = print_name_taken c rest (not-true (c == 45) h)
 
 -- `try JOBS SCRIPT`
 
@@ -192,6 +211,37 @@ try_taken [] script h k = cc
 try_taken (c ∷ cs) [] h k = cc
 try_taken (c ∷ cs) (d ∷ ds) h k = try_names_taken c d cs ds (not-true (c == 45) h) (not-true (d == 45) k)
 
+-- `monitor CAPTURE`, AND WITHOUT A CAPTURE
+
+-- what is seen of the rows of `monitor`
+abbrev pub Monitoring : Type 0
+Monitoring = Text × Bool
+
+abbrev pub monitor_in : List Row → Monitoring
+monitor_in rows = (unwrap_or (first_of (codes "CAPTURE") rows) (codes "-"), is_on (codes "hex") rows)
+
+module _ (capture : Text) (h : IsPlain capture) where
+  pub monitor_taken : (hex : Bool) → fault_of rje_app (codes "monitor" ∷ capture ∷ flag_words hex (codes "--hex")) ≡ []
+  unfolding clap_on_literals
+  monitor_taken false = rw (h.0, h.1, h.2) refl
+  monitor_taken true = rw (h.0, h.1, h.2) refl
+
+  pub monitor_found : (hex : Bool) → seen monitor_in (subcommand_of rje_app (codes "monitor" ∷ capture ∷ flag_words hex (codes "--hex")))
+      ≡ Some (codes "monitor", (capture, hex))
+  unfolding clap_on_literals
+  monitor_found false = rw (h.0, h.1, h.2) refl
+  monitor_found true = rw (h.0, h.1, h.2) refl
+
+pub input_taken : (hex : Bool) → fault_of rje_app (codes "monitor" ∷ flag_words hex (codes "--hex")) ≡ []
+unfolding clap_on_literals
+input_taken false = refl
+input_taken true = refl
+
+pub input_found : (hex : Bool) → seen monitor_in (subcommand_of rje_app (codes "monitor" ∷ flag_words hex (codes "--hex"))) ≡ Some (codes "monitor", (codes "-", hex))
+unfolding clap_on_literals
+input_found false = refl
+input_found true = refl
+
 -- WHAT THE WORDS ASK FOR
 
 pub no_socket : (name : Text) (rows : List Row) (order : SocketOrder) → bytes_eq name (codes "loop") ≡ false → bytes_eq name (codes "send") ≡ false
@@ -206,26 +256,45 @@ blocks_read deck rows e (Files (Blocks named)) h = h.1 ∙ e
 blocks_read deck rows e (Files _) h = absurd (apart _ _ h.0 refl)
 blocks_read deck rows e (Sockets order) h = absurd (no_socket (codes "blocks") rows order refl refl refl refl h)
 
-show_read : (jobs : Text) (rows : List Row) → jobs_in rows ≡ jobs → (order : Order) → IsOrderOf (codes "show") rows order → IsShow jobs order
-show_read jobs rows e (Files (Show named)) h = h.1 ∙ e
-show_read jobs rows e (Files _) h = absurd (apart _ _ h.0 refl)
-show_read jobs rows e (Sockets order) h = absurd (no_socket (codes "show") rows order refl refl refl refl h)
+show_read : (jobs : Text) (records : Bool) (rows : List Row) → show_in rows ≡ (jobs, None, records) → (order : Order) → IsOrderOf (codes "show") rows order
+    → IsShow jobs records order
+show_read jobs records rows e (Files (Show order)) h = (
+  h.1.jobs ∙ ap (λ (v : Showing). v.0) e,
+  (subst (λ o. IsNumberOf o order.choice.job) (ap (λ (v : Showing). v.1) e) h.1.job, h.1.devices),
+  h.1.records ∙ ap (λ (v : Showing). v.2) e,
+)
+show_read jobs records rows e (Files _) h = absurd (apart _ _ h.0 refl)
+show_read jobs records rows e (Sockets order) h = absurd (no_socket (codes "show") rows order refl refl refl refl h)
 
 check_read : (jobs : Text) (rows : List Row) → jobs_in rows ≡ jobs → (order : Order) → IsOrderOf (codes "check") rows order → IsCheck jobs order
 check_read jobs rows e (Files (Check named)) h = h.1 ∙ e
 check_read jobs rows e (Files _) h = absurd (apart _ _ h.0 refl)
 check_read jobs rows e (Sockets order) h = absurd (no_socket (codes "check") rows order refl refl refl refl h)
 
-print_read : (jobs : Text) (rows : List Row) → jobs_in rows ≡ jobs → (order : Order) → IsOrderOf (codes "print") rows order → IsPrint jobs order
-print_read jobs rows e (Files (Print named)) h = h.1 ∙ e
-print_read jobs rows e (Files _) h = absurd (apart _ _ h.0 refl)
-print_read jobs rows e (Sockets order) h = absurd (no_socket (codes "print") rows order refl refl refl refl h)
+print_read : (jobs : Text) (printer punch raw : Bool) (rows : List Row) → print_in rows ≡ (jobs, None, printer, punch, raw) → (order : Order)
+    → IsOrderOf (codes "print") rows order → IsPrint jobs (devices_chosen printer punch) (form_chosen raw) order
+print_read jobs printer punch raw rows e (Files (Print order)) h = (
+  h.1.jobs ∙ ap (λ (v : Printing). v.0) e,
+  (
+    subst (λ o. IsNumberOf o order.choice.job) (ap (λ (v : Printing). v.1) e) h.1.job,
+    h.1.devices ∙ ap (λ (v : Printing). devices_chosen v.2 v.3) e,
+  ),
+  h.1.form ∙ ap (λ (v : Printing). form_chosen v.4) e,
+)
+print_read jobs printer punch raw rows e (Files _) h = absurd (apart _ _ h.0 refl)
+print_read jobs printer punch raw rows e (Sockets order) h = absurd (no_socket (codes "print") rows order refl refl refl refl h)
 
 try_read : (jobs script : Text) (rows : List Row) → files_in rows ≡ record { jobs = jobs; script = script } → (order : Order) → IsOrderOf (codes "try") rows order
     → IsTry jobs script order
 try_read jobs script rows e (Files (Try order)) h = (h.1.jobs ∙ ap (λ f. f.jobs) e, h.1.script ∙ ap (λ f. f.script) e)
 try_read jobs script rows e (Files _) h = absurd (apart _ _ h.0 refl)
 try_read jobs script rows e (Sockets order) h = absurd (no_socket (codes "try") rows order refl refl refl refl h)
+
+monitor_read : (capture : Text) (hex : Bool) (rows : List Row) → monitor_in rows ≡ (capture, hex) → (order : Order) → IsOrderOf (codes "monitor") rows order
+    → IsMonitor capture hex order
+monitor_read capture hex rows e (Files (Monitor order)) h = (h.1.capture ∙ ap (λ (v : Monitoring). v.0) e, h.1.hex ∙ ap (λ (v : Monitoring). v.1) e)
+monitor_read capture hex rows e (Files _) h = absurd (apart _ _ h.0 refl)
+monitor_read capture hex rows e (Sockets order) h = absurd (no_socket (codes "monitor") rows order refl refl refl refl h)
 
 -- only the values of these commands can be such that they can't be carried out
 no_fault : (name : Text) (rows : List Row) → bytes_eq name (codes "cards") ≡ false → bytes_eq name (codes "send") ≡ false
@@ -254,17 +323,31 @@ blocks_asked deck h = ask_only deck_in (codes "blocks") (deck ∷ []) (codes "bl
     refl refl refl refl (blocks_read deck)
 
 pub show_asked : ShowAsked
-show_asked jobs h = ask_only jobs_in (codes "show") (jobs ∷ []) (codes "show") jobs (IsShow jobs) (show_taken jobs h) (show_found jobs h)
-    refl refl refl refl (show_read jobs)
+show_asked jobs records h = ask_only show_in (codes "show") (jobs ∷ flag_words records (codes "--records")) (codes "show") (jobs, None, records)
+    (IsShow jobs records) (show_taken jobs (jobs_plain jobs h) records) (show_found jobs (jobs_plain jobs h) records) refl refl refl refl
+    (show_read jobs records)
 
 pub check_asked : CheckAsked
 check_asked jobs h = ask_only jobs_in (codes "check") (jobs ∷ []) (codes "check") jobs (IsCheck jobs) (check_taken jobs h) (check_found jobs h)
     refl refl refl refl (check_read jobs)
 
 pub print_asked : PrintAsked
-print_asked jobs h = ask_only jobs_in (codes "print") (jobs ∷ []) (codes "print") jobs (IsPrint jobs) (print_taken jobs h) (print_found jobs h)
-    refl refl refl refl (print_read jobs)
+print_asked jobs printer punch raw h = ask_only print_in (codes "print") (jobs ∷ print_words printer punch raw) (codes "print")
+    (jobs, None, printer, punch, raw) (IsPrint jobs (devices_chosen printer punch) (form_chosen raw))
+    (print_taken jobs (jobs_plain jobs h) printer punch raw) (print_found jobs (jobs_plain jobs h) printer punch raw) refl refl refl refl
+    (print_read jobs printer punch raw)
 
 pub try_asked : TryAsked
 try_asked jobs script h k = ask_only files_in (codes "try") (jobs ∷ script ∷ []) (codes "try") (record { jobs = jobs; script = script }) (IsTry jobs script)
     (try_taken jobs script h k) (try_found jobs script h k) refl refl refl refl (try_read jobs script)
+
+capture_asked : (capture : Text) (hex : Bool) → is_file capture ≡ true → AskOnlyFor (codes "monitor" ∷ capture ∷ flag_words hex (codes "--hex")) (IsMonitor capture hex)
+capture_asked capture hex h = ask_only monitor_in (codes "monitor") (capture ∷ flag_words hex (codes "--hex")) (codes "monitor") (capture, hex) (IsMonitor capture hex)
+    (monitor_taken capture (deck_plain capture h) hex) (monitor_found capture (deck_plain capture h) hex) refl refl refl refl (monitor_read capture hex)
+
+input_asked : (hex : Bool) → AskOnlyFor (codes "monitor" ∷ flag_words hex (codes "--hex")) (IsMonitor (codes "-") hex)
+input_asked hex = ask_only monitor_in (codes "monitor") (flag_words hex (codes "--hex")) (codes "monitor") (codes "-", hex) (IsMonitor (codes "-") hex)
+    (input_taken hex) (input_found hex) refl refl refl refl (monitor_read (codes "-") hex)
+
+pub monitor_asked : MonitorAsked
+monitor_asked = record { named = capture_asked; unnamed = input_asked }

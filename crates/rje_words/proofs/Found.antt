@@ -14,7 +14,7 @@ use Rattle.clap.specs.declared.parser.ArgMatches.TheViews.{out-ArgMatches}
 use Rattle.rje_orders.specs.declared.order.Order.{Order}
 use Rattle.rje_words.specs.declared.words_fault.WordsFault.{WordsFault}
 use Rattle.rje_words.specs.declared.words_fault.WordsFault.TheVariants.{Refused, TwoDevices, BadName, BadAddress, NoMeeting, NewAndAppend}
-use Rattle.rje_words.specs.Asking.{AsksFor, IsFound, IsOrderOf, IsTimeoutOf, IsFaultOf, IsWordsFault}
+use Rattle.rje_words.specs.Asking.{AsksFor, IsFound, IsOrderOf, IsNumberOf, IsTimeoutOf, IsFaultOf, IsWordsFault}
 use Rattle.rje_words.specs.CommandLine.{rje_app}
 
 -- WHAT IS READ OF A VALUE
@@ -41,6 +41,12 @@ module _ (E : Type 0) (gives : Text → Result ℕ E → Type 0) (parses : (text
   timeout_read None r none value = ap (λ x. unwrap_or x 3000) (none refl)
   timeout_read (Some t) (Some n) none value = λ numeral small. (parses t (Ok n) (value t refl)).1
   timeout_read (Some t) None none value = let error = value t refl in λ numeral small. absurd (parses t (Err error.0) error.1 (numeral, small))
+
+module _ (E : Type 0) (gives : Text → Result ℕ E → Type 0) (parses : (text : Text) (r : Result ℕ E) → gives text r → ParsesUnsigned 32 10 text r) where
+  pub number_read : (o : Option Text) (r : Option ℕ) → (o ≡ None → r ≡ None) → ((t : Text) → o ≡ Some t → ReadsOne gives t r) → IsNumberOf o r
+  number_read None r none value = none refl
+  number_read (Some t) (Some n) none value = λ numeral small. ap (λ x. Some x) (parses t (Ok n) (value t refl)).1
+  number_read (Some t) None none value = let error = value t refl in λ numeral small. absurd (parses t (Err error.0) error.1 (numeral, small))
 
 -- WHICH COMMAND WAS MET
 

@@ -9,7 +9,7 @@ use Rattle.rje_orders.specs.declared.order.Existing.TheVariants.{Replace, Refuse
 use Rattle.rje_orders.specs.declared.order.Order.{Order}
 use Rattle.rje_orders.specs.declared.order.Order.TheVariants.{Files, Sockets}
 use Rattle.rje_orders.specs.declared.order.FileOrder.{FileOrder}
-use Rattle.rje_orders.specs.declared.order.FileOrder.TheVariants.{Blocks, Cards, Show, Check, Print, Try}
+use Rattle.rje_orders.specs.declared.order.FileOrder.TheVariants.{Blocks, Cards, Show, Check, Print, Try, Monitor}
 use Rattle.rje_orders.specs.declared.order.SocketOrder.TheVariants.{Loop, Send, Receive, Exchange}
 use Rattle.rje_words.specs.declared.words_fault.WordsFault.{WordsFault}
 use Rattle.rje_words.specs.declared.words_fault.WordsFault.TheVariants.{Refused, TwoDevices, BadName, BadAddress, NoMeeting, NewAndAppend}
@@ -17,7 +17,7 @@ use Rattle.rje_words.specs.Address.{IsAddressOf}
 use Rattle.rje_words.specs.Asking.{IsFaultOf, IsOrderOf, IsSomeAddress, IsTimeoutOf, existing_in, is_on, word_in}
 use Rattle.rje_words.specs.Canonical.{IsReceive, ReceiveAsked, existing_words}
 use Rattle.rje_words.specs.CommandLine.{rje_app}
-use Rattle.rje_words.proofs.CardsLevel.{IsPlain, jobs_plain}
+use Rattle.rje_words.proofs.PlainWords.{IsPlain, jobs_plain}
 use Rattle.rje_words.proofs.FileWords.{AreTaken, apart, only_memory, only_order, seen}
 
 -- what is seen of the rows of `receive`
@@ -56,6 +56,7 @@ module _ (jobs address : Text) (existing : Existing) where
   no_files rows (Check o) h = apart _ _ h.0 refl
   no_files rows (Print o) h = apart _ _ h.0 refl
   no_files rows (Try o) h = apart _ _ h.0 refl
+  no_files rows (Monitor o) h = apart _ _ h.0 refl
 
   order_read : (rows : List Row) → receive_in rows ≡ value → (order : Order) → IsOrderOf (codes "receive") rows order → IsReceive jobs address existing order
   order_read rows e (Sockets (Receive order)) h = (

@@ -1,11 +1,14 @@
 -- What words ask for (own profile): clap finds a command's name and its rows, and these are read.
-use Rattle.std.specs.Prelude.{◌≡◌, ◌≢◌, ◌<◌, ◌^◌, ◌⊎◌, ℕ, Bool, false, ⊤, List, [], ◌∷◌, Option, None, Some, codes, unwrap_or}
+use Rattle.std.specs.Prelude.{◌≡◌, ◌≢◌, ◌<◌, ◌^◌, ◌⊎◌, ℕ, Bool, false, if◌then◌else◌, ⊤, List, [], ◌∷◌, Option, None, Some, codes, unwrap_or}
 use Rattle.std.specs.Option.{IsSomeAnd, option_map_or}
 use Rattle.std.specs.declared.net.socket_addr.SocketAddr.{SocketAddr}
 use Rattle.std.specs.Str.{bytes_eq}
 use Rattle.std.specs.Str.Parse.{IsNumeral, digits_value, without_leading_plus}
 use Rattle.clap.specs.Words.{HasKind, Row, Text, fault_of, first_of, one_of, subcommand_of}
 use Rattle.rje_files.specs.Entry.{IsNameOf, blank_name}
+use Rattle.rje_jobs.specs.declared.punch.Form.{Form}
+use Rattle.rje_jobs.specs.declared.punch.Form.TheVariants.{Ascii, Raw}
+use Rattle.rje_orders.specs.declared.choice.Devices.TheVariants.{All}
 use Rattle.rje_orders.specs.declared.device.Device.{Device}
 use Rattle.rje_orders.specs.declared.order.CardsOrder.{CardsOrder}
 use Rattle.rje_orders.specs.declared.order.Destination.{Destination}
@@ -16,15 +19,19 @@ use Rattle.rje_orders.specs.declared.order.Meeting.{Meeting}
 use Rattle.rje_orders.specs.declared.order.Meeting.TheVariants.{Calls, Listens}
 use Rattle.rje_orders.specs.declared.order.Order.{Order}
 use Rattle.rje_orders.specs.declared.order.Order.TheVariants.{Files, Sockets}
-use Rattle.rje_orders.specs.declared.order.FileOrder.TheVariants.{Blocks, Cards, Show, Check, Print, Try}
+use Rattle.rje_orders.specs.declared.order.MonitorOrder.{MonitorOrder}
+use Rattle.rje_orders.specs.declared.order.FileOrder.TheVariants.{Blocks, Cards, Show, Check, Print, Try, Monitor}
 use Rattle.rje_orders.specs.declared.order.SocketOrder.TheVariants.{Loop, Send, Receive, Exchange}
+use Rattle.rje_orders.specs.declared.order.PrintOrder.{PrintOrder}
 use Rattle.rje_orders.specs.declared.order.ReceiveOrder.{ReceiveOrder}
 use Rattle.rje_orders.specs.declared.order.SendOrder.{SendOrder}
+use Rattle.rje_orders.specs.declared.order.ShowOrder.{ShowOrder}
 use Rattle.rje_orders.specs.declared.order.TryOrder.{TryOrder}
 use Rattle.rje_words.specs.declared.words_fault.WordsFault.{WordsFault}
 use Rattle.rje_words.specs.declared.words_fault.WordsFault.TheVariants.{Refused, TwoDevices, BadName, BadAddress, NoMeeting, NewAndAppend}
 use Rattle.rje_words.specs.Address.{IsAddressOf}
 use Rattle.rje_words.specs.CommandLine.{rje_app}
+use Rattle.rje_orders.specs.Choice.{devices_chosen}
 use Rattle.rje_orders.specs.Device.{chosen}
 use Rattle.rje_orders.specs.Existing.{existing_chosen}
 use Rattle.rje_words.specs.Orders.{IsBlocks}
@@ -60,10 +67,40 @@ IsCardsFaultOf rows TwoDevices = device_in rows ≡ None
 IsCardsFaultOf rows BadName = (device_in rows ≢ None) × IsGivenName (first_of (codes "name") rows) None
 IsCardsFaultOf rows _ = ⊥
 
+-- the number of the one job, by the text that was found for it: the decimal number that it writes, which a plus may precede; none where
+-- none was found
+abbrev pub IsNumberOf : Option Text → Option ℕ → Type 0
+IsNumberOf (Some text) job =
+    let digits = without_leading_plus text in IsNumeral 10 digits → digits_value 10 digits < 2 ^ 32 → job ≡ Some (digits_value 10 digits)
+IsNumberOf None job = job ≡ None
+
+-- the order has the job file and the number of the one job that were found, whatever its device, and shows records where that option was
+pub record IsShowOrderOf (rows : List Row) (order : ShowOrder) : Type 0 where
+  pub jobs : order.jobs.now ≡ word_in (codes "JOBS") rows
+  pub job : IsNumberOf (one_of (codes "job") rows) order.choice.job
+  pub devices : order.choice.devices ≡ All
+  pub records : order.records ≡ is_on (codes "records") rows
+
+-- the form of cards that the option chooses: each a line of ASCII, or raw
+abbrev pub form_chosen : (raw : Bool) → Form
+form_chosen raw = if raw then Raw else Ascii
+
+-- the order has the job file and the number of the one job that were found, the devices and the form that the options choose
+pub record IsPrintOrderOf (rows : List Row) (order : PrintOrder) : Type 0 where
+  pub jobs : order.jobs.now ≡ word_in (codes "JOBS") rows
+  pub job : IsNumberOf (one_of (codes "job") rows) order.choice.job
+  pub devices : order.choice.devices ≡ devices_chosen (is_on (codes "printer") rows) (is_on (codes "punch") rows)
+  pub form : order.form ≡ form_chosen (is_on (codes "raw") rows)
+
 -- the order has the job file and the script that were found
 pub record IsTryOrderOf (rows : List Row) (order : TryOrder) : Type 0 where
   pub jobs : order.jobs.now ≡ word_in (codes "JOBS") rows
   pub script : order.script.now ≡ word_in (codes "SCRIPT") rows
+
+-- the order has the capture that was found, or standard input where none was, which is text where that option was given
+pub record IsMonitorOrderOf (rows : List Row) (order : MonitorOrder) : Type 0 where
+  pub capture : order.capture.now ≡ unwrap_or (first_of (codes "CAPTURE") rows) (codes "-")
+  pub hex : order.hex ≡ is_on (codes "hex") rows
 
 -- the time-out of this text: the decimal number that it writes, which a plus may precede, and 3000 where none was found
 abbrev pub IsTimeoutOf : Option Text → ℕ → Type 0
@@ -152,10 +189,11 @@ IsExchangeFaultOf rows fault = IsMeetingFault (first_of (codes "to") rows) (firs
 abbrev pub IsOrderOf : Text → List Row → Order → Type 0
 IsOrderOf name rows (Files (Blocks deck)) = (name ≡ codes "blocks") × (deck.now ≡ word_in (codes "DECK") rows)
 IsOrderOf name rows (Files (Cards order)) = (name ≡ codes "cards") × IsCardsOrderOf rows order
-IsOrderOf name rows (Files (Show jobs)) = (name ≡ codes "show") × (jobs.now ≡ word_in (codes "JOBS") rows)
+IsOrderOf name rows (Files (Show order)) = (name ≡ codes "show") × IsShowOrderOf rows order
 IsOrderOf name rows (Files (Check jobs)) = (name ≡ codes "check") × (jobs.now ≡ word_in (codes "JOBS") rows)
-IsOrderOf name rows (Files (Print jobs)) = (name ≡ codes "print") × (jobs.now ≡ word_in (codes "JOBS") rows)
+IsOrderOf name rows (Files (Print order)) = (name ≡ codes "print") × IsPrintOrderOf rows order
 IsOrderOf name rows (Files (Try order)) = (name ≡ codes "try") × IsTryOrderOf rows order
+IsOrderOf name rows (Files (Monitor order)) = (name ≡ codes "monitor") × IsMonitorOrderOf rows order
 IsOrderOf name rows (Sockets (Loop order)) = (name ≡ codes "loop") × IsLoopOrderOf rows order
 IsOrderOf name rows (Sockets (Send order)) = (name ≡ codes "send") × IsSendOrderOf rows order
 IsOrderOf name rows (Sockets (Receive order)) = (name ≡ codes "receive") × IsReceiveOrderOf rows order

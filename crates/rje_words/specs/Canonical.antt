@@ -9,9 +9,10 @@ use Rattle.rje_orders.specs.declared.order.Existing.{Existing}
 use Rattle.rje_orders.specs.declared.order.Order.TheVariants.{Sockets}
 use Rattle.rje_orders.specs.declared.order.SocketOrder.TheVariants.{Receive}
 use Rattle.rje_words.specs.Address.{IsAddressOf}
-use Rattle.rje_words.specs.Asking.{AsksFor, IsGivenName, IsSomeAddress, IsTimeoutOf, IsWordsFault}
+use Rattle.rje_orders.specs.Choice.{devices_chosen}
+use Rattle.rje_words.specs.Asking.{AsksFor, form_chosen, IsGivenName, IsSomeAddress, IsTimeoutOf, IsWordsFault}
 use Rattle.rje_words.specs.CommandLine.{is_file, names_file}
-use Rattle.rje_words.specs.Orders.{IsBlocks, IsCards, IsShow, IsCheck, IsPrint, IsTry}
+use Rattle.rje_words.specs.Orders.{IsBlocks, IsCards, IsShow, IsCheck, IsPrint, IsTry, IsMonitor}
 use Rattle.rje_words.specs.WordsFault.{IsWantOfMemory}
 
 -- each order that the words ask for is such a one, and they have no fault but out of memory
@@ -23,22 +24,41 @@ pub record AskOnlyFor (words : List Text) (IsOne : Order → Type 0) : Type 0 wh
 abbrev pub BlocksAsked : Type 0
 BlocksAsked = (deck : Text) → is_file deck ≡ true → AskOnlyFor (codes "blocks" ∷ deck ∷ []) (IsBlocks deck)
 
--- `show JOBS` asks to show the jobs of the file
+-- an option where it is given
+abbrev pub flag_words : (given : Bool) → Text → List Text
+flag_words false option = []
+flag_words true option = option ∷ []
+
+-- `show JOBS` asks to show the jobs of the file, with `--records` their records too
 abbrev pub ShowAsked : Type 0
-ShowAsked = (jobs : Text) → names_file jobs ≡ true → AskOnlyFor (codes "show" ∷ jobs ∷ []) (IsShow jobs)
+ShowAsked =
+    (jobs : Text) (records : Bool) → names_file jobs ≡ true
+    → AskOnlyFor (codes "show" ∷ jobs ∷ flag_words records (codes "--records")) (IsShow jobs records)
 
 -- `check JOBS` asks to check them
 abbrev pub CheckAsked : Type 0
 CheckAsked = (jobs : Text) → names_file jobs ≡ true → AskOnlyFor (codes "check" ∷ jobs ∷ []) (IsCheck jobs)
 
--- `print JOBS` asks to print them
+-- the options of `print` for devices and for the form of cards
+abbrev pub print_words : (printer punch raw : Bool) → List Text
+print_words printer punch raw = flag_words printer (codes "--printer") ++ (flag_words punch (codes "--punch") ++ flag_words raw (codes "--raw"))
+
+-- `print JOBS` asks to print them: those for the devices that `--printer` and `--punch` choose, and with `--raw` cards as they are
 abbrev pub PrintAsked : Type 0
-PrintAsked = (jobs : Text) → names_file jobs ≡ true → AskOnlyFor (codes "print" ∷ jobs ∷ []) (IsPrint jobs)
+PrintAsked =
+    (jobs : Text) (printer punch raw : Bool) → names_file jobs ≡ true
+    → AskOnlyFor (codes "print" ∷ jobs ∷ print_words printer punch raw) (IsPrint jobs (devices_chosen printer punch) (form_chosen raw))
 
 -- `try JOBS SCRIPT` asks to try the jobs of the file over the script
 abbrev pub TryAsked : Type 0
 TryAsked =
     (jobs script : Text) → names_file jobs ≡ true → names_file script ≡ true → AskOnlyFor (codes "try" ∷ jobs ∷ script ∷ []) (IsTry jobs script)
+
+-- `monitor CAPTURE`, or `monitor` for standard input, asks for what is heard of the capture, which is text with `--hex`
+pub record MonitorAsked : Type 0 where
+  pub named : (capture : Text) (hex : Bool) → is_file capture ≡ true
+      → AskOnlyFor (codes "monitor" ∷ capture ∷ flag_words hex (codes "--hex")) (IsMonitor capture hex)
+  pub unnamed : (hex : Bool) → AskOnlyFor (codes "monitor" ∷ flag_words hex (codes "--hex")) (IsMonitor (codes "-") hex)
 
 -- the words that choose a device
 abbrev pub device_words : Device → List Text

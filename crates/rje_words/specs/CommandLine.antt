@@ -20,6 +20,10 @@ IsApp app command = (app_of command ≡ app) × ((fields_of command).has_globals
 abbrev pub file_rule : Text → Rule
 file_rule id = record (new_rule id) { required = true; action = Some Set }
 
+-- a capture, which may be left out
+abbrev pub capture_rule : Rule
+capture_rule = record (new_rule (codes "CAPTURE")) { action = Some Set }
+
 -- an option of this name
 abbrev pub flag_rule : Text → Rule
 flag_rule id = record (new_rule id) { long = Some id; action = Some SetTrue }
@@ -50,6 +54,15 @@ timeout_rule = record (new_rule (codes "timeout")) {
 abbrev pub trace_rule : Rule
 trace_rule = flag_rule (codes "trace")
 
+-- the option for the number of the one job, from 1
+abbrev pub number_rule : Rule
+number_rule = record (new_rule (codes "job")) {
+  long = Some (codes "job");
+  value_names = 1;
+  action = Some Set;
+  parser = Some (parser.Signed (pos 1) (pos 4294967295));
+}
+
 -- a command of this name with one file
 abbrev pub file_app : Text → Text → App
 file_app name id = with_rule (new_app name) (file_rule id)
@@ -73,9 +86,25 @@ cards_app =
 abbrev pub rje_top : App
 rje_top = on_top (λ s. record s { no_binary_name = true; subcommand_required = true; has_version = true }) (new_app (codes "rje"))
 
+-- `show JOBS`, with the options for one job, and for records
+abbrev pub show_app : App
+show_app = with_rule (with_rule (file_app (codes "show") (codes "JOBS")) number_rule) (flag_rule (codes "records"))
+
+-- the options that choose jobs: one job, and the devices
+abbrev pub with_choice_rules : App → App
+with_choice_rules app = with_rule (with_rule (with_rule app number_rule) (flag_rule (codes "printer"))) (flag_rule (codes "punch"))
+
+-- `print JOBS`, with the options for one job, for its device, and for cards as they are
+abbrev pub print_app : App
+print_app = with_rule (with_choice_rules (file_app (codes "print") (codes "JOBS"))) (flag_rule (codes "raw"))
+
 -- `try JOBS SCRIPT`
 abbrev pub try_app : App
 try_app = with_rule (file_app (codes "try") (codes "JOBS")) (file_rule (codes "SCRIPT"))
+
+-- `monitor CAPTURE`, whose file may be left out, with the option for hexadecimal digits
+abbrev pub monitor_app : App
+monitor_app = with_rule (with_rule (new_app (codes "monitor")) capture_rule) (flag_rule (codes "hex"))
 
 -- `loop JOBS`
 abbrev pub loop_app : App
@@ -109,11 +138,11 @@ exchange_app =
 abbrev pub with_deck_apps : App → App
 with_deck_apps app = with_subcommand (with_subcommand app cards_app.top) blocks_app.top
 
--- the commands over job files alone
+-- the commands over job files alone, and the one over a capture
 abbrev pub with_file_apps : App → App
 with_file_apps app =
-    with_subcommand (with_subcommand (with_subcommand (with_subcommand app (file_app (codes "show") (codes "JOBS")).top)
-    (file_app (codes "check") (codes "JOBS")).top) (file_app (codes "print") (codes "JOBS")).top) try_app.top
+    with_subcommand (with_subcommand (with_subcommand (with_subcommand (with_subcommand app show_app.top)
+    (file_app (codes "check") (codes "JOBS")).top) print_app.top) try_app.top) monitor_app.top
 
 -- the commands over connections
 abbrev pub with_line_apps : App → App
@@ -138,7 +167,7 @@ is_file (c ∷ d ∷ rest) = not (c == 45)
 -- the names of the commands
 abbrev pub command_names : List Text
 command_names =
-    codes "cards" ∷ codes "blocks" ∷ codes "show" ∷ codes "check" ∷ codes "print" ∷ codes "try" ∷ codes "loop" ∷ codes "send" ∷ codes "receive" ∷ codes "exchange" ∷ []
+    codes "cards" ∷ codes "blocks" ∷ codes "show" ∷ codes "check" ∷ codes "print" ∷ codes "try" ∷ codes "monitor" ∷ codes "loop" ∷ codes "send" ∷ codes "receive" ∷ codes "exchange" ∷ []
 
 -- the text is one of these
 abbrev pub IsOneOf : Text → List Text → Type 0

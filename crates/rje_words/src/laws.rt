@@ -1,11 +1,12 @@
 //! What words promise beyond the calls: laws of the definitions that `parse` cites.
 ghost use Rattle.rje_words.specs.Canonical.{BlocksAsked, ShowAsked, CheckAsked, PrintAsked};
-ghost use Rattle.rje_words.specs.Canonical.{TryAsked, CardsWithOptionsAsked, ReceiveAsked};
+ghost use Rattle.rje_words.specs.Canonical.{TryAsked, MonitorAsked, CardsWithOptionsAsked, ReceiveAsked};
 
 /// A command's name and the files that it takes, in their order, ask for this command over these
 /// files: they have no fault but out of memory. A file's word has no hyphen in front; a deck
 /// may be `-`. After the files of `cards` its options may stand, each at most once and in any order:
-/// for a device, for a name, and `--append`. After the file and the address of `receive` `--new` or
+/// for a device, for a name, and `--append`. After the file of `show` `--records` may stand, and after that of `print` `--printer`, `--punch`
+/// and `--raw`; after that of `monitor`, or where it is left out, `--hex`. After the file and the address of `receive` `--new` or
 /// `--append` may stand.
 pub fn words_ask_for_orders()
     ensures blocks { BlocksAsked }
@@ -13,6 +14,7 @@ pub fn words_ask_for_orders()
     ensures check { CheckAsked }
     ensures print { PrintAsked }
     ensures attempt { TryAsked }
+    ensures monitor { MonitorAsked }
     ensures cards { CardsWithOptionsAsked }
     ensures receive { ReceiveAsked }
 {}

@@ -5,7 +5,8 @@ ghost use Rattle.rje_words.specs.CommandLine.{IsOneOf, command_names};
 ghost use Rattle.rje_words.specs.Address.{IsAddressOf};
 ghost use Rattle.rje_words.specs.Asking.{AsksFor, IsWordsFault, IsOrderOf, IsFaultOf, IsCardsOrderOf, IsCardsFaultOf};
 ghost use Rattle.rje_words.specs.Asking.{IsLoopOrderOf, IsSendOrderOf, IsSendFaultOf, IsReceiveOrderOf, IsReceiveFaultOf, IsExchangeOrderOf, IsExchangeFaultOf};
-ghost use Rattle.rje_words.specs.Asking.{IsMeetingOf, IsMeetingFault, IsTimeoutOf, IsGivenName, word_in, is_on, existing_in};
+ghost use Rattle.rje_words.specs.Asking.{IsMeetingOf, IsMeetingFault, IsTimeoutOf, IsGivenName, IsNumberOf, word_in, is_on, existing_in};
+ghost use Rattle.rje_words.specs.Asking.{IsMonitorOrderOf, IsPrintOrderOf, IsShowOrderOf};
 
 mod app;
 
@@ -14,9 +15,11 @@ use crate::words_fault::WordsFault;
 use app::program;
 use clap::ArgMatches;
 use rje_files::{JobName, NO_NAME, name_of};
+use rje_jobs::Form;
 use rje_orders::{
-    CardsOrder, Destination, Device, ExchangeOrder, Existing, FileOrder, LoopOrder, Meeting, Order,
-    ReceiveOrder, STANDARD_INPUT, SendOrder, SocketOrder, TryOrder,
+    CardsOrder, Choice, Destination, Device, Devices, ExchangeOrder, Existing, FileOrder,
+    LoopOrder, Meeting, MonitorOrder, Order, PrintOrder, ReceiveOrder, STANDARD_INPUT, SendOrder,
+    ShowOrder, SocketOrder, TryOrder,
 };
 use std::alloc::Global;
 
@@ -43,13 +46,14 @@ fn order_of<'a>(command: &str, matches: &ArgMatches<'a>) -> Result<Order<'a>, Wo
     match command {
         "blocks" => Ok(Order::Files(FileOrder::Blocks(word(matches, "DECK")))),
         "cards" => Ok(Order::Files(FileOrder::Cards(cards_order(matches)?))),
-        "show" => Ok(Order::Files(FileOrder::Show(word(matches, "JOBS")))),
+        "show" => Ok(Order::Files(FileOrder::Show(show_order(matches)))),
         "check" => Ok(Order::Files(FileOrder::Check(word(matches, "JOBS")))),
-        "print" => Ok(Order::Files(FileOrder::Print(word(matches, "JOBS")))),
+        "print" => Ok(Order::Files(FileOrder::Print(print_order(matches)))),
         "try" => Ok(Order::Files(FileOrder::Try(TryOrder {
             jobs: word(matches, "JOBS"),
             script: word(matches, "SCRIPT"),
         }))),
+        "monitor" => Ok(Order::Files(FileOrder::Monitor(monitor_order(matches)))),
         "loop" => Ok(Order::Sockets(SocketOrder::Loop(loop_order(matches)))),
         "send" => Ok(Order::Sockets(SocketOrder::Send(send_order(matches)?))),
         "receive" => Ok(Order::Sockets(SocketOrder::Receive(receive_order(matches)?))),
@@ -90,6 +94,51 @@ fn name_in(matches: &ArgMatches) -> Option<JobName>
     match matches.get_str("name") {
         Some(text) => name_of(text),
         None => Some(NO_NAME),
+    }
+}
+
+fn show_order<'a>(matches: &ArgMatches<'a>) -> ShowOrder<'a>
+    ensures { IsShowOrderOf (rows_of (found_of matches.now)) result }
+{
+    ShowOrder {
+        jobs: word(matches, "JOBS"),
+        choice: Choice {
+            job: number_in(matches),
+            devices: Devices::All,
+        },
+        records: is_given(matches, "records"),
+    }
+}
+
+fn print_order<'a>(matches: &ArgMatches<'a>) -> PrintOrder<'a>
+    ensures { IsPrintOrderOf (rows_of (found_of matches.now)) result }
+{
+    PrintOrder {
+        jobs: word(matches, "JOBS"),
+        choice: Choice {
+            job: number_in(matches),
+            devices: Devices::chosen(is_given(matches, "printer"), is_given(matches, "punch")),
+        },
+        form: match is_given(matches, "raw") {
+            true => Form::Raw,
+            false => Form::Ascii,
+        },
+    }
+}
+
+/// The number of the one job, where one was found: clap tests the range.
+fn number_in(matches: &ArgMatches) -> Option<u32>
+    ensures { IsNumberOf (one_of (codes "job") (rows_of (found_of matches.now))) result }
+{
+    matches.get_one::<u32>("job")
+}
+
+fn monitor_order<'a>(matches: &ArgMatches<'a>) -> MonitorOrder<'a>
+    ensures { IsMonitorOrderOf (rows_of (found_of matches.now)) result }
+{
+    MonitorOrder {
+        capture: value_of(matches, "CAPTURE").unwrap_or(STANDARD_INPUT),
+        hex: is_given(matches, "hex"),
     }
 }
 

@@ -1,5 +1,5 @@
 -- What the private functions of the commands cite; no promise rests on it.
-use Rattle.std.specs.Prelude.{◌≡◌, ℕ, List, [], ◌∷◌, ◌++◌, Option, None, true, false, ⊤}
+use Rattle.std.specs.Prelude.{◌≡◌, ℕ, List, [], ◌∷◌, ◌++◌, Option, None, Some, Bool, true, false, ⊤}
 use Rattle.std.specs.Option.{IsSomeAnd}
 use Rattle.rje_files.specs.FileFault.{IsFileFault}
 use Rattle.rje_files.specs.declared.entry.Entry.{Entry}
@@ -7,11 +7,12 @@ use Rattle.rje_files.specs.declared.job_file.version.FileVersion.TheVariants.{Se
 use Rattle.rje_files.specs.JobFile.{HasEntries, HasJobs, IsEntryFile, IsEntryFileOf}
 use Rattle.rje_jobs.specs.declared.job.Job.{Job}
 use Rattle.line_world.specs.declared.world_fault.WorldFault.TheVariants as world
-use Rattle.rje_print.specs.JobTexts.{IsShown}
+use Rattle.rje_monitor.specs.Turns.{IsFirstBadLine as IsFirstBadTurn}
 use Rattle.rje_print.specs.Script.{IsFirstBadLine}
 use Rattle.rje_commands.specs.declared.command_fault.CommandFault.{CommandFault}
+use Rattle.rje_orders.specs.declared.choice.Choice.{Choice}
 use Rattle.rje_orders.specs.declared.order.CardsOrder.{CardsOrder}
-use Rattle.rje_commands.specs.Commands.{AreEntriesOf, HasBadJob, IsFaultOfRun, IsThere}
+use Rattle.rje_commands.specs.Commands.{AreEntriesOf, HasBadJob, HasFewer, IsFaultOfRun, IsThere}
 use Rattle.rje_commands.specs.NamedFile.{IsReadFault}
 use Rattle.rje_stores.specs.Store.{FileMap}
 
@@ -43,9 +44,9 @@ IsTryFault file script (CommandFault.NotDamage turn) = (attempt : ℕ) × IsFaul
 IsTryFault file script (CommandFault.BadCut turn) = (attempt : ℕ) × IsFaultOfRun (world.BadCut attempt turn) file script
 IsTryFault file script _ = ⊥
 
--- the bytes are the file of some entries, of either version, and this is the text of their lines
-abbrev pub IsEntriesText : (file text : List ℕ) → Type 0
-IsEntriesText file text = (entries : List Entry) × HasEntries entries file × IsShown entries text
+-- the bytes are the file of some entries, of either version, and this is a text that is one of these entries
+abbrev pub IsEntriesText : (List Entry → List ℕ → Type 0) → (file text : List ℕ) → Type 0
+IsEntriesText IsText file text = (entries : List Entry) × HasEntries entries file × IsText entries text
 
 -- the bytes are the file of some jobs, of either version, and this is a text that is one of these jobs
 abbrev pub IsJobsText : (List Job → List ℕ → Type 0) → (file text : List ℕ) → Type 0
@@ -57,7 +58,18 @@ IsTextFault file CommandFault.OutOfMemory = ⊤
 IsTextFault file (CommandFault.File fault) = IsFileFault IsEntryFile file fault
 IsTextFault file _ = ⊥
 
+-- so it is, or there are fewer jobs than the number of the chosen one
+abbrev pub IsChoiceFault : Choice → (file : List ℕ) → CommandFault → Type 0
+IsChoiceFault choice file (CommandFault.NoJob number) = (choice.job ≡ Some number) × HasFewer number file
+IsChoiceFault choice file fault = IsTextFault file fault
+
 -- so it is, or the job of this number is the first that can't be sent
 abbrev pub IsCheckFault : (file : List ℕ) → CommandFault → Type 0
 IsCheckFault file (CommandFault.BadJob number) = HasBadJob number file
 IsCheckFault file fault = IsTextFault file fault
+
+-- there is no memory for the text of this capture, or its line of this number is the first that is no bytes in hexadecimal
+abbrev pub IsCaptureFault : (hex : Bool) → (capture : List ℕ) → CommandFault → Type 0
+IsCaptureFault hex capture CommandFault.OutOfMemory = ⊤
+IsCaptureFault hex capture (CommandFault.NotHex line) = (hex ≡ true) × IsFirstBadTurn capture line
+IsCaptureFault hex capture _ = ⊥

@@ -13,7 +13,7 @@ use rje_stores::{Store, StoreFault, read_all};
 use std::alloc::Global;
 use std::io::Read;
 
-/// The bytes of a deck: of a file, or of standard input.
+/// The bytes of a deck, or of a capture: of a file, or of standard input.
 pub fn read_deck<'a, S: Store, I: Read>(
     alloc: Global,
     name: &'a str,

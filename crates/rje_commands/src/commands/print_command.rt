@@ -1,48 +1,67 @@
 //! `print`: the listings and the punched cards of a job file.
-ghost use Rattle.std.specs.Prelude.{◌≡◌, IfErr, IfOk, OnOk, None, false};
+ghost use Rattle.std.specs.Prelude.{◌≡◌, IfErr, IfOk, OnErr, OnOk, None, false};
 ghost use Rattle.rje_orders.specs.declared.order.FileOrder.{FileOrder};
 ghost use Rattle.rje_commands.specs.Commands.{Does, IsFault};
 ghost use Rattle.rje_commands.specs.CommandFault.{is_of_output};
-ghost use Rattle.rje_commands.specs.Inside.Commands.{IsJobsText, IsTextFault};
-ghost use Rattle.rje_print.specs.JobTexts.{IsPaper};
+ghost use Rattle.rje_commands.specs.Inside.Commands.{IsChoiceFault, IsEntriesText};
+ghost use Rattle.rje_print.specs.JobTexts.{AreCut, IsPaper};
 ghost use Rattle.rje_stores.specs.Store.{Discloses, IsSame};
 
 use crate::command_fault::CommandFault;
+use crate::commands::choosing::entries_beside;
 use crate::commands::inputs::read_file;
 use crate::commands::output::put;
-use rje_files::entries_in;
-use rje_print::papers_text;
+use rje_orders::PrintOrder;
+use rje_print::{cut_text, papers_text};
 use rje_stores::Store;
-use std::alloc::{AllocError, Global};
+use std::alloc::Global;
 use std::io::Write;
 
-/// Prints each job of a job file: its cards in ASCII where it is for the punch, and else its listing.
-pub fn print<'a, S: Store, O: Write>(
+/// Prints each chosen job of a job file: its cards where it is for the punch, in the form that is asked for, and else its listing. Then
+/// reports on `err` which of them are cut; what can't be written there is left out.
+pub fn print<'a, S: Store, O: Write, E: Write>(
     alloc: Global,
-    name: &'a str,
+    order: PrintOrder<'a>,
     store: &mut S,
     out: &mut O,
+    err: &mut E,
 ) -> Result<(), CommandFault<'a>>
-    ensures done { OnOk result (Does (FileOrder.Print name.entry)
+    ensures done { OnOk result (Does (FileOrder.Print order.entry)
         (S.files store.old) (S.files store.new)
         None (O.contents out.old) (O.contents out.new)) }
-    ensures fault { IfErr result (IsFault (FileOrder.Print name.entry) (S.files store.old) None) }
+    ensures fault { IfErr result (IsFault (FileOrder.Print order.entry) (S.files store.old) None) }
     ensures same { Discloses (S.files store.old) (S.files store.new) IsSame }
     ensures silent { IfErr result (λ fault. is_of_output fault ≡ false → out.new ≡ out.old) }
+    ensures quiet { OnErr result (err.new ≡ err.old) }
 {
-    let file = read_file(alloc, name, store)?;
-    let text = text_of_file(alloc, file.as_slice())?;
-    put(text.as_slice(), out)
+    let file = read_file(alloc, order.jobs, store)?;
+    let Printed { paper, cut } = texts_of_file(alloc, file.as_slice(), &order)?;
+    put(paper.as_slice(), out)?;
+    let _ = err.write_all(cut.as_slice());
+    Ok(())
 }
 
-/// What is printed of a job file.
-fn text_of_file<'a>(alloc: Global, file: &[u8]) -> Result<Vec<u8>, CommandFault<'a>>
-    ensures text { IfOk result (λ text. IsJobsText IsPaper file.now text.items) }
-    ensures fault { IfErr result (IsTextFault file.now) }
+/// What is printed of a job file, and the lines that report which jobs are cut.
+#[derive(Drop)]
+struct Printed {
+    paper: Vec<u8>,
+    cut: Vec<u8>,
+}
+
+/// What is printed of a job file, and what is reported of it.
+fn texts_of_file<'a>(
+    alloc: Global,
+    file: &[u8],
+    order: &PrintOrder,
+) -> Result<Printed, CommandFault<'a>>
+    ensures paper { IfOk result (λ printed. IsEntriesText
+        (IsPaper order.now.choice order.now.form) file.now printed.paper.items) }
+    ensures cut { IfOk result (λ printed. IsEntriesText
+        (AreCut order.now.choice) file.now printed.cut.items) }
+    ensures fault { IfErr result (IsChoiceFault order.now.choice file.now) }
 {
-    let entries = entries_in(alloc, file)?;
-    match papers_text(alloc, entries.as_slice()) {
-        Ok(text) => Ok(text),
-        Err(AllocError) => Err(CommandFault::OutOfMemory),
-    }
+    let entries = entries_beside(alloc, file, &order.choice)?;
+    let paper = papers_text(alloc, entries.as_slice(), &order.choice, order.form)?;
+    let cut = cut_text(alloc, entries.as_slice(), &order.choice)?;
+    Ok(Printed { paper, cut })
 }

@@ -4,6 +4,7 @@ ghost use Rattle.clap.specs.Words.{App, Rule, with_rule, with_subcommand};
 ghost use Rattle.rje_words.specs.CommandLine.{IsArg, IsApp, file_rule, flag_rule, name_rule, address_rule};
 ghost use Rattle.rje_words.specs.CommandLine.{timeout_rule, trace_rule, file_app, blocks_app, cards_app};
 ghost use Rattle.rje_words.specs.CommandLine.{meeting_rule, try_app, loop_app, send_app, receive_app, exchange_app, rje_app};
+ghost use Rattle.rje_words.specs.CommandLine.{capture_rule, monitor_app, number_rule, print_app, show_app, with_choice_rules};
 ghost use Rattle.rje_words.specs.CommandLine.{with_device_rules, with_existing_rules, with_meeting_rules};
 ghost use Rattle.rje_words.specs.CommandLine.{with_deck_apps, with_file_apps, with_line_apps};
 
@@ -11,7 +12,7 @@ use clap::{Arg, ArgAction, Command, value_parser};
 use std::alloc::{AllocError, Global};
 
 /// The program's version.
-const VERSION: &str = "1.1.0";
+const VERSION: &str = "1.2.0";
 
 /// What stands after the commands where help is given.
 const AFTER_HELP: &str = "\
@@ -59,13 +60,12 @@ fn with_deck_commands<'a>(alloc: Global, top: Command<'a>) -> Result<Command<'a>
 fn with_file_commands<'a>(alloc: Global, top: Command<'a>) -> Result<Command<'a>, AllocError>
     ensures { (app : App) → IsApp app top.entry → IfOk result (IsApp (with_file_apps app)) }
 {
-    let show = "Print a line for each job of a job file";
-    let top = with_jobs(alloc, top, "show", show)?;
+    let top = with_command(top, show(alloc))?;
     let check = "Tell whether the jobs of a job file can be sent";
     let top = with_jobs(alloc, top, "check", check)?;
-    let print = "Print the listings and punched cards of a job file";
-    let top = with_jobs(alloc, top, "print", print)?;
-    with_command(top, attempt(alloc))
+    let top = with_command(top, print(alloc))?;
+    let top = with_command(top, attempt(alloc))?;
+    with_command(top, monitor(alloc))
 }
 
 /// The command line with one command more: this one, which reads a job file.
@@ -90,6 +90,39 @@ fn with_line_commands<'a>(alloc: Global, top: Command<'a>) -> Result<Command<'a>
     with_command(top, exchange(alloc))
 }
 
+fn show<'a>(alloc: Global) -> Result<Command<'a>, AllocError>
+    ensures { IfOk result (IsApp show_app) }
+{
+    let about = "Print a line for each job of a job file";
+    let command = of_jobs(alloc, "show", about, JOBS_HELP)?;
+    let command = with_arg(command, number(alloc, "Show the job of this number alone"))?;
+    let records = "Print the records of each job too, each with its number";
+    with_arg(command, flag(alloc, "records", records))
+}
+
+fn print<'a>(alloc: Global) -> Result<Command<'a>, AllocError>
+    ensures { IfOk result (IsApp print_app) }
+{
+    let about = "Print the listings and punched cards of a job file";
+    let command = of_jobs(alloc, "print", about, JOBS_HELP)?;
+    let command = with_choice(alloc, command)?;
+    let raw = "Print cards as they are: 80 bytes of EBCDIC each, without line ends";
+    with_arg(command, flag(alloc, "raw", raw))
+}
+
+/// The command with the options that choose jobs.
+fn with_choice<'a>(alloc: Global, command: Command<'a>) -> Result<Command<'a>, AllocError>
+    ensures { (app : App) → IsApp app command.entry → IfOk result (IsApp (with_choice_rules app)) }
+{
+    let command = with_arg(command, number(alloc, "Print the job of this number alone"))?;
+    let printer = flag(alloc, "printer", "Print the listings alone");
+    let command = with_arg(command, printer)?;
+    with_arg(
+        command,
+        flag(alloc, "punch", "Print the punched cards alone"),
+    )
+}
+
 fn attempt<'a>(alloc: Global) -> Result<Command<'a>, AllocError>
     ensures { IfOk result (IsApp try_app) }
 {
@@ -103,6 +136,17 @@ fn attempt<'a>(alloc: Global) -> Result<Command<'a>, AllocError>
         command,
         file(alloc, "SCRIPT", "What the line does, a turn a line"),
     )
+}
+
+fn monitor<'a>(alloc: Global) -> Result<Command<'a>, AllocError>
+    ensures { IfOk result (IsApp monitor_app) }
+{
+    let command = Command::new(alloc, "monitor").about(
+        "Print what is heard of bytes as they stood on a line",
+    );
+    let command = with_arg(command, capture(alloc))?;
+    let hex = "CAPTURE is text in hexadecimal digits, a transmission a line";
+    with_arg(command, flag(alloc, "hex", hex))
 }
 
 fn loopback<'a>(alloc: Global) -> Result<Command<'a>, AllocError>
@@ -277,6 +321,14 @@ fn file<'a>(alloc: Global, id: &'a str, help: &'a str) -> Arg<'a>
         .help(help)
 }
 
+fn capture<'a>(alloc: Global) -> Arg<'a>
+    ensures { IsArg capture_rule result }
+{
+    Arg::new(alloc, "CAPTURE").action(ArgAction::Set).help(
+        "The bytes as they stood on the line; - or nothing is standard input",
+    )
+}
+
 fn flag<'a>(alloc: Global, id: &'a str, help: &'a str) -> Arg<'a>
     ensures { IsArg (flag_rule id.entry.now) result }
 {
@@ -311,6 +363,18 @@ fn name<'a>(alloc: Global) -> Arg<'a>
         .value_name("NAME")
         .action(ArgAction::Set)
         .help("The job's name: one to eight of A to Z and 0 to 9")
+}
+
+/// The option for the number of the one job, with this help.
+fn number<'a>(alloc: Global, help: &'a str) -> Arg<'a>
+    ensures { IsArg number_rule result }
+{
+    Arg::new(alloc, "job")
+        .long("job")
+        .value_name("K")
+        .action(ArgAction::Set)
+        .value_parser(value_parser!(u32).range(1..))
+        .help(help)
 }
 
 fn timeout<'a>(alloc: Global) -> Arg<'a>

@@ -1,4 +1,4 @@
-use Rattle.std.proofs.Common.{◌≡◌, length, ◌∙◌, subst, ap, inr, OnOk}
+use Rattle.std.proofs.Common.{◌≡◌, length, ◌∙◌, subst, ap, inl, inr, OnOk}
 use Rattle.std.specs.Prelude.{None, option_map}
 use Rattle.std.specs.Io.KnownBytes.{Appends}
 use Rattle.std.proofs.lemmas.Result.{on_ok_weaker}
@@ -8,6 +8,7 @@ use Rattle.rje_orders.specs.declared.order.FileOrder.{FileOrder}
 use Rattle.rje_commands.specs.declared.command_fault.CommandFault.TheVariants as told
 use Rattle.rje_commands.specs.Commands.{IsFault, MakesCards, MakesFile, deck_job}
 use Rattle.rje_commands.proofs.Inputs.{of_deck, told_as, made_file, whatever}
+use Rattle.rje_stores.proofs.Changes.{same_twice}
 use Rattle.rje_commands.proofs.commands.cards_command.cards.Goals as goal
 
 pub returns-in_err-job-clause-fault : goal.returns-in_err-job-clause-fault
@@ -69,3 +70,10 @@ returns-clause-made g c =
     let leaves = of_deck (λ read. MakesFile order read files (g.S.Store.files c.write_file.new.store)) deck made order.deck.now files input
     c.in_ok-deck.ensures.deck in
     whatever c.put.result _ _ leaves
+
+pub returns-in_err-write_file-clause-files : goal.returns-in_err-write_file-clause-files
+returns-in_err-write_file-clause-files g c =
+    let deck = c.in_ok-deck.ensures.same in
+    let locked = same_twice _ _ _ deck c.in_ok-lock_file.ensures.same in
+    let held = same_twice _ _ _ locked c.in_ok-held.ensures.same in
+    inl (same_twice _ _ _ held c.in_err-write_file.ensures.same)

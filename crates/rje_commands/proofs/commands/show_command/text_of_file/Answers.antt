@@ -1,8 +1,0 @@
-use Rattle.rje_commands.specs.declared.command_fault.CommandFault.TheVariants.{File}
-use Rattle.rje_commands.specs.Inside.Commands.{IsTextFault}
-use Rattle.rje_commands.proofs.Inputs.{told_as}
-use Rattle.rje_commands.proofs.commands.show_command.text_of_file.Goals as goal
-
-pub returns-in_err-entries-clause-fault : goal.returns-in_err-entries-clause-fault
-returns-in_err-entries-clause-fault c =
-    told_as c.from_residual.result (File c.in_err-entries.field-0.0) (IsTextFault c.args.file.now) c.from_residual.ensures.1 c.in_err-entries.ensures.told
