@@ -9,7 +9,7 @@ import threading
 import time
 
 sys.path.insert(0, os.path.dirname(os.path.abspath(__file__)))
-from connected import ENQ, FOLDER, Receiver, Sender, job_of, jobs_in, length_of, write_jobs  # noqa: E402
+from connected import ENQ, FOLDER, Receiver, Sender, faults_in, job_of, jobs_in, length_of, write_jobs  # noqa: E402
 import relayed  # noqa: E402
 from relayed import free_port, is_listening  # noqa: E402
 
@@ -103,7 +103,7 @@ def waits_for(is_so):
 
 
 def ended(process):
-    """The status of a process, and what it printed and reported, but for a time-out that is short."""
+    """The status of a process, what it printed, and the faults that it reported."""
     try:
         printed, told = process.communicate(timeout=PATIENCE)
     except subprocess.TimeoutExpired:
@@ -111,7 +111,7 @@ def ended(process):
         process.communicate()
         return "comes to no end", "", ""
     told = getattr(process, "told", "") + told
-    return process.returncode, printed, "".join(line for line in told.splitlines(True) if " is short: " not in line)
+    return process.returncode, printed, "".join(f"{line}\n" for line in faults_in(told.splitlines()))
 
 
 def refusal(name):

@@ -413,7 +413,7 @@ def refused_at_first(program):
             file.write(b"RJ36")
         for place in (["--listen", "127.0.0.1:0"], ["--to", "127.0.0.1:1"]):
             rows = {
-                ("odd.job", "got"): (1, "", "rje: not a job file\n"),
+                ("odd.job", "got"): (1, "", "rje: odd.job: no job file\nrje: not a job file\n"),
                 ("none.job", "got"): (3, "", "rje: can't read none.job\n"),
                 **{("pay.job", name): (3, "", f"rje: can't write {name}\n") for name in ("pay.job", "hard", "link", "./pay.job")},
                 **{(name, "pay.job"): (3, "", "rje: can't write pay.job\n") for name in ("hard", "link", "./pay.job")},

@@ -1,5 +1,5 @@
 /* Loaded before the C library (LD_PRELOAD): of the transmissions of the process as many pass as PASS says, none where it isn't set, and then
-   as many are lost on their way as LOSE says; and where FAIL is set, all after those fail. */
+   as many are lost on their way as LOSE says; and where FAIL is set, all after those fail with that number (errno). */
 #define _GNU_SOURCE
 #include <dlfcn.h>
 #include <errno.h>
@@ -20,7 +20,7 @@ ssize_t send(int socket, const void *bytes, size_t length, int flags)
     if (behind > 0 && behind <= number_in("LOSE"))
         return (ssize_t)length;
     if (behind > 0 && getenv("FAIL")) {
-        errno = EPIPE;
+        errno = (int)number_in("FAIL");
         return -1;
     }
     if (!real)

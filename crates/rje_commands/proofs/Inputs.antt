@@ -94,7 +94,7 @@ in_front order f g held front same is h = (
 pub write_fault : (order : CardsOrder) (files : Option FileMap) (input : Option (List ℕ)) (fault : CommandFault) → IsWriteFault order.jobs.now fault
     → IsFault (FileOrder.Cards order) files input fault
 write_fault order files input told.OutOfMemory h = tt
-write_fault order files input (told.CannotWrite name) h = h
+write_fault order files input (told.CannotWrite name cause) h = h
 write_fault order files input (told.InUse name) h = h
 write_fault order files input (told.Unsynced name) h = h
 write_fault order files input _ h = absurd h
@@ -103,7 +103,7 @@ write_fault order files input _ h = absurd h
 pub held_fault : (order : CardsOrder) (files : Option FileMap) (input : Option (List ℕ)) (fault : CommandFault) → IsHeldFault order fault
     → IsFault (FileOrder.Cards order) files input fault
 held_fault order files input told.OutOfMemory h = tt
-held_fault order files input (told.CannotRead name) h = inr (h.0, h.1)
+held_fault order files input (told.CannotRead name fault) h = inr (h.0, h.1)
 held_fault order files input _ h = absurd h.1
 
 -- the fault of a job file to which the job is added is one of `cards`

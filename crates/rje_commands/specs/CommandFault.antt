@@ -38,21 +38,21 @@ status_of NoCommand = 2
 status_of LineFailed = 3
 status_of Babble = 3
 status_of OutOfStep = 3
-status_of (CannotRead name) = 3
-status_of (CannotWrite name) = 3
+status_of (CannotRead name fault) = 3
+status_of (CannotWrite name cause) = 3
 status_of (InUse name) = 3
 status_of (Unsynced name) = 3
-status_of Output = 3
+status_of (Output kind) = 3
 status_of Closed = 141
 
--- the fault of standard output, by the kind of its error: a pipe that nobody reads any more, or a failure
+-- the fault of standard output, by the kind of its error: a pipe that nobody reads any more, or a failure of just that kind
 abbrev pub of_output : ErrorKind → CommandFault
 of_output BrokenPipe = Closed
-of_output _ = Output
+of_output kind = Output kind
 
 -- standard output failed, or nobody reads it any more
 abbrev pub is_of_output : CommandFault → Bool
-is_of_output Output = true
+is_of_output (Output kind) = true
 is_of_output Closed = true
 is_of_output _ = false
 

@@ -216,10 +216,10 @@ Writes _ name = ⊥
 -- why the order isn't carried out: there is no memory, the store, the reader or the output fails, or what it reads is refused
 abbrev pub IsFault : FileOrder → Option FileMap → (input : Option (List ℕ)) → CommandFault → Type 0
 IsFault order files input CommandFault.OutOfMemory = ⊤
-IsFault order files input CommandFault.Output = ⊤
+IsFault order files input (CommandFault.Output kind) = ⊤
 IsFault order files input CommandFault.Closed = ⊤
-IsFault order files input (CommandFault.CannotRead name) = Reads order name.now
-IsFault order files input (CommandFault.CannotWrite name) = Writes order name.now
+IsFault order files input (CommandFault.CannotRead name fault) = Reads order name.now
+IsFault order files input (CommandFault.CannotWrite name cause) = Writes order name.now
 IsFault order files input (CommandFault.InUse name) = Writes order name.now
 IsFault order files input (CommandFault.Unsynced name) = Writes order name.now
 IsFault order files input (CommandFault.Deck fault) = OfItsDeck order files input (λ deck. IsDeckFault deck fault)

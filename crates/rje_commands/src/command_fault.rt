@@ -3,11 +3,13 @@ ghost use Rattle.std.specs.Prelude.{◌≡◌};
 ghost use Rattle.rje_commands.specs.declared.command_fault.CommandFault.TheVariants.{Deck, File, OutOfMemory};
 ghost use Rattle.rje_commands.specs.CommandFault.{of_hex, of_script, of_station, of_world};
 
+use crate::write_cause::WriteCause;
 use line_world::WorldFault;
 use rje_jobs::{DeckFault, FileFault};
 use rje_monitor::HexFault;
 use rje_print::ScriptFault;
 use rje_station::StationFault;
+use rje_stores::StoreFault;
 use std::alloc::AllocError;
 use std::io::{self, ErrorKind};
 use thiserror::Error;
@@ -57,21 +59,21 @@ pub enum CommandFault<'a> {
     /// An answer came after EOT was said: it belongs to something said earlier, and so may those before it.
     #[error("answers out of step")]
     OutOfStep,
-    /// The file of this name can't be read.
-    #[error("can't read {0}")]
-    CannotRead(&'a str),
-    /// The file of this name can't be written.
-    #[error("can't write {0}")]
-    CannotWrite(&'a str),
+    /// The file of this name can't be read, and why. Two lines.
+    #[error("{0}: {1}\nrje: can't read {0}")]
+    CannotRead(&'a str, StoreFault),
+    /// The file of this name can't be written, and why. Two lines.
+    #[error("{0}: {1}\nrje: can't write {0}")]
+    CannotWrite(&'a str, WriteCause),
     /// It can't be written since another process has it. Two lines.
     #[error("{0} is in use\nrje: can't write {0}")]
     InUse(&'a str),
     /// The file of this name is written, and its folder couldn't be put on disk.
     #[error("{0} is written, but the disk may not have it")]
     Unsynced(&'a str),
-    /// Standard output can't be written.
-    #[error("can't write standard output")]
-    Output,
+    /// Standard output can't be written, and why. Two lines.
+    #[error("standard output: {0}\nrje: can't write standard output")]
+    Output(ErrorKind),
     /// Standard output is a pipe that nobody reads any more.
     #[error("standard output is closed")]
     Closed,
@@ -89,7 +91,7 @@ impl CommandFault<'_> {
     {
         match error.kind() {
             ErrorKind::BrokenPipe => CommandFault::Closed,
-            _ => CommandFault::Output,
+            kind => CommandFault::Output(kind),
         }
     }
 
@@ -115,11 +117,11 @@ impl CommandFault<'_> {
             CommandFault::LineFailed
             | CommandFault::Babble
             | CommandFault::OutOfStep
-            | CommandFault::CannotRead(_)
-            | CommandFault::CannotWrite(_)
+            | CommandFault::CannotRead(_, _)
+            | CommandFault::CannotWrite(_, _)
             | CommandFault::InUse(_)
             | CommandFault::Unsynced(_)
-            | CommandFault::Output => 3,
+            | CommandFault::Output(_) => 3,
             CommandFault::Closed => 141,
         }
     }

@@ -5,6 +5,7 @@ mod command_fault;
 mod commands;
 mod over_files;
 mod telling;
+mod write_cause;
 
 pub use command_fault::CommandFault;
 pub use commands::{
@@ -13,3 +14,4 @@ pub use commands::{
 };
 pub use over_files::carry_out;
 pub use telling::tell;
+pub use write_cause::WriteCause;

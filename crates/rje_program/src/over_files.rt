@@ -6,9 +6,9 @@ ghost use Rattle.rje_commands.specs.Commands.{Does, IsFault, Leaves};
 ghost use Rattle.rje_program.specs.Command.{DoesAsAsked, IsRefused, LeavesAsAsked, AsksForNoFiles, IsStatus};
 ghost use Rattle.rje_stores.specs.Store.{Discloses, IsSame};
 
-use crate::telling::tell_words;
+use crate::telling::{tell_of, tell_words};
 use rje_commands::{CommandFault, carry_out, tell};
-use rje_orders::Order;
+use rje_orders::{FileOrder, Order};
 use rje_stores::Store;
 use rje_words::parse;
 use std::alloc::Global;
@@ -47,6 +47,18 @@ pub fn command<S: Store, I: Read, O: Write, E: Write>(
     };
     match carry_out(alloc, order, store, input, out, err) {
         Ok(()) => 0,
-        Err(fault) => tell(&fault, err),
+        Err(fault) => tell_of(&fault, job_file(&order), err),
+    }
+}
+
+/// The name of the job file that an order reads.
+fn job_file<'a>(order: &FileOrder<'a>) -> Option<&'a str> {
+    match order {
+        FileOrder::Cards(order) => Some(order.jobs),
+        FileOrder::Show(order) => Some(order.jobs),
+        FileOrder::Check(jobs) => Some(*jobs),
+        FileOrder::Print(order) => Some(order.jobs),
+        FileOrder::Try(order) => Some(order.jobs),
+        FileOrder::Blocks(_) | FileOrder::Monitor(_) => None,
     }
 }

@@ -8,9 +8,9 @@ ghost use Rattle.rje_program.specs.SocketCommand.{AsksForNoSockets, IsSocketStat
 ghost use Rattle.rje_program.specs.SocketCommand.{TransmitsAsAsked};
 ghost use Rattle.rje_stores.specs.Store.{Discloses, IsSame};
 
-use crate::telling::tell_words;
+use crate::telling::{tell_of, tell_words};
 use rje_commands::{CommandFault, tell};
-use rje_orders::Order;
+use rje_orders::{Order, SocketOrder};
 use rje_sockets::carry_out;
 use rje_stores::Store;
 use rje_words::parse;
@@ -62,6 +62,16 @@ pub fn socket_command<R: Net + Clock, S: Store, O: Write, E: Write>(
     };
     match carry_out(rt, alloc, order, store, out, err) {
         Ok(ending) => ending.status(),
-        Err(fault) => tell(&fault, err),
+        Err(fault) => tell_of(&fault, job_file(&order), err),
+    }
+}
+
+/// The name of the one job file that an order reads. `exchange` reads two, and reports itself which is none.
+fn job_file<'a>(order: &SocketOrder<'a>) -> Option<&'a str> {
+    match order {
+        SocketOrder::Loop(order) => Some(order.jobs),
+        SocketOrder::Send(order) => Some(order.jobs),
+        SocketOrder::Receive(order) => Some(order.into.jobs),
+        SocketOrder::Exchange(_) => None,
     }
 }

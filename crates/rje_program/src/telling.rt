@@ -1,11 +1,13 @@
-//! Words that ask for no command, reported, and their exit status.
-ghost use Rattle.std.specs.Prelude.{◌≡◌, ◌⊎◌};
+//! Words that ask for no command, and commands that fail, reported, and their exit status.
+ghost use Rattle.std.specs.Prelude.{◌≡◌, ◌≢◌, ◌⊎◌};
 ghost use Rattle.clap.specs.Words.{kind_of};
+ghost use Rattle.rje_commands.specs.CommandFault.{status_of};
 ghost use Rattle.rje_program.specs.Command.{IsHelp, IsHelpError, error_status, words_status};
 
 use clap::Error;
 use clap::error::ErrorKind;
 use rje_commands::{CommandFault, tell};
+use rje_jobs::FileFault;
 use rje_words::WordsFault;
 use std::io::Write;
 
@@ -20,14 +22,26 @@ pub fn tell_words<O: Write, E: Write>(fault: &WordsFault, out: &mut O, err: &mut
     match fault {
         WordsFault::Refused(error) => tell_error(error, out, err),
         WordsFault::TwoDevices
-        | WordsFault::BadName
-        | WordsFault::BadAddress
+        | WordsFault::BadName(_)
+        | WordsFault::BadAddress(_)
         | WordsFault::NoMeeting
         | WordsFault::NewAndAppend => {
             let _ = writeln!(err, "rje: {fault}");
             2
         }
     }
+}
+
+/// Reports why a command fails whose job file has this name: in front that it is none, where that is why.
+pub fn tell_of<E: Write>(fault: &CommandFault, jobs: Option<&str>, err: &mut E) -> u8
+    ensures status { result ≡ status_of fault.now }
+    ensures failed { result ≢ 0 }
+    ensures quiet { result ≡ 141 → err.new ≡ err.old }
+{
+    if let (Some(jobs), CommandFault::File(FileFault::NotJobFile)) = (jobs, fault) {
+        let _ = writeln!(err, "rje: {jobs}: no job file");
+    }
+    tell(fault, err)
 }
 
 /// Gives help, or reports why the words aren't taken.

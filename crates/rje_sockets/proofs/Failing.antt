@@ -160,7 +160,7 @@ receive_fails_so (Err fault) into files fails names = inl (fails, names_more (λ
 -- it can't be written
 pub write_fails_so : (into : Destination) (files : Option FileMap) (f : CommandFault) → IsWriteFault into.jobs.now f → IsDestinationFault into files f
 write_fails_so into files told.OutOfMemory is = inl (inr (inl refl), tt)
-write_fails_so into files (told.CannotWrite name) is = inl (inl refl, is)
+write_fails_so into files (told.CannotWrite name cause) is = inl (inl refl, is)
 write_fails_so into files (told.InUse name) is = inl (inl refl, is)
 write_fails_so into files (told.Unsynced name) is = inl (inl refl, is)
 write_fails_so into files _ is = absurd is
@@ -168,7 +168,7 @@ write_fails_so into files _ is = absurd is
 -- it can't be read
 pub read_fails_so : (into : Destination) (files : Option FileMap) (f : CommandFault) → into.existing ≢ Replace → IsReadFault into.jobs.now f → IsDestinationFault into files f
 read_fails_so into files told.OutOfMemory other is = inl (inr (inl refl), tt)
-read_fails_so into files (told.CannotRead name) other is = inl (inl refl, (other, is))
+read_fails_so into files (told.CannotRead name fault) other is = inl (inl refl, (other, is))
 read_fails_so into files _ other is = absurd is
 
 -- what is sent can't be marked

@@ -17,8 +17,8 @@ use Rattle.rje_sockets.specs.Inside.BreakingOff.{of_broken_off}
 use Rattle.rje_sockets.specs.NamedFiles.{NamesOne, NamesWritten}
 
 pub names_more : (R S V W : List ℕ → Type 0) → ((n : List ℕ) → R n → S n) → ((n : List ℕ) → V n → W n) → (f : CommandFault) → NamesOne R V f → NamesOne S W f
-names_more R S V W reads writes (told.CannotRead name) names = reads name.now names
-names_more R S V W reads writes (told.CannotWrite name) names = writes name.now names
+names_more R S V W reads writes (told.CannotRead name fault) names = reads name.now names
+names_more R S V W reads writes (told.CannotWrite name cause) names = writes name.now names
 names_more R S V W reads writes (told.InUse name) names = writes name.now names
 names_more R S V W reads writes (told.Unsynced name) names = writes name.now names
 names_more R S V W reads writes _ names = tt
@@ -67,8 +67,8 @@ left_of_both (Err b) one other names = one_of_both (of_broken_off b) other one o
 
 -- a fault of the output names none
 pub output_names : (f : CommandFault) (R W : List ℕ → Type 0) → is_of_output f ≡ true → NamesOne R W f
-output_names (told.CannotRead name) R W is = absurd (true≢false (sym is))
-output_names (told.CannotWrite name) R W is = absurd (true≢false (sym is))
+output_names (told.CannotRead name fault) R W is = absurd (true≢false (sym is))
+output_names (told.CannotWrite name cause) R W is = absurd (true≢false (sym is))
 output_names (told.InUse name) R W is = absurd (true≢false (sym is))
 output_names (told.Unsynced name) R W is = absurd (true≢false (sym is))
 output_names _ R W is = tt

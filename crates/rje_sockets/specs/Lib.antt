@@ -1,4 +1,5 @@
 pub mod InFront
+pub mod LineCause
 pub mod Answering
 pub mod NamedFiles
 pub mod OverLine

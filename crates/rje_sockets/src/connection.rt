@@ -1,8 +1,11 @@
 //! Connections, and whether the time-out is longer than they take.
-ghost use Rattle.std.specs.Prelude.{◌≡◌, IfOk};
+ghost use Rattle.std.specs.Prelude.{◌≡◌, IfErr, IfOk};
+ghost use Rattle.std.specs.declared.io.ErrorKind.{ErrorKind as Kind};
+ghost use Rattle.rje_sockets.specs.declared.line_cause.LineCause.TheVariants.{NotAwaited, NotCalled};
 
+use crate::line_cause::LineCause;
+use crate::observed_stream::ObservedStream;
 use crate::socket_line::SocketLine;
-use crate::timed_stream::TimedStream;
 use bsc_link::Rank;
 use std::io::{self, Write};
 use std::net::{Net, OpenListener, SocketAddr, TcpListener, TcpStream};
@@ -11,8 +14,8 @@ use std::time::{Clock, Duration, Instant};
 /// So many milliseconds a connection is waited for at least.
 const MIN_CONNECTING: u16 = 3000;
 
-/// A line over a connection that notes how long the first answer took.
-pub(crate) type TimedLine<'r, R> = SocketLine<TimedStream<&'r R, <R as Net>::Stream>>;
+/// A line over a connection that is observed.
+pub(crate) type ObservedLine<'r, R> = SocketLine<ObservedStream<&'r R, <R as Net>::Stream>>;
 
 /// Calls the other end at this address, for a station of this rank. Where that takes as long as a hearing waits or longer, it is told to `err`:
 /// then answers come too late.
@@ -21,28 +24,67 @@ pub(crate) fn connected<'r, R: Net + Clock, E: Write>(
     address: SocketAddr,
     timeout: u16,
     err: &mut E,
-) -> io::Result<TimedLine<'r, R>>
+) -> Result<ObservedLine<'r, R>, LineCause>
     ensures unused { IfOk result (λ line. line.transmissions ≡ 0) }
+    ensures cause { IfErr result (λ cause. (kind : Kind) × (cause ≡ NotCalled address kind)) }
 {
     let start = Instant::now(rt).ok();
-    let longest = Duration::from_millis(u64::from(timeout.max(MIN_CONNECTING)));
-    let stream = TcpStream::connect_timeout(rt, &address, longest)?;
+    let line = match called(rt, address, timeout) {
+        Ok(line) => line,
+        Err(error) => return Err(LineCause::NotCalled(address, error.kind())),
+    };
     let took = start.and_then(|start| start.elapsed(rt).ok());
     tell_if_short(timeout, "the connection", took, err);
-    SocketLine::new(TimedStream::new(rt, stream), timeout, Rank::Primary)
+    Ok(line)
 }
 
-/// Waits at this address for whoever connects first, and answers the peer's address too.
-pub(crate) fn accepted<'r, R: Net + Clock>(
+/// A line to the end that listens at this address.
+fn called<'r, R: Net>(
     rt: &'r R,
     address: SocketAddr,
     timeout: u16,
-) -> io::Result<(TimedLine<'r, R>, SocketAddr)>
+) -> io::Result<ObservedLine<'r, R>>
+    ensures unused { IfOk result (λ line. line.transmissions ≡ 0) }
+{
+    let longest = Duration::from_millis(u64::from(timeout.max(MIN_CONNECTING)));
+    let stream = TcpStream::connect_timeout(rt, &address, longest)?;
+    SocketLine::new(
+        ObservedStream::new(Some(rt), stream),
+        timeout,
+        Rank::Primary,
+    )
+}
+
+/// Waits at this address for whoever connects first, and answers the peer's address too.
+pub(crate) fn accepted<'r, R: Net>(
+    rt: &'r R,
+    address: SocketAddr,
+    timeout: u16,
+) -> Result<(ObservedLine<'r, R>, SocketAddr), LineCause>
+    ensures unused { IfOk result (λ met. met.0.transmissions ≡ 0) }
+    ensures cause { IfErr result (λ cause. (kind : Kind) × (cause ≡ NotAwaited address kind)) }
+{
+    match awaited(rt, address, timeout) {
+        Ok(met) => Ok(met),
+        Err(error) => Err(LineCause::NotAwaited(address, error.kind())),
+    }
+}
+
+/// A line to whoever connects first at this address, and the peer's address.
+fn awaited<'r, R: Net>(
+    rt: &'r R,
+    address: SocketAddr,
+    timeout: u16,
+) -> io::Result<(ObservedLine<'r, R>, SocketAddr)>
     ensures unused { IfOk result (λ met. met.0.transmissions ≡ 0) }
 {
     let listener = TcpListener::bind(rt, address)?;
     let (stream, peer) = listener.accept()?;
-    let line = SocketLine::new(TimedStream::new(rt, stream), timeout, Rank::Secondary)?;
+    let line = SocketLine::new(
+        ObservedStream::new(Some(rt), stream),
+        timeout,
+        Rank::Secondary,
+    )?;
     Ok((line, peer))
 }
 

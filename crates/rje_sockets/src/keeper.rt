@@ -15,7 +15,7 @@ ghost use Rattle.rje_stores.specs.Store.{FileMap, Discloses, IsSame, Sets};
 
 use crate::kept_file::KeptFile;
 use crate::tally::Tally;
-use rje_commands::{CommandFault, extend_file, write_file, write_grown};
+use rje_commands::{CommandFault, WriteCause, extend_file, write_file, write_grown};
 use rje_files::{entries_of, growth_of, write_entries};
 use rje_jobs::{Job, Jobs};
 use rje_stores::{MAX_INPUT, Place, Store};
@@ -84,7 +84,7 @@ impl<'a> Keeper<'a> {
     {
         let tally = self.tally.after(jobs);
         if tally.is_too_much() {
-            return Err(CommandFault::CannotWrite(self.file.into.jobs));
+            return Err(CommandFault::CannotWrite(self.file.into.jobs, WriteCause::TooMuch));
         }
         if self.file.place == Place::Growing && self.kept < jobs.len() && jobs[self.kept].whole {
             self.add(&jobs[self.kept], store)?;
@@ -136,7 +136,7 @@ impl<'a> Keeper<'a> {
     {
         let name = self.file.into.jobs;
         let Some(count) = self.entries() else {
-            return Err(CommandFault::CannotWrite(name));
+            return Err(CommandFault::CannotWrite(name, WriteCause::TooMuch));
         };
         let growth = growth_of(self.alloc, count, job)?;
         self.long = if self.kept == 0 {

@@ -5,18 +5,20 @@
 mod both_ways;
 mod broken_off;
 mod connection;
+mod first_bytes;
 mod front;
 mod keeper;
 mod kept_file;
 mod left;
+mod line_cause;
 mod marker;
+mod observed_stream;
 mod one_way;
 mod over_sockets;
 mod parting;
 mod socket_commands;
 mod socket_line;
 mod tally;
-mod timed_stream;
 mod tracer;
 mod watch;
 

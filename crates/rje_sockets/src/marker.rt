@@ -11,7 +11,9 @@ ghost use Rattle.rje_sockets.specs.Inside.Marking.{GoesOnMarking};
 ghost use Rattle.rje_sockets.specs.NamedFiles.{NamesWritten};
 ghost use Rattle.rje_stores.specs.Store.{FileMap, Discloses, IsSame};
 
-use rje_commands::{CommandFault, HeldFile, look_at_file, set_byte_of_file, write_file};
+use rje_commands::{
+    CommandFault, HeldFile, WriteCause, look_at_file, set_byte_of_file, write_file,
+};
 use rje_files::{MARK, sent_file};
 use rje_stores::{Place, Store};
 use std::alloc::Global;
@@ -63,7 +65,7 @@ impl<'a> Marker<'a> {
     {
         match look_at_file(self.name, store)? {
             Place::Growing => self.write(0, store),
-            Place::Once => Err(CommandFault::CannotWrite(self.name)),
+            Place::Once => Err(CommandFault::CannotWrite(self.name, WriteCause::NoMarks)),
         }
     }
 

@@ -6,7 +6,8 @@ ghost use Rattle.rje_station.specs.Line.{IsWithin, Rose, one_more};
 ghost use Rattle.rje_station.specs.declared.line_fault.LineFault.TheVariants.{Closed};
 ghost use Rattle.rje_sockets.specs.Inside.Reading.{came_of, waited_in_vain};
 
-use crate::timed_stream::TimedStream;
+use crate::line_cause::LineCause;
+use crate::observed_stream::ObservedStream;
 use bsc_codes::PAD;
 use bsc_link::{Rank, Reply};
 use rje_answers::{Answers, Given, Handed, Handover, Said};
@@ -87,10 +88,25 @@ impl<S: OpenStream + Read> SocketLine<S> {
     }
 }
 
-impl<C: Clock, S> SocketLine<TimedStream<C, S>> {
+impl<C: Clock, S> SocketLine<ObservedStream<C, S>> {
     /// How long it took from the first bid or answer to what came then, where something did.
     pub fn waited(&self) -> Option<Duration> {
         self.stream.waited()
+    }
+
+    /// Why the line failed last, where it did.
+    pub fn cause(&self) -> Option<LineCause>
+        ensures { self.now.last_fault ≡ None → result ≡ None }
+    {
+        let cause = match (self.last_fault?, self.stream.failure()) {
+            (LineFault::Failed, Some(kind)) => LineCause::of_kind(kind),
+            _ => LineCause::HungUp,
+        };
+        let first = self.stream.first();
+        match cause {
+            LineCause::HungUp if first.begin_otherwise() => Some(LineCause::NoTransmission(first)),
+            cause => Some(cause),
+        }
     }
 }
 

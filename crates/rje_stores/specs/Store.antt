@@ -52,8 +52,8 @@ IsTooLong file = IsSomeAnd file (λ bytes. MAX_INPUT < length bytes)
 abbrev pub HasFewer : ℕ → Option (List ℕ) → Type 0
 HasFewer count file = IsSomeAnd file (λ bytes. length bytes < count)
 
--- what an error of the system comes to: no memory, no such file, or a store that fails
+-- what an error of the system comes to: no memory, no such file, or a store that fails for just that reason
 abbrev pub of_error : ErrorKind → StoreFault
 of_error ErrorKind.OutOfMemory = StoreFault.OutOfMemory
 of_error ErrorKind.NotFound = StoreFault.Missing
-of_error _ = StoreFault.Failed
+of_error kind = StoreFault.Failed kind

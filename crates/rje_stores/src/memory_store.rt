@@ -1,7 +1,7 @@
 //! Files in memory.
-ghost use Rattle.std.specs.Prelude.{◌≡◌, ◌≢◌, ◌+◌, ◌≤◌, ◌↔◌, ℕ, List, None, Some, Ok, true, false, length, IfOk, OnOk, OnErr, IsOk, IsErrOf, IsOkUnless};
+ghost use Rattle.std.specs.Prelude.{◌≡◌, ◌≢◌, ◌+◌, ◌≤◌, ◌↔◌, ℕ, List, None, Some, Ok, true, false, length, IfOk, IfErr, OnOk, OnErr, IsOk, IsErrOf, IsOkUnless};
 ghost use Rattle.rje_stores.specs.Store.{IsSame, Sets, SetsByte, Extends, IsTooLong, HasFewer};
-ghost use Rattle.rje_stores.specs.MemoryStore.{files_of};
+ghost use Rattle.rje_stores.specs.MemoryStore.{IsOfMemory, files_of};
 
 use crate::reading::MAX_INPUT;
 use crate::store::{Place, Store, StoreFault, grown_bytes};
@@ -41,15 +41,15 @@ impl Store for MemoryStore {
         ensures has { IfOk result (λ bytes. files_of self.old name.now ≡ Some bytes.items) }
         ensures limit { IfOk result (λ bytes. length bytes.items ≤ MAX_INPUT) }
         ensures missing { IsErrOf result StoreFault.Missing ↔ files_of self.old name.now ≡ None }
-        ensures failed { IsErrOf result StoreFault.Failed
-            ↔ IsTooLong (files_of self.old name.now) }
+        ensures long { IsErrOf result StoreFault.TooLong ↔ IsTooLong (files_of self.old name.now) }
+        ensures fault { IfErr result IsOfMemory }
         ensures same { IsSame (files_of self.old) (files_of self.new) }
     {
         match self.files.get(name) {
             Some(bytes) if bytes.len() <= MAX_INPUT => {
                 Vec::from_slice(alloc, bytes.as_slice()).map_err(|_| StoreFault::OutOfMemory)
             }
-            Some(_) => Err(StoreFault::Failed),
+            Some(_) => Err(StoreFault::TooLong),
             None => Err(StoreFault::Missing),
         }
     }
@@ -98,8 +98,9 @@ impl Store for MemoryStore {
         ensures extends { OnOk result (Extends name.now front.now tail.now (files_of self.old)
             (files_of self.new)) }
         ensures missing { IsErrOf result StoreFault.Missing ↔ files_of self.old name.now ≡ None }
-        ensures failed { IsErrOf result StoreFault.Failed
+        ensures short { IsErrOf result StoreFault.TooShort
             ↔ HasFewer (length front.now) (files_of self.old name.now) }
+        ensures fault { IfErr result IsOfMemory }
         ensures same { OnErr result (IsSame (files_of self.old) (files_of self.new)) }
     {
         let Some(bytes) = self.files.get(name) else {
@@ -119,8 +120,9 @@ impl Store for MemoryStore {
         ensures sets { OnOk result (SetsByte name.now place byte (files_of self.old)
             (files_of self.new)) }
         ensures missing { IsErrOf result StoreFault.Missing ↔ files_of self.old name.now ≡ None }
-        ensures failed { IsErrOf result StoreFault.Failed
+        ensures short { IsErrOf result StoreFault.TooShort
             ↔ HasFewer (place + 1) (files_of self.old name.now) }
+        ensures fault { IfErr result IsOfMemory }
         ensures memory { ¬ (IsErrOf result StoreFault.OutOfMemory) }
         ensures same { OnErr result (IsSame (files_of self.old) (files_of self.new)) }
     {
@@ -128,7 +130,7 @@ impl Store for MemoryStore {
             return Err(StoreFault::Missing);
         };
         if bytes.len() <= place {
-            return Err(StoreFault::Failed);
+            return Err(StoreFault::TooShort);
         }
         bytes[place] = byte;
         Ok(())

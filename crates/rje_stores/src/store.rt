@@ -1,8 +1,8 @@
 //! The files that the program reads and writes by name.
-ghost use Rattle.std.specs.Prelude.{◌≡◌, ◌≢◌, ℕ, ◌<◌, ◌≤◌, ◌↔◌, ◌++◌, List, Option, length, IfOk, IfSome, IsErrOf, IsOkUnless, OnOk, OnErr, false};
+ghost use Rattle.std.specs.Prelude.{◌≡◌, ◌≢◌, ℕ, ◌<◌, ◌≤◌, ◌↔◌, ◌++◌, ◌⊎◌, List, Option, length, IfOk, IfErr, IfSome, IsErrOf, IsOkUnless, OnOk, OnErr, false};
 ghost use Rattle.std.specs.IoError.{error_kind};
 ghost use Rattle.rje_files.specs.Growth.{grown};
-ghost use Rattle.rje_stores.specs.declared.store.StoreFault.TheVariants.{OutOfMemory};
+ghost use Rattle.rje_stores.specs.declared.store.StoreFault.TheVariants.{OutOfMemory, TooShort};
 ghost use Rattle.rje_stores.specs.Store.{FileMap, Discloses, IsSame, Sets, SetsByte, Extends, Has, IsMissing, of_error};
 
 use crate::reading::MAX_INPUT;
@@ -17,17 +17,23 @@ pub enum StoreFault {
     #[error("out of memory")]
     OutOfMemory,
     /// There is no such file to read.
-    #[error("there is no such file")]
+    #[error("no such file")]
     Missing,
     /// Another process has it to change it.
-    #[error("the file is in use")]
+    #[error("in use")]
     InUse,
     /// It is written, but the disk may not have it. Only a store that discloses no files fails so.
-    #[error("the file is written, but the disk may not have it")]
+    #[error("written, but the disk may not have it")]
     Unsynced,
-    /// It is too long, or the store fails.
-    #[error("the file can't be read or written")]
-    Failed,
+    /// It has more than `MAX_INPUT` bytes, or would have.
+    #[error("too long")]
+    TooLong,
+    /// It has fewer bytes than are to be changed.
+    #[error("too short")]
+    TooShort,
+    /// The system fails so. Only a store that discloses no files does.
+    #[error("{0}")]
+    Failed(ErrorKind),
 }
 
 impl From<io::Error> for StoreFault {
@@ -37,7 +43,7 @@ impl From<io::Error> for StoreFault {
         match error.kind() {
             ErrorKind::OutOfMemory => StoreFault::OutOfMemory,
             ErrorKind::NotFound => StoreFault::Missing,
-            _ => StoreFault::Failed,
+            kind => StoreFault::Failed(kind),
         }
     }
 }
@@ -150,7 +156,7 @@ pub trait Store {
     {
         let mut bytes = self.read(alloc, name)?;
         if bytes.len() <= place {
-            return Err(StoreFault::Failed);
+            return Err(StoreFault::TooShort);
         }
         bytes[place] = byte;
         self.write(name, bytes.as_slice())
@@ -162,7 +168,7 @@ pub trait Store {
     {}
 }
 
-/// These bytes with one piece in front, in place of as many, and another at the end. Failed where they are fewer than the piece in front.
+/// These bytes with one piece in front, in place of as many, and another at the end. Too short where they are fewer than the piece in front.
 pub fn grown_bytes(
     alloc: Global,
     bytes: &[u8],
@@ -171,11 +177,11 @@ pub fn grown_bytes(
 ) -> Result<Vec<u8>, StoreFault>
     ensures grown { IfOk result (λ longer. longer.items ≡ grown front.now tail.now bytes.now) }
     ensures room { IfOk result (λ _. length front.now ≤ length bytes.now) }
-    ensures failed { IsErrOf result StoreFault.Failed ↔ length bytes.now < length front.now }
-    ensures there { ¬ (IsErrOf result StoreFault.Missing) }
+    ensures short { IsErrOf result StoreFault.TooShort ↔ length bytes.now < length front.now }
+    ensures fault { IfErr result (λ fault. (fault ≡ OutOfMemory) ⊎ (fault ≡ TooShort)) }
 {
     let Some((_, rest)) = bytes.split_at_checked(front.len()) else {
-        return Err(StoreFault::Failed);
+        return Err(StoreFault::TooShort);
     };
     let mut longer = Vec::new(alloc);
     append(front, &mut longer)?;

@@ -83,10 +83,10 @@ module _ (deck jobs : Text) (device : Device) (given : Option Text) (name : Text
   none_told : (rows : List Row) → cards_in rows ≡ value → (fault : WordsFault) → IsFaultOf (codes "cards") rows fault → ⊥
   none_told rows e (Refused error) h = h
   none_told rows e TwoDevices h = none-some device (sym h.1 ∙ ap (λ (v : Seen). v.2) e)
-  none_told rows e BadName h = names_apart given name named_is (subst (λ o. IsGivenName o None) (ap (λ (v : Seen). v.3) e) h.1.1)
-  none_told rows e BadAddress (inl h) = apart _ _ h.0 refl
-  none_told rows e BadAddress (inr (inl h)) = apart _ _ h.0 refl
-  none_told rows e BadAddress (inr (inr h)) = apart _ _ h.0 refl
+  none_told rows e (BadName word) h = names_apart given name named_is (subst (λ o. IsGivenName o None) (ap (λ (v : Seen). v.3) e) h.1.1.0)
+  none_told rows e (BadAddress word) (inl h) = apart _ _ h.0 refl
+  none_told rows e (BadAddress word) (inr (inl h)) = apart _ _ h.0 refl
+  none_told rows e (BadAddress word) (inr (inr h)) = apart _ _ h.0 refl
   none_told rows e NoMeeting h = apart _ _ h.0 refl
   none_told rows e NewAndAppend (inl h) = apart _ _ h.0 refl
   none_told rows e NewAndAppend (inr h) = apart _ _ h.0 refl

@@ -56,8 +56,8 @@ module _ {V : Type 0} (view : List Row → V) (word : Text) (words : List Text) 
       → (fault : WordsFault) → IsWordsFault (word ∷ words) fault → IsWantOfMemory fault
   only_memory none (Refused error) h = memory_only error (subst (λ kinds. HasKind kinds error) taken.faultless h)
   only_memory none TwoDevices h = let r = as_seen view _ name value (λ n rows. IsFaultOf n rows TwoDevices) taken.found h.1 in absurd (none r.0 r.1 TwoDevices r.2)
-  only_memory none BadName h = let r = as_seen view _ name value (λ n rows. IsFaultOf n rows BadName) taken.found h.1 in absurd (none r.0 r.1 BadName r.2)
-  only_memory none BadAddress h = let r = as_seen view _ name value (λ n rows. IsFaultOf n rows BadAddress) taken.found h.1 in absurd (none r.0 r.1 BadAddress r.2)
+  only_memory none (BadName word) h = let r = as_seen view _ name value (λ n rows. IsFaultOf n rows (BadName word)) taken.found h.1 in absurd (none r.0 r.1 (BadName word) r.2)
+  only_memory none (BadAddress word) h = let r = as_seen view _ name value (λ n rows. IsFaultOf n rows (BadAddress word)) taken.found h.1 in absurd (none r.0 r.1 (BadAddress word) r.2)
   only_memory none NoMeeting h = let r = as_seen view _ name value (λ n rows. IsFaultOf n rows NoMeeting) taken.found h.1 in absurd (none r.0 r.1 NoMeeting r.2)
   only_memory none NewAndAppend h = let r = as_seen view _ name value (λ n rows. IsFaultOf n rows NewAndAppend) taken.found h.1 in absurd (none r.0 r.1 NewAndAppend r.2)
 
@@ -301,10 +301,10 @@ no_fault : (name : Text) (rows : List Row) → bytes_eq name (codes "cards") ≡
     → bytes_eq name (codes "receive") ≡ false → bytes_eq name (codes "exchange") ≡ false → (fault : WordsFault) → IsFaultOf name rows fault → ⊥
 no_fault name rows cards send receive exchange (Refused error) h = h
 no_fault name rows cards send receive exchange TwoDevices h = apart _ _ h.0 cards
-no_fault name rows cards send receive exchange BadName h = apart _ _ h.0 cards
-no_fault name rows cards send receive exchange BadAddress (inl e) = apart _ _ e.0 send
-no_fault name rows cards send receive exchange BadAddress (inr (inl e)) = apart _ _ e.0 receive
-no_fault name rows cards send receive exchange BadAddress (inr (inr e)) = apart _ _ e.0 exchange
+no_fault name rows cards send receive exchange (BadName word) h = apart _ _ h.0 cards
+no_fault name rows cards send receive exchange (BadAddress word) (inl e) = apart _ _ e.0 send
+no_fault name rows cards send receive exchange (BadAddress word) (inr (inl e)) = apart _ _ e.0 receive
+no_fault name rows cards send receive exchange (BadAddress word) (inr (inr e)) = apart _ _ e.0 exchange
 no_fault name rows cards send receive exchange NoMeeting h = apart _ _ h.0 exchange
 no_fault name rows cards send receive exchange NewAndAppend (inl e) = apart _ _ e.0 receive
 no_fault name rows cards send receive exchange NewAndAppend (inr e) = apart _ _ e.0 exchange

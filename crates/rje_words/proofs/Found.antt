@@ -133,8 +133,8 @@ module _ (words : List Text) (some_word : words ≢ []) where
       go [] ne f h = absurd (ne refl)
       go (w ∷ ws) ne (Refused error) h = absurd (none_refused (subcommand_of rje_app (w ∷ ws)) error h.1)
       go (w ∷ ws) ne TwoDevices h = h
-      go (w ∷ ws) ne BadName h = h
-      go (w ∷ ws) ne BadAddress h = h
+      go (w ∷ ws) ne (BadName word) h = h
+      go (w ∷ ws) ne (BadAddress word) h = h
       go (w ∷ ws) ne NoMeeting h = h
       go (w ∷ ws) ne NewAndAppend h = h
 

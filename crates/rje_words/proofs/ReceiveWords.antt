@@ -74,10 +74,10 @@ module _ (jobs address : Text) (existing : Existing) where
   none_told : IsSomeAddress address → (rows : List Row) → receive_in rows ≡ value → (fault : WordsFault) → IsFaultOf (codes "receive") rows fault → ⊥
   none_told some rows e (Refused error) h = h
   none_told some rows e TwoDevices h = apart _ _ h.0 refl
-  none_told some rows e BadName h = apart _ _ h.0 refl
-  none_told some rows e BadAddress (inl h) = apart _ _ h.0 refl
-  none_told some rows e BadAddress (inr (inl h)) = some_address address some (subst (λ text. IsAddressOf text None) (ap (λ (v : Seen). v.1) e) h.1)
-  none_told some rows e BadAddress (inr (inr h)) = apart _ _ h.0 refl
+  none_told some rows e (BadName word) h = apart _ _ h.0 refl
+  none_told some rows e (BadAddress word) (inl h) = apart _ _ h.0 refl
+  none_told some rows e (BadAddress word) (inr (inl h)) = some_address address some (subst (λ text. IsAddressOf text None) (ap (λ (v : Seen). v.1) e) h.1.0)
+  none_told some rows e (BadAddress word) (inr (inr h)) = apart _ _ h.0 refl
   none_told some rows e NoMeeting h = apart _ _ h.0 refl
   none_told some rows e NewAndAppend (inl h) = none-some existing (sym h.1.1 ∙ ap (λ (v : Seen). v.2) e)
   none_told some rows e NewAndAppend (inr h) = apart _ _ h.0 refl

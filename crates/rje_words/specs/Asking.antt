@@ -61,10 +61,18 @@ pub record IsCardsOrderOf (rows : List Row) (order : CardsOrder) : Type 0 where
   pub name : IsGivenName (first_of (codes "name") rows) (Some order.name)
   pub append : order.append ≡ is_on (codes "append") rows
 
--- the options that were found choose two devices, or they choose one and the name is not a name
+-- what was found for a name is this word, and not a name
+abbrev pub IsBadName : Option Text → Text → Type 0
+IsBadName found word = IsGivenName found None × (found ≡ Some word)
+
+-- what was found for an address is this word, and not an address
+abbrev pub IsBadAddress : (found word : Text) → Type 0
+IsBadAddress found word = IsAddressOf found None × (word ≡ found)
+
+-- the options that were found choose two devices, or they choose one and the name, by its word, is not a name
 abbrev pub IsCardsFaultOf : List Row → WordsFault → Type 0
 IsCardsFaultOf rows TwoDevices = device_in rows ≡ None
-IsCardsFaultOf rows BadName = (device_in rows ≢ None) × IsGivenName (first_of (codes "name") rows) None
+IsCardsFaultOf rows (BadName word) = (device_in rows ≢ None) × IsBadName (first_of (codes "name") rows) word.now
 IsCardsFaultOf rows _ = ⊥
 
 -- the number of the one job, by the text that was found for it: the decimal number that it writes, which a plus may precede; none where
@@ -122,7 +130,7 @@ pub record IsSendOrderOf (rows : List Row) (order : SendOrder) : Type 0 where
 
 -- the address of the receiver that was found is not an address
 abbrev pub IsSendFaultOf : List Row → WordsFault → Type 0
-IsSendFaultOf rows BadAddress = IsAddressOf (word_in (codes "to") rows) None
+IsSendFaultOf rows (BadAddress word) = IsBadAddress (word_in (codes "to") rows) word.now
 IsSendFaultOf rows _ = ⊥
 
 -- what the options choose for the jobs that the file which is received into holds already
@@ -148,7 +156,7 @@ IsSomeAddress text = (address : SocketAddr) × IsAddressOf text (Some address)
 
 -- the address to listen at that was found is not an address, or it is one and both options for the jobs of the file were given
 abbrev pub IsReceiveFaultOf : List Row → WordsFault → Type 0
-IsReceiveFaultOf rows BadAddress = IsAddressOf (word_in (codes "listen") rows) None
+IsReceiveFaultOf rows (BadAddress word) = IsBadAddress (word_in (codes "listen") rows) word.now
 IsReceiveFaultOf rows NewAndAppend = IsSomeAddress (word_in (codes "listen") rows) × (existing_in rows ≡ None)
 IsReceiveFaultOf rows _ = ⊥
 
@@ -163,8 +171,8 @@ IsMeetingOf _ _ _ = ⊥
 abbrev pub IsMeetingFault : (to listen : Option Text) → WordsFault → Type 0
 IsMeetingFault None None NoMeeting = ⊤
 IsMeetingFault (Some to) (Some listen) NoMeeting = ⊤
-IsMeetingFault (Some text) None BadAddress = IsAddressOf text None
-IsMeetingFault None (Some text) BadAddress = IsAddressOf text None
+IsMeetingFault (Some text) None (BadAddress word) = IsBadAddress text word.now
+IsMeetingFault None (Some text) (BadAddress word) = IsBadAddress text word.now
 IsMeetingFault _ _ _ = ⊥
 
 -- there is just one text, and it is that of an address
@@ -203,10 +211,10 @@ IsOrderOf name rows (Sockets (Exchange order)) = (name ≡ codes "exchange") × 
 abbrev pub IsFaultOf : Text → List Row → WordsFault → Type 0
 IsFaultOf name rows (Refused error) = ⊥
 IsFaultOf name rows TwoDevices = (name ≡ codes "cards") × IsCardsFaultOf rows TwoDevices
-IsFaultOf name rows BadName = (name ≡ codes "cards") × IsCardsFaultOf rows BadName
-IsFaultOf name rows BadAddress =
-    ((name ≡ codes "send") × IsSendFaultOf rows BadAddress)
-    ⊎ (((name ≡ codes "receive") × IsReceiveFaultOf rows BadAddress) ⊎ ((name ≡ codes "exchange") × IsExchangeFaultOf rows BadAddress))
+IsFaultOf name rows (BadName word) = (name ≡ codes "cards") × IsCardsFaultOf rows (BadName word)
+IsFaultOf name rows (BadAddress word) =
+    ((name ≡ codes "send") × IsSendFaultOf rows (BadAddress word))
+    ⊎ (((name ≡ codes "receive") × IsReceiveFaultOf rows (BadAddress word)) ⊎ ((name ≡ codes "exchange") × IsExchangeFaultOf rows (BadAddress word)))
 IsFaultOf name rows NoMeeting = (name ≡ codes "exchange") × IsExchangeFaultOf rows NoMeeting
 IsFaultOf name rows NewAndAppend =
     ((name ≡ codes "receive") × IsReceiveFaultOf rows NewAndAppend) ⊎ ((name ≡ codes "exchange") × IsExchangeFaultOf rows NewAndAppend)

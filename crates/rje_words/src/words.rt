@@ -5,7 +5,7 @@ ghost use Rattle.rje_words.specs.CommandLine.{IsOneOf, command_names};
 ghost use Rattle.rje_words.specs.Address.{IsAddressOf};
 ghost use Rattle.rje_words.specs.Asking.{AsksFor, IsWordsFault, IsOrderOf, IsFaultOf, IsCardsOrderOf, IsCardsFaultOf};
 ghost use Rattle.rje_words.specs.Asking.{IsLoopOrderOf, IsSendOrderOf, IsSendFaultOf, IsReceiveOrderOf, IsReceiveFaultOf, IsExchangeOrderOf, IsExchangeFaultOf};
-ghost use Rattle.rje_words.specs.Asking.{IsMeetingOf, IsMeetingFault, IsTimeoutOf, IsGivenName, IsNumberOf, word_in, is_on, existing_in};
+ghost use Rattle.rje_words.specs.Asking.{IsMeetingOf, IsMeetingFault, IsTimeoutOf, IsBadName, IsGivenName, IsNumberOf, word_in, is_on, existing_in};
 ghost use Rattle.rje_words.specs.Asking.{IsMonitorOrderOf, IsPrintOrderOf, IsShowOrderOf};
 
 mod app;
@@ -25,7 +25,7 @@ use std::alloc::Global;
 
 /// What these words, which are those after the program's name, ask for. No words ask for the
 /// blocks of the deck on standard input.
-pub fn parse<'a>(alloc: Global, words: &'a [&'a str]) -> Result<Order<'a>, WordsFault>
+pub fn parse<'a>(alloc: Global, words: &'a [&'a str]) -> Result<Order<'a>, WordsFault<'a>>
     ensures asked { IfOk result (AsksFor (map (λ word. word.now) words.entry.now)) }
     ensures told { IfErr result (IsWordsFault (map (λ word. word.now) words.entry.now)) }
 {
@@ -38,7 +38,7 @@ pub fn parse<'a>(alloc: Global, words: &'a [&'a str]) -> Result<Order<'a>, Words
 }
 
 /// What the command of this name asks for, with what clap found for it.
-fn order_of<'a>(command: &str, matches: &ArgMatches<'a>) -> Result<Order<'a>, WordsFault>
+fn order_of<'a>(command: &str, matches: &ArgMatches<'a>) -> Result<Order<'a>, WordsFault<'a>>
     requires known { IsOneOf command.now command_names }
     ensures asked { IfOk result (IsOrderOf command.now (rows_of (found_of matches.now))) }
     ensures told { IfErr result (IsFaultOf command.now (rows_of (found_of matches.now))) }
@@ -62,7 +62,7 @@ fn order_of<'a>(command: &str, matches: &ArgMatches<'a>) -> Result<Order<'a>, Wo
     }
 }
 
-fn cards_order<'a>(matches: &ArgMatches<'a>) -> Result<CardsOrder<'a>, WordsFault>
+fn cards_order<'a>(matches: &ArgMatches<'a>) -> Result<CardsOrder<'a>, WordsFault<'a>>
     ensures asked { IfOk result (IsCardsOrderOf (rows_of (found_of matches.now))) }
     ensures told { IfErr result (IsCardsFaultOf (rows_of (found_of matches.now))) }
 {
@@ -76,24 +76,30 @@ fn cards_order<'a>(matches: &ArgMatches<'a>) -> Result<CardsOrder<'a>, WordsFaul
     };
     let append = is_given(matches, "append");
     match name_in(matches) {
-        Some(name) => Ok(CardsOrder {
+        Ok(name) => Ok(CardsOrder {
             deck,
             jobs,
             device,
             name,
             append,
         }),
-        None => Err(WordsFault::BadName),
+        Err(word) => Err(WordsFault::BadName(word)),
     }
 }
 
-/// The name that was found for a job, which is blank where none was; `None` if it is not a name.
-fn name_in(matches: &ArgMatches) -> Option<JobName>
-    ensures { IsGivenName (first_of (codes "name") (rows_of (found_of matches.now))) result }
+/// The name that was found for a job, which is blank where none was; the word where it is not a name.
+fn name_in<'a>(matches: &ArgMatches<'a>) -> Result<JobName, &'a str>
+    ensures name { IfOk result (λ name.
+        IsGivenName (first_of (codes "name") (rows_of (found_of matches.now))) (Some name)) }
+    ensures none { IfErr result (λ word.
+        IsBadName (first_of (codes "name") (rows_of (found_of matches.now))) word.now) }
 {
-    match matches.get_str("name") {
-        Some(text) => name_of(text),
-        None => Some(NO_NAME),
+    match value_of(matches, "name") {
+        Some(word) => match name_of(word) {
+            Some(name) => Ok(name),
+            None => Err(word),
+        },
+        None => Ok(NO_NAME),
     }
 }
 
@@ -152,12 +158,13 @@ fn loop_order<'a>(matches: &ArgMatches<'a>) -> LoopOrder<'a>
     }
 }
 
-fn send_order<'a>(matches: &ArgMatches<'a>) -> Result<SendOrder<'a>, WordsFault>
+fn send_order<'a>(matches: &ArgMatches<'a>) -> Result<SendOrder<'a>, WordsFault<'a>>
     ensures asked { IfOk result (IsSendOrderOf (rows_of (found_of matches.now))) }
     ensures told { IfErr result (IsSendFaultOf (rows_of (found_of matches.now))) }
 {
-    let Some(address) = address_of(word(matches, "to")) else {
-        return Err(WordsFault::BadAddress);
+    let to = word(matches, "to");
+    let Some(address) = address_of(to) else {
+        return Err(WordsFault::BadAddress(to));
     };
     Ok(SendOrder {
         jobs: word(matches, "JOBS"),
@@ -167,12 +174,13 @@ fn send_order<'a>(matches: &ArgMatches<'a>) -> Result<SendOrder<'a>, WordsFault>
     })
 }
 
-fn receive_order<'a>(matches: &ArgMatches<'a>) -> Result<ReceiveOrder<'a>, WordsFault>
+fn receive_order<'a>(matches: &ArgMatches<'a>) -> Result<ReceiveOrder<'a>, WordsFault<'a>>
     ensures asked { IfOk result (IsReceiveOrderOf (rows_of (found_of matches.now))) }
     ensures told { IfErr result (IsReceiveFaultOf (rows_of (found_of matches.now))) }
 {
-    let Some(address) = address_of(word(matches, "listen")) else {
-        return Err(WordsFault::BadAddress);
+    let listen = word(matches, "listen");
+    let Some(address) = address_of(listen) else {
+        return Err(WordsFault::BadAddress(listen));
     };
     let Some(existing) = existing_in(matches) else {
         return Err(WordsFault::NewAndAppend);
@@ -188,7 +196,7 @@ fn receive_order<'a>(matches: &ArgMatches<'a>) -> Result<ReceiveOrder<'a>, Words
     })
 }
 
-fn exchange_order<'a>(matches: &ArgMatches<'a>) -> Result<ExchangeOrder<'a>, WordsFault>
+fn exchange_order<'a>(matches: &ArgMatches<'a>) -> Result<ExchangeOrder<'a>, WordsFault<'a>>
     ensures asked { IfOk result (IsExchangeOrderOf (rows_of (found_of matches.now))) }
     ensures told { IfErr result (IsExchangeFaultOf (rows_of (found_of matches.now))) }
 {
@@ -217,7 +225,7 @@ fn existing_in(matches: &ArgMatches) -> Option<Existing>
 }
 
 /// How the two ends come to a connection: by one of two options.
-fn meeting_in(matches: &ArgMatches) -> Result<Meeting, WordsFault>
+fn meeting_in<'a>(matches: &ArgMatches<'a>) -> Result<Meeting, WordsFault<'a>>
     ensures asked { IfOk result (IsMeetingOf
         (first_of (codes "to") (rows_of (found_of matches.now)))
         (first_of (codes "listen") (rows_of (found_of matches.now)))) }
@@ -228,11 +236,11 @@ fn meeting_in(matches: &ArgMatches) -> Result<Meeting, WordsFault>
     match (value_of(matches, "to"), value_of(matches, "listen")) {
         (Some(to), None) => match address_of(to) {
             Some(address) => Ok(Meeting::Calls(address)),
-            None => Err(WordsFault::BadAddress),
+            None => Err(WordsFault::BadAddress(to)),
         },
         (None, Some(listen)) => match address_of(listen) {
             Some(address) => Ok(Meeting::Listens(address)),
-            None => Err(WordsFault::BadAddress),
+            None => Err(WordsFault::BadAddress(listen)),
         },
         _ => Err(WordsFault::NoMeeting),
     }

@@ -8,19 +8,19 @@ use thiserror::Error;
 
 /// Why the words ask for nothing that can be done.
 #[derive(Debug, Drop, Error)]
-pub enum WordsFault {
+pub enum WordsFault<'a> {
     /// clap's: no command of this form, out of memory, or help or the version that was asked for.
     #[error("{0}")]
     Refused(clap::Error),
     /// More than one device for a deck's job.
     #[error("choose one device")]
     TwoDevices,
-    /// A name for a deck's job that isn't one to eight of A to Z and 0 to 9.
-    #[error("bad name")]
-    BadName,
-    /// Not an address.
-    #[error("bad address")]
-    BadAddress,
+    /// A name for a deck's job that isn't one to eight of A to Z and 0 to 9. Two lines.
+    #[error("{0}: not one to eight of A to Z and 0 to 9\nrje: bad name")]
+    BadName(&'a str),
+    /// Not an address. Two lines.
+    #[error("{0}: not four numbers and a port\nrje: bad address")]
+    BadAddress(&'a str),
     /// Both of the options for an address, or none of them.
     #[error("choose --to or --listen")]
     NoMeeting,
@@ -29,18 +29,18 @@ pub enum WordsFault {
     NewAndAppend,
 }
 
-impl From<clap::Error> for WordsFault {
+impl From<clap::Error> for WordsFault<'_> {
     ghost from_gives = { λ error fault. fault ≡ Refused error };
 
-    fn from(error: clap::Error) -> WordsFault {
+    fn from(error: clap::Error) -> Self {
         WordsFault::Refused(error)
     }
 }
 
-impl From<AllocError> for WordsFault {
+impl From<AllocError> for WordsFault<'_> {
     ghost from_gives = { λ _ fault. IsWantOfMemory fault };
 
-    fn from(error: AllocError) -> WordsFault {
+    fn from(error: AllocError) -> Self {
         WordsFault::Refused(clap::Error::from(error))
     }
 }

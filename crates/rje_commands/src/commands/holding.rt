@@ -32,7 +32,7 @@ impl<'a> HeldFile<'a> {
     {
         match store.lock(alloc, name) {
             Ok(()) => {}
-            Err(StoreFault::Missing) => return Err(CommandFault::CannotRead(name)),
+            Err(StoreFault::Missing) => return Err(not_read(name, StoreFault::Missing)),
             Err(fault) => return Err(not_written(name, fault)),
         }
         match store.read_held(alloc, name) {
@@ -75,6 +75,11 @@ pub fn lock_file<'a, S: Store>(
 {
     match store.lock(alloc, name) {
         Ok(()) => Ok(()),
+        // There can't be such a file: whoever looks how it can be written finds out why.
+        Err(StoreFault::Missing) => {
+            let fault = store.look(name).err().unwrap_or(StoreFault::Missing);
+            Err(not_written(name, fault))
+        }
         Err(fault) => Err(not_written(name, fault)),
     }
 }

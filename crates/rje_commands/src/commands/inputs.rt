@@ -91,7 +91,6 @@ pub(super) fn not_read(name: &str, fault: StoreFault) -> CommandFault<'_>
 {
     match fault {
         StoreFault::OutOfMemory => CommandFault::OutOfMemory,
-        StoreFault::Missing | StoreFault::InUse | StoreFault::Unsynced | StoreFault::Failed =>
-            CommandFault::CannotRead(name),
+        fault => CommandFault::CannotRead(name, fault),
     }
 }

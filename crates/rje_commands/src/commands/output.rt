@@ -8,6 +8,7 @@ ghost use Rattle.rje_stores.specs.Store.{Discloses, Extends, IsSame, Sets, SetsB
 ghost use Rattle.std.specs.Io.KnownBytes.{Appends};
 
 use crate::command_fault::CommandFault;
+use crate::write_cause::WriteCause;
 use rje_files::Growth;
 use rje_print::PrintedLine;
 use rje_stores::{MAX_INPUT, Place, Store, StoreFault, grown_bytes};
@@ -50,7 +51,7 @@ pub fn write_file<'a, S: Store>(
     ensures same { OnErr result (Discloses (S.files store.old) (S.files store.new) IsSame) }
 {
     if MAX_INPUT < bytes.len() {
-        return Err(CommandFault::CannotWrite(name));
+        return Err(not_written(name, StoreFault::TooLong));
     }
     match store.write(name, bytes) {
         Ok(()) => Ok(()),
@@ -113,7 +114,7 @@ pub fn look_beside<'a, S: Store>(
 {
     match store.is_one_file(alloc, other, name) {
         Ok(false) => Ok(()),
-        Ok(true) => Err(CommandFault::CannotWrite(name)),
+        Ok(true) => Err(CommandFault::CannotWrite(name, WriteCause::IsSent)),
         Err(fault) => Err(not_written(name, fault)),
     }
 }
@@ -137,7 +138,7 @@ pub fn extend_file<'a, S: Store>(
     let tail = growth.tail.as_slice();
     let longer = match long.checked_add(tail.len()) {
         Some(longer) if longer <= MAX_INPUT => longer,
-        _ => return Err(CommandFault::CannotWrite(name)),
+        _ => return Err(not_written(name, StoreFault::TooLong)),
     };
     match store.extend(alloc, name, growth.front.as_slice(), tail) {
         Ok(()) => Ok(longer),
@@ -173,6 +174,6 @@ pub(super) fn not_written(name: &str, fault: StoreFault) -> CommandFault<'_>
         StoreFault::OutOfMemory => CommandFault::OutOfMemory,
         StoreFault::InUse => CommandFault::InUse(name),
         StoreFault::Unsynced => CommandFault::Unsynced(name),
-        StoreFault::Missing | StoreFault::Failed => CommandFault::CannotWrite(name),
+        fault => CommandFault::CannotWrite(name, WriteCause::Store(fault)),
     }
 }

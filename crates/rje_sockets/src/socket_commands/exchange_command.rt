@@ -19,10 +19,11 @@ ghost use Rattle.rje_stores.specs.Store.{FileMap, Discloses, IsSame};
 ghost use Rattle.rje_stores.specs.declared.store.Place.TheVariants.{Growing};
 
 use crate::both_ways::exchange_all;
-use crate::connection::{TimedLine, accepted, connected, tell_if_short};
+use crate::connection::{ObservedLine, accepted, connected, tell_if_short};
 use crate::keeper::Keeper;
 use crate::kept_file::KeptFile;
 use crate::left::Left;
+use crate::line_cause::{LineCause, tell_cause};
 use crate::marker::Marker;
 use crate::parting::{HearsOut, Leaves, Parting, parts_in_step};
 use crate::socket_commands::Ending;
@@ -32,13 +33,13 @@ use crate::tracer::Tracer;
 use crate::watch::{Unwatched, Watch};
 use bsc_link::{Outcome, Rank};
 use rje_commands::{CommandFault, lock_file, look_beside, put_lines, tell};
-use rje_jobs::Job;
+use rje_jobs::{FileFault, Job};
 use rje_orders::{Destination, ExchangeOrder, Meeting};
 use rje_print::{PrintedLine, counted_text, handed_text, outcome_text};
 use rje_station::{Line, Station};
 use rje_stores::Store;
 use std::alloc::Global;
-use std::io::{self, Write};
+use std::io::Write;
 use std::net::{Net, SocketAddr};
 use std::time::Clock;
 
@@ -66,10 +67,11 @@ pub fn exchange<'a, R: Net + Clock, S: Store, O: Write, E: Write>(
         → Discloses (S.files store.old) (S.files store.new) IsSame) }
     ensures silent { IfErr result (λ fault. status_of fault ≡ 1 → out.new ≡ out.old) }
 {
-    look_before_meeting(alloc, order.send, order.place, store)?;
-    let keeper = keeper_beside(alloc, order.send, order.received, store)?;
-    let Ok((mut line, peer)) = met(rt, order.place, order.timeout, err) else {
-        return Err(CommandFault::LineFailed);
+    look_before_meeting(alloc, order.send, order.place, store, err)?;
+    let keeper = keeper_beside(alloc, order.send, order.received, store, err)?;
+    let (mut line, peer) = match met(rt, order.place, order.timeout, err) {
+        Ok(met) => met,
+        Err(cause) => return Err(cause.told(err)),
     };
     let Outgoing { jobs, marker } = read_outgoing(alloc, order.send, store)?;
     let station = Station::new(alloc, rank_of(order.place), jobs.as_slice())?;
@@ -89,6 +91,7 @@ pub fn exchange<'a, R: Net + Clock, S: Store, O: Write, E: Write>(
     if matches!(order.place, Meeting::Listens(_)) {
         tell_if_short(order.timeout, "the peer", line.waited(), err);
     }
+    tell_cause(&ending, line.cause(), err);
     ending
 }
 
@@ -117,13 +120,13 @@ pub fn exchange_over<L: Line, S: Store, O: Write, E: Write>(
     ensures files_kept { result ≡ 1 → Discloses (S.files store.old) (S.files store.new) IsSame }
     ensures silent { result ≡ 1 → (line.new ≡ line.old) × (out.new ≡ out.old) }
 {
-    match exchanged(alloc, rank, line, send, received, store, out) {
+    match exchanged(alloc, rank, line, send, received, store, out, err) {
         Ok(ending) => ending.status(),
         Err(fault) => tell(&fault, err),
     }
 }
 
-fn exchanged<'a, L: Line, S: Store, O: Write>(
+fn exchanged<'a, L: Line, S: Store, O: Write, E: Write>(
     alloc: Global,
     rank: Rank,
     line: &mut L,
@@ -131,6 +134,7 @@ fn exchanged<'a, L: Line, S: Store, O: Write>(
     received: Destination<'a>,
     store: &mut S,
     out: &mut O,
+    err: &mut E,
 ) -> Result<Ending, CommandFault<'a>>
     ensures exchanged { IfOk result (λ ending. ExchangesLeft ending rank
         send.entry.now received.entry
@@ -147,7 +151,7 @@ fn exchanged<'a, L: Line, S: Store, O: Write>(
 {
     let Outgoing { jobs, marker } = read_outgoing(alloc, send, store)?;
     let station = Station::new(alloc, rank, jobs.as_slice())?;
-    let keeper = keeper_beside(alloc, send, received, store)?;
+    let keeper = keeper_beside(alloc, send, received, store, err)?;
     marker.begin(store)?;
     exchange_files(
         station,
@@ -161,19 +165,29 @@ fn exchanged<'a, L: Line, S: Store, O: Write>(
     )
 }
 
+/// Reports that the file of this name is no job file, where that is why.
+fn name_no_job_file<T, E: Write>(tried: &Result<T, CommandFault>, name: &str, err: &mut E) {
+    if let Err(CommandFault::File(FileFault::NotJobFile)) = tried {
+        let _ = writeln!(err, "rje: {name}: no job file");
+    }
+}
+
 /// Looks whether what is left of the job file of this name can be sent. An end that calls has the file for itself from then on; one that
 /// listens leaves it free until it is called.
-fn look_before_meeting<'a, S: Store>(
+fn look_before_meeting<'a, S: Store, E: Write>(
     alloc: Global,
     name: &'a str,
     place: Meeting,
     store: &mut S,
+    err: &mut E,
 ) -> Result<(), CommandFault<'a>>
     ensures fault { IfErr result (IsSendFault (λ named. named ≡ name.entry.now)
         name.entry.now (S.files store.old)) }
     ensures same { Discloses (S.files store.old) (S.files store.new) IsSame }
 {
-    look_at_outgoing(alloc, name, store)?;
+    let looked = look_at_outgoing(alloc, name, store);
+    name_no_job_file(&looked, name, err);
+    looked?;
     match place {
         Meeting::Calls(_) => lock_file(alloc, name, store),
         Meeting::Listens(_) => Ok(()),
@@ -181,11 +195,12 @@ fn look_before_meeting<'a, S: Store>(
 }
 
 /// Keeps jobs in the file of a destination, which is not that of the other name.
-fn keeper_beside<'a, S: Store>(
+fn keeper_beside<'a, S: Store, E: Write>(
     alloc: Global,
     other: &str,
     into: Destination<'a>,
     store: &mut S,
+    err: &mut E,
 ) -> Result<Keeper<'a>, CommandFault<'a>>
     ensures two { OnOk result (other.now ≢ into.entry.jobs.now) }
     ensures into { IfOk result (λ keeper. keeper.file.into ≡ into.entry) }
@@ -196,8 +211,9 @@ fn keeper_beside<'a, S: Store>(
     ensures same { Discloses (S.files store.old) (S.files store.new) IsSame }
 {
     look_beside(alloc, other, into.jobs, store)?;
-    let file = KeptFile::open(alloc, into, store)?;
-    Ok(Keeper::new(alloc, file))
+    let file = KeptFile::open(alloc, into, store);
+    name_no_job_file(&file, into.jobs, err);
+    Ok(Keeper::new(alloc, file?))
 }
 
 /// Exchanges over a line what the station has for what comes. At the end it marks what was counted in the whole file, keeps what is left of
@@ -278,7 +294,7 @@ fn met<'r, R: Net + Clock, E: Write>(
     place: Meeting,
     timeout: u16,
     err: &mut E,
-) -> io::Result<(TimedLine<'r, R>, SocketAddr)>
+) -> Result<(ObservedLine<'r, R>, SocketAddr), LineCause>
     ensures unused { IfOk result (λ met. met.0.transmissions ≡ 0) }
 {
     match place {

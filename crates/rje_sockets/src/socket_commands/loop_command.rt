@@ -10,6 +10,9 @@ ghost use Rattle.rje_sockets.specs.OverLine.{BothTook};
 ghost use Rattle.rje_sockets.specs.NamedFiles.{NamesOne};
 ghost use Rattle.rje_stores.specs.Store.{Discloses, IsSame};
 
+use crate::connection::ObservedLine;
+use crate::line_cause::{LineCause, tell_cause};
+use crate::observed_stream::ObservedStream;
 use crate::one_way::take_turns;
 use crate::socket_commands::Ending;
 use crate::socket_line::SocketLine;
@@ -49,11 +52,12 @@ pub fn loopback<'a, R: Net + Clock, S: Store, O: Write, E: Write>(
     let jobs = read_job_file(alloc, order.jobs, store)?;
     let mut sender = SendingStation::new(alloc, jobs.as_slice())?;
     let mut receiver = ReceivingStation::new(alloc)?;
-    let Ok((mut near, mut far)) = both_ends(rt, order.timeout) else {
-        return Err(CommandFault::LineFailed);
+    let (mut near, mut far) = match both_ends(rt, order.timeout) {
+        Ok(ends) => ends,
+        Err(error) => return Err(LineCause::Failed(error.kind()).told(err)),
     };
-    let mut tracer = Tracer::new(rt, order.trace, err);
-    loop_over(
+    let mut tracer = Tracer::new(rt, order.trace, &mut *err);
+    let ending = loop_over(
         &mut sender,
         &mut near,
         &mut receiver,
@@ -61,7 +65,9 @@ pub fn loopback<'a, R: Net + Clock, S: Store, O: Write, E: Write>(
         jobs.len(),
         &mut tracer,
         out,
-    )
+    );
+    tell_cause(&ending, near.cause().or(far.cause()), err);
+    ending
 }
 
 /// Sends what the sender has to the receiver, each at its end of a line, and prints the lines of it, also after a fault of the line.
@@ -111,16 +117,16 @@ fn print_looped<'a, O: Write>(
 }
 
 /// Both ends of a line: a connection to a free port of this machine.
-fn both_ends<R: Net>(
-    rt: &R,
+fn both_ends<'r, R: Net>(
+    rt: &'r R,
     timeout: u16,
-) -> io::Result<(SocketLine<R::Stream>, SocketLine<R::Stream>)> {
+) -> io::Result<(ObservedLine<'r, R>, ObservedLine<'r, R>)> {
     let any = SocketAddr::from((Ipv4Addr::LOCALHOST, 0));
     let listener = TcpListener::bind(rt, any)?;
     let near = TcpStream::connect(rt, listener.local_addr()?)?;
     let (far, _) = listener.accept()?;
     Ok((
-        SocketLine::new(near, timeout, Rank::Primary)?,
-        SocketLine::new(far, timeout, Rank::Secondary)?,
+        SocketLine::new(ObservedStream::new(None, near), timeout, Rank::Primary)?,
+        SocketLine::new(ObservedStream::new(None, far), timeout, Rank::Secondary)?,
     ))
 }

@@ -19,6 +19,7 @@ use crate::connection::{accepted, tell_if_short};
 use crate::keeper::Keeper;
 use crate::kept_file::KeptFile;
 use crate::left::Left;
+use crate::line_cause::tell_cause;
 use crate::one_way::receive_all;
 use crate::socket_commands::Ending;
 use crate::tracer::Tracer;
@@ -55,13 +56,15 @@ pub fn receive<'a, R: Net + Clock, S: Store, O: Write, E: Write>(
     ensures silent { IfErr result (λ fault. status_of fault ≡ 1 → out.new ≡ out.old) }
 {
     let file = KeptFile::open(alloc, order.into, store)?;
-    let Ok((mut line, peer)) = accepted(rt, order.address, order.timeout) else {
-        return Err(CommandFault::LineFailed);
+    let (mut line, peer) = match accepted(rt, order.address, order.timeout) {
+        Ok(met) => met,
+        Err(cause) => return Err(cause.told(err)),
     };
     let mut tracer = Tracer::new(rt, order.trace, &mut *err);
     tracer.connected(peer);
     let ending = received(alloc, &mut line, file, store, &mut tracer, out);
     tell_if_short(order.timeout, "the peer", line.waited(), err);
+    tell_cause(&ending, line.cause(), err);
     ending
 }
 

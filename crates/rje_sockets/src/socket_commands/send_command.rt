@@ -16,6 +16,7 @@ ghost use Rattle.rje_sockets.specs.NamedFiles.{NamesOne, NamesWritten};
 ghost use Rattle.rje_sockets.specs.OverLine.{OverConnection, Sends};
 
 use crate::connection::connected;
+use crate::line_cause::tell_cause;
 use crate::marker::Marker;
 use crate::one_way::send_all;
 use crate::parting::{HearsOut, Leaves, Parting, parts_in_step};
@@ -58,13 +59,14 @@ pub fn send<'a, R: Net + Clock, S: Store, O: Write, E: Write>(
 {
     let Outgoing { jobs, mut marker } = read_outgoing(alloc, order.jobs, store)?;
     let mut station = SendingStation::new(alloc, jobs.as_slice())?;
-    let Ok(mut line) = connected(rt, order.address, order.timeout, err) else {
-        return Err(CommandFault::LineFailed);
+    let mut line = match connected(rt, order.address, order.timeout, err) {
+        Ok(line) => line,
+        Err(cause) => return Err(cause.told(err)),
     };
-    let mut tracer = Tracer::new(rt, order.trace, err);
+    let mut tracer = Tracer::new(rt, order.trace, &mut *err);
     tracer.connected(order.address);
     marker.begin(store)?;
-    transmit(
+    let ending = transmit(
         &mut station,
         &mut marker,
         &mut line,
@@ -72,7 +74,9 @@ pub fn send<'a, R: Net + Clock, S: Store, O: Write, E: Write>(
         store,
         &mut tracer,
         out,
-    )
+    );
+    tell_cause(&ending, line.cause(), err);
+    ending
 }
 
 /// Sends over a line what is left of the job file of this name. Then, also after a fault of the line, marks in

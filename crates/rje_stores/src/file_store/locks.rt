@@ -36,15 +36,20 @@ impl<F: Drop> FileLock<F> {
         let path = resolved(disk, alloc, name)?;
         let beside = lock_beside(alloc, path.as_str())?;
         let name = String::from_str(alloc, name)?;
-        let (own, otherwise) = match disk.status(path.as_str()) {
-            Ok(found) if found.kind == FileKind::Regular => {
-                (open_to_lock(disk, path.as_str()), StoreFault::Failed)
-            }
+        let is_there = match disk.status(path.as_str()) {
+            Ok(found) if found.kind == FileKind::Regular => true,
             Ok(_) => return Ok(None),
-            Err(_) => (None, StoreFault::Missing),
+            Err(_) => false,
+        };
+        let own = match is_there {
+            true => open_to_lock(disk, path.as_str()),
+            false => None,
         };
         let lock = match lock_of(disk, beside.as_str()) {
-            Err(StoreFault::Failed | StoreFault::Missing) => return Err(otherwise),
+            Err(StoreFault::Failed(_) | StoreFault::Missing) if !is_there => {
+                return Err(StoreFault::Missing);
+            }
+            Err(StoreFault::Missing) => return Err(StoreFault::Failed(ErrorKind::NotFound)),
             taken => taken?,
         };
         match own_locked(disk, own.as_ref()) {
@@ -113,7 +118,7 @@ fn lock_of<D: Disk>(disk: &mut D, path: &str) -> Result<D::File, StoreFault> {
             return Ok(file);
         }
     }
-    Err(StoreFault::Failed)
+    Err(StoreFault::Failed(ErrorKind::ResourceBusy))
 }
 
 /// Whether an open file has a name.

@@ -25,7 +25,16 @@ impl Read for Failing {
 
 #[test]
 fn an_input_that_fails_or_is_too_long_cannot_be_read(rt: HostRuntime) {
-    for left in [10, MAX_INPUT + 1] {
+    for (left, reported) in [
+        (
+            10,
+            b"rje: -: operation interrupted\nrje: can't read -\n".as_slice(),
+        ),
+        (
+            MAX_INPUT + 1,
+            b"rje: -: too long\nrje: can't read -\n".as_slice(),
+        ),
+    ] {
         let mut store = MemoryStore::new(rt.alloc());
         let mut input = Failing { left };
         let mut written = Written::new();
@@ -40,7 +49,7 @@ fn an_input_that_fails_or_is_too_long_cannot_be_read(rt: HostRuntime) {
         );
         assert!(rt; ended == 3);
         assert!(rt; written.is_empty());
-        assert!(rt; told.as_slice() == b"rje: can't read -\n".as_slice());
+        assert!(rt; told.as_slice() == reported);
     }
 }
 

@@ -240,7 +240,10 @@ fn called<R: Net + Abort + AllocGlobal>(
     let ended = socket_command(&net, rt.alloc(), &words, &mut store, &mut out, &mut err);
     assert!(rt; ended == 3);
     assert!(rt; out.is_empty());
-    assert!(rt; err.as_slice() == b"rje: line failed\n".as_slice());
+    assert!(rt;
+        err.as_slice()
+            == b"rje: can't connect to 192.0.2.1:3780: connection refused\nrje: line failed\n".as_slice()
+    );
     Ok(net.called.get())
 }
 

@@ -173,7 +173,7 @@ fn of_two_files_that_cannot_be_written_the_sent_one_is_told(rt: HostRuntime) -> 
         file: one_job(&rt, 0, 0xC1),
     };
     let mut line = ToldLine::new(&[ACK0, ACK1]);
-    let told = b"rje: can't write out\n";
+    let told = b"rje: out: no storage space\nrje: can't write out\n";
     assert_ends(&rt, Rank::Primary, &mut line, &mut store, 3, b"", told);
 
     // It is made, and then neither a mark nor what came can be written.

@@ -8,6 +8,7 @@ use rje_sockets::receive_over;
 use rje_station::Line;
 use rje_stores::{MemoryStore, Store, StoreFault};
 use std::alloc::Global;
+use std::io::ErrorKind;
 use std::process::Abort;
 use std::test::Fail;
 
@@ -25,7 +26,7 @@ const ONE_JOB: &[u8] = b"handed 1 jobs, 1 whole\n";
 
 const FAILED: &[u8] = b"rje: line failed\n";
 
-const NOT_WRITTEN: &[u8] = b"rje: can't write got\n";
+const NOT_WRITTEN: &[u8] = b"rje: got: no storage space\nrje: can't write got\n";
 
 /// What is received into.
 const REPLACED: Destination = Destination {
@@ -134,11 +135,11 @@ impl Store for NoFiles {
     }
 
     fn read(&mut self, _alloc: Global, _name: &str) -> Result<Vec<u8>, StoreFault> {
-        Err(StoreFault::Failed)
+        Err(StoreFault::Failed(ErrorKind::StorageFull))
     }
 
     fn write(&mut self, _name: &str, _bytes: &[u8]) -> Result<(), StoreFault> {
-        Err(StoreFault::Failed)
+        Err(StoreFault::Failed(ErrorKind::StorageFull))
     }
 }
 
@@ -188,7 +189,7 @@ impl Store for FillingStore {
 
     fn write(&mut self, name: &str, bytes: &[u8]) -> Result<(), StoreFault> {
         if self.room == 0 {
-            return Err(StoreFault::Failed);
+            return Err(StoreFault::Failed(ErrorKind::StorageFull));
         }
         self.room -= 1;
         self.files.write(name, bytes)

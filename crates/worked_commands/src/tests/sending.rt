@@ -19,7 +19,10 @@ const EOT: &[u8] = b"\x32\x32\x37\xFF";
 
 const RVI: &[u8] = b"\x32\x32\x10\x7C\xFF";
 
-const NOT_WRITTEN: &[u8] = b"rje: can't write jobs\n";
+const NOT_WRITTEN: &[u8] = b"rje: jobs: no storage space\nrje: can't write jobs\n";
+
+const NO_MARKS: &[u8] =
+    b"rje: jobs: no job can be marked in a device or a pipe\nrje: can't write jobs\n";
 
 /// The version 2 file of three jobs in these states (0 waiting, 1 sent), of one record `A` each.
 fn three_jobs(rt: &impl Abort, states: [u8; 3]) -> Written {
@@ -120,7 +123,7 @@ impl Store for ReadOnly {
     }
 
     fn write(&mut self, _name: &str, _bytes: &[u8]) -> Result<(), StoreFault> {
-        Err(StoreFault::Failed)
+        Err(StoreFault::Failed(ErrorKind::StorageFull))
     }
 }
 
@@ -137,7 +140,7 @@ fn nothing_is_sent_that_cannot_be_marked(rt: HostRuntime) -> Result<(), Fail> {
     let mut store = Watched::new(three_jobs(&rt, [0, 0, 0]));
     store.place = Place::Once;
     let mut line = line_of(rt.alloc(), &[ACK0, ACK1])?;
-    assert_sends(&rt, &mut line, &mut store, 3, b"", NOT_WRITTEN);
+    assert_sends(&rt, &mut line, &mut store, 3, b"", NO_MARKS);
     assert!(rt; line.sent().is_empty());
     assert!(rt; store.written == 0);
     Ok(())
@@ -245,7 +248,7 @@ impl Store for Watched {
         self.file.clear();
         match self.file.try_extend_from_slice(bytes) {
             Ok(()) => Ok(()),
-            Err(_) => Err(StoreFault::Failed),
+            Err(_) => Err(StoreFault::Failed(ErrorKind::StorageFull)),
         }
     }
 
@@ -262,7 +265,7 @@ impl Store for Watched {
     ) -> Result<(), StoreFault> {
         self.set = self.set.saturating_add(1);
         if self.is_stiff || self.file.len() <= place {
-            return Err(StoreFault::Failed);
+            return Err(StoreFault::Failed(ErrorKind::StorageFull));
         }
         self.file.as_mut_slice()[place] = byte;
         Ok(())

@@ -7,6 +7,12 @@ use std::io::ErrorKind;
 use std::process::Abort;
 use std::test::Fail;
 
+/// The disk is full.
+const FULL: StoreFault = StoreFault::Failed(ErrorKind::StorageFull);
+
+/// There is no such byte, or no file that grows.
+const INVALID: StoreFault = StoreFault::Failed(ErrorKind::InvalidInput);
+
 #[test]
 fn files_in_memory_are_read_back(rt: HostRuntime) -> Result<(), Fail> {
     let mut files = MemoryStore::new(rt.alloc());
@@ -28,7 +34,7 @@ fn a_file_in_memory_grows_and_has_a_byte_set(rt: HostRuntime) -> Result<(), Fail
     assert!(rt; files.read(rt.alloc(), "a")?.as_slice() == b"2 jobs".as_slice());
     files.set_byte(rt.alloc(), "a", 1, b'-')?;
     assert!(rt; files.read(rt.alloc(), "a")?.as_slice() == b"2-jobs".as_slice());
-    assert!(rt; files.set_byte(rt.alloc(), "a", 6, b'-') == Err(StoreFault::Failed));
+    assert!(rt; files.set_byte(rt.alloc(), "a", 6, b'-') == Err(StoreFault::TooShort));
     assert!(rt; files.extend(rt.alloc(), "b", b"2", b"s").is_err());
     Ok(())
 }
@@ -116,7 +122,7 @@ fn a_byte_is_set_where_the_file_is(rt: HostRuntime) -> Result<(), Fail> {
         alloc,
     );
     files.set_byte(alloc, "a.job", 3, b'-')?;
-    assert!(rt; files.set_byte(alloc, "a.job", 4, b'-') == Err(StoreFault::Failed));
+    assert!(rt; files.set_byte(alloc, "a.job", 4, b'-') == Err(INVALID));
     assert!(rt;
         files.disk().asked()
             == b"open a.job\nwrite to a.job: -\nsync bytes of a.job\nopen a.job\n".as_slice()
@@ -140,7 +146,7 @@ fn a_growth_that_fails_leaves_nothing_beside_the_file(rt: HostRuntime) -> Result
 
     // The copy can't be put on disk.
     let mut files = store_failing_at(alloc, 6, ErrorKind::StorageFull);
-    assert!(rt; files.extend(alloc, "a.job", b"2", b"s") == Err(StoreFault::Failed));
+    assert!(rt; files.extend(alloc, "a.job", b"2", b"s") == Err(FULL));
     assert!(rt;
         files
             .disk()
@@ -151,7 +157,7 @@ fn a_growth_that_fails_leaves_nothing_beside_the_file(rt: HostRuntime) -> Result
     // It can't have the name in the second growth, by which the file has a second one.
     let mut files = store_failing_at(alloc, 15, ErrorKind::StorageFull);
     files.extend(alloc, "a.job", b"2", b"s")?;
-    assert!(rt; files.extend(alloc, "a.job", b"3", b"t") == Err(StoreFault::Failed));
+    assert!(rt; files.extend(alloc, "a.job", b"3", b"t") == Err(FULL));
     assert!(rt;
         files.disk().asked().ends_with(
             b"link a.job as a.job.rje-0\nrename a.job.rje-0 to a.job\nremove a.job.rje-0\nremove a.job.rje-0\n"
@@ -162,7 +168,7 @@ fn a_growth_that_fails_leaves_nothing_beside_the_file(rt: HostRuntime) -> Result
     let mut files = store_failing_at(alloc, 18, ErrorKind::StorageFull);
     files.extend(alloc, "a.job", b"22", b"s")?;
     files.extend(alloc, "a.job", b"33", b"t")?;
-    assert!(rt; files.extend(alloc, "a.job", b"4", b"u") == Err(StoreFault::Failed));
+    assert!(rt; files.extend(alloc, "a.job", b"4", b"u") == Err(FULL));
     assert!(rt;
         files.disk().asked().ends_with(
             b"sync folder of a.job\nremove a.job.rje-0\ncreate a.job.rje-0\n"
@@ -176,8 +182,8 @@ fn a_device_neither_grows_nor_has_a_byte_set(rt: HostRuntime) -> Result<(), Fail
     let alloc = rt.alloc();
     let disk = RecordedDisk::new(alloc, Some(FileKind::Device), 4, 0);
     let mut files = FileStore::over(disk, alloc);
-    assert!(rt; files.set_byte(alloc, "a.job", 0, b'-') == Err(StoreFault::Failed));
-    assert!(rt; files.extend(alloc, "a.job", b"2", b"s") == Err(StoreFault::Failed));
+    assert!(rt; files.set_byte(alloc, "a.job", 0, b'-') == Err(INVALID));
+    assert!(rt; files.extend(alloc, "a.job", b"2", b"s") == Err(INVALID));
     assert!(rt; files.disk().asked() == b"open a.job\nopen a.job\n".as_slice());
     Ok(())
 }

@@ -40,6 +40,6 @@ pub returns-in_err-file-clause-kept : goal.returns-in_err-file-clause-kept
 returns-in_err-file-clause-kept g c =
     keeps_so_many c.args.order.into (g.S.Store.files c.args.store.now) (g.S.Store.files c.open.new.store) 0 0 refl (nothing_kept c.args.order.into (g.S.Store.files c.args.store.now) (g.S.Store.files c.open.new.store) 0 0 c.open.ensures.same refl)
 
-pub returns-in_default-clause-kept : goal.returns-in_default-clause-kept
-returns-in_default-clause-kept g c =
+pub returns-in-Err-clause-kept : goal.returns-in-Err-clause-kept
+returns-in-Err-clause-kept g c =
     keeps_so_many c.args.order.into (g.S.Store.files c.args.store.now) (g.S.Store.files c.open.new.store) 0 0 refl (nothing_kept c.args.order.into (g.S.Store.files c.args.store.now) (g.S.Store.files c.open.new.store) 0 0 c.open.ensures.same refl)

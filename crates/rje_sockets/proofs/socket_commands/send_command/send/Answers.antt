@@ -15,22 +15,22 @@ pub returns : goal.returns
 returns g c =
     let f = g.S.Store.files c.args.store.now in
     let read = g.S.Store.files c.read_outgoing.new.store in
-    let made = g.S.Store.files c.transmit.new.store in
+    let made = g.S.Store.files c.transmit-ending.new.store in
     let out = c.in_ok-jobs.ensures.outgoing in
     let jobs = c.in_ok-jobs.field-0.jobs in
     let marker = c.in_ok-jobs.field-0.marker in
     let first : c.in_ok-station.station ≡ first_sending jobs = rw c.as_slice.ensures.slice at c.in_ok-station.ensures.ready in
     let copy = marked_after marker.file.items marker.name.now 0 f read (g.S.Store.files c.begin.new.store) c.read_outgoing.ensures.same c.in_ok-begin.ensures.begun in
-    let fails = left_fails c.transmit.result marker.file.items jobs out.left c.transmit.ensures.status in
+    let fails = left_fails c.transmit-ending.result marker.file.items jobs out.left c.transmit-ending.ensures.status in
     record {
-      sent = over_connection c.transmit.result (λ t u ending. SendsLeft ending c.args.order.jobs.now (t, f, g.O.Write.contents c.args.out.now) (u, made, g.O.Write.contents c.transmit.new.out)) _ _ c.in-Ok.ensures.unused
-          (sends_outgoing _ c.transmit.result (None, _) (None, _) _ _ c.args.order.jobs.now jobs marker c.in_ok-station.station c.transmit.new.station f (g.S.Store.files c.begin.new.store) made
-          (g.O.Write.contents c.args.out.now) (g.O.Write.contents c.transmit.new.out) out copy first c.transmit.ensures.took c.transmit.ensures.ended
-          c.transmit.ensures.printed c.transmit.ensures.marked);
-      fault = send_fails c.transmit.result (λ n. n ≡ c.args.order.jobs.now) c.args.order.jobs.now f fails (written_names c.transmit.result marker.name.now c.args.order.jobs.now out.named c.transmit.ensures.names);
-      marked = begun_counts _ c.args.order.jobs.now jobs marker c.in_ok-station.station f (g.S.Store.files c.begin.new.store) made out copy first c.transmit.ensures.count;
-      files_kept = not_refused c.transmit.result _ fails;
-      silent = not_refused c.transmit.result _ fails;
+      sent = over_connection c.transmit-ending.result (λ t u ending. SendsLeft ending c.args.order.jobs.now (t, f, g.O.Write.contents c.args.out.now) (u, made, g.O.Write.contents c.transmit-ending.new.out)) _ _ c.in-Ok.ensures.unused
+          (sends_outgoing _ c.transmit-ending.result (None, _) (None, _) _ _ c.args.order.jobs.now jobs marker c.in_ok-station.station c.transmit-ending.new.station f (g.S.Store.files c.begin.new.store) made
+          (g.O.Write.contents c.args.out.now) (g.O.Write.contents c.transmit-ending.new.out) out copy first c.transmit-ending.ensures.took c.transmit-ending.ensures.ended
+          c.transmit-ending.ensures.printed c.transmit-ending.ensures.marked);
+      fault = send_fails c.transmit-ending.result (λ n. n ≡ c.args.order.jobs.now) c.args.order.jobs.now f fails (written_names c.transmit-ending.result marker.name.now c.args.order.jobs.now out.named c.transmit-ending.ensures.names);
+      marked = begun_counts _ c.args.order.jobs.now jobs marker c.in_ok-station.station f (g.S.Store.files c.begin.new.store) made out copy first c.transmit-ending.ensures.count;
+      files_kept = not_refused c.transmit-ending.result _ fails;
+      silent = not_refused c.transmit-ending.result _ fails;
     }
 
 pub returns-in_err-station-clause-fault : goal.returns-in_err-station-clause-fault
@@ -41,11 +41,11 @@ returns-in_err-station-clause-fault g c =
     let is : c.from_residual-in_err-station.result ≡ Err (of_station fault) = search rules in
     rw is (inl (station_fails c.in_ok-jobs.field-0.marker.file.items jobs fault c.in_ok-jobs.ensures.outgoing.left cause, station_names fault _ _))
 
-pub returns-in_default-clause-marked : goal.returns-in_default-clause-marked
-returns-in_default-clause-marked g c = search rules
+pub returns-in-Err-clause-marked : goal.returns-in-Err-clause-marked
+returns-in-Err-clause-marked g c = search rules
 
-pub returns-in_default-clause-fault : goal.returns-in_default-clause-fault
-returns-in_default-clause-fault g c = search rules
+pub returns-in-Err-clause-fault : goal.returns-in-Err-clause-fault
+returns-in-Err-clause-fault g c = search rules
 
 pub returns-in_err-begin-clause-fault : goal.returns-in_err-begin-clause-fault
 returns-in_err-begin-clause-fault g c =

@@ -1,0 +1,106 @@
+//! A stream that notes what its operator wants to know of it.
+use crate::first_bytes::FirstBytes;
+use std::io::{self, ErrorKind, Read, Write};
+use std::net::{OpenStream, Shutdown};
+use std::time::{Clock, Duration, Instant};
+
+/// A stream that notes how long the first answer took, where it has a clock, what came first, and how a call failed last.
+#[derive(Drop)]
+pub struct ObservedStream<C, S> {
+    clock: Option<C>,
+    stream: S,
+    // When something was written first.
+    spoke: Option<Instant>,
+    // How long it took until something came then.
+    waited: Option<Duration>,
+    // What came first of all.
+    first: FirstBytes,
+    // How the last call failed that did.
+    failure: Option<ErrorKind>,
+}
+
+impl<C, S> ObservedStream<C, S> {
+    /// The same stream, of which nothing was read and to which nothing was written.
+    pub fn new(clock: Option<C>, stream: S) -> ObservedStream<C, S> {
+        ObservedStream {
+            clock,
+            stream,
+            spoke: None,
+            waited: None,
+            first: FirstBytes::new(),
+            failure: None,
+        }
+    }
+
+    /// How long it took from the first thing that was written to what was read then, where something was.
+    pub fn waited(&self) -> Option<Duration> {
+        self.waited
+    }
+
+    /// The bytes that came first.
+    pub fn first(&self) -> FirstBytes {
+        self.first
+    }
+
+    /// How the last call failed that did.
+    pub fn failure(&self) -> Option<ErrorKind> {
+        self.failure
+    }
+}
+
+impl<C: Clock, S: Read> Read for ObservedStream<C, S> {
+    fn read(&mut self, buf: &mut [u8]) -> io::Result<usize> {
+        match self.stream.read(buf) {
+            Ok(count) => {
+                if let (Some(clock), Some(spoke), None) = (&self.clock, self.spoke, self.waited) {
+                    self.waited = spoke.elapsed(clock).ok();
+                }
+                self.first.note(&buf[..count]);
+                Ok(count)
+            }
+            Err(error) => {
+                self.failure = Some(error.kind());
+                Err(error)
+            }
+        }
+    }
+}
+
+impl<C: Clock, S: Write> Write for ObservedStream<C, S> {
+    fn write(&mut self, buf: &[u8]) -> io::Result<usize> {
+        match self.stream.write(buf) {
+            Ok(count) => {
+                if let (Some(clock), None) = (&self.clock, self.spoke) {
+                    self.spoke = Instant::now(clock).ok();
+                }
+                Ok(count)
+            }
+            Err(error) => {
+                self.failure = Some(error.kind());
+                Err(error)
+            }
+        }
+    }
+
+    fn flush(&mut self) -> io::Result<()> {
+        self.stream.flush()
+    }
+}
+
+impl<C, S: OpenStream> OpenStream for ObservedStream<C, S> {
+    fn shutdown(&self, how: Shutdown) -> io::Result<()> {
+        self.stream.shutdown(how)
+    }
+
+    fn set_nodelay(&self, nodelay: bool) -> io::Result<()> {
+        self.stream.set_nodelay(nodelay)
+    }
+
+    fn set_read_timeout(&self, time: Option<Duration>) -> io::Result<()> {
+        self.stream.set_read_timeout(time)
+    }
+
+    fn set_write_timeout(&self, time: Option<Duration>) -> io::Result<()> {
+        self.stream.set_write_timeout(time)
+    }
+}
