@@ -1,0 +1,6 @@
+pub mod Steps
+pub mod Parts
+pub mod Forwards
+pub mod Backwards
+pub mod Saying
+pub mod Alike
