@@ -9,16 +9,16 @@ use Rattle.bsc_frame.specs.declared.frame.Frame.{Frame}
 use Rattle.bsc_frame.specs.declared.heard.Heard.{Heard}
 use Rattle.bsc_frame.specs.declared.heard.Heard.TheVariants as heard
 use Rattle.bsc_frame.specs.Body.{start_of_text}
-use Rattle.bsc_frame.specs.Transmission.{Transmission, HasPrefix, HasNoFrame}
+use Rattle.bsc_frame.specs.Transmission.{Transmission, HasPrefix}
 use Rattle.bsc_frame.specs.Heard.{IsPadOrSyn, IsHeard}
 use Rattle.bsc_frame.specs.Heard as line
 use Rattle.bsc_frame.proofs.Quiet.{one_hearing_lem, every_hearing_lem}
-use Rattle.bsc_adapter.specs.Form.{AdapterForm}
+use Rattle.bsc_adapter.specs.Form.{check_bytes, AdapterForm}
 use Rattle.bsc_adapter.specs.Heard.{IsTextStart, IsHeardFrom}
 use Rattle.bsc_adapter.specs.Inside.Making.{Front, Text, is_idle, next, made}
 use Rattle.bsc_adapter.specs.Made.{Makes}
 use Rattle.bsc_adapter.specs.Laws.{SameIsHeard, OneHearing, EveryHearing}
-use Rattle.bsc_adapter.proofs.Forwards.{started, idle_dropped, form_is_heard_lem}
+use Rattle.bsc_adapter.proofs.Forwards.{started, idle_dropped, form_is_made_lem}
 use Rattle.bsc_adapter.proofs.Backwards.{begun, Begun, behind_sync, no_nothing, no_syn, cut_start, all_idle, form_there}
 
 -- ---- Frames.
@@ -26,8 +26,8 @@ use Rattle.bsc_adapter.proofs.Backwards.{begun, Begun, behind_sync, no_nothing, 
 form_here : (f : Frame) (taken : List ℕ) → HasPrefix (AdapterForm f) taken → HasPrefix (Transmission f) (made Front taken)
 unfolding Makes
 form_here f taken h =
-    let first = form_is_heard_lem f h.front h.rest (made Front taken) h.holds (ap (made Front) h.whole) in
-    record { front = first.transmission; rest = first.more; holds = first.is_transmission; whole = first.whole }
+    let first = form_is_made_lem f h.front h.rest (made Front taken) h.holds (ap (made Front) h.whole) in
+    record { front = SYN ∷ SYN ∷ (h.holds.body ++ check_bytes f); rest = first.more; holds = first.is_transmission; whole = first.whole }
 
 -- ---- The start of a text.
 

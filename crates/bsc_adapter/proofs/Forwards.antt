@@ -6,17 +6,19 @@ use Rattle.std.specs.List.{flat_map, AllByRecursion}
 use Rattle.bsc_codes.specs.Bytes.{ETX, DLE, ETB, ENQ, SYN}
 use Rattle.bsc_codes.specs.declared.block.Closing.{Closing}
 use Rattle.bsc_codes.specs.declared.block.Closing.TheVariants.{Etb, Etx}
+use Rattle.bsc_check.specs.Check.{check_of}
 use Rattle.bsc_frame.specs.declared.frame.Frame.{Frame}
 use Rattle.bsc_frame.specs.declared.frame.Frame.TheVariants as frame
-use Rattle.bsc_frame.specs.Body.{closing_byte, on_line, start_of_text, dle, IsText, block_end, EndedByEnq, Body, IsNormalText}
+use Rattle.bsc_frame.specs.Body.{closing_byte, on_line, start_of_text, dle, IsText, block_end, covered, EndedByEnq, IsNormalText}
 use Rattle.bsc_frame.specs.Heard.{IsPadOrSyn}
 use Rattle.bsc_frame.specs.Inside.Listening.NormalText.{is_normal_text}
 use Rattle.bsc_frame.proofs.NormalBytes.{passes}
 use Rattle.bsc_frame.proofs.Hearing.{data_of, AllNormal, on_line_byte}
+use Rattle.bsc_adapter.specs.Form.{check_bytes}
 use Rattle.bsc_adapter.specs.Inside.Making.{Front, Text, made}
 use Rattle.bsc_adapter.specs.Made.{Makes}
-use Rattle.bsc_adapter.specs.Laws.{FormIsHeard}
-use Rattle.bsc_adapter.proofs.Parts.{BodyByParts, by_parts}
+use Rattle.bsc_adapter.specs.Laws.{FormIsMade}
+use Rattle.bsc_adapter.proofs.Parts.{BodyByParts, by_parts, check_last}
 
 -- a byte of normal text is none that controls the line
 pub not_it : (c d : ℕ) → is_normal_text c ≡ true → is_normal_text d ≡ false → eqb c d ≡ false
@@ -100,11 +102,7 @@ ended transparent text line tail end v h e =
     ∙ ap (λ w. SYN ∷ SYN ∷ (start ++ w)) (whole_text transparent text line (tail ++ v) h ∙ ap (λ w. line ++ w) e ∙ sym (append_assoc line end (made Front v)))
     ∙ ap (λ w. SYN ∷ SYN ∷ w) (sym (append_assoc start (line ++ end) (made Front v)))
 
--- of a body without its check a body is made
-record BodyMade (f : Frame) (body v : List ℕ) : Type 0 where
-  pub whole_body : List ℕ
-  pub is_body : Body f whole_body
-  pub is_made : made Front (body ++ v) ≡ SYN ∷ SYN ∷ (whole_body ++ made Front v)
+-- ---- Bodies: of a body without its check the body and the check are made.
 
 by_enq : (transparent : Bool) (text body v : List ℕ) → EndedByEnq transparent text body → made Front (body ++ v) ≡ SYN ∷ SYN ∷ (body ++ made Front v)
 by_enq transparent text body v h =
@@ -112,29 +110,30 @@ by_enq transparent text body v h =
     ap (λ b. made Front (b ++ v)) h.whole ∙ ended transparent text h.line end end v h.is_text (enq_made transparent text v)
     ∙ ap (λ b. SYN ∷ SYN ∷ (b ++ made Front v)) (sym h.whole)
 
-body_made : (f : Frame) (body v : List ℕ) → BodyByParts f body → BodyMade f body v
-body_made frame.Enq body v h = record { whole_body = body; is_body = h; is_made = rw h refl }
-body_made frame.Ack0 body v h = record { whole_body = body; is_body = h; is_made = rw h refl }
-body_made frame.Ack1 body v h = record { whole_body = body; is_body = h; is_made = rw h refl }
-body_made frame.Nak body v h = record { whole_body = body; is_body = h; is_made = rw h refl }
-body_made frame.Wack body v h = record { whole_body = body; is_body = h; is_made = rw h refl }
-body_made frame.Rvi body v h = record { whole_body = body; is_body = h; is_made = rw h refl }
-body_made frame.Ttd body v h = record { whole_body = body; is_body = h; is_made = by_enq false [] body v h }
-body_made frame.Abort body v (inl h) = record { whole_body = body; is_body = inl h; is_made = by_enq false h.0 body v h.2 }
-body_made frame.Abort body v (inr h) = record { whole_body = body; is_body = inr h; is_made = by_enq true h.0 body v h.1 }
-body_made frame.Eot body v (inl h) = record { whole_body = body; is_body = inl h; is_made = rw h refl }
-body_made frame.Eot body v (inr h) = record { whole_body = body; is_body = inr h; is_made = rw h refl }
+-- nothing stands behind where there is no check
+no_check : (body v : List ℕ) → made Front (body ++ v) ≡ SYN ∷ SYN ∷ (body ++ made Front v) → made Front (body ++ v) ≡ SYN ∷ SYN ∷ ((body ++ []) ++ made Front v)
+no_check body v e = e ∙ ap (λ l. SYN ∷ SYN ∷ (l ++ made Front v)) (sym (append-nil body))
+
+body_made : (f : Frame) (body v : List ℕ) → BodyByParts f body → made Front (body ++ v) ≡ SYN ∷ SYN ∷ ((body ++ check_bytes f) ++ made Front v)
 body_made (frame.Block block) body v h =
     let transparent = block.transparent in
     let text = block.text.items in
+    let check = check_of (covered text block.closing) in
     let end = block_end transparent text block.closing in
-    record {
-      whole_body = start_of_text transparent ++ (h.line ++ end);
-      is_body = record { line = h.line; is_text = h.is_text; whole = refl };
-      is_made =
-          ap (λ b. made Front (b ++ v)) h.whole
-          ∙ ended transparent text h.line (dle transparent ++ closing_byte block.closing ∷ []) end v h.is_text (closing_made transparent text v block.closing);
-    }
+    ap (λ b. made Front (b ++ v)) h.whole
+    ∙ ended transparent text h.line (dle transparent ++ closing_byte block.closing ∷ []) end v h.is_text (closing_made transparent text v block.closing)
+    ∙ ap (λ l. SYN ∷ SYN ∷ (l ++ made Front v)) (check_last transparent text h.line block.closing ∙ ap (λ l. l ++ check) (sym h.whole))
+body_made frame.Enq body v h = rw h refl
+body_made frame.Ack0 body v h = rw h refl
+body_made frame.Ack1 body v h = rw h refl
+body_made frame.Nak body v h = rw h refl
+body_made frame.Wack body v h = rw h refl
+body_made frame.Rvi body v h = rw h refl
+body_made frame.Ttd body v h = no_check body v (by_enq false [] body v h)
+body_made frame.Abort body v (inl h) = no_check body v (by_enq false h.0 body v h.2)
+body_made frame.Abort body v (inr h) = no_check body v (by_enq true h.0 body v h.1)
+body_made frame.Eot body v (inl h) = rw h refl
+body_made frame.Eot body v (inr h) = rw h refl
 
 -- pads and SYN in front are dropped
 pub idle_dropped : (idle v : List ℕ) → AllByRecursion IsPadOrSyn idle → made Front (idle ++ v) ≡ made Front v
@@ -146,14 +145,19 @@ idle_dropped (c ∷ idle) v h =
       | inr e ↦ rw e (idle_dropped idle v h.1)
     ]
 
-pub form_is_heard_lem : FormIsHeard
+pub form_is_made_lem : FormIsMade
 unfolding Makes
-form_is_heard_lem f form rest out h e =
-    let b = body_made f h.body rest (by_parts f h.body h.is_body) in
-    record {
-      transmission = SYN ∷ SYN ∷ b.whole_body;
-      more = made Front rest;
-      is_transmission = record { sync = SYN ∷ SYN ∷ []; body = b.whole_body; is_sync = record { pads = []; are_pads = tt; more = 0; whole = refl }; is_body = b.is_body; whole = refl };
-      of_rest = refl;
-      whole = e ∙ ap (λ l. made Front (l ++ rest)) h.whole ∙ ap (made Front) (append_assoc h.idle h.body rest) ∙ idle_dropped h.idle (h.body ++ rest) h.are_idle ∙ b.is_made;
-    }
+form_is_made_lem f form rest out h e = record {
+  more = made Front rest;
+  is_transmission = record {
+    sync = SYN ∷ SYN ∷ [];
+    body = h.body ++ check_bytes f;
+    is_sync = record { pads = []; are_pads = tt; more = 0; whole = refl };
+    is_body = h.is_body;
+    whole = refl;
+  };
+  of_rest = refl;
+  whole =
+      e ∙ ap (λ l. made Front (l ++ rest)) h.whole ∙ ap (made Front) (append_assoc h.idle h.body rest) ∙ idle_dropped h.idle (h.body ++ rest) h.are_idle
+      ∙ body_made f h.body rest (by_parts f h.body h.is_body);
+}

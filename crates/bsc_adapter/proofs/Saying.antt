@@ -1,5 +1,6 @@
 -- What is said of a frame is an adapter's form of it, and it is what stands in the middle of what is written.
-use Rattle.std.proofs.Common.{◌≡◌, ℕ, ◌+◌, Bool, true, false, cond, List, [], ◌∷◌, ◌++◌, length, refl, ap, sym, ◌∙◌, append_assoc, length-append, subst}
+use Rattle.std.proofs.Common.{◌≡◌, ℕ, ◌+◌, Bool, true, false, List, [], ◌∷◌, ◌++◌, length, refl, ap, sym, ◌∙◌, append_assoc, length-append, subst}
+use Rattle.std.proofs.lemmas.List.{append-nil}
 use Rattle.std.specs.Bool.{OnFalse}
 use Rattle.std.specs.List.{AllByRecursion}
 use Rattle.bsc_codes.specs.Bytes.{STX, ENQ, SYN, PAD}
@@ -14,13 +15,23 @@ use Rattle.bsc_frame.specs.Written.{Written, body_without_fill, text_without_fil
 use Rattle.bsc_frame.proofs.Hearing.{check_pair}
 use Rattle.bsc_frame.proofs.NormalBytes.{passes}
 use Rattle.bsc_adapter.specs.Form.{check_bytes, IsSaid}
-use Rattle.bsc_adapter.specs.Inside.Making.{behind}
-use Rattle.bsc_adapter.specs.Laws.{SaidIsForm}
+use Rattle.bsc_adapter.specs.Inside.Making.{Front, made, behind}
+use Rattle.bsc_adapter.specs.Made.{Makes}
+use Rattle.bsc_adapter.specs.Laws.{SaidIsForm, SaidComesBack}
 use Rattle.bsc_adapter.proofs.Parts.{closed_text, check_last}
-use Rattle.bsc_adapter.proofs.Forwards.{not_it}
+use Rattle.bsc_adapter.proofs.Forwards.{not_it, form_is_made_lem}
 
 pub said_is_form_lem : SaidIsForm
 said_is_form_lem f bytes said h is_said = record { idle = []; body = said; are_idle = tt; is_body = subst (Body f) (sym is_said) h.is_body; whole = refl }
+
+pub said_comes_back_lem : SaidComesBack
+unfolding Makes said_is_form_lem
+said_comes_back_lem f bytes said out h is_said e =
+    let form = said_is_form_lem f bytes said h is_said in
+    let first = form_is_made_lem f said [] out form (e ∙ ap (made Front) (sym (append-nil said))) in
+    let is : (said ++ check_bytes f) ++ first.more ≡ body_without_fill f =
+    ap (λ l. (said ++ check_bytes f) ++ l) first.of_rest ∙ append-nil (said ++ check_bytes f) ∙ is_said in
+    h.whole ∙ ap (λ l. SYN ∷ SYN ∷ (l ++ PAD ∷ [])) (sym is) ∙ ap (λ l. l ++ PAD ∷ []) (sym first.whole)
 
 -- ---- What stands behind what is said.
 

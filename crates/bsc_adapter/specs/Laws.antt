@@ -1,12 +1,13 @@
 -- What holds of what is said to an adapter, and of what is made of what comes from it.
-use Rattle.std.specs.Prelude.{ℕ, ◌≡◌, ◌↔◌, List, [], ◌++◌}
+use Rattle.std.specs.Prelude.{ℕ, ◌≡◌, ◌↔◌, List, [], ◌∷◌, ◌++◌}
 use Rattle.std.specs.List.{AllByRecursion}
+use Rattle.bsc_codes.specs.Bytes.{SYN, PAD}
 use Rattle.bsc_frame.specs.declared.frame.Frame.{Frame}
 use Rattle.bsc_frame.specs.declared.heard.Heard.{Heard}
 use Rattle.bsc_frame.specs.Transmission.{Transmission}
 use Rattle.bsc_frame.specs.Heard.{IsPadOrSyn, IsHeard}
 use Rattle.bsc_frame.specs.Written.{Written}
-use Rattle.bsc_adapter.specs.Form.{AdapterForm, IsSaid}
+use Rattle.bsc_adapter.specs.Form.{check_bytes, AdapterForm, IsSaid}
 use Rattle.bsc_adapter.specs.Heard.{IsHeardFrom}
 use Rattle.bsc_adapter.specs.Made.{Makes}
 
@@ -14,17 +15,21 @@ use Rattle.bsc_adapter.specs.Made.{Makes}
 abbrev pub SaidIsForm : Type 0
 SaidIsForm = (f : Frame) (bytes said : List ℕ) → Written f bytes → IsSaid f said → AdapterForm f said
 
--- what was made begins with a transmission of the frame, and goes on with what is made of the rest
-pub record IsMadeFirst (f : Frame) (rest out : List ℕ) : Type 0 where
-  pub transmission : List ℕ
+-- what was made is two SYN, this body of the frame and the check, which are a transmission of it, and then what is made of the rest
+pub record IsMadeFirst (f : Frame) (body rest out : List ℕ) : Type 0 where
   pub more : List ℕ
-  pub is_transmission : Transmission f transmission
+  pub is_transmission : Transmission f (SYN ∷ SYN ∷ (body ++ check_bytes f))
   pub of_rest : Makes rest more
-  pub whole : out ≡ transmission ++ more
+  pub whole : out ≡ SYN ∷ SYN ∷ ((body ++ check_bytes f) ++ more)
 
--- of an adapter's form of a frame a transmission of that frame is made; what comes behind the form is taken as from the first byte on
-abbrev pub FormIsHeard : Type 0
-FormIsHeard = (f : Frame) (form rest out : List ℕ) → AdapterForm f form → Makes (form ++ rest) out → IsMadeFirst f rest out
+-- of an adapter's form of a frame a transmission of that frame is made, with the body as it came; what comes behind the form is taken as
+-- from the first byte on
+abbrev pub FormIsMade : Type 0
+FormIsMade = (f : Frame) (form rest out : List ℕ) (h : AdapterForm f form) → Makes (form ++ rest) out → IsMadeFirst f h.body rest out
+
+-- of what is said of a frame just that is made which was written, but for the pad
+abbrev pub SaidComesBack : Type 0
+SaidComesBack = (f : Frame) (bytes said out : List ℕ) → Written f bytes → IsSaid f said → Makes said out → bytes ≡ out ++ PAD ∷ []
 
 -- what a listener hears of what was made is what is heard of the bytes that came, and nothing else
 abbrev pub SameIsHeard : Type 0

@@ -1,14 +1,20 @@
 //! What the definitions of the adapter's form promise beyond the calls.
-ghost use Rattle.bsc_adapter.specs.Laws.{SaidIsForm, FormIsHeard, SameIsHeard, OneHearing, EveryHearing, OneMaking, NothingIsIdle};
+ghost use Rattle.bsc_adapter.specs.Laws.{SaidIsForm, FormIsMade, SaidComesBack, SameIsHeard, OneHearing, EveryHearing, OneMaking, NothingIsIdle};
 
 /// What is said of a frame that is written is an adapter's form of it.
 pub fn said_is_form()
     ensures { SaidIsForm }
 {}
 
-/// Of an adapter's form of a frame a transmission of that frame is made, and what comes behind the form is taken as from the first byte on.
-pub fn form_is_heard()
-    ensures { FormIsHeard }
+/// Of an adapter's form of a frame a transmission of that frame is made, with the body as it came; what comes behind the form is taken as from
+/// the first byte on.
+pub fn form_is_made()
+    ensures { FormIsMade }
+{}
+
+/// Of what is said of a frame just that is made which was written, but for the pad.
+pub fn said_comes_back()
+    ensures { SaidComesBack }
 {}
 
 /// What a listener hears of what was made is what is heard of the bytes that came: a frame just where they begin with its adapter's form.

@@ -12,7 +12,7 @@ mod tests;
 
 pub use from_adapter::FromAdapter;
 pub use laws::{
-    every_hearing, form_is_heard, nothing_is_idle, one_hearing, one_making, said_is_form,
-    same_is_heard,
+    every_hearing, form_is_made, nothing_is_idle, one_hearing, one_making, said_comes_back,
+    said_is_form, same_is_heard,
 };
 pub use said::for_adapter;

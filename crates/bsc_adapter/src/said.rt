@@ -1,5 +1,5 @@
 //! What is said to an adapter.
-ghost use Rattle.std.specs.Prelude.{◌≡◌, ℕ, List, [], ◌∷◌, ◌++◌, length, slice_index};
+ghost use Rattle.std.specs.Prelude.{◌≡◌, ℕ, List, [], ◌∷◌, ◌++◌, length};
 ghost use Rattle.bsc_frame.specs.declared.frame.Frame.{Frame};
 ghost use Rattle.bsc_frame.specs.Written.{Written};
 ghost use Rattle.bsc_adapter.specs.Form.{IsSaid};
@@ -18,17 +18,11 @@ pub fn for_adapter(written: &[u8]) -> &[u8]
 fn behind(written: &[u8]) -> usize
     ensures { result ≡ behind_of written.now }
 {
-    let first = byte_at(written, 2);
-    let second = byte_at(written, 3);
-    let is_block = (first == STX && second != ENQ) || (first == DLE && second == STX);
-    if is_block { 3 } else { 1 }
-}
-
-/// The byte there, or zero.
-fn byte_at(bytes: &[u8], place: usize) -> u8
-    ensures { result ≡ slice_index bytes.now place }
-{
-    if place < bytes.len() { bytes[place] } else { 0 }
+    match written {
+        [_, _, STX, ENQ, ..] => 1,
+        [_, _, STX, ..] | [_, _, DLE, STX, ..] => 3,
+        _ => 1,
+    }
 }
 
 /// What is left without two bytes in front and so many behind; all, where there are fewer.
@@ -36,8 +30,8 @@ fn middle(bytes: &[u8], behind: usize) -> &[u8]
     ensures { (first second : ℕ) (body back : List ℕ)
         → bytes.now ≡ first ∷ second ∷ (body ++ back) → length back ≡ behind → result.now ≡ body }
 {
-    if bytes.len() < 2 || bytes.len() - 2 < behind {
-        return bytes;
+    match bytes {
+        [_, _, rest @ ..] if behind <= rest.len() => &rest[..rest.len() - behind],
+        _ => bytes,
     }
-    &bytes[2..bytes.len() - behind]
 }

@@ -1,7 +1,7 @@
 //! What no clause says: worked forms, in every cutting.
 use crate::{
-    FromAdapter, every_hearing, for_adapter, form_is_heard, nothing_is_idle, one_hearing,
-    one_making, said_is_form, same_is_heard,
+    FromAdapter, every_hearing, for_adapter, form_is_made, nothing_is_idle, one_hearing,
+    one_making, said_comes_back, said_is_form, same_is_heard,
 };
 use arrayvec::ArrayVec;
 use bsc_codes::{Block, Closing};
@@ -114,7 +114,7 @@ fn what_comes_is_made_into_transmissions_in_every_cutting(rt: HostRuntime) {
             assert!(rt; out.as_slice() == *transmissions);
         }
     }
-    form_is_heard();
+    form_is_made();
     same_is_heard();
     one_making();
     nothing_is_idle();

@@ -1,5 +1,0 @@
-use Rattle.bsc_adapter.proofs.Forwards.{form_is_heard_lem}
-use Rattle.bsc_adapter.proofs.laws.form_is_heard.Goals as goal
-
-pub returns : goal.returns
-returns c = form_is_heard_lem
