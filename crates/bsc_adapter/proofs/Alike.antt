@@ -18,16 +18,18 @@ use Rattle.bsc_adapter.specs.Heard.{IsTextStart, IsHeardFrom}
 use Rattle.bsc_adapter.specs.Inside.Making.{Front, Text, is_idle, next, made}
 use Rattle.bsc_adapter.specs.Made.{Makes}
 use Rattle.bsc_adapter.specs.Laws.{SameIsHeard, OneHearing, EveryHearing}
-use Rattle.bsc_adapter.proofs.Forwards.{started, idle_dropped, form_is_made_lem}
+use Rattle.bsc_adapter.proofs.Forwards.{started, idle_dropped, form_made, transmission_of}
 use Rattle.bsc_adapter.proofs.Backwards.{begun, Begun, behind_sync, no_nothing, no_syn, cut_start, all_idle, form_there}
 
 -- ---- Frames.
 
 form_here : (f : Frame) (taken : List ℕ) → HasPrefix (AdapterForm f) taken → HasPrefix (Transmission f) (made Front taken)
-unfolding Makes
-form_here f taken h =
-    let first = form_is_made_lem f h.front h.rest (made Front taken) h.holds (ap (made Front) h.whole) in
-    record { front = SYN ∷ SYN ∷ (h.holds.body ++ check_bytes f); rest = first.more; holds = first.is_transmission; whole = first.whole }
+form_here f taken h = record {
+  front = SYN ∷ SYN ∷ (h.holds.body ++ check_bytes f);
+  rest = made Front h.rest;
+  holds = transmission_of f (h.holds.body ++ check_bytes f) h.holds.is_body;
+  whole = ap (made Front) h.whole ∙ form_made f h.front h.rest h.holds;
+}
 
 -- ---- The start of a text.
 

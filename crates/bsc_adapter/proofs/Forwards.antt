@@ -9,15 +9,14 @@ use Rattle.bsc_codes.specs.declared.block.Closing.TheVariants.{Etb, Etx}
 use Rattle.bsc_check.specs.Check.{check_of}
 use Rattle.bsc_frame.specs.declared.frame.Frame.{Frame}
 use Rattle.bsc_frame.specs.declared.frame.Frame.TheVariants as frame
-use Rattle.bsc_frame.specs.Body.{closing_byte, on_line, start_of_text, dle, IsText, block_end, covered, EndedByEnq, IsNormalText}
+use Rattle.bsc_frame.specs.Body.{closing_byte, on_line, start_of_text, dle, IsText, block_end, covered, EndedByEnq, Body, IsNormalText}
 use Rattle.bsc_frame.specs.Heard.{IsPadOrSyn}
+use Rattle.bsc_frame.specs.Transmission.{Transmission}
 use Rattle.bsc_frame.specs.Inside.Listening.NormalText.{is_normal_text}
 use Rattle.bsc_frame.proofs.NormalBytes.{passes}
 use Rattle.bsc_frame.proofs.Hearing.{data_of, AllNormal, on_line_byte}
-use Rattle.bsc_adapter.specs.Form.{check_bytes}
+use Rattle.bsc_adapter.specs.Form.{check_bytes, AdapterForm}
 use Rattle.bsc_adapter.specs.Inside.Making.{Front, Text, made}
-use Rattle.bsc_adapter.specs.Made.{Makes}
-use Rattle.bsc_adapter.specs.Laws.{FormIsMade}
 use Rattle.bsc_adapter.proofs.Parts.{BodyByParts, by_parts, check_last}
 
 -- a byte of normal text is none that controls the line
@@ -145,19 +144,13 @@ idle_dropped (c ∷ idle) v h =
       | inr e ↦ rw e (idle_dropped idle v h.1)
     ]
 
-pub form_is_made_lem : FormIsMade
-unfolding Makes
-form_is_made_lem f form rest out h e = record {
-  more = made Front rest;
-  is_transmission = record {
-    sync = SYN ∷ SYN ∷ [];
-    body = h.body ++ check_bytes f;
-    is_sync = record { pads = []; are_pads = tt; more = 0; whole = refl };
-    is_body = h.is_body;
-    whole = refl;
-  };
-  of_rest = refl;
-  whole =
-      e ∙ ap (λ l. made Front (l ++ rest)) h.whole ∙ ap (made Front) (append_assoc h.idle h.body rest) ∙ idle_dropped h.idle (h.body ++ rest) h.are_idle
-      ∙ body_made f h.body rest (by_parts f h.body h.is_body);
-}
+-- a form
+pub form_made : (f : Frame) (form rest : List ℕ) (h : AdapterForm f form) → made Front (form ++ rest) ≡ SYN ∷ SYN ∷ ((h.body ++ check_bytes f) ++ made Front rest)
+form_made f form rest h =
+    ap (λ l. made Front (l ++ rest)) h.whole ∙ ap (made Front) (append_assoc h.idle h.body rest) ∙ idle_dropped h.idle (h.body ++ rest) h.are_idle
+    ∙ body_made f h.body rest (by_parts f h.body h.is_body)
+
+-- two SYN and a body are a transmission
+pub transmission_of : (f : Frame) (body : List ℕ) → Body f body → Transmission f (SYN ∷ SYN ∷ body)
+transmission_of f body h =
+    record { sync = SYN ∷ SYN ∷ []; body = body; is_sync = record { pads = []; are_pads = tt; more = 0; whole = refl }; is_body = h; whole = refl }

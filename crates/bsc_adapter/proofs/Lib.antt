@@ -1,6 +1,7 @@
 pub mod Steps
 pub mod Parts
 pub mod Forwards
+pub mod Standing
 pub mod Backwards
 pub mod Saying
 pub mod Alike

@@ -19,7 +19,7 @@ use Rattle.bsc_adapter.specs.Inside.Making.{Front, made, behind}
 use Rattle.bsc_adapter.specs.Made.{Makes}
 use Rattle.bsc_adapter.specs.Laws.{SaidIsForm, SaidComesBack}
 use Rattle.bsc_adapter.proofs.Parts.{closed_text, check_last}
-use Rattle.bsc_adapter.proofs.Forwards.{not_it, form_is_made_lem}
+use Rattle.bsc_adapter.proofs.Forwards.{not_it, form_made}
 
 pub said_is_form_lem : SaidIsForm
 said_is_form_lem f bytes said h is_said = record { idle = []; body = said; are_idle = tt; is_body = subst (Body f) (sym is_said) h.is_body; whole = refl }
@@ -27,11 +27,10 @@ said_is_form_lem f bytes said h is_said = record { idle = []; body = said; are_i
 pub said_comes_back_lem : SaidComesBack
 unfolding Makes said_is_form_lem
 said_comes_back_lem f bytes said out h is_said e =
-    let form = said_is_form_lem f bytes said h is_said in
-    let first = form_is_made_lem f said [] out form (e ∙ ap (made Front) (sym (append-nil said))) in
-    let is : (said ++ check_bytes f) ++ first.more ≡ body_without_fill f =
-    ap (λ l. (said ++ check_bytes f) ++ l) first.of_rest ∙ append-nil (said ++ check_bytes f) ∙ is_said in
-    h.whole ∙ ap (λ l. SYN ∷ SYN ∷ (l ++ PAD ∷ [])) (sym is) ∙ ap (λ l. l ++ PAD ∷ []) (sym first.whole)
+    let body : (said ++ check_bytes f) ++ [] ≡ body_without_fill f = append-nil (said ++ check_bytes f) ∙ is_said in
+    let is : out ≡ SYN ∷ SYN ∷ body_without_fill f =
+    e ∙ ap (made Front) (sym (append-nil said)) ∙ form_made f said [] (said_is_form_lem f bytes said h is_said) ∙ ap (λ l. SYN ∷ SYN ∷ l) body in
+    h.whole ∙ ap (λ l. l ++ PAD ∷ []) (sym is)
 
 -- ---- What stands behind what is said.
 

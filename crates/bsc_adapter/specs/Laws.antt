@@ -7,25 +7,27 @@ use Rattle.bsc_frame.specs.declared.heard.Heard.{Heard}
 use Rattle.bsc_frame.specs.Transmission.{Transmission}
 use Rattle.bsc_frame.specs.Heard.{IsPadOrSyn, IsHeard}
 use Rattle.bsc_frame.specs.Written.{Written}
+use Rattle.bsc_adapter.specs.declared.from_adapter.FromAdapter.{FromAdapter}
 use Rattle.bsc_adapter.specs.Form.{check_bytes, AdapterForm, IsSaid}
 use Rattle.bsc_adapter.specs.Heard.{IsHeardFrom}
-use Rattle.bsc_adapter.specs.Made.{Makes}
+use Rattle.bsc_adapter.specs.Made.{Makes, HasMade}
 
 -- what is said of a frame that is written is an adapter's form of it
 abbrev pub SaidIsForm : Type 0
 SaidIsForm = (f : Frame) (bytes said : List ℕ) → Written f bytes → IsSaid f said → AdapterForm f said
 
--- what was made is two SYN, this body of the frame and the check, which are a transmission of it, and then what is made of the rest
-pub record IsMadeFirst (f : Frame) (body rest out : List ℕ) : Type 0 where
+-- first two SYN, this body of the frame and the check were made, which are a transmission of it; then it is as if the rest alone had come
+pub record IsMadeFirst (adapter : FromAdapter) (f : Frame) (body rest out : List ℕ) : Type 0 where
   pub more : List ℕ
   pub is_transmission : Transmission f (SYN ∷ SYN ∷ (body ++ check_bytes f))
-  pub of_rest : Makes rest more
+  pub of_rest : HasMade adapter rest more
   pub whole : out ≡ SYN ∷ SYN ∷ ((body ++ check_bytes f) ++ more)
 
--- of an adapter's form of a frame a transmission of that frame is made, with the body as it came; what comes behind the form is taken as
--- from the first byte on
+-- of an adapter's form of a frame a transmission of that frame is made, with the body as it came, whatever comes behind the form
 abbrev pub FormIsMade : Type 0
-FormIsMade = (f : Frame) (form rest out : List ℕ) (h : AdapterForm f form) → Makes (form ++ rest) out → IsMadeFirst f h.body rest out
+FormIsMade =
+    (adapter : FromAdapter) (f : Frame) (form rest out : List ℕ) (h : AdapterForm f form) → HasMade adapter (form ++ rest) out
+    → IsMadeFirst adapter f h.body rest out
 
 -- of what is said of a frame just that is made which was written, but for the pad
 abbrev pub SaidComesBack : Type 0

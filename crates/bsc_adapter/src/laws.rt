@@ -6,8 +6,8 @@ pub fn said_is_form()
     ensures { SaidIsForm }
 {}
 
-/// Of an adapter's form of a frame a transmission of that frame is made, with the body as it came; what comes behind the form is taken as from
-/// the first byte on.
+/// Of an adapter's form of a frame a transmission of that frame is made, with the body as it came; what comes behind the form is taken as if
+/// nothing had come before.
 pub fn form_is_made()
     ensures { FormIsMade }
 {}

@@ -1,4 +1,4 @@
-use Rattle.bsc_adapter.proofs.Forwards.{form_is_made_lem}
+use Rattle.bsc_adapter.proofs.Standing.{form_is_made_lem}
 use Rattle.bsc_adapter.proofs.laws.form_is_made.Goals as goal
 
 pub returns : goal.returns
