@@ -149,10 +149,6 @@ cut_end true text bytes tail d e =
 
 -- ---- Bodies, from their first byte on.
 
--- of these bytes this is made behind the two SYN
-record Opened (c : ℕ) (bytes out : List ℕ) : Type 0 where
-  pub is_made : c ∷ made (next Front c) bytes ≡ out
-
 at_first : (c d : ℕ) (bytes tail : List ℕ) → c ∷ made (next Front c) bytes ≡ d ∷ tail → (c ≡ d) × (made (next Front d) bytes ≡ tail)
 at_first c d bytes tail e =
     let same = heads c d (made (next Front c) bytes) tail e in

@@ -1,7 +1,7 @@
 //! What comes from an adapter, made into transmissions.
 ghost use Rattle.std.specs.Prelude.{◌≡◌, ◌≤◌, ◌<◌, ◌+◌, ℕ, List, [], ◌∷◌, ◌++◌, length, take};
 ghost use Rattle.arrayvec.specs.ArrayVec.{array_vec_len};
-ghost use Rattle.bsc_adapter.specs.Made.{HasMade};
+ghost use Rattle.bsc_adapter.specs.Made.{HasMade, Appends};
 
 use crate::place::Place;
 use crate::step::step;
@@ -46,8 +46,8 @@ impl FromAdapter {
     /// Takes bytes of a piece, as long as there is room for three more, appends what is made of them, and says how many it took.
     pub fn take_piece<const N: usize>(&mut self, piece: &[u8], made: &mut ArrayVec<u8, N>) -> usize
         ensures within { result ≤ length piece.now }
-        ensures made { (taken out : List ℕ) → HasMade self.old taken (out ++ made.old.items)
-            → HasMade self.new (taken ++ take result piece.now) (out ++ made.new.items) }
+        ensures made { (taken out : List ℕ) → HasMade self.old taken out
+            → Appends self.new (taken ++ take result piece.now) out made.old.items made.new.items }
         // Bytes are left only where there is no room for three more.
         ensures whole { result < length piece.now → N < array_vec_len made.new + 3 }
     {
