@@ -5,8 +5,6 @@ mod check;
 mod laws;
 mod table;
 mod tables;
-#[cfg(test)]
-mod tests;
 
 pub use check::Check;
 pub use laws::one_remainder;

@@ -5,8 +5,6 @@ mod block;
 mod bytes;
 mod code_page;
 mod laws;
-#[cfg(test)]
-mod tests;
 
 pub use block::{Block, Closing, MAX_TEXT};
 pub use bytes::{

@@ -9,8 +9,6 @@ mod heard;
 mod laws;
 mod listener;
 mod normal_text;
-#[cfg(test)]
-mod tests;
 mod writer;
 
 pub use fed::Fed;

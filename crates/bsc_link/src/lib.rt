@@ -17,8 +17,6 @@ mod sender_news;
 mod sender_place;
 mod sound;
 mod table_line;
-#[cfg(test)]
-mod tests;
 mod wish;
 
 pub use contender::Contender;

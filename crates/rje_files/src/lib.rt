@@ -9,8 +9,6 @@ mod job_file;
 mod laws;
 mod marks;
 mod name;
-#[cfg(test)]
-mod tests;
 mod unsent;
 
 pub use entry::{Entry, State, entries_of};

@@ -13,8 +13,6 @@ mod laws;
 mod lines;
 mod listing;
 mod punch;
-#[cfg(test)]
-mod tests;
 
 pub use cards::Cards;
 pub use deck::{cards_of_deck, job_of_deck};

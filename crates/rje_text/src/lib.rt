@@ -15,8 +15,6 @@ mod record_text;
 mod records;
 mod select;
 mod spelling;
-#[cfg(test)]
-mod tests;
 mod text_fault;
 mod unpacked;
 mod unpacking;

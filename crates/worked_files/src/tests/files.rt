@@ -1,8 +1,8 @@
 //! Job files of version 1, worked out.
-use super::record;
-use crate::{read_jobs, write_jobs};
-use rje_jobs::{FileFault, Job, Jobs};
-use rje_text::{Action, Mode, Records, Select};
+use super::{is_one_record, job};
+use rje_files::{read_jobs, write_jobs};
+use rje_jobs::{FileFault, Jobs};
+use rje_text::{Action, Mode, Select};
 use std::process::Abort;
 use std::test::Fail;
 
@@ -11,23 +11,6 @@ const FILE: [u8; 28] = [
     0x52, 0x4A, 0x33, 0x37, 0x00, 0x01, 0x00, 0x00, 0x00, 0x00, 0x00, 0x00, 0x00, 0x01, 0x00, 0x00,
     0x01, 0x00, 0x00, 0x00, 0x00, 0x00, 0x00, 0x00, 0x01, 0x00, 0x01, 0xC1,
 ];
-
-/// A normal, whole job of one record.
-fn job(
-    rt: &(impl Abort + AllocGlobal),
-    select: Select,
-    action: Action,
-    bytes: &[u8],
-) -> Result<Job, Fail> {
-    let mut records = Records::new(rt.alloc());
-    records.push(record(rt, action, bytes))?;
-    Ok(Job {
-        select,
-        mode: Mode::Normal,
-        records,
-        whole: true,
-    })
-}
 
 /// Why these bytes are not read, if they are not.
 fn fault_of(rt: &impl AllocGlobal, bytes: &[u8]) -> Option<FileFault> {
@@ -50,8 +33,7 @@ fn a_job_has_one_file(rt: HostRuntime) -> Result<(), Fail> {
     assert!(rt; found.select == Select::Unset);
     assert!(rt; found.mode == Mode::Normal);
     assert!(rt; found.whole);
-    assert!(rt; found.records.len() == 1);
-    assert!(rt; found.records.as_slice()[0] == record(&rt, Action::Plain, &[0xC1]));
+    assert!(rt; is_one_record(&found.records, Action::Plain, &[0xC1]));
     Ok(())
 }
 
@@ -86,7 +68,7 @@ fn cut_jobs_of_every_kind_have_a_file(rt: HostRuntime) -> Result<(), Fail> {
     let found = &read.as_slice()[0];
     assert!(rt; !found.whole);
     assert!(rt; found.select == Select::Printer);
-    assert!(rt; found.records.as_slice()[0] == record(&rt, Action::Ch12, &[]));
+    assert!(rt; is_one_record(&found.records, Action::Ch12, &[]));
     Ok(())
 }
 
@@ -116,14 +98,24 @@ fn with_byte(place: usize, byte: u8) -> [u8; 28] {
     bytes
 }
 
+/// Why the file with this byte in this place is not read.
+const BAD_FIELDS: [(usize, u8, FileFault); 6] = [
+    (14, 0x03, FileFault::BadField(14)),
+    (16, 0x02, FileFault::BadField(16)),
+    (25, 0x05, FileFault::BadField(25)),
+    (26, 0x91, FileFault::BadField(26)),
+    (5, 0x09, FileFault::Version(9)),
+    (0, 0x53, FileFault::NotJobFile),
+];
+
 #[test]
 fn bad_fields_are_told_with_their_place(rt: HostRuntime) {
-    assert!(rt; fault_of(&rt, &with_byte(14, 0x03)) == Some(FileFault::BadField(14)));
-    assert!(rt; fault_of(&rt, &with_byte(16, 0x02)) == Some(FileFault::BadField(16)));
-    assert!(rt; fault_of(&rt, &with_byte(25, 0x05)) == Some(FileFault::BadField(25)));
-    assert!(rt; fault_of(&rt, &with_byte(26, 0x91)) == Some(FileFault::BadField(26)));
-    assert!(rt; fault_of(&rt, &with_byte(5, 0x09)) == Some(FileFault::Version(9)));
-    assert!(rt; fault_of(&rt, &with_byte(0, 0x53)) == Some(FileFault::NotJobFile));
+    for (place, byte, fault) in BAD_FIELDS {
+        assert!(rt;
+            fault_of(&rt, &with_byte(place, byte)) == Some(fault),
+            "{byte} at {place}"
+        );
+    }
     assert!(rt; fault_of(&rt, b"S") == Some(FileFault::NotJobFile));
     assert!(rt; fault_of(&rt, b"RJ37\x01") == Some(FileFault::Truncated(5)));
     assert!(rt; fault_of(&rt, b"RJ37\x01\x02") == Some(FileFault::Version(0x0102)));

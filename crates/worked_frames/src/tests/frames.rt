@@ -1,11 +1,11 @@
-//! What no clause says: worked transmissions, cuttings, refusals and damage.
-use crate::{
-    Fed, Frame, FrameFault, Heard, Listener, every_hearing, one_hearing, one_transmission,
-    write_frame, written_is_transmission,
-};
+//! Worked transmissions, cuttings, refusals and damage.
 use arrayvec::{ArrayString, ArrayVec};
 use bsc_check::Check;
 use bsc_codes::{Block, Closing};
+use bsc_frame::{
+    Fed, Frame, FrameFault, Heard, Listener, every_hearing, one_hearing, one_transmission,
+    write_frame, written_is_transmission,
+};
 use std::fmt::Write;
 
 /// A block of this text.
@@ -131,6 +131,22 @@ fn makes_no_frame(listener: &mut Listener, bytes: &[u8]) -> bool {
     true
 }
 
+/// The same of these pieces, one after another.
+fn make_no_frame(listener: &mut Listener, pieces: &[&[u8]]) -> bool {
+    for bytes in pieces {
+        if !makes_no_frame(listener, bytes) {
+            return false;
+        }
+    }
+    true
+}
+
+/// Whether the frame is heard at the last of these bytes.
+fn is_heard(listener: &mut Listener, bytes: &[u8], frame: &Frame) -> bool {
+    let Fed { used, frame: heard } = listener.feed(bytes);
+    used == bytes.len() && heard.as_ref() == Some(frame)
+}
+
 #[test]
 fn frames_are_written(rt: HostRuntime) {
     for (frame, bytes) in &written() {
@@ -211,17 +227,15 @@ fn a_block_comes_one_byte_at_a_time(rt: HostRuntime) {
     ];
     let mut listener = Listener::new();
     assert!(rt; makes_no_frame(&mut listener, &front));
-    let Fed { used, frame } = listener.feed(&[0x5D]);
-    assert!(rt; used == 1 && frame == Some(normal(&[0xC1, 0x1E])));
+    assert!(rt; is_heard(&mut listener, &[0x5D], &normal(&[0xC1, 0x1E])));
     // With another last byte there is no frame.
-    assert!(rt; makes_no_frame(&mut listener, &front));
-    assert!(rt; makes_no_frame(&mut listener, &[0x5C]));
+    assert!(rt; make_no_frame(&mut listener, &[&front, &[0x5C]]));
     assert!(rt; listener.quiet() == Heard::Bad);
 }
 
-#[test]
-fn damage_and_silence_are_told_apart(rt: HostRuntime) {
-    let cases: [(&[u8], Heard); 16] = [
+/// Bytes that are no frame, and what is heard of them.
+fn no_frames() -> [(&'static [u8], Heard); 16] {
+    [
         (&[], Heard::Quiet),
         (&[0xFF, 0x55, 0x32], Heard::Quiet),
         (&[0x32, 0x32, 0x55], Heard::Quiet),
@@ -245,9 +259,13 @@ fn damage_and_silence_are_told_apart(rt: HostRuntime) {
             Heard::Bad,
         ),
         (&[0x32, 0x32, 0x02, 0x01, 0x32, 0x32, 0x2D], Heard::Bad),
-    ];
+    ]
+}
+
+#[test]
+fn damage_and_silence_are_told_apart(rt: HostRuntime) {
     let mut listener = Listener::new();
-    for (bytes, heard) in &cases {
+    for (bytes, heard) in &no_frames() {
         assert!(rt; makes_no_frame(&mut listener, bytes));
         assert!(rt; listener.quiet() == *heard);
         assert!(rt; listener.quiet() == Heard::Quiet);
@@ -271,8 +289,7 @@ fn a_listener_is_as_new_after_reset(rt: HostRuntime) {
     listener.reset();
     let Fed { used, frame } = listener.feed(&[0x32, 0x32, 0x02, 0x03, 0x40, 0x01, 0x32, 0x32]);
     assert!(rt; used == 6 && frame == Some(normal(&[])));
-    let Fed { used, frame } = listener.feed(&[0x32, 0x32, 0x37]);
-    assert!(rt; used == 3 && frame == Some(Frame::Eot));
+    assert!(rt; is_heard(&mut listener, &[0x32, 0x32, 0x37], &Frame::Eot));
 }
 
 /// The check of a text and ETX.
@@ -287,20 +304,29 @@ fn check_of(text: &[u8]) -> [u8; 2] {
 fn a_text_holds_512_bytes(rt: HostRuntime) {
     let mut listener = Listener::new();
     let [first, second] = check_of(&[0xC1; 512]);
-    assert!(rt; makes_no_frame(&mut listener, &[0x32, 0x32, 0x02]));
-    assert!(rt; makes_no_frame(&mut listener, &[0xC1; 512]));
-    assert!(rt; makes_no_frame(&mut listener, &[0x03, first]));
-    let Fed { used, frame } = listener.feed(&[second]);
-    assert!(rt; used == 1 && frame == Some(normal(&[0xC1; 512])));
+    let front: [&[u8]; 3] = [&[0x32, 0x32, 0x02], &[0xC1; 512], &[0x03, first]];
+    assert!(rt; make_no_frame(&mut listener, &front));
+    assert!(rt; is_heard(&mut listener, &[second], &normal(&[0xC1; 512])));
 
     let [first, second] = check_of(&[0xC1; 513]);
     for end in [[first, second], [0x00, 0x00], [0x03, 0x03], [0x32, 0x32]] {
-        assert!(rt; makes_no_frame(&mut listener, &[0x32, 0x32, 0x02]));
-        assert!(rt; makes_no_frame(&mut listener, &[0xC1; 513]));
-        assert!(rt; makes_no_frame(&mut listener, &[0x03]));
-        assert!(rt; makes_no_frame(&mut listener, &end));
+        let pieces: [&[u8]; 4] = [&[0x32, 0x32, 0x02], &[0xC1; 513], &[0x03], &end];
+        assert!(rt; make_no_frame(&mut listener, &pieces));
         assert!(rt; listener.quiet() == Heard::Bad);
     }
+}
+
+/// Whether this block of 512 DLE is heard of a transmission with a fill after each pair.
+fn is_heard_with_fill(block: &Frame) -> bool {
+    let [first, second] = check_of(&[0x10; 512]);
+    let mut listener = Listener::new();
+    let mut is_open = makes_no_frame(&mut listener, &[0x32, 0x32, 0x10, 0x02]);
+    for _ in 0..512u16 {
+        is_open = is_open && makes_no_frame(&mut listener, &[0x10, 0x10, 0x10, 0x32]);
+    }
+    is_open
+        && makes_no_frame(&mut listener, &[0x10, 0x03, first])
+        && is_heard(&mut listener, &[second], block)
 }
 
 #[test]
@@ -311,15 +337,5 @@ fn doubled_dles_fill_the_buffer(rt: HostRuntime) {
     assert!(rt; out.len() == 1033);
     let Fed { used, frame } = Listener::new().feed(out.as_slice());
     assert!(rt; used == 1032 && frame.as_ref() == Some(&largest));
-
-    // With a fill after each pair it is the same block.
-    let [first, second] = check_of(&[0x10; 512]);
-    let mut listener = Listener::new();
-    assert!(rt; makes_no_frame(&mut listener, &[0x32, 0x32, 0x10, 0x02]));
-    for _ in 0..512u16 {
-        assert!(rt; makes_no_frame(&mut listener, &[0x10, 0x10, 0x10, 0x32]));
-    }
-    assert!(rt; makes_no_frame(&mut listener, &[0x10, 0x03, first]));
-    let Fed { used, frame } = listener.feed(&[second]);
-    assert!(rt; used == 1 && frame.as_ref() == Some(&largest));
+    assert!(rt; is_heard_with_fill(&largest));
 }

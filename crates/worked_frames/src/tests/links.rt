@@ -1,11 +1,11 @@
 //! The link cores: short histories, and each line of both tables.
 ghost use Rattle.std.specs.Prelude.{◌≤◌};
 
-use crate::{Next, Outcome, Receiver, ReceiverNews, Reply, Say, Sender, Sound, Wish};
+use bsc_link::{Next, Outcome, Receiver, ReceiverNews, Reply, Say, Sender, Sound, Wish};
 use std::process::Abort;
 
 /// A state of a sender from which lines of its table are tried. The number is that of the outstanding block.
-#[derive(Clone, Copy, Debug)]
+#[derive(Clone, Copy)]
 enum Sending {
     Bid,
     Block1,
@@ -39,7 +39,7 @@ const ALL_SENDING: [Sending; 13] = [
 ];
 
 /// What the sender's table says; a try and a hold name what is due then.
-#[derive(Clone, Copy, Debug)]
+#[derive(Clone, Copy)]
 enum Follows {
     Progress,
     Counted,
@@ -50,7 +50,7 @@ enum Follows {
 }
 
 /// A line of the sender's table: the states, the sounds, and what follows.
-#[derive(Clone, Copy, Debug)]
+#[derive(Clone, Copy)]
 struct SenderLine(&'static [Sending], &'static [Sound], Follows);
 
 /// Block 1 is outstanding.
@@ -156,7 +156,7 @@ static SENDER_TABLE: [SenderLine; 26] = [
 ];
 
 /// Where progress leads.
-#[derive(Clone, Copy, Debug)]
+#[derive(Clone, Copy)]
 enum Leads {
     Block,
     Delay,
@@ -165,7 +165,7 @@ enum Leads {
 }
 
 /// A progress: the states and their sounds, what follows the outstanding block, whether there is a pause, and where it leads.
-#[derive(Clone, Copy, Debug)]
+#[derive(Clone, Copy)]
 struct ProgressLine(&'static [(Sending, Sound)], Next, bool, Leads);
 
 const UNNOTED: &[(Sending, Sound)] = &[(Sending::Bid, Sound::Ack0), (Sending::Block1, Sound::Ack1)];
@@ -254,7 +254,7 @@ fn holds_of(sender: Sender) -> usize
 }
 
 /// A state of a receiver from which lines of its table are tried. The number is that of the last block accepted.
-#[derive(Clone, Copy, Debug)]
+#[derive(Clone, Copy)]
 enum Receiving {
     Idle,
     Granted,
@@ -280,7 +280,7 @@ const ALL_RECEIVING: [Receiving; 9] = [
 ];
 
 /// What the receiver's table says.
-#[derive(Clone, Copy, Debug)]
+#[derive(Clone, Copy)]
 enum Answers {
     With(Reply),
     Accepts(Reply),
@@ -305,7 +305,7 @@ impl Answers {
 }
 
 /// A line of the receiver's table: the state, the sounds, the wishes, and what follows.
-#[derive(Clone, Copy, Debug)]
+#[derive(Clone, Copy)]
 struct ReceiverLine(Receiving, &'static [Sound], &'static [Wish], Answers);
 
 const ANY: &[Wish] = &[Wish::Go, Wish::Hold, Wish::Turn];
@@ -440,59 +440,54 @@ fn shown(sender: Sender) -> Shown {
     )
 }
 
-/// One line of the sender's table, at one of its states and sounds.
-fn assert_sender_line(rt: &impl Abort, at: Sending, sound: Sound, follows: Follows) {
+/// Whether a line of the sender's table holds at this state and sound.
+fn sender_line_holds(at: Sending, sound: Sound, follows: Follows) -> bool {
     let before = sender_at(at);
     let mut after = before;
     let news = after.hear(sound, Next::Block, matches!(at, Sending::PausedDelay));
-    let counted = matches!(follows, Follows::Counted);
     let (tries, holds) = (tries_of(before), holds_of(before));
     let due = match follows {
-        Follows::NothingChanges => {
-            assert!(rt; after == before, "state at {at:?} {sound:?}");
-            shown(before)
-        }
+        Follows::NothingChanges => return after == before && !news.counted,
         Follows::Progress | Follows::Counted => (Say::Block, None, 0, 0),
         Follows::Try(due) => (due, None, tries + 1, holds),
         Follows::Hold(due) => (due, None, tries, holds + 1),
         Follows::OverEnded => (Say::Nothing, Some(Outcome::Ended), 0, 0),
     };
-    assert_eq!(rt;
-        (news.counted, shown(after)),
-        (counted, due),
-        "at {at:?} {sound:?}"
-    );
+    news.counted == matches!(follows, Follows::Counted) && shown(after) == due
 }
 
-/// One line of the receiver's table, at one of its sounds and wishes.
-fn assert_receiver_line(rt: &impl Abort, line: ReceiverLine, sound: Sound, wish: Wish) {
-    let ReceiverLine(at, _, _, answers) = line;
-    let shows = (at, sound, wish);
+/// Whether a line of the receiver's table holds at this sound and wish.
+fn receiver_line_holds(line: &ReceiverLine, sound: Sound, wish: Wish) -> bool {
+    let ReceiverLine(at, _, _, answers) = *line;
     let before = receiver_at(at);
     let mut receiver = before;
-    assert_eq!(rt; receiver.hear(sound, wish), answers.news(), "at {shows:?}");
-    let follows = match answers {
+    if receiver.hear(sound, wish) != answers.news() {
+        return false;
+    }
+    match answers {
         Answers::NothingChanges => receiver == before,
         Answers::Ends => receiver.hear(Sound::Enq, Wish::Go).reply.is_none(),
         Answers::With(reply) | Answers::Accepts(reply) => {
             receiver.hear(Sound::Enq, Wish::Hold).reply == Some(reply)
         }
-    };
-    assert!(rt; follows, "state after {shows:?}");
+    }
 }
 
 fn assert_sender_table(rt: &impl Abort) {
-    for line in &SENDER_TABLE {
+    for (number, line) in SENDER_TABLE.iter().enumerate() {
         for at in line.0 {
             for sound in line.1 {
-                assert_sender_line(rt, *at, *sound, line.2);
+                assert!(rt;
+                    sender_line_holds(*at, *sound, line.2),
+                    "line {number} at {sound:?}"
+                );
             }
         }
     }
 }
 
-/// One progress, from one of its states.
-fn assert_progress(rt: &impl Abort, at: Sending, sound: Sound, line: ProgressLine) {
+/// Whether a progress from this state leads where its line says.
+fn progress_holds(at: Sending, sound: Sound, line: &ProgressLine) -> bool {
     let (due, outcome) = match line.3 {
         Leads::Block => (Say::Block, None),
         Leads::Delay => (Say::Delay, None),
@@ -501,26 +496,28 @@ fn assert_progress(rt: &impl Abort, at: Sending, sound: Sound, line: ProgressLin
     };
     let mut sender = sender_at(at);
     sender.hear(sound, line.1, line.2);
-    assert_eq!(rt;
-        (sender.say(), sender.outcome()),
-        (due, outcome),
-        "at {at:?} {line:?}"
-    );
+    is_due(sender, due, outcome)
 }
 
 fn assert_progress_table(rt: &impl Abort) {
-    for line in &PROGRESS_TABLE {
+    for (number, line) in PROGRESS_TABLE.iter().enumerate() {
         for (at, sound) in line.0 {
-            assert_progress(rt, *at, *sound, *line);
+            assert!(rt;
+                progress_holds(*at, *sound, line),
+                "line {number} at {sound:?}"
+            );
         }
     }
 }
 
 fn assert_receiver_table(rt: &impl Abort) {
-    for line in &RECEIVER_TABLE {
+    for (number, line) in RECEIVER_TABLE.iter().enumerate() {
         for sound in line.1 {
             for wish in line.2 {
-                assert_receiver_line(rt, *line, *sound, *wish);
+                assert!(rt;
+                    receiver_line_holds(line, *sound, *wish),
+                    "line {number} at {sound:?}"
+                );
             }
         }
     }
@@ -535,28 +532,33 @@ fn each_line_of_both_tables_holds(rt: HostRuntime) {
 
 #[test]
 fn sent_end_moves_from_end_alone(rt: HostRuntime) {
-    for at in ALL_SENDING {
-        let before = sender_at(at);
+    for (number, at) in ALL_SENDING.iter().enumerate() {
+        let before = sender_at(*at);
         let mut sender = before;
         sender.sent_end();
-        let follows = if let Sending::End = at {
-            (sender.say(), sender.outcome()) == (Say::Nothing, Some(Outcome::Done))
+        let follows = if let Sending::End = *at {
+            sender.say() == Say::Nothing && sender.outcome() == Some(Outcome::Done)
         } else {
             sender == before
         };
-        assert!(rt; follows, "at {at:?}");
+        assert!(rt; follows, "at state {number}");
     }
 }
 
 #[test]
 fn a_long_quiet_ends_a_receiver_at_every_place(rt: HostRuntime) {
-    for at in ALL_RECEIVING {
-        let mut receiver = receiver_at(at);
+    for (number, at) in ALL_RECEIVING.iter().enumerate() {
+        let mut receiver = receiver_at(*at);
         receiver.quiet_long();
         let reply = receiver.hear(Sound::Enq, Wish::Go).reply;
         let accepted = receiver.hear(Sound::Block, Wish::Go).accepted;
-        assert_eq!(rt; (reply, accepted), (None, false), "at {at:?}");
+        assert!(rt; reply.is_none() && !accepted, "at state {number}");
     }
+}
+
+/// Whether this is due of the sender, and it has this outcome.
+fn is_due(sender: Sender, due: Say, outcome: Option<Outcome>) -> bool {
+    sender.say() == due && sender.outcome() == outcome
 }
 
 #[test]
@@ -565,13 +567,12 @@ fn six_quiet_bids_are_made_up_for_and_a_seventh_gives_up(rt: HostRuntime) {
     for _ in 0..6 {
         sender.hear(Sound::Quiet, Next::NewJob, false);
     }
-    assert_eq!(rt; sender.say(), Say::Bid);
+    assert!(rt; sender.say() == Say::Bid);
     let mut granted = sender;
     granted.hear(Sound::Ack0, Next::NewJob, false);
-    assert_eq!(rt; (granted.say(), granted.outcome()), (Say::Block, None));
+    assert!(rt; is_due(granted, Say::Block, None));
     sender.hear(Sound::Quiet, Next::NewJob, false);
-    let gave_up = (Say::End, Some(Outcome::GaveUp));
-    assert_eq!(rt; (sender.say(), sender.outcome()), gave_up);
+    assert!(rt; is_due(sender, Say::End, Some(Outcome::GaveUp)));
 }
 
 #[test]
@@ -580,29 +581,31 @@ fn a_bid_is_held_299_times_and_no_more(rt: HostRuntime) {
     for _ in 0..299 {
         sender.hear(Sound::Wack, Next::NewJob, false);
     }
-    assert_eq!(rt; (sender.say(), sender.outcome()), (Say::Bid, None));
+    assert!(rt; is_due(sender, Say::Bid, None));
     sender.hear(Sound::Wack, Next::NewJob, false);
-    let gave_up = (Say::End, Some(Outcome::GaveUp));
-    assert_eq!(rt; (sender.say(), sender.outcome()), gave_up);
+    assert!(rt; is_due(sender, Say::End, Some(Outcome::GaveUp)));
 }
+
+/// What comes to a receiver, its wish, and what it replies.
+const TURNS: [(Sound, Wish, Reply); 7] = [
+    (Sound::Enq, Wish::Go, Reply::Ack0),
+    (Sound::Block, Wish::Turn, Reply::Rvi),
+    (Sound::Enq, Wish::Go, Reply::Rvi),
+    (Sound::Block, Wish::Turn, Reply::Ack0),
+    (Sound::Block, Wish::Hold, Reply::Wack),
+    (Sound::Enq, Wish::Hold, Reply::Wack),
+    (Sound::Enq, Wish::Go, Reply::Ack1),
+];
 
 #[test]
 fn a_receiver_answers_turn_by_turn(rt: HostRuntime) {
     let mut receiver = Receiver::new();
-    for (sound, wish, reply) in [
-        (Sound::Enq, Wish::Go, Reply::Ack0),
-        (Sound::Block, Wish::Turn, Reply::Rvi),
-        (Sound::Enq, Wish::Go, Reply::Rvi),
-        (Sound::Block, Wish::Turn, Reply::Ack0),
-        (Sound::Block, Wish::Hold, Reply::Wack),
-        (Sound::Enq, Wish::Hold, Reply::Wack),
-        (Sound::Enq, Wish::Go, Reply::Ack1),
-    ] {
+    for (number, (sound, wish, reply)) in TURNS.iter().enumerate() {
         let news = ReceiverNews {
-            accepted: sound == Sound::Block,
-            reply: Some(reply),
+            accepted: *sound == Sound::Block,
+            reply: Some(*reply),
             ended: false,
         };
-        assert_eq!(rt; receiver.hear(sound, wish), news, "at {sound:?} {wish:?}");
+        assert!(rt; receiver.hear(*sound, *wish) == news, "turn {number}");
     }
 }

@@ -1,41 +1,12 @@
-//! What no clause says: worked records, and the texts that carry them.
-mod refusals;
-
-use crate::{
-    Action, Counted, Mode, PackFault, Packer, Pushed, Record, Records, Select, TextFault,
-    count_records, unpack,
+//! Records, and the texts that carry them.
+use super::{CARD, are_plain, block, is_one_record, is_record, prints, record};
+use bsc_codes::Closing;
+use rje_text::{
+    Action, Counted, Mode, PackFault, Packer, Pushed, Records, Select, TextFault, count_records,
+    unpack,
 };
-use arrayvec::ArrayVec;
-use bsc_codes::{Block, Closing};
 use std::process::Abort;
 use std::test::Fail;
-
-/// A record of these bytes.
-fn record(rt: &impl Abort, action: Action, bytes: &[u8]) -> Record {
-    Record {
-        action,
-        bytes: buffer(rt, bytes),
-    }
-}
-
-/// A block of this text that ends its job.
-fn block(rt: &impl Abort, text: &[u8], transparent: bool) -> Block {
-    Block {
-        text: buffer(rt, text),
-        closing: Closing::Etx,
-        transparent,
-    }
-}
-
-/// A buffer of these bytes, for which it has room.
-fn buffer<const N: usize>(rt: &impl Abort, bytes: &[u8]) -> ArrayVec<u8, N> {
-    let mut buffer = ArrayVec::new();
-    assert!(rt; buffer.try_extend_from_slice(bytes).is_ok());
-    buffer
-}
-
-/// A card of 80 bytes C1.
-const CARD: [u8; 80] = [0xC1; 80];
 
 /// The text of the one block of a job of one record.
 fn assert_spelled(rt: &impl Abort, bytes: &[u8], text: &[u8]) {
@@ -114,18 +85,16 @@ fn a_punch_job_without_records_has_one_block(rt: HostRuntime) {
 #[test]
 fn two_bytes_select_the_punch_in_a_first_text(rt: HostRuntime) -> Result<(), Fail> {
     for first in [0x12, 0x13] {
-        let text = [first, 0xC1, 0x1E];
-        let read = unpack(rt.alloc(), &block(&rt, &text, false), None)?;
+        let text = block(&rt, &[first, 0xC1, 0x1E], false);
+        let read = unpack(rt.alloc(), &text, None)?;
         assert!(rt; read.select == Select::Punch);
         assert!(rt; read.mode == Mode::Normal);
-        assert!(rt; read.records.as_slice() == [record(&rt, Action::Plain, &[0xC1])].as_slice());
+        assert!(rt; is_one_record(&read.records, Action::Plain, &[0xC1]));
 
         // After the first text both are data.
-        let later = unpack(rt.alloc(), &block(&rt, &text, false), Some(Mode::Normal))?;
+        let later = unpack(rt.alloc(), &text, Some(Mode::Normal))?;
         assert!(rt; later.select == Select::Unset);
-        assert!(rt;
-            later.records.as_slice() == [record(&rt, Action::Plain, &[first, 0xC1])].as_slice()
-        );
+        assert!(rt; is_one_record(&later.records, Action::Plain, &[first, 0xC1]));
     }
     Ok(())
 }
@@ -140,11 +109,10 @@ fn an_action_stands_behind_an_escape(rt: HostRuntime) -> Result<(), Fail> {
     let read = unpack(rt.alloc(), &printed, None)?;
     assert!(rt; read.select == Select::Printer);
     assert!(rt; read.mode == Mode::Normal);
-    assert!(rt; read.records.as_slice() == [record(&rt, Action::Ch1, &[0xE7])].as_slice());
+    assert!(rt; is_one_record(&read.records, Action::Ch1, &[0xE7]));
 
     let unknown = unpack(rt.alloc(), &block(&rt, b"\x27\xF0\xE7\x1E", false), None)?;
-    let data = record(&rt, Action::Plain, &[0x27, 0xF0, 0xE7]);
-    assert!(rt; unknown.records.as_slice() == [data].as_slice());
+    assert!(rt; is_one_record(&unknown.records, Action::Plain, &[0x27, 0xF0, 0xE7]));
     Ok(())
 }
 
@@ -157,15 +125,33 @@ fn actions_have_their_codes(rt: HostRuntime) {
     assert!(rt; Action::Plain.code().is_none());
 }
 
+/// Whether a packer of a normal job refuses a record of this action and these bytes so.
+fn is_refused(
+    rt: &impl Abort,
+    packer: &mut Packer,
+    action: Action,
+    bytes: &[u8],
+    fault: PackFault,
+) -> bool {
+    packer.push(record(rt, action, bytes)) == Err(fault)
+}
+
 #[test]
 fn records_that_cannot_be_sent_are_refused(rt: HostRuntime) {
     let mut punch = Packer::new(Select::Punch, Mode::Normal);
+    let (plain, long) = (Action::Plain, PackFault::CardLength(81));
+    assert!(rt; is_refused(&rt, &mut punch, plain, &[0xC1; 81], long));
     assert!(rt;
-        punch.push(record(&rt, Action::Plain, &[0xC1; 81])) == Err(PackFault::CardLength(81))
+        is_refused(
+            &rt,
+            &mut punch,
+            Action::Single,
+            &[0xC1],
+            PackFault::ActionHere
+        )
     );
-    assert!(rt; punch.push(record(&rt, Action::Single, &[0xC1])) == Err(PackFault::ActionHere));
     let mut unset = Packer::new(Select::Unset, Mode::Normal);
-    assert!(rt; unset.push(record(&rt, Action::Plain, &[0x27])) == Err(PackFault::BadByte(0)));
+    assert!(rt; is_refused(&rt, &mut unset, plain, &[0x27], PackFault::BadByte(0)));
     let cards = PackFault::of(
         &record(&rt, Action::Plain, &[0x00; 79]),
         Select::Punch,
@@ -201,11 +187,7 @@ fn assert_reads(
 ) -> Result<(), Fail> {
     let read = unpack(rt.alloc(), &block(rt, text, false), None)?;
     assert!(rt; read.select == Select::Unset);
-    assert!(rt; read.records.len() == records.len());
-    for (found, bytes) in read.records.as_slice().iter().zip(records) {
-        assert!(rt; found.action == Action::Plain);
-        assert!(rt; found.bytes.as_slice() == *bytes);
-    }
+    assert!(rt; are_plain(&read.records, records));
     Ok(())
 }
 
@@ -266,53 +248,63 @@ fn records_are_counted(rt: HostRuntime) {
     assert!(rt; read == Err(TextFault::BadCount(3)));
 }
 
-#[test]
-fn records_are_a_list(rt: HostRuntime) -> Result<(), Fail> {
+/// A plain record of one byte, and an empty one.
+fn two_records(rt: &(impl Abort + AllocGlobal)) -> Result<Records, Fail> {
     let mut records = Records::new(rt.alloc());
     assert!(rt; records.is_empty());
-    records.push(record(&rt, Action::Plain, &[0xC1]))?;
-    records.push(record(&rt, Action::Double, &[]))?;
+    records.push(record(rt, Action::Plain, &[0xC1]))?;
+    records.push(record(rt, Action::Double, &[]))?;
+    Ok(records)
+}
+
+#[test]
+fn records_are_a_list(rt: HostRuntime) -> Result<(), Fail> {
+    let records = two_records(&rt)?;
     assert!(rt; records.len() == 2);
     assert!(rt; records.iter().count() == 2);
     let items = records.into_vec();
-    assert!(rt;
-        items.as_slice()
-            == [
-                record(&rt, Action::Plain, &[0xC1]),
-                record(&rt, Action::Double, &[])
-            ]
-            .as_slice()
-    );
+    assert!(rt; items.len() == 2);
+    assert!(rt; is_record(&items[0], Action::Plain, &[0xC1]));
+    assert!(rt; is_record(&items[1], Action::Double, &[]));
     assert!(rt; Records::from(items).len() == 2);
     Ok(())
 }
 
+const PACK_FAULTS: [(PackFault, &str); 3] = [
+    (PackFault::BadByte(12), "no text byte at 12"),
+    (PackFault::CardLength(81), "a card of 81 bytes"),
+    (PackFault::ActionHere, "carriage control in a job of cards"),
+];
+
+const TEXT_FAULTS: [(TextFault, &str); 5] = [
+    (TextFault::BadCount(3), "no count of blanks at 3"),
+    (
+        TextFault::RecordTooLong(144),
+        "a record passes 144 bytes at 144",
+    ),
+    (
+        TextFault::CardsNot80,
+        "transparent text that is no cards of 80 bytes",
+    ),
+    (
+        TextFault::MixedModes,
+        "another mode than the job's earlier blocks",
+    ),
+    (TextFault::OutOfMemory, "out of memory"),
+];
+
 #[test]
-fn faults_of_records_and_texts_are_printed(rt: HostRuntime) -> Result<(), Fail> {
-    for (fault, text) in [
-        (PackFault::BadByte(12), "no text byte at 12"),
-        (PackFault::CardLength(81), "a card of 81 bytes"),
-        (PackFault::ActionHere, "carriage control in a job of cards"),
-    ] {
-        assert!(rt; format!(in rt.alloc(); "{fault}")?.as_str() == text);
+fn faults_of_records_are_printed(rt: HostRuntime) -> Result<(), Fail> {
+    for (fault, text) in &PACK_FAULTS {
+        assert!(rt; prints(&rt, fault, text)?);
     }
-    for (fault, text) in [
-        (TextFault::BadCount(3), "no count of blanks at 3"),
-        (
-            TextFault::RecordTooLong(144),
-            "a record passes 144 bytes at 144",
-        ),
-        (
-            TextFault::CardsNot80,
-            "transparent text that is no cards of 80 bytes",
-        ),
-        (
-            TextFault::MixedModes,
-            "another mode than the job's earlier blocks",
-        ),
-        (TextFault::OutOfMemory, "out of memory"),
-    ] {
-        assert!(rt; format!(in rt.alloc(); "{fault}")?.as_str() == text);
+    Ok(())
+}
+
+#[test]
+fn faults_of_texts_are_printed(rt: HostRuntime) -> Result<(), Fail> {
+    for (fault, text) in &TEXT_FAULTS {
+        assert!(rt; prints(&rt, fault, text)?);
     }
     Ok(())
 }

@@ -1,5 +1,6 @@
 //! Decks and their jobs.
-use crate::{DeckFault, cards_of_deck, job_of_deck};
+use super::{are_plain, is_one_record, is_record};
+use rje_jobs::{Cards, DeckFault, cards_of_deck, job_of_deck};
 use rje_text::{Action, Mode, Select};
 use std::process::Abort;
 use std::test::Fail;
@@ -10,11 +11,7 @@ fn assert_cards(rt: &(impl Abort + AllocGlobal), deck: &[u8], cards: &[&[u8]]) -
     assert!(rt; job.select == Select::Unset);
     assert!(rt; job.mode == Mode::Normal);
     assert!(rt; job.whole);
-    assert!(rt; job.records.len() == cards.len());
-    for (found, bytes) in job.records.as_slice().iter().zip(cards) {
-        assert!(rt; found.action == Action::Plain);
-        assert!(rt; found.bytes.as_slice() == *bytes);
-    }
+    assert!(rt; are_plain(&job.records, cards));
     Ok(())
 }
 
@@ -50,25 +47,24 @@ fn transparent_jobs_are_filled_cards_for_the_punch(rt: HostRuntime) -> Result<()
     assert!(rt; job.mode == Mode::Transparent);
     let mut card = [0x40; 80];
     card[0] = 0xC1;
-    assert!(rt; job.records.len() == 1);
-    assert!(rt; job.records.as_slice()[0].bytes.as_slice() == card.as_slice());
+    assert!(rt; is_one_record(&job.records, Action::Plain, &card));
     Ok(())
+}
+
+/// Whether the next card has these bytes.
+fn next_is(cards: &mut Cards<'_>, bytes: &[u8]) -> bool {
+    match cards.next() {
+        Some(card) => is_record(&card, Action::Plain, bytes),
+        None => false,
+    }
 }
 
 #[test]
 fn cards_come_one_after_another(rt: HostRuntime) -> Result<(), Fail> {
     let mut cards = cards_of_deck(b"A\nB\n", Mode::Normal)?;
     assert!(rt; cards.len() == 2);
-    assert!(rt;
-        cards
-            .next()
-            .is_some_and(|card| card.bytes.as_slice() == [0xC1].as_slice())
-    );
-    assert!(rt;
-        cards
-            .next()
-            .is_some_and(|card| card.bytes.as_slice() == [0xC2].as_slice())
-    );
+    assert!(rt; next_is(&mut cards, &[0xC1]));
+    assert!(rt; next_is(&mut cards, &[0xC2]));
     assert!(rt; cards.next().is_none());
     assert!(rt; cards_of_deck(b"\t", Mode::Normal).err() == Some(DeckFault::BadCharacter(1, 1)));
     Ok(())

@@ -1,8 +1,9 @@
 //! Job files of version 2, worked out.
 use super::record;
-use crate::{
-    Entry, FileEntry, State, entries_in, entries_of, first_unsendable, growth_of, jobs_of,
-    mark_sent, name_of, read_entries, read_jobs, sent_file, unsent_jobs, write_entries, write_jobs,
+use rje_files::{
+    Entry, FileEntry, JobName, NO_NAME, State, entries_in, entries_of, first_unsendable, growth_of,
+    jobs_of, mark_sent, name_of, read_entries, read_jobs, sent_file, unsent_jobs, write_entries,
+    write_jobs,
 };
 use rje_jobs::{FileFault, Job};
 use rje_text::{Action, Mode, Records, Select};
@@ -88,18 +89,21 @@ fn an_entry_has_one_file(rt: HostRuntime) -> Result<(), Fail> {
     Ok(())
 }
 
+/// The one entry has this state, this name and that record, and its job can be sent.
+fn assert_one_that_fits(rt: &impl Abort, entries: &[FileEntry], state: State, name: &JobName) {
+    assert!(rt; entries.len() == 1);
+    let entry = &entries[0];
+    assert!(rt; is_entry_of_a(rt, entry, state));
+    assert!(rt; entry.name() == name);
+    assert!(rt; entry.job_fits());
+}
+
 #[test]
 fn entries_are_seen_where_they_stand(rt: HostRuntime) -> Result<(), Fail> {
     let named = entries_in(rt.alloc(), &FILE)?;
-    assert!(rt; named.len() == 1);
-    assert!(rt; is_entry_of_a(&rt, &named[0], State::Waiting));
-    assert!(rt; *named[0].name() == *b"PAY1    ");
-    assert!(rt; named[0].job_fits());
+    assert_one_that_fits(&rt, &named, State::Waiting, b"PAY1    ");
     let old = entries_in(rt.alloc(), &OLD_FILE)?;
-    assert!(rt; old.len() == 1);
-    assert!(rt; is_entry_of_a(&rt, &old[0], State::Whole));
-    assert!(rt; *old[0].name() == [0x20; 8]);
-    assert!(rt; old[0].job_fits());
+    assert_one_that_fits(&rt, &old, State::Whole, &[0x20; 8]);
     Ok(())
 }
 
@@ -151,19 +155,29 @@ fn jobs_alone_are_cut_at_the_version(rt: HostRuntime) {
     }
 }
 
+/// Why the file with this byte in this place is not read.
+const BAD_FIELDS: [(usize, u8, FileFault); 10] = [
+    (22, 0x04, FileFault::BadField(22)),
+    (14, 0x20, FileFault::BadField(15)),
+    (14, 0x70, FileFault::BadField(14)),
+    (19, 0x41, FileFault::BadField(19)),
+    (18, 0x3A, FileFault::BadField(18)),
+    (18, 0x5B, FileFault::BadField(18)),
+    (23, 0x03, FileFault::BadField(23)),
+    (24, 0x02, FileFault::BadField(24)),
+    (5, 0x03, FileFault::Version(3)),
+    (5, 0x00, FileFault::Version(0)),
+];
+
 #[test]
 fn bad_fields_are_told_with_their_place(rt: HostRuntime) {
-    assert!(rt; fault_of(&rt, &with_byte(22, 0x04)) == Some(FileFault::BadField(22)));
-    assert!(rt; fault_of(&rt, &with_byte(14, 0x20)) == Some(FileFault::BadField(15)));
-    assert!(rt; fault_of(&rt, &with_byte(14, 0x70)) == Some(FileFault::BadField(14)));
-    assert!(rt; fault_of(&rt, &with_byte(19, 0x41)) == Some(FileFault::BadField(19)));
+    for (place, byte, fault) in BAD_FIELDS {
+        assert!(rt;
+            fault_of(&rt, &with_byte(place, byte)) == Some(fault),
+            "{byte} at {place}"
+        );
+    }
     assert!(rt; fault_of(&rt, &with_byte(18, 0x39)).is_none());
-    assert!(rt; fault_of(&rt, &with_byte(18, 0x3A)) == Some(FileFault::BadField(18)));
-    assert!(rt; fault_of(&rt, &with_byte(18, 0x5B)) == Some(FileFault::BadField(18)));
-    assert!(rt; fault_of(&rt, &with_byte(23, 0x03)) == Some(FileFault::BadField(23)));
-    assert!(rt; fault_of(&rt, &with_byte(24, 0x02)) == Some(FileFault::BadField(24)));
-    assert!(rt; fault_of(&rt, &with_byte(5, 0x03)) == Some(FileFault::Version(3)));
-    assert!(rt; fault_of(&rt, &with_byte(5, 0x00)) == Some(FileFault::Version(0)));
     assert!(rt; fault_of(&rt, b"RJ37\x01") == Some(FileFault::Truncated(5)));
 }
 
@@ -178,16 +192,24 @@ fn states_tell_whether_a_job_is_whole(rt: HostRuntime) -> Result<(), Fail> {
     Ok(())
 }
 
+/// The file reads as one job without a name, in this state.
+fn assert_one_without_name(
+    rt: &(impl Abort + AllocGlobal),
+    file: &[u8],
+    state: State,
+) -> Result<(), Fail> {
+    let read = read_entries(rt.alloc(), file)?;
+    assert!(rt; read.len() == 1);
+    assert!(rt; read[0].name == NO_NAME && read[0].state == state);
+    Ok(())
+}
+
 #[test]
 fn a_file_of_jobs_is_read_alike(rt: HostRuntime) -> Result<(), Fail> {
-    let read = read_entries(rt.alloc(), &OLD_FILE)?;
-    assert!(rt; read.len() == 1);
-    assert!(rt; read[0].name == [0x20; 8]);
-    assert!(rt; read[0].state == State::Whole);
     let mut cut = OLD_FILE;
     cut[16] = 0;
-    let read = read_entries(rt.alloc(), &cut)?;
-    assert!(rt; read[0].state == State::Cut);
+    assert_one_without_name(&rt, &OLD_FILE, State::Whole)?;
+    assert_one_without_name(&rt, &cut, State::Cut)?;
     let jobs = read_jobs(rt.alloc(), &cut)?;
     let again = write_jobs(rt.alloc(), jobs.as_slice())?;
     assert!(rt; again.as_slice() == cut.as_slice());

@@ -1,6 +1,6 @@
 //! Where jobs are marked, worked out from the tables of job files.
 use super::record;
-use crate::{Entry, MARK, NO_NAME, State, mark_places, sent_file, write_entries};
+use rje_files::{Entry, MARK, NO_NAME, State, mark_places, sent_file, write_entries};
 use rje_jobs::Job;
 use rje_text::{Action, Mode, Records, Select};
 use std::process::Abort;

@@ -1,5 +1,5 @@
 //! The code page and the control bytes, against lists of their own.
-use crate::{is_normal_text, to_ascii, to_ebcdic};
+use bsc_codes::{is_normal_text, to_ascii, to_ebcdic};
 use std::process::Abort;
 
 /// Letters and digits: the first and the last of a row of characters, and the code of the first.

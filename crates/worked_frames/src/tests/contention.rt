@@ -1,11 +1,10 @@
 //! Contention: its table as it is printed, and what a station that gives way counts afterwards.
-use crate::{Contender, ContenderPlace, Next, Outcome, Rank, Say, Sender, Sound};
-use std::process::Abort;
+use bsc_link::{Contender, ContenderPlace, Next, Outcome, Rank, Say, Sender, Sound};
 
 // CONTENTION
 
 /// A call of a contender.
-#[derive(Clone, Copy, Debug)]
+#[derive(Clone, Copy)]
 enum Call {
     SaidBid,
     Granted,
@@ -15,7 +14,7 @@ enum Call {
 }
 
 /// A state of a contender: the calls that lead there from a new one, its place, and whether a primary and a secondary take an ENQ there.
-#[derive(Clone, Copy, Debug)]
+#[derive(Clone, Copy)]
 struct State(&'static [Call], ContenderPlace, bool, bool);
 
 const FREE: State = State(&[], ContenderPlace::Free, true, true);
@@ -40,7 +39,7 @@ const PRIMARY: &[Rank] = &[Rank::Primary];
 const SECONDARY: &[Rank] = &[Rank::Secondary];
 
 /// A line of the table: the ranks, the state, the call, the state that follows, and what the call returns.
-#[derive(Clone, Copy, Debug)]
+#[derive(Clone, Copy)]
 struct Line(&'static [Rank], State, Call, State, Option<bool>);
 
 static TABLE: [Line; 26] = [
@@ -133,21 +132,22 @@ fn is_at(contender: Contender, state: State) -> bool {
             || (later.place() == ContenderPlace::Free && later.hear_enq()))
 }
 
-fn assert_line(rt: &impl Abort, line: Line, rank: Rank) {
-    let Line(_, state, step, follows, answer) = line;
+/// Whether the line holds for this rank: the state before the call, what it returns, and the state that follows.
+fn holds(line: &Line, rank: Rank) -> bool {
+    let Line(_, state, step, follows, answer) = *line;
     let mut contender = contender_at(rank, state);
-    assert!(rt; is_at(contender, state), "state before {line:?}");
-    let answered = (make_call(&mut contender, step), contender.rank());
-    assert_eq!(rt; answered, (answer, rank), "answer and rank at {line:?}");
-    assert!(rt; is_at(contender, follows), "state after {line:?}");
-    assert_eq!(rt; contender, contender_at(rank, follows), "state at {line:?}");
+    is_at(contender, state)
+        && make_call(&mut contender, step) == answer
+        && contender.rank() == rank
+        && is_at(contender, follows)
+        && contender == contender_at(rank, follows)
 }
 
 #[test]
 fn each_line_of_the_table_of_contention_holds(rt: HostRuntime) {
-    for line in &TABLE {
+    for (number, line) in TABLE.iter().enumerate() {
         for rank in line.0 {
-            assert_line(&rt, *line, *rank);
+            assert!(rt; holds(line, *rank), "line {number} for {rank:?}");
         }
     }
 }
@@ -207,52 +207,49 @@ fn bidding(tries: usize, holds: usize) -> Sender {
     sender
 }
 
-/// Hearing this sound `times` more times makes the sender give up, and once less does not.
-fn assert_gives_up_at(rt: &impl Abort, bid: Sender, sound: Sound, times: usize) {
+/// Whether hearing this sound `times` more times makes the sender give up, and once less does not.
+fn gives_up_at(bid: Sender, sound: Sound, times: usize) -> bool {
     let mut sender = bid;
-    for time in 1..times {
+    for _ in 1..times {
         sender.hear(sound, Next::NewJob, false);
-        let waits = (Say::Bid, None);
-        assert_eq!(rt;
-            (sender.say(), sender.outcome()),
-            waits,
-            "{time} times {sound:?}"
-        );
+        if sender.say() != Say::Bid || sender.outcome().is_some() {
+            return false;
+        }
     }
     sender.hear(sound, Next::NewJob, false);
-    let gave_up = (Say::End, Some(Outcome::GaveUp));
-    assert_eq!(rt;
-        (sender.say(), sender.outcome()),
-        gave_up,
-        "the last {sound:?}"
-    );
+    sender.say() == Say::End && sender.outcome() == Some(Outcome::GaveUp)
 }
 
 #[test]
 fn a_bid_that_gave_way_begins_anew(rt: HostRuntime) {
     for (tries, holds) in [(0, 0), (1, 0), (6, 0), (0, 1), (0, 299), (3, 150), (6, 299)] {
         let mut sender = bidding(tries, holds);
-        assert_eq!(rt; sender.say(), Say::Bid, "at {tries} and {holds}");
+        assert!(rt; sender.say() == Say::Bid);
         sender.yielded();
-        assert_eq!(rt; sender, Sender::new(), "at {tries} and {holds}");
-        assert_gives_up_at(&rt, sender, Sound::Quiet, 7);
-        assert_gives_up_at(&rt, sender, Sound::Wack, 300);
+        assert!(rt; sender == Sender::new(), "at {tries} and {holds}");
+        assert!(rt; gives_up_at(sender, Sound::Quiet, 7));
+        assert!(rt; gives_up_at(sender, Sound::Wack, 300));
     }
+}
+
+/// A new sender that heard this, and where nothing is due then, said its end.
+fn sender_after(heard: &[Heard], due: Say) -> Sender {
+    let mut sender = Sender::new();
+    for (sound, next, pause) in heard {
+        sender.hear(*sound, *next, *pause);
+    }
+    if due == Say::Nothing {
+        sender.sent_end();
+    }
+    sender
 }
 
 #[test]
 fn where_a_sender_no_longer_bids_giving_way_changes_nothing(rt: HostRuntime) {
-    for (heard, due) in &BEYOND_THE_BID {
-        let mut sender = Sender::new();
-        for (sound, next, pause) in *heard {
-            sender.hear(*sound, *next, *pause);
-        }
-        if *due == Say::Nothing {
-            sender.sent_end();
-        }
-        assert_eq!(rt; sender.say(), *due, "after {heard:?}");
-        let before = sender;
+    for (row, (heard, due)) in BEYOND_THE_BID.iter().enumerate() {
+        let before = sender_after(heard, *due);
+        let mut sender = before;
         sender.yielded();
-        assert_eq!(rt; sender, before, "after {heard:?}");
+        assert!(rt; before.say() == *due && sender == before, "row {row}");
     }
 }

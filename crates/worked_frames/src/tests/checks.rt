@@ -1,5 +1,5 @@
-//! What no clause says: known checks, and the table worked out once more.
-use crate::{Check, one_remainder};
+//! Known checks, and the table worked out once more.
+use bsc_check::{Check, one_remainder};
 
 /// The register after eight shifts.
 fn eight_shifts(register: u16) -> u16 {

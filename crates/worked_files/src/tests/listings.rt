@@ -1,42 +1,27 @@
 //! Listings, punched decks, which jobs can be sent, and the texts of their faults.
-use super::record;
-use crate::{FileFault, Form, Job, job_fits, job_of_deck, list_job, punch_job};
-use rje_text::{Action, Mode, Records, Select};
+use super::{job, prints};
+use rje_jobs::{FileFault, Form, job_fits, job_of_deck, list_job, punch_job};
+use rje_text::{Action, Mode, Select};
 use std::process::Abort;
 use std::test::Fail;
 
-/// A normal, whole job of one record.
-fn job(
-    rt: &(impl Abort + AllocGlobal),
-    select: Select,
-    action: Action,
-    bytes: &[u8],
-) -> Result<Job, Fail> {
-    let mut records = Records::new(rt.alloc());
-    records.push(record(rt, action, bytes))?;
-    Ok(Job {
-        select,
-        mode: Mode::Normal,
-        records,
-        whole: true,
-    })
-}
+const FAULTS: [(FileFault, &str); 7] = [
+    (FileFault::NotJobFile, "not a job file"),
+    (FileFault::Version(9), "job file version 9 is not read"),
+    (FileFault::Truncated(5), "job file ends at byte 5"),
+    (
+        FileFault::BadField(14),
+        "job file has a bad field at byte 14",
+    ),
+    (FileFault::Trailing(28), "job file goes on at byte 28"),
+    (FileFault::BadEntry(3), "job file has a bad entry 3"),
+    (FileFault::OutOfMemory, "out of memory"),
+];
 
 #[test]
 fn file_faults_have_their_texts(rt: HostRuntime) -> Result<(), Fail> {
-    for (fault, text) in [
-        (FileFault::NotJobFile, "not a job file"),
-        (FileFault::Version(9), "job file version 9 is not read"),
-        (FileFault::Truncated(5), "job file ends at byte 5"),
-        (
-            FileFault::BadField(14),
-            "job file has a bad field at byte 14",
-        ),
-        (FileFault::Trailing(28), "job file goes on at byte 28"),
-        (FileFault::BadEntry(3), "job file has a bad entry 3"),
-        (FileFault::OutOfMemory, "out of memory"),
-    ] {
-        assert!(rt; format!(in rt.alloc(); "{fault}")?.as_str() == text);
+    for (fault, text) in &FAULTS {
+        assert!(rt; prints(&rt, fault, text)?);
     }
     Ok(())
 }

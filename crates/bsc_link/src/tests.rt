@@ -1,3 +1,0 @@
-//! What no clause says: the tables as they are printed, and worked histories.
-mod contention;
-mod links;
