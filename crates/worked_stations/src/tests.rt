@@ -60,13 +60,29 @@ fn unfit_job(rt: &(impl Abort + AllocGlobal)) -> Result<Job, Fail> {
     Ok(job)
 }
 
+/// A job that can be sent, and two that can't be, the second of which is cut.
+fn bad_jobs(rt: &(impl Abort + AllocGlobal)) -> Result<Vec<Job>, Fail> {
+    let mut jobs = Vec::new(rt.alloc());
+    jobs.push(job_of(rt, 1, 1)?)?;
+    jobs.push(unfit_job(rt)?)?;
+    let mut cut = job_of(rt, 1, 1)?;
+    cut.whole = false;
+    jobs.push(cut)?;
+    Ok(jobs)
+}
+
+/// Whether a job was handed out whole as this one.
+fn is_same_job(given: &Job, job: &Job) -> bool {
+    given.whole
+        && given.select == job.select
+        && given.mode == job.mode
+        && given.records.as_slice() == job.records.as_slice()
+}
+
 /// The jobs are the same, and all are whole.
 fn assert_same_jobs(rt: &impl Abort, handed: &[Job], jobs: &[Job]) {
-    assert_eq!(rt; handed.len(), jobs.len());
-    for (given, job) in handed.iter().zip(jobs) {
-        assert!(rt; given.whole);
-        assert!(rt; given.select == job.select);
-        assert!(rt; given.mode == job.mode);
-        assert!(rt; given.records.as_slice() == job.records.as_slice());
+    assert!(rt; handed.len() == jobs.len());
+    for (place, given) in handed.iter().enumerate() {
+        assert!(rt; is_same_job(given, &jobs[place]));
     }
 }

@@ -11,6 +11,7 @@ use rje_station::{
 };
 use std::alloc::Global;
 use std::process::Abort;
+use std::slice;
 use std::test::Fail;
 
 pub(super) const ACK0: [u8; 5] = [0x32, 0x32, 0x10, 0x70, 0xFF];
@@ -104,10 +105,11 @@ fn assert_sender_fails(
 
 #[test]
 fn the_call_of_a_sender_that_fails_answers_so(rt: HostRuntime) -> Result<(), Fail> {
-    let jobs = [job_of(&rt, 1, 1)?];
+    let job = job_of(&rt, 1, 1)?;
+    let jobs = slice::from_ref(&job);
     for failing in 0..6 {
         let mut line = line_of(rt.alloc(), &[&ACK0, &ACK1], failing)?;
-        let mut station = SendingStation::new(rt.alloc(), &jobs)?;
+        let mut station = SendingStation::new(rt.alloc(), jobs)?;
         assert_sender_fails(&rt, &mut station, &mut line, failing);
     }
     Ok(())
@@ -124,7 +126,7 @@ fn assert_receiver_fails(
         assert!(rt; call_receiver(station, line, call) == answer(call, failing));
     }
     assert!(rt; station.jobs().len() == usize::from(3 <= well(failing)));
-    assert!(rt; station.jobs().iter().all(is_the_job));
+    assert!(rt; are_the_job(station.jobs()));
     assert!(rt; call_receiver(station, line, 6) == OVER);
 }
 
@@ -139,14 +141,21 @@ fn the_call_of_a_receiver_that_fails_answers_so(rt: HostRuntime) -> Result<(), F
 }
 
 /// Whether a job is whole, and its one record C1.
-pub(super) fn is_the_job(job: &Job) -> bool {
-    job.whole
-        && job.records.len() == 1
-        && job
-            .records
-            .as_slice()
-            .iter()
-            .all(|record| record.bytes.as_slice() == [0xC1].as_slice())
+fn is_the_job(job: &Job) -> bool {
+    match job.records.as_slice() {
+        [record] => job.whole && record.bytes.as_slice() == [0xC1].as_slice(),
+        _ => false,
+    }
+}
+
+/// Whether each of these jobs is whole, and its one record C1.
+pub(super) fn are_the_job(jobs: &[Job]) -> bool {
+    for job in jobs {
+        if !is_the_job(job) {
+            return false;
+        }
+    }
+    true
 }
 
 /// A line that the other end closed.
@@ -206,9 +215,10 @@ fn assert_closed(rt: &impl Abort, sender: &mut SendingStation, first: u64) {
 
 #[test]
 fn a_closed_line_is_told_as_closed(rt: HostRuntime) -> Result<(), Fail> {
-    let jobs = [job_of(&rt, 1, 1)?];
+    let job = job_of(&rt, 1, 1)?;
+    let jobs = slice::from_ref(&job);
     for first in 1..3 {
-        let mut sender = SendingStation::new(rt.alloc(), &jobs)?;
+        let mut sender = SendingStation::new(rt.alloc(), jobs)?;
         assert_closed(&rt, &mut sender, first);
     }
     let mut line = ClosedLine::new();
@@ -225,7 +235,8 @@ fn hear_after_syns(
     rt: &(impl Abort + AllocGlobal),
     count: usize,
 ) -> Result<Option<StationFault>, Fail> {
-    let jobs = [job_of(rt, 1, 1)?];
+    let job = job_of(rt, 1, 1)?;
+    let jobs = slice::from_ref(&job);
     let mut bytes = Vec::new(rt.alloc());
     for _ in 0..count {
         bytes.push(0x32)?;
@@ -233,7 +244,7 @@ fn hear_after_syns(
     bytes.extend_from_slice(&[0x10, 0x70])?;
     let mut line = MemoryLine::new(rt.alloc());
     line.put(one_piece(rt.alloc(), bytes.as_slice())?);
-    let mut sender = SendingStation::new(rt.alloc(), &jobs)?;
+    let mut sender = SendingStation::new(rt.alloc(), jobs)?;
     sender.speak(&mut line)?;
     Ok(sender.hear(&mut line, false).err())
 }

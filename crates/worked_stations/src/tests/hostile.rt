@@ -1,5 +1,5 @@
 //! Transmissions that are cut or changed: what the line's quiet says of them, and that nothing is handed out but what was sent.
-use super::failing_lines::{BLOCK, is_the_job};
+use super::failing_lines::{BLOCK, are_the_job};
 use super::stations::{one_piece, open_receiver};
 use bsc_frame::{Heard, Listener};
 use bsc_link::{Reply, Wish};
@@ -50,7 +50,7 @@ fn heard_of(
     let (mut receiver, mut line) = open_receiver(rt.alloc())?;
     line.put(one_piece(rt.alloc(), bytes)?);
     let reply = receiver.hear(&mut line, Wish::Go)?;
-    assert!(rt; receiver.jobs().iter().all(is_the_job));
+    assert!(rt; are_the_job(receiver.jobs()));
     Ok((reply, receiver.jobs().len()))
 }
 

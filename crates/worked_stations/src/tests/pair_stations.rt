@@ -2,13 +2,14 @@
 //! a call fails.
 use super::failing_lines::{ACK0, EOT, OVER};
 use super::stations::{ENQ, FAILED, assert_events, one_piece, syns, transparent_block};
-use super::{assert_same_jobs, job_of, unfit_job};
+use super::{assert_same_jobs, bad_jobs, job_of};
 use bsc_link::{Outcome, Rank, Reply, Say, Sound, Wish};
 use line_world::MemoryLine;
 use rje_jobs::Job;
 use rje_station::{Came, Event, Line, LineFault, MAX_HEARD, Station, StationFault, Trace};
 use std::alloc::{AllocGlobal, Global};
 use std::process::Abort;
+use std::slice;
 use std::test::Fail;
 
 const RANKS: [Rank; 2] = [Rank::Primary, Rank::Secondary];
@@ -205,7 +206,8 @@ fn assert_both_done(rt: &(impl Abort + AllocGlobal), end: &mut End<'_>) {
 
 #[test]
 fn each_station_sends_and_then_receives(rt: HostRuntime) -> Result<(), Fail> {
-    let (ups, downs) = ([job_of(&rt, 1, 1)?], [job_of(&rt, 2, 2)?]);
+    let (up, down) = (job_of(&rt, 1, 1)?, job_of(&rt, 2, 2)?);
+    let (ups, downs) = (slice::from_ref(&up), slice::from_ref(&down));
     let mut primary = end_of(&rt, Rank::Primary, &ups);
     let mut secondary = end_of(&rt, Rank::Secondary, &downs);
     assert!(rt; converse(rt.alloc(), &mut primary, &mut secondary).is_ok());
@@ -272,14 +274,15 @@ fn assert_call_fails(
     call: u64,
     counts: Counts,
 ) -> Result<(), Fail> {
-    let jobs = [job_of(rt, 1, 1)?];
-    let mut up = end_of(rt, Rank::Primary, &jobs);
-    let mut down = end_of(rt, Rank::Secondary, &jobs);
+    let job = job_of(rt, 1, 1)?;
+    let jobs = slice::from_ref(&job);
+    let mut up = end_of(rt, Rank::Primary, jobs);
+    let mut down = end_of(rt, Rank::Secondary, jobs);
     of_rank(rank, &mut up, &mut down).fail_at(call);
     assert!(rt; converse(rt.alloc(), &mut up, &mut down).err() == FAILED);
     assert_over(rt, of_rank(rank, &mut up, &mut down));
-    assert_sent(rt, &up, &down, &jobs, counts.0, counts.1);
-    assert_sent(rt, &down, &up, &jobs, counts.2, counts.3);
+    assert_sent(rt, &up, &down, jobs, counts.0, counts.1);
+    assert_sent(rt, &down, &up, jobs, counts.2, counts.3);
     Ok(())
 }
 
@@ -298,9 +301,10 @@ const BABBLE: Option<StationFault> = Some(StationFault::Babble);
 
 /// A station of this rank hears babble of the other station.
 fn assert_babble_ends_it(rt: &(impl Abort + AllocGlobal), rank: Rank) -> Result<(), Fail> {
-    let jobs = [job_of(rt, 1, 1)?];
+    let job = job_of(rt, 1, 1)?;
+    let jobs = slice::from_ref(&job);
     let pieces = syns(rt.alloc(), MAX_HEARD, true)?;
-    let mut end = end_of(rt, rank, &jobs);
+    let mut end = end_of(rt, rank, jobs);
     assert!(rt; end.hear(pieces).err() == BABBLE);
     assert_over(rt, &mut end);
     assert_events(rt, end.receiving(), &[Event::Over]);
@@ -309,9 +313,10 @@ fn assert_babble_ends_it(rt: &(impl Abort + AllocGlobal), rank: Rank) -> Result<
 
 /// A station of this rank hears babble for an answer.
 fn assert_babbled_answer_ends_it(rt: &(impl Abort + AllocGlobal), rank: Rank) -> Result<(), Fail> {
-    let jobs = [job_of(rt, 1, 1)?];
+    let job = job_of(rt, 1, 1)?;
+    let jobs = slice::from_ref(&job);
     let pieces = syns(rt.alloc(), MAX_HEARD, true)?;
-    let mut end = end_of(rt, rank, &jobs);
+    let mut end = end_of(rt, rank, jobs);
     assert!(rt; end.speak().is_ok());
     assert!(rt; end.hear_answer(pieces).err() == BABBLE);
     assert_over(rt, &mut end);
@@ -340,12 +345,17 @@ fn assert_nothing_is_due(rt: &(impl Abort + AllocGlobal), end: &mut End<'_>) {
     end.line
         .put(one_piece(rt.alloc(), &[3]).expect(rt, "no memory"));
     end.fail_at(1);
-    assert!(rt; end.due() == Say::Nothing);
-    assert!(rt; end.speak() == Ok(Say::Nothing));
-    assert!(rt; end.await_answer() == Ok(Sound::Quiet));
-    assert!(rt; end.due() == Say::Nothing);
+    assert!(rt; says_nothing(end));
     assert!(rt; end.sending().len() == events);
     assert_untouched(rt, &mut end.line);
+}
+
+/// Whether nothing is due, before and after it speaks and listens for an answer.
+fn says_nothing(end: &mut End<'_>) -> bool {
+    end.due() == Say::Nothing
+        && end.speak() == Ok(Say::Nothing)
+        && end.await_answer() == Ok(Sound::Quiet)
+        && end.due() == Say::Nothing
 }
 
 /// Nothing was done with a line that sent 1, 2, on which 3 comes next, and whose next call fails.
@@ -368,8 +378,9 @@ fn without_jobs_no_line_is_touched(rt: HostRuntime) {
 
 /// A station of this rank that took a bid says nothing but its replies.
 fn assert_silent(rt: &(impl Abort + AllocGlobal), rank: Rank) -> Result<(), Fail> {
-    let jobs = [job_of(rt, 1, 1)?];
-    let mut receiving = end_of(rt, rank, &jobs);
+    let job = job_of(rt, 1, 1)?;
+    let jobs = slice::from_ref(&job);
+    let mut receiving = end_of(rt, rank, jobs);
     assert!(rt; receiving.due() == Say::Bid);
     assert!(rt; receiving.hear_bytes(rt, &ENQ) == Ok(Some(Reply::Ack0)));
     assert_nothing_is_due(rt, &mut receiving);
@@ -389,8 +400,9 @@ fn a_station_that_receives_is_silent(rt: HostRuntime) -> Result<(), Fail> {
 
 /// A bid of this rank's station is answered by EOT.
 fn assert_ended(rt: &(impl Abort + AllocGlobal), rank: Rank) -> Result<(), Fail> {
-    let jobs = [job_of(rt, 1, 1)?];
-    let mut ended = end_of(rt, rank, &jobs);
+    let job = job_of(rt, 1, 1)?;
+    let jobs = slice::from_ref(&job);
+    let mut ended = end_of(rt, rank, jobs);
     assert!(rt; ended.speak().is_ok());
     assert!(rt; ended.answer(rt, &EOT) == Ok(Sound::Eot));
     assert!(rt; ended.outcome() == Some(Outcome::Ended));
@@ -410,16 +422,26 @@ fn after_an_eot_for_an_answer_nothing_is_due(rt: HostRuntime) -> Result<(), Fail
 
 // BIDS OF THE OTHER STATION
 
+/// Whether this is the one event that a trace has behind so many.
+fn is_one_more(trace: &Trace, events: usize, event: Event) -> bool {
+    trace.len().checked_sub(events) == Some(1) && trace.get(events) == Some(event)
+}
+
+/// Whether no reply is due, and none is sent.
+fn replies_nothing(end: &mut End<'_>) -> bool {
+    end.fail_at(1);
+    let replied = end.reply();
+    end.fail_at(0);
+    replied == Ok(None)
+}
+
 /// An ENQ comes that isn't taken: no reply is due, none is sent, and the ENQ is the one event more.
 fn assert_passed_over(rt: &(impl Abort + AllocGlobal), end: &mut End<'_>) {
     let events = end.receiving().len();
     let due = end.due();
     assert!(rt; end.hear_bytes(rt, &ENQ) == Ok(None));
-    end.fail_at(1);
-    assert!(rt; end.reply() == Ok(None));
-    end.fail_at(0);
-    assert!(rt; end.receiving().len().checked_sub(events) == Some(1));
-    assert!(rt; end.receiving().get(events) == Some(Event::Heard(Sound::Enq)));
+    assert!(rt; replies_nothing(end));
+    assert!(rt; is_one_more(end.receiving(), events, Event::Heard(Sound::Enq)));
     assert!(rt; end.due() == due);
 }
 
@@ -431,8 +453,9 @@ fn assert_passed_over_after(rt: &(impl Abort + AllocGlobal), end: &mut End<'_>, 
 
 /// From its bid to its end a station of this rank takes no ENQ, but that of a secondary takes one while it bids.
 fn assert_bid_stands(rt: &(impl Abort + AllocGlobal), rank: Rank) -> Result<(), Fail> {
-    let jobs = [job_of(rt, 1, 1)?];
-    let mut end = end_of(rt, rank, &jobs);
+    let job = job_of(rt, 1, 1)?;
+    let jobs = slice::from_ref(&job);
+    let mut end = end_of(rt, rank, jobs);
     assert!(rt; end.speak().is_ok());
     if rank == Rank::Primary {
         assert_passed_over(rt, &mut end);
@@ -464,8 +487,9 @@ fn assert_seventh_bid_gives_up(rt: &(impl Abort + AllocGlobal), end: &mut End<'_
 
 #[test]
 fn a_secondary_gives_way_and_counts_its_bids_anew(rt: HostRuntime) -> Result<(), Fail> {
-    let jobs = [job_of(&rt, 1, 1)?];
-    let mut secondary = end_of(&rt, Rank::Secondary, &jobs);
+    let job = job_of(&rt, 1, 1)?;
+    let jobs = slice::from_ref(&job);
+    let mut secondary = end_of(&rt, Rank::Secondary, jobs);
     assert!(rt; secondary.bid_in_vain(rt.alloc(), 6).is_ok());
     assert!(rt; secondary.hear_bytes(&rt, &ENQ) == Ok(Some(Reply::Ack0)));
     assert!(rt; secondary.due() == Say::Nothing);
@@ -477,8 +501,9 @@ fn a_secondary_gives_way_and_counts_its_bids_anew(rt: HostRuntime) -> Result<(),
 
 #[test]
 fn a_primary_passes_a_bid_over_and_counts_on(rt: HostRuntime) -> Result<(), Fail> {
-    let jobs = [job_of(&rt, 1, 1)?];
-    let mut primary = end_of(&rt, Rank::Primary, &jobs);
+    let job = job_of(&rt, 1, 1)?;
+    let jobs = slice::from_ref(&job);
+    let mut primary = end_of(&rt, Rank::Primary, jobs);
     assert!(rt; primary.bid_in_vain(rt.alloc(), 6).is_ok());
     assert_passed_over(&rt, &mut primary);
     assert_seventh_bid_gives_up(&rt, &mut primary);
@@ -525,8 +550,7 @@ fn assert_left(rt: &(impl Abort + AllocGlobal), end: &mut End<'_>, handed: usize
     let events = end.receiving().len();
     end.other_ended();
     end.other_ended();
-    assert!(rt; end.receiving().len().checked_sub(events) == Some(1));
-    assert!(rt; end.receiving().get(events) == Some(Event::Over));
+    assert!(rt; is_one_more(end.receiving(), events, Event::Over));
     assert!(rt; end.hear_bytes(rt, &ENQ).err() == OVER);
     assert!(rt; end.reply().err() == OVER);
     assert!(rt; end.jobs().len() == handed);
@@ -536,10 +560,11 @@ fn assert_left(rt: &(impl Abort + AllocGlobal), end: &mut End<'_>, handed: usize
 
 /// The other's EOT was lost before its bid came, and then after a block of it.
 fn assert_each_left(rt: &(impl Abort + AllocGlobal), rank: Rank) -> Result<(), Fail> {
-    let jobs = [job_of(rt, 1, 1)?];
+    let job = job_of(rt, 1, 1)?;
+    let jobs = slice::from_ref(&job);
     let card = transparent_block(rt, 80)?;
-    assert_left(rt, &mut end_of(rt, rank, &jobs), 0);
-    let mut end = end_of(rt, rank, &jobs);
+    assert_left(rt, &mut end_of(rt, rank, jobs), 0);
+    let mut end = end_of(rt, rank, jobs);
     assert!(rt; end.hear_bytes(rt, &ENQ).is_ok());
     assert!(rt; end.hear(card).is_ok());
     assert_left(rt, &mut end, 1);
@@ -559,7 +584,7 @@ fn once_the_other_ended_it_is_not_heard_and_its_job_is_kept(rt: HostRuntime) -> 
 
 #[test]
 fn a_station_tells_the_first_job_that_cannot_be_sent(rt: HostRuntime) -> Result<(), Fail> {
-    let jobs = [job_of(&rt, 1, 1)?, unfit_job(&rt)?, unfit_job(&rt)?];
+    let jobs = bad_jobs(&rt)?;
     for rank in RANKS {
         let refused = Station::new(rt.alloc(), rank, &jobs).err();
         assert!(rt; refused == Some(StationFault::BadJob(2)));

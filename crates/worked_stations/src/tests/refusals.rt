@@ -11,6 +11,7 @@ use rje_station::{Arrival, ReceivingStation, SendingStation, Station, StationFau
 use rje_text::{Action, Mode, Records, Select};
 use std::alloc::{AllocError, Global};
 use std::process::Abort;
+use std::slice;
 use std::test::Fail;
 
 /// A job of `count` records, at most 1,000, whose memory is taken in one growth.
@@ -32,8 +33,7 @@ fn assert_made_or_no_memory(rt: &(impl Abort + AllocGlobal), count: usize) {
     let Ok(job) = job_of(rt, count) else {
         return;
     };
-    let jobs = [job];
-    match SendingStation::new(rt.alloc(), &jobs) {
+    match SendingStation::new(rt.alloc(), slice::from_ref(&job)) {
         Ok(station) => assert!(rt; station.counted() == 0),
         Err(fault) => assert!(rt; fault == StationFault::OutOfMemory),
     }
@@ -159,9 +159,9 @@ const STEPS: [Step; 3] = [
 /// The jobs are those that came.
 fn assert_came(rt: &impl Abort, jobs: &[Job], came: &[Came]) {
     assert!(rt; jobs.len() == came.len());
-    for (job, (whole, bytes)) in jobs.iter().zip(came) {
-        assert!(rt; job.whole == *whole);
-        assert!(rt; (job.select, job.mode) == (Select::Unset, Mode::Normal));
+    for (place, job) in jobs.iter().enumerate() {
+        let (whole, bytes) = came[place];
+        assert!(rt; job.whole == whole && job.select == Select::Unset && job.mode == Mode::Normal);
         assert_records(rt, job, bytes);
     }
 }
@@ -169,9 +169,9 @@ fn assert_came(rt: &impl Abort, jobs: &[Job], came: &[Came]) {
 /// The records of the job are of these bytes, one each.
 fn assert_records(rt: &impl Abort, job: &Job, bytes: &[u8]) {
     assert!(rt; job.records.len() == bytes.len());
-    for (record, byte) in job.records.as_slice().iter().zip(bytes) {
+    for (place, record) in job.records.as_slice().iter().enumerate() {
         assert!(rt; record.action == Action::Plain);
-        assert!(rt; record.bytes.as_slice() == [*byte].as_slice());
+        assert!(rt; record.bytes.as_slice() == [bytes[place]].as_slice());
     }
 }
 
@@ -228,12 +228,16 @@ fn a_station_of_either_rank_is_made_or_finds_no_memory(rt: HostRuntime) {
     let Ok(job) = job_of(&rt, 1) else {
         return;
     };
-    let jobs = [job];
     for rank in [Rank::Primary, Rank::Secondary] {
-        match Station::new(rt.alloc(), rank, &jobs) {
-            Ok(station) => assert!(rt; station.due() == Say::Bid),
-            Err(fault) => assert!(rt; fault == StationFault::OutOfMemory),
-        }
+        assert_station_or_no_memory(&rt, rank, &job);
+    }
+}
+
+/// A station of this rank is made for this job, or there is no memory for it.
+fn assert_station_or_no_memory(rt: &(impl Abort + AllocGlobal), rank: Rank, job: &Job) {
+    match Station::new(rt.alloc(), rank, slice::from_ref(job)) {
+        Ok(station) => assert!(rt; station.due() == Say::Bid),
+        Err(fault) => assert!(rt; fault == StationFault::OutOfMemory),
     }
 }
 

@@ -1,5 +1,5 @@
 //! Both stations over lines in memory: conversations by hand, what one hearing takes, traces, and lines of which a call fails.
-use super::{block, buffer, job_of, unfit_job};
+use super::{bad_jobs, block, buffer, job_of};
 use arrayvec::ArrayVec;
 use bsc_codes::{Closing, SYN};
 use bsc_frame::{Frame, write_frame};
@@ -12,6 +12,7 @@ use rje_station::{
 use rje_text::{Action, Mode, Select, next_block};
 use std::alloc::{AllocError, Global};
 use std::process::Abort;
+use std::slice;
 use std::test::Fail;
 
 /// An ENQ on the line.
@@ -76,16 +77,15 @@ impl<'a> Ends<'a> {
     }
 }
 
-/// Sends jobs from one station to another over lines on which all arrives, until EOT is said: the stations then, and the turns that it took.
-fn send_jobs(alloc: Global, jobs: &[Job]) -> Result<(Ends<'_>, u64), StationFault> {
-    let mut ends = Ends::new(alloc, jobs)?;
+/// The jobs go from one station to the other over lines on which all arrives, until EOT is said: the turns that it took.
+fn send_jobs(ends: &mut Ends<'_>, alloc: Global) -> Result<u64, StationFault> {
     for turn in 1..u64::MAX {
         if ends.go_up(alloc, Wish::Go)? == Say::End {
-            return Ok((ends, turn));
+            return Ok(turn);
         }
         ends.go_down(alloc)?;
     }
-    Ok((ends, u64::MAX))
+    Ok(u64::MAX)
 }
 
 /// The events of a trace are these.
@@ -124,8 +124,9 @@ fn lose_acknowledgement(ends: &mut Ends<'_>, alloc: Global) -> Result<Say, Stati
 
 #[test]
 fn a_lost_acknowledgement_is_asked_for(rt: HostRuntime) -> Result<(), Fail> {
-    let jobs = [job_of(&rt, 1, 1)?];
-    let mut ends = Ends::new(rt.alloc(), &jobs)?;
+    let job = job_of(&rt, 1, 1)?;
+    let jobs = slice::from_ref(&job);
+    let mut ends = Ends::new(rt.alloc(), jobs)?;
     assert!(rt; lose_acknowledgement(&mut ends, rt.alloc()) == Ok(Say::End));
     let sent = [
         Event::Said(Say::Bid),
@@ -163,11 +164,12 @@ fn a_lost_acknowledgement_is_asked_for(rt: HostRuntime) -> Result<(), Fail> {
 
 #[test]
 fn a_thousand_records_go_through(rt: HostRuntime) -> Result<(), Fail> {
-    let jobs = [job_of(&rt, 1000, 80)?];
-    let (ends, turns) = send_jobs(rt.alloc(), &jobs)?;
+    let job = job_of(&rt, 1000, 80)?;
+    let jobs = slice::from_ref(&job);
+    let mut ends = Ends::new(rt.alloc(), jobs)?;
 
     // A bid, 167 blocks and the end.
-    assert!(rt; turns == 169);
+    assert!(rt; send_jobs(&mut ends, rt.alloc()) == Ok(169));
     assert!(rt; ends.sender.counted() == 1);
     assert!(rt; ends.sender.outcome() == Some(Outcome::Done));
     assert_one_job(&rt, ends.receiver.jobs(), 1000, &[0xC1; 80]);
@@ -206,9 +208,7 @@ fn without_jobs_the_sender_is_over_at_once(rt: HostRuntime) -> Result<(), Fail> 
 
 #[test]
 fn a_job_that_cannot_be_sent_is_told_by_its_number(rt: HostRuntime) -> Result<(), Fail> {
-    let mut cut = job_of(&rt, 1, 1)?;
-    cut.whole = false;
-    let jobs = [job_of(&rt, 1, 1)?, unfit_job(&rt)?, cut];
+    let jobs = bad_jobs(&rt)?;
     let refused = SendingStation::new(rt.alloc(), &jobs).err();
     assert!(rt; refused == Some(StationFault::BadJob(2)));
     Ok(())
@@ -406,8 +406,9 @@ fn assert_call_fails(
     call: u64,
     (counted, handed): (usize, usize),
 ) -> Result<(), Fail> {
-    let jobs = [job_of(rt, 1, 1)?];
-    let mut ends = Ends::new(rt.alloc(), &jobs)?;
+    let job = job_of(rt, 1, 1)?;
+    let jobs = slice::from_ref(&job);
+    let mut ends = Ends::new(rt.alloc(), jobs)?;
     if of_sender {
         ends.sending_line.fail_at(call);
     } else {
@@ -443,9 +444,17 @@ fn cut_second_job(ends: &mut Ends<'_>, alloc: Global) -> Result<Option<Reply>, S
     ends.hear_bytes(alloc, &[0x32, 0x32, 0x37, 0xFF])
 }
 
+/// A job of one block, and one of two.
+fn two_jobs(rt: &(impl Abort + AllocGlobal)) -> Result<Vec<Job>, Fail> {
+    let mut jobs = Vec::new(rt.alloc());
+    jobs.push(job_of(rt, 1, 1)?)?;
+    jobs.push(job_of(rt, 7, 80)?)?;
+    Ok(jobs)
+}
+
 #[test]
 fn a_cut_job_is_not_whole(rt: HostRuntime) -> Result<(), Fail> {
-    let jobs = [job_of(&rt, 1, 1)?, job_of(&rt, 7, 80)?];
+    let jobs = two_jobs(&rt)?;
     let mut ends = Ends::new(rt.alloc(), &jobs)?;
     assert!(rt; cut_second_job(&mut ends, rt.alloc()) == Ok(None));
     assert!(rt; receiver_is_over(&mut ends));
