@@ -11,7 +11,6 @@ use rje_jobs::Job;
 use rje_text::{Action, Mode, Record, Records, Select};
 use std::alloc::AllocGlobal;
 use std::process::Abort;
-use std::test::Fail;
 
 /// A buffer of these bytes, for which it has room.
 fn buffer<const N: usize>(rt: &impl Abort, bytes: &[u8]) -> ArrayVec<u8, N> {
@@ -40,7 +39,7 @@ fn block(rt: &impl Abort, text: &[u8], transparent: bool) -> Block {
 }
 
 /// A whole, normal job of this many records of `length` bytes C1 for the default device.
-fn job_of(rt: &(impl Abort + AllocGlobal), records: usize, length: usize) -> Result<Job, Fail> {
+fn job_of(rt: &(impl Abort + AllocGlobal), records: usize, length: usize) -> Job {
     let mut job = Job {
         select: Select::Unset,
         mode: Mode::Normal,
@@ -48,27 +47,27 @@ fn job_of(rt: &(impl Abort + AllocGlobal), records: usize, length: usize) -> Res
         whole: true,
     };
     for _i in 0..records {
-        job.records.push(record_of(rt, length))?;
+        assert!(rt; job.records.push(record_of(rt, length)).is_ok());
     }
-    Ok(job)
+    job
 }
 
 /// A job that can't be sent: its record is too long for the punch.
-fn unfit_job(rt: &(impl Abort + AllocGlobal)) -> Result<Job, Fail> {
-    let mut job = job_of(rt, 1, 81)?;
+fn unfit_job(rt: &(impl Abort + AllocGlobal)) -> Job {
+    let mut job = job_of(rt, 1, 81);
     job.select = Select::Punch;
-    Ok(job)
+    job
 }
 
 /// A job that can be sent, and two that can't be, the second of which is cut.
-fn bad_jobs(rt: &(impl Abort + AllocGlobal)) -> Result<Vec<Job>, Fail> {
-    let mut jobs = Vec::new(rt.alloc());
-    jobs.push(job_of(rt, 1, 1)?)?;
-    jobs.push(unfit_job(rt)?)?;
-    let mut cut = job_of(rt, 1, 1)?;
+fn bad_jobs(rt: &(impl Abort + AllocGlobal)) -> Vec<Job> {
+    let mut cut = job_of(rt, 1, 1);
     cut.whole = false;
-    jobs.push(cut)?;
-    Ok(jobs)
+    let mut jobs = Vec::new(rt.alloc());
+    assert!(rt; jobs.push(job_of(rt, 1, 1)).is_ok());
+    assert!(rt; jobs.push(unfit_job(rt)).is_ok());
+    assert!(rt; jobs.push(cut).is_ok());
+    jobs
 }
 
 /// Whether a job was handed out whole as this one.

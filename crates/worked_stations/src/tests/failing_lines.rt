@@ -2,14 +2,14 @@
 ghost use Rattle.std.specs.Prelude.{◌+◌, ◌-◌, ◌^◌, min, Some, None, ⊤};
 
 use super::job_of;
-use super::stations::{ENQ, FAILED, assert_events, one_piece};
+use super::stations::{ENQ, FAILED, assert_events, receiver_of, sender_of};
 use bsc_link::{Outcome, Wish};
 use line_world::MemoryLine;
 use rje_jobs::Job;
 use rje_station::{
     Came, Event, Line, LineFault, MAX_HEARD, ReceivingStation, SendingStation, StationFault,
 };
-use std::alloc::Global;
+use std::alloc::{AllocError, Global};
 use std::process::Abort;
 use std::slice;
 use std::test::Fail;
@@ -25,16 +25,25 @@ pub(super) const EOT: [u8; 4] = [0x32, 0x32, 0x37, 0xFF];
 
 pub(super) const OVER: Option<StationFault> = Some(StationFault::Over);
 
-/// A line in memory on which these come, one in each hearing, and whose call of this number fails, or none where it is 0.
-fn line_of(alloc: Global, pieces: &[&[u8]], failing: u64) -> Result<MemoryLine, Fail> {
+/// These pieces, in memory of their own.
+fn pieces_of(alloc: Global, pieces: &[&[u8]]) -> Result<Vec<Vec<u8>>, AllocError> {
     let mut put = Vec::new(alloc);
     for piece in pieces {
         put.push(Vec::from_slice(alloc, piece)?)?;
     }
-    let mut line = MemoryLine::new(alloc);
-    line.put(put);
+    Ok(put)
+}
+
+/// A line in memory on which these come, one in each hearing, and whose call of this number fails, or none where it is 0.
+pub(super) fn line_of(
+    rt: &(impl Abort + AllocGlobal),
+    pieces: &[&[u8]],
+    failing: u64,
+) -> MemoryLine {
+    let mut line = MemoryLine::new(rt.alloc());
+    line.put(pieces_of(rt.alloc(), pieces).expect(rt, "no memory"));
     line.fail_at(failing);
-    Ok(line)
+    line
 }
 
 /// The call of this number of a sender: it speaks in each odd one, and hears in each even one.
@@ -104,15 +113,14 @@ fn assert_sender_fails(
 }
 
 #[test]
-fn the_call_of_a_sender_that_fails_answers_so(rt: HostRuntime) -> Result<(), Fail> {
-    let job = job_of(&rt, 1, 1)?;
+fn the_call_of_a_sender_that_fails_answers_so(rt: HostRuntime) {
+    let job = job_of(&rt, 1, 1);
     let jobs = slice::from_ref(&job);
     for failing in 0..6 {
-        let mut line = line_of(rt.alloc(), &[&ACK0, &ACK1], failing)?;
-        let mut station = SendingStation::new(rt.alloc(), jobs)?;
+        let mut line = line_of(&rt, &[&ACK0, &ACK1], failing);
+        let mut station = sender_of(&rt, jobs);
         assert_sender_fails(&rt, &mut station, &mut line, failing);
     }
-    Ok(())
 }
 
 /// The five calls of a receiver answer as they must where this one of the line fails; the third hears the block.
@@ -131,13 +139,12 @@ fn assert_receiver_fails(
 }
 
 #[test]
-fn the_call_of_a_receiver_that_fails_answers_so(rt: HostRuntime) -> Result<(), Fail> {
+fn the_call_of_a_receiver_that_fails_answers_so(rt: HostRuntime) {
     for failing in 0..6 {
-        let mut line = line_of(rt.alloc(), &[&ENQ, &BLOCK, &EOT], failing)?;
-        let mut station = ReceivingStation::new(rt.alloc())?;
+        let mut line = line_of(&rt, &[&ENQ, &BLOCK, &EOT], failing);
+        let mut station = receiver_of(&rt);
         assert_receiver_fails(&rt, &mut station, &mut line, failing);
     }
-    Ok(())
 }
 
 /// Whether a job is whole, and its one record C1.
@@ -214,46 +221,45 @@ fn assert_closed(rt: &impl Abort, sender: &mut SendingStation, first: u64) {
 }
 
 #[test]
-fn a_closed_line_is_told_as_closed(rt: HostRuntime) -> Result<(), Fail> {
-    let job = job_of(&rt, 1, 1)?;
+fn a_closed_line_is_told_as_closed(rt: HostRuntime) {
+    let job = job_of(&rt, 1, 1);
     let jobs = slice::from_ref(&job);
     for first in 1..3 {
-        let mut sender = SendingStation::new(rt.alloc(), jobs)?;
+        let mut sender = sender_of(&rt, jobs);
         assert_closed(&rt, &mut sender, first);
     }
     let mut line = ClosedLine::new();
-    let mut receiver = ReceivingStation::new(rt.alloc())?;
+    let mut receiver = receiver_of(&rt);
     assert!(rt; call_receiver(&mut receiver, &mut line, 1) == CLOSED);
     assert!(rt; call_receiver(&mut receiver, &mut line, 1) == OVER);
     assert!(rt; call_receiver(&mut receiver, &mut line, 2) == OVER);
     assert!(rt; receiver.jobs().is_empty());
-    Ok(())
 }
 
-/// What a sender that bid hears of this many SYN and then an ACK0.
-fn hear_after_syns(
-    rt: &(impl Abort + AllocGlobal),
-    count: usize,
-) -> Result<Option<StationFault>, Fail> {
-    let job = job_of(rt, 1, 1)?;
-    let jobs = slice::from_ref(&job);
-    let mut bytes = Vec::new(rt.alloc());
+/// This many SYN and then an ACK0.
+fn ack0_after_syns(alloc: Global, count: usize) -> Result<Vec<u8>, AllocError> {
+    let mut bytes = Vec::new(alloc);
     for _ in 0..count {
         bytes.push(0x32)?;
     }
     bytes.extend_from_slice(&[0x10, 0x70])?;
-    let mut line = MemoryLine::new(rt.alloc());
-    line.put(one_piece(rt.alloc(), bytes.as_slice())?);
-    let mut sender = SendingStation::new(rt.alloc(), jobs)?;
-    sender.speak(&mut line)?;
-    Ok(sender.hear(&mut line, false).err())
+    Ok(bytes)
+}
+
+/// What a sender that bid hears of this many SYN and then an ACK0.
+fn hear_after_syns(rt: &(impl Abort + AllocGlobal), count: usize) -> Option<StationFault> {
+    let job = job_of(rt, 1, 1);
+    let bytes = ack0_after_syns(rt.alloc(), count).expect(rt, "no memory");
+    let mut line = line_of(rt, &[bytes.as_slice()], 0);
+    let mut sender = sender_of(rt, slice::from_ref(&job));
+    assert!(rt; sender.speak(&mut line).is_ok());
+    sender.hear(&mut line, false).err()
 }
 
 #[test]
-fn one_hearing_of_a_sender_has_8192_bytes(rt: HostRuntime) -> Result<(), Fail> {
-    assert!(rt; hear_after_syns(&rt, MAX_HEARD - 2)?.is_none());
-    assert!(rt; hear_after_syns(&rt, MAX_HEARD - 1)? == Some(StationFault::Babble));
-    Ok(())
+fn one_hearing_of_a_sender_has_8192_bytes(rt: HostRuntime) {
+    assert!(rt; hear_after_syns(&rt, MAX_HEARD - 2).is_none());
+    assert!(rt; hear_after_syns(&rt, MAX_HEARD - 1) == Some(StationFault::Babble));
 }
 
 #[test]

@@ -1,11 +1,9 @@
 //! Transmissions that are cut or changed: what the line's quiet says of them, and that nothing is handed out but what was sent.
 use super::failing_lines::{BLOCK, are_the_job};
-use super::stations::{one_piece, open_receiver};
+use super::stations::{open_receiver, piece_of};
 use bsc_frame::{Heard, Listener};
 use bsc_link::{Reply, Wish};
-use rje_station::StationFault;
 use std::process::Abort;
-use std::test::Fail;
 
 /// Transmissions, without the pad after them; how many bytes of each are quiet, and from how many on it is a text that is spoiled.
 const TRANSMISSIONS: [(&[u8], usize, usize); 6] = [
@@ -43,15 +41,14 @@ fn each_cut_of_a_transmission_is_told_by_quiet(rt: HostRuntime) {
 }
 
 /// A receiver that was bid for hears these bytes: what it replies, and how many jobs it hands out. Each is the job of the record C1.
-fn heard_of(
-    rt: &(impl Abort + AllocGlobal),
-    bytes: &[u8],
-) -> Result<(Option<Reply>, usize), StationFault> {
-    let (mut receiver, mut line) = open_receiver(rt.alloc())?;
-    line.put(one_piece(rt.alloc(), bytes)?);
-    let reply = receiver.hear(&mut line, Wish::Go)?;
+fn heard_of(rt: &(impl Abort + AllocGlobal), bytes: &[u8]) -> (Option<Reply>, usize) {
+    let (mut receiver, mut line) = open_receiver(rt);
+    line.put(piece_of(rt, bytes));
+    let reply = receiver
+        .hear(&mut line, Wish::Go)
+        .expect(rt, "a line that works");
     assert!(rt; are_the_job(receiver.jobs()));
-    Ok((reply, receiver.jobs().len()))
+    (reply, receiver.jobs().len())
 }
 
 /// What is due for the block where its byte at this place is spoiled, or the first that didn't come: a text is begun by its third byte, and
@@ -65,14 +62,13 @@ fn due(place: usize) -> (Option<Reply>, usize) {
 }
 
 #[test]
-fn of_a_changed_or_cut_block_nothing_else_is_handed_out(rt: HostRuntime) -> Result<(), Fail> {
+fn of_a_changed_or_cut_block_nothing_else_is_handed_out(rt: HostRuntime) {
     for (place, _) in BLOCK.iter().enumerate() {
         for byte in [0x00, 0xFF] {
             let mut changed = BLOCK;
             changed[place] = byte;
-            assert!(rt; heard_of(&rt, &changed)? == due(place));
+            assert!(rt; heard_of(&rt, &changed) == due(place));
         }
-        assert!(rt; heard_of(&rt, &BLOCK[..place])? == due(place));
+        assert!(rt; heard_of(&rt, &BLOCK[..place]) == due(place));
     }
-    Ok(())
 }

@@ -1,7 +1,7 @@
 //! Two stations that both have jobs, by hand over lines in memory: a conversation, what isn't taken or can't be read, and lines of which
 //! a call fails.
 use super::failing_lines::{ACK0, EOT, OVER};
-use super::stations::{ENQ, FAILED, assert_events, one_piece, syns, transparent_block};
+use super::stations::{ENQ, FAILED, assert_events, one_piece, piece_of, syns, transparent_block};
 use super::{assert_same_jobs, bad_jobs, job_of};
 use bsc_link::{Outcome, Rank, Reply, Say, Sound, Wish};
 use line_world::MemoryLine;
@@ -10,7 +10,6 @@ use rje_station::{Came, Event, Line, LineFault, MAX_HEARD, Station, StationFault
 use std::alloc::{AllocGlobal, Global};
 use std::process::Abort;
 use std::slice;
-use std::test::Fail;
 
 const RANKS: [Rank; 2] = [Rank::Primary, Rank::Secondary];
 
@@ -51,7 +50,7 @@ impl<'a> End<'a> {
         rt: &(impl Abort + AllocGlobal),
         bytes: &[u8],
     ) -> Result<Option<Reply>, StationFault> {
-        self.hear(one_piece(rt.alloc(), bytes).expect(rt, "no memory"))
+        self.hear(piece_of(rt, bytes))
     }
 
     /// It hears these pieces as an answer.
@@ -66,7 +65,7 @@ impl<'a> End<'a> {
         rt: &(impl Abort + AllocGlobal),
         bytes: &[u8],
     ) -> Result<Sound, StationFault> {
-        self.hear_answer(one_piece(rt.alloc(), bytes).expect(rt, "no memory"))
+        self.hear_answer(piece_of(rt, bytes))
     }
 
     /// It listens to the other station, to whatever comes.
@@ -205,8 +204,8 @@ fn assert_both_done(rt: &(impl Abort + AllocGlobal), end: &mut End<'_>) {
 }
 
 #[test]
-fn each_station_sends_and_then_receives(rt: HostRuntime) -> Result<(), Fail> {
-    let (up, down) = (job_of(&rt, 1, 1)?, job_of(&rt, 2, 2)?);
+fn each_station_sends_and_then_receives(rt: HostRuntime) {
+    let (up, down) = (job_of(&rt, 1, 1), job_of(&rt, 2, 2));
     let (ups, downs) = (slice::from_ref(&up), slice::from_ref(&down));
     let mut primary = end_of(&rt, Rank::Primary, &ups);
     let mut secondary = end_of(&rt, Rank::Secondary, &downs);
@@ -217,7 +216,6 @@ fn each_station_sends_and_then_receives(rt: HostRuntime) -> Result<(), Fail> {
     assert_sent(&rt, &secondary, &primary, &downs, 1, 1);
     assert_same_jobs(&rt, primary.take().as_slice(), &downs);
     assert_same_jobs(&rt, secondary.take().as_slice(), &ups);
-    Ok(())
 }
 
 // A LINE WHOSE CALL FAILS
@@ -268,13 +266,8 @@ fn of_rank<'e, 'a>(rank: Rank, up: &'e mut End<'a>, down: &'e mut End<'a>) -> &'
 }
 
 /// This call of the line of this rank's station fails.
-fn assert_call_fails(
-    rt: &(impl Abort + AllocGlobal),
-    rank: Rank,
-    call: u64,
-    counts: Counts,
-) -> Result<(), Fail> {
-    let job = job_of(rt, 1, 1)?;
+fn assert_call_fails(rt: &(impl Abort + AllocGlobal), rank: Rank, call: u64, counts: Counts) {
+    let job = job_of(rt, 1, 1);
     let jobs = slice::from_ref(&job);
     let mut up = end_of(rt, Rank::Primary, jobs);
     let mut down = end_of(rt, Rank::Secondary, jobs);
@@ -283,39 +276,36 @@ fn assert_call_fails(
     assert_over(rt, of_rank(rank, &mut up, &mut down));
     assert_sent(rt, &up, &down, jobs, counts.0, counts.1);
     assert_sent(rt, &down, &up, jobs, counts.2, counts.3);
-    Ok(())
 }
 
 #[test]
-fn each_call_of_either_line_fails_once(rt: HostRuntime) -> Result<(), Fail> {
+fn each_call_of_either_line_fails_once(rt: HostRuntime) {
     // The counts are those of the secondary's line too: where one transmits the other listens.
     for (i, counts) in PRIMARY_FAILS.iter().enumerate() {
         for rank in RANKS {
-            assert_call_fails(&rt, rank, i as u64 + 1, *counts)?;
+            assert_call_fails(&rt, rank, i as u64 + 1, *counts);
         }
     }
-    Ok(())
 }
 
 const BABBLE: Option<StationFault> = Some(StationFault::Babble);
 
 /// A station of this rank hears babble of the other station.
-fn assert_babble_ends_it(rt: &(impl Abort + AllocGlobal), rank: Rank) -> Result<(), Fail> {
-    let job = job_of(rt, 1, 1)?;
+fn assert_babble_ends_it(rt: &(impl Abort + AllocGlobal), rank: Rank) {
+    let job = job_of(rt, 1, 1);
     let jobs = slice::from_ref(&job);
-    let pieces = syns(rt.alloc(), MAX_HEARD, true)?;
+    let pieces = syns(rt, MAX_HEARD, true);
     let mut end = end_of(rt, rank, jobs);
     assert!(rt; end.hear(pieces).err() == BABBLE);
     assert_over(rt, &mut end);
     assert_events(rt, end.receiving(), &[Event::Over]);
-    Ok(())
 }
 
 /// A station of this rank hears babble for an answer.
-fn assert_babbled_answer_ends_it(rt: &(impl Abort + AllocGlobal), rank: Rank) -> Result<(), Fail> {
-    let job = job_of(rt, 1, 1)?;
+fn assert_babbled_answer_ends_it(rt: &(impl Abort + AllocGlobal), rank: Rank) {
+    let job = job_of(rt, 1, 1);
     let jobs = slice::from_ref(&job);
-    let pieces = syns(rt.alloc(), MAX_HEARD, true)?;
+    let pieces = syns(rt, MAX_HEARD, true);
     let mut end = end_of(rt, rank, jobs);
     assert!(rt; end.speak().is_ok());
     assert!(rt; end.hear_answer(pieces).err() == BABBLE);
@@ -324,16 +314,14 @@ fn assert_babbled_answer_ends_it(rt: &(impl Abort + AllocGlobal), rank: Rank) ->
     assert_events(rt, end.sending(), &events);
     assert!(rt; end.counted() == 0);
     assert!(rt; end.take().is_empty());
-    Ok(())
 }
 
 #[test]
-fn babble_ends_a_station(rt: HostRuntime) -> Result<(), Fail> {
+fn babble_ends_a_station(rt: HostRuntime) {
     for rank in RANKS {
-        assert_babble_ends_it(&rt, rank)?;
-        assert_babbled_answer_ends_it(&rt, rank)?;
+        assert_babble_ends_it(&rt, rank);
+        assert_babbled_answer_ends_it(&rt, rank);
     }
-    Ok(())
 }
 
 // NOTHING IS DUE
@@ -342,8 +330,7 @@ fn babble_ends_a_station(rt: HostRuntime) -> Result<(), Fail> {
 fn assert_nothing_is_due(rt: &(impl Abort + AllocGlobal), end: &mut End<'_>) {
     let events = end.sending().len();
     assert!(rt; end.line.transmit(&[1, 2]).is_ok());
-    end.line
-        .put(one_piece(rt.alloc(), &[3]).expect(rt, "no memory"));
+    end.line.put(piece_of(rt, &[3]));
     end.fail_at(1);
     assert!(rt; says_nothing(end));
     assert!(rt; end.sending().len() == events);
@@ -377,8 +364,8 @@ fn without_jobs_no_line_is_touched(rt: HostRuntime) {
 }
 
 /// A station of this rank that took a bid says nothing but its replies.
-fn assert_silent(rt: &(impl Abort + AllocGlobal), rank: Rank) -> Result<(), Fail> {
-    let job = job_of(rt, 1, 1)?;
+fn assert_silent(rt: &(impl Abort + AllocGlobal), rank: Rank) {
+    let job = job_of(rt, 1, 1);
     let jobs = slice::from_ref(&job);
     let mut receiving = end_of(rt, rank, jobs);
     assert!(rt; receiving.due() == Say::Bid);
@@ -387,20 +374,18 @@ fn assert_silent(rt: &(impl Abort + AllocGlobal), rank: Rank) -> Result<(), Fail
     assert!(rt; receiving.reply() == Ok(Some(Reply::Ack0)));
     assert!(rt; receiving.sent() == ACK0.as_slice());
     assert!(rt; receiving.reply() == Ok(None));
-    Ok(())
 }
 
 #[test]
-fn a_station_that_receives_is_silent(rt: HostRuntime) -> Result<(), Fail> {
+fn a_station_that_receives_is_silent(rt: HostRuntime) {
     for rank in RANKS {
-        assert_silent(&rt, rank)?;
+        assert_silent(&rt, rank);
     }
-    Ok(())
 }
 
 /// A bid of this rank's station is answered by EOT.
-fn assert_ended(rt: &(impl Abort + AllocGlobal), rank: Rank) -> Result<(), Fail> {
-    let job = job_of(rt, 1, 1)?;
+fn assert_ended(rt: &(impl Abort + AllocGlobal), rank: Rank) {
+    let job = job_of(rt, 1, 1);
     let jobs = slice::from_ref(&job);
     let mut ended = end_of(rt, rank, jobs);
     assert!(rt; ended.speak().is_ok());
@@ -408,16 +393,14 @@ fn assert_ended(rt: &(impl Abort + AllocGlobal), rank: Rank) -> Result<(), Fail>
     assert!(rt; ended.outcome() == Some(Outcome::Ended));
     assert_nothing_is_due(rt, &mut ended);
     assert!(rt; ended.hear_bytes(rt, &ENQ) == Ok(Some(Reply::Ack0)));
-    Ok(())
 }
 
 // An EOT for an answer ends its own transmission, and then the bid is no longer out.
 #[test]
-fn after_an_eot_for_an_answer_nothing_is_due(rt: HostRuntime) -> Result<(), Fail> {
+fn after_an_eot_for_an_answer_nothing_is_due(rt: HostRuntime) {
     for rank in RANKS {
-        assert_ended(&rt, rank)?;
+        assert_ended(&rt, rank);
     }
-    Ok(())
 }
 
 // BIDS OF THE OTHER STATION
@@ -452,8 +435,8 @@ fn assert_passed_over_after(rt: &(impl Abort + AllocGlobal), end: &mut End<'_>, 
 }
 
 /// From its bid to its end a station of this rank takes no ENQ, but that of a secondary takes one while it bids.
-fn assert_bid_stands(rt: &(impl Abort + AllocGlobal), rank: Rank) -> Result<(), Fail> {
-    let job = job_of(rt, 1, 1)?;
+fn assert_bid_stands(rt: &(impl Abort + AllocGlobal), rank: Rank) {
+    let job = job_of(rt, 1, 1);
     let jobs = slice::from_ref(&job);
     let mut end = end_of(rt, rank, jobs);
     assert!(rt; end.speak().is_ok());
@@ -466,15 +449,13 @@ fn assert_bid_stands(rt: &(impl Abort + AllocGlobal), rank: Rank) -> Result<(), 
     assert_passed_over_after(rt, &mut end, &ACK1);
     assert!(rt; end.speak() == Ok(Say::End));
     assert!(rt; end.hear_bytes(rt, &ENQ) == Ok(Some(Reply::Ack0)));
-    Ok(())
 }
 
 #[test]
-fn a_bid_is_not_taken_while_the_own_stands(rt: HostRuntime) -> Result<(), Fail> {
+fn a_bid_is_not_taken_while_the_own_stands(rt: HostRuntime) {
     for rank in RANKS {
-        assert_bid_stands(&rt, rank)?;
+        assert_bid_stands(&rt, rank);
     }
-    Ok(())
 }
 
 /// After six bids in vain one more is due, and after that the sender gives up.
@@ -486,8 +467,8 @@ fn assert_seventh_bid_gives_up(rt: &(impl Abort + AllocGlobal), end: &mut End<'_
 }
 
 #[test]
-fn a_secondary_gives_way_and_counts_its_bids_anew(rt: HostRuntime) -> Result<(), Fail> {
-    let job = job_of(&rt, 1, 1)?;
+fn a_secondary_gives_way_and_counts_its_bids_anew(rt: HostRuntime) {
+    let job = job_of(&rt, 1, 1);
     let jobs = slice::from_ref(&job);
     let mut secondary = end_of(&rt, Rank::Secondary, jobs);
     assert!(rt; secondary.bid_in_vain(rt.alloc(), 6).is_ok());
@@ -496,26 +477,21 @@ fn a_secondary_gives_way_and_counts_its_bids_anew(rt: HostRuntime) -> Result<(),
     secondary.other_ended();
     assert!(rt; secondary.bid_in_vain(rt.alloc(), 6).is_ok());
     assert_seventh_bid_gives_up(&rt, &mut secondary);
-    Ok(())
 }
 
 #[test]
-fn a_primary_passes_a_bid_over_and_counts_on(rt: HostRuntime) -> Result<(), Fail> {
-    let job = job_of(&rt, 1, 1)?;
+fn a_primary_passes_a_bid_over_and_counts_on(rt: HostRuntime) {
+    let job = job_of(&rt, 1, 1);
     let jobs = slice::from_ref(&job);
     let mut primary = end_of(&rt, Rank::Primary, jobs);
     assert!(rt; primary.bid_in_vain(rt.alloc(), 6).is_ok());
     assert_passed_over(&rt, &mut primary);
     assert_seventh_bid_gives_up(&rt, &mut primary);
-    Ok(())
 }
 
 /// A station of this rank refuses a block that can't be read, and takes the next one.
-fn assert_unreadable_block_leaves_the_jobs(
-    rt: &(impl Abort + AllocGlobal),
-    rank: Rank,
-) -> Result<(), Fail> {
-    let (short, cards) = (transparent_block(rt, 79)?, transparent_block(rt, 480)?);
+fn assert_unreadable_block_leaves_the_jobs(rt: &(impl Abort + AllocGlobal), rank: Rank) {
+    let (short, cards) = (transparent_block(rt, 79), transparent_block(rt, 480));
     let mut end = end_of(rt, rank, &[]);
     assert!(rt; end.hear_bytes(rt, &ENQ) == Ok(Some(Reply::Ack0)));
     assert!(rt; end.hear(short) == Ok(Some(Reply::Nak)));
@@ -530,17 +506,13 @@ fn assert_unreadable_block_leaves_the_jobs(
     let jobs = end.take();
     assert!(rt; jobs.len() == 1);
     assert!(rt; jobs[0].records.len() == 6);
-    Ok(())
 }
 
 #[test]
-fn a_block_that_cannot_be_read_leaves_the_jobs_of_either_station(
-    rt: HostRuntime,
-) -> Result<(), Fail> {
+fn a_block_that_cannot_be_read_leaves_the_jobs_of_either_station(rt: HostRuntime) {
     for rank in RANKS {
-        assert_unreadable_block_leaves_the_jobs(&rt, rank)?;
+        assert_unreadable_block_leaves_the_jobs(&rt, rank);
     }
-    Ok(())
 }
 
 // THE END OF THE OTHER STATION
@@ -559,10 +531,10 @@ fn assert_left(rt: &(impl Abort + AllocGlobal), end: &mut End<'_>, handed: usize
 }
 
 /// The other's EOT was lost before its bid came, and then after a block of it.
-fn assert_each_left(rt: &(impl Abort + AllocGlobal), rank: Rank) -> Result<(), Fail> {
-    let job = job_of(rt, 1, 1)?;
+fn assert_each_left(rt: &(impl Abort + AllocGlobal), rank: Rank) {
+    let job = job_of(rt, 1, 1);
     let jobs = slice::from_ref(&job);
-    let card = transparent_block(rt, 80)?;
+    let card = transparent_block(rt, 80);
     assert_left(rt, &mut end_of(rt, rank, jobs), 0);
     let mut end = end_of(rt, rank, jobs);
     assert!(rt; end.hear_bytes(rt, &ENQ).is_ok());
@@ -571,23 +543,20 @@ fn assert_each_left(rt: &(impl Abort + AllocGlobal), rank: Rank) -> Result<(), F
     let received = end.take();
     assert!(rt; received.len() == 1);
     assert!(rt; received[0].whole);
-    Ok(())
 }
 
 #[test]
-fn once_the_other_ended_it_is_not_heard_and_its_job_is_kept(rt: HostRuntime) -> Result<(), Fail> {
+fn once_the_other_ended_it_is_not_heard_and_its_job_is_kept(rt: HostRuntime) {
     for rank in RANKS {
-        assert_each_left(&rt, rank)?;
+        assert_each_left(&rt, rank);
     }
-    Ok(())
 }
 
 #[test]
-fn a_station_tells_the_first_job_that_cannot_be_sent(rt: HostRuntime) -> Result<(), Fail> {
-    let jobs = bad_jobs(&rt)?;
+fn a_station_tells_the_first_job_that_cannot_be_sent(rt: HostRuntime) {
+    let jobs = bad_jobs(&rt);
     for rank in RANKS {
         let refused = Station::new(rt.alloc(), rank, &jobs).err();
         assert!(rt; refused == Some(StationFault::BadJob(2)));
     }
-    Ok(())
 }

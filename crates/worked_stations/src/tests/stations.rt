@@ -1,4 +1,5 @@
 //! Both stations over lines in memory: conversations by hand, what one hearing takes, traces, and lines of which a call fails.
+use super::failing_lines::line_of;
 use super::{bad_jobs, block, buffer, job_of};
 use arrayvec::ArrayVec;
 use bsc_codes::{Closing, SYN};
@@ -13,7 +14,6 @@ use rje_text::{Action, Mode, Select, next_block};
 use std::alloc::{AllocError, Global};
 use std::process::Abort;
 use std::slice;
-use std::test::Fail;
 
 /// An ENQ on the line.
 pub(super) const ENQ: [u8; 4] = [0x32, 0x32, 0x2D, 0xFF];
@@ -26,6 +26,24 @@ pub(super) fn one_piece(alloc: Global, bytes: &[u8]) -> Result<Vec<Vec<u8>>, All
     Ok(pieces)
 }
 
+/// The same, where there is memory.
+pub(super) fn piece_of(rt: &(impl Abort + AllocGlobal), bytes: &[u8]) -> Vec<Vec<u8>> {
+    one_piece(rt.alloc(), bytes).expect(rt, "no memory")
+}
+
+/// A sender of these jobs.
+pub(super) fn sender_of<'a>(
+    rt: &(impl Abort + AllocGlobal),
+    jobs: &'a [Job],
+) -> SendingStation<'a> {
+    SendingStation::new(rt.alloc(), jobs).expect(rt, "no memory")
+}
+
+/// A receiver.
+pub(super) fn receiver_of(rt: &(impl Abort + AllocGlobal)) -> ReceivingStation {
+    ReceivingStation::new(rt.alloc()).expect(rt, "no memory")
+}
+
 /// Two stations, each at its end of a line in memory.
 #[derive(Drop)]
 struct Ends<'a> {
@@ -36,13 +54,13 @@ struct Ends<'a> {
 }
 
 impl<'a> Ends<'a> {
-    fn new(alloc: Global, jobs: &'a [Job]) -> Result<Self, StationFault> {
-        Ok(Ends {
-            sender: SendingStation::new(alloc, jobs)?,
-            receiver: ReceivingStation::new(alloc)?,
-            sending_line: MemoryLine::new(alloc),
-            receiving_line: MemoryLine::new(alloc),
-        })
+    fn new(rt: &(impl Abort + AllocGlobal), jobs: &'a [Job]) -> Self {
+        Ends {
+            sender: sender_of(rt, jobs),
+            receiver: receiver_of(rt),
+            sending_line: MemoryLine::new(rt.alloc()),
+            receiving_line: MemoryLine::new(rt.alloc()),
+        }
     }
 
     /// What the sender says arrives at the receiver.
@@ -123,10 +141,10 @@ fn lose_acknowledgement(ends: &mut Ends<'_>, alloc: Global) -> Result<Say, Stati
 }
 
 #[test]
-fn a_lost_acknowledgement_is_asked_for(rt: HostRuntime) -> Result<(), Fail> {
-    let job = job_of(&rt, 1, 1)?;
+fn a_lost_acknowledgement_is_asked_for(rt: HostRuntime) {
+    let job = job_of(&rt, 1, 1);
     let jobs = slice::from_ref(&job);
-    let mut ends = Ends::new(rt.alloc(), jobs)?;
+    let mut ends = Ends::new(&rt, jobs);
     assert!(rt; lose_acknowledgement(&mut ends, rt.alloc()) == Ok(Say::End));
     let sent = [
         Event::Said(Say::Bid),
@@ -159,26 +177,24 @@ fn a_lost_acknowledgement_is_asked_for(rt: HostRuntime) -> Result<(), Fail> {
         receiving_line: _,
     } = ends;
     assert_one_job(&rt, receiver.take().as_slice(), 1, &[0xC1]);
-    Ok(())
 }
 
 #[test]
-fn a_thousand_records_go_through(rt: HostRuntime) -> Result<(), Fail> {
-    let job = job_of(&rt, 1000, 80)?;
+fn a_thousand_records_go_through(rt: HostRuntime) {
+    let job = job_of(&rt, 1000, 80);
     let jobs = slice::from_ref(&job);
-    let mut ends = Ends::new(rt.alloc(), jobs)?;
+    let mut ends = Ends::new(&rt, jobs);
 
     // A bid, 167 blocks and the end.
     assert!(rt; send_jobs(&mut ends, rt.alloc()) == Ok(169));
     assert!(rt; ends.sender.counted() == 1);
     assert!(rt; ends.sender.outcome() == Some(Outcome::Done));
     assert_one_job(&rt, ends.receiver.jobs(), 1000, &[0xC1; 80]);
-    Ok(())
 }
 
 #[test]
-fn blocks_are_made_on_demand(rt: HostRuntime) -> Result<(), Fail> {
-    let job = job_of(&rt, 1000, 80)?;
+fn blocks_are_made_on_demand(rt: HostRuntime) {
+    let job = job_of(&rt, 1000, 80);
     assert!(rt; job_fits(&job));
     let records = job.records.as_slice();
     assert!(rt; records.len() == 1000);
@@ -190,66 +206,60 @@ fn blocks_are_made_on_demand(rt: HostRuntime) -> Result<(), Fail> {
     assert!(rt; last.text.len() == 324);
     assert!(rt; last.closing == Closing::Etx);
     assert!(rt; place == 1000);
-    Ok(())
 }
 
 #[test]
-fn without_jobs_the_sender_is_over_at_once(rt: HostRuntime) -> Result<(), Fail> {
+fn without_jobs_the_sender_is_over_at_once(rt: HostRuntime) {
     let mut line = MemoryLine::new(rt.alloc());
-    let mut sender = SendingStation::new(rt.alloc(), &[])?;
+    let mut sender = sender_of(&rt, &[]);
     assert!(rt; sender.outcome() == Some(Outcome::Done));
     assert!(rt; sender.counted() == 0);
     assert!(rt; sender.speak(&mut line).err() == Some(StationFault::Over));
     assert!(rt; sender.hear(&mut line, false).err() == Some(StationFault::Over));
     assert!(rt; line.sent().is_empty());
     assert_events(&rt, sender.trace(), &[]);
-    Ok(())
 }
 
 #[test]
-fn a_job_that_cannot_be_sent_is_told_by_its_number(rt: HostRuntime) -> Result<(), Fail> {
-    let jobs = bad_jobs(&rt)?;
+fn a_job_that_cannot_be_sent_is_told_by_its_number(rt: HostRuntime) {
+    let jobs = bad_jobs(&rt);
     let refused = SendingStation::new(rt.alloc(), &jobs).err();
     assert!(rt; refused == Some(StationFault::BadJob(2)));
-    Ok(())
 }
 
 /// A receiver that was bid for, and its line.
-pub(super) fn open_receiver(alloc: Global) -> Result<(ReceivingStation, MemoryLine), StationFault> {
-    let mut receiver = ReceivingStation::new(alloc)?;
-    let mut line = MemoryLine::new(alloc);
-    line.put(one_piece(alloc, &ENQ)?);
-    receiver.hear(&mut line, Wish::Go)?;
-    receiver.speak(&mut line)?;
-    Ok((receiver, line))
+pub(super) fn open_receiver(rt: &(impl Abort + AllocGlobal)) -> (ReceivingStation, MemoryLine) {
+    let mut receiver = receiver_of(rt);
+    let mut line = MemoryLine::new(rt.alloc());
+    line.put(piece_of(rt, &ENQ));
+    assert!(rt; receiver.hear(&mut line, Wish::Go).is_ok());
+    assert!(rt; receiver.speak(&mut line).is_ok());
+    (receiver, line)
 }
 
 /// The transmission of a transparent block of this many bytes C1, in one piece.
-pub(super) fn transparent_block(
-    rt: &(impl Abort + AllocGlobal),
-    length: usize,
-) -> Result<Vec<Vec<u8>>, Fail> {
+pub(super) fn transparent_block(rt: &(impl Abort + AllocGlobal), length: usize) -> Vec<Vec<u8>> {
     let bytes = [0xC1; 512];
     assert!(rt; length <= bytes.len());
     let mut out = ArrayVec::new();
-    write_frame(&Frame::Block(block(rt, &bytes[..length], true)), &mut out)?;
-    Ok(one_piece(rt.alloc(), out.as_slice())?)
+    let block = Frame::Block(block(rt, &bytes[..length], true));
+    assert!(rt; write_frame(&block, &mut out).is_ok());
+    piece_of(rt, out.as_slice())
 }
 
 #[test]
-fn a_block_with_a_bad_check_is_not_acknowledged(rt: HostRuntime) -> Result<(), Fail> {
-    let (mut receiver, mut line) = open_receiver(rt.alloc())?;
+fn a_block_with_a_bad_check_is_not_acknowledged(rt: HostRuntime) {
+    let (mut receiver, mut line) = open_receiver(&rt);
     let bytes = [0x32, 0x32, 0x02, 0xC1, 0x1E, 0x03, 0x18, 0x5C];
-    line.put(one_piece(rt.alloc(), &bytes)?);
+    line.put(piece_of(&rt, &bytes));
     assert!(rt; receiver.hear(&mut line, Wish::Go) == Ok(Some(Reply::Nak)));
     assert!(rt; receiver.jobs().is_empty());
-    Ok(())
 }
 
 #[test]
-fn a_block_that_cannot_be_read_leaves_the_jobs(rt: HostRuntime) -> Result<(), Fail> {
-    let (short, cards) = (transparent_block(&rt, 79)?, transparent_block(&rt, 480)?);
-    let (mut receiver, mut line) = open_receiver(rt.alloc())?;
+fn a_block_that_cannot_be_read_leaves_the_jobs(rt: HostRuntime) {
+    let (short, cards) = (transparent_block(&rt, 79), transparent_block(&rt, 480));
+    let (mut receiver, mut line) = open_receiver(&rt);
     line.put(short);
     assert!(rt; receiver.hear(&mut line, Wish::Go) == Ok(Some(Reply::Nak)));
     assert!(rt; receiver.jobs().is_empty());
@@ -265,33 +275,26 @@ fn a_block_that_cannot_be_read_leaves_the_jobs(rt: HostRuntime) -> Result<(), Fa
     for card in jobs[0].records.as_slice() {
         assert!(rt; card.bytes.as_slice() == [0xC1; 80].as_slice());
     }
-    Ok(())
 }
 
 /// This many SYN, and then an ENQ or nothing, in one piece.
-pub(super) fn syns(alloc: Global, count: usize, enq: bool) -> Result<Vec<Vec<u8>>, AllocError> {
-    let mut bytes = Vec::new(alloc);
+pub(super) fn syns(rt: &(impl Abort + AllocGlobal), count: usize, enq: bool) -> Vec<Vec<u8>> {
+    let mut bytes = Vec::new(rt.alloc());
     for _i in 0..count {
-        bytes.push(SYN)?;
+        assert!(rt; bytes.push(SYN).is_ok());
     }
     if enq {
-        bytes.extend_from_slice(&ENQ[2..])?;
+        assert!(rt; bytes.extend_from_slice(&ENQ[2..]).is_ok());
     }
-    let mut pieces = Vec::new(alloc);
-    pieces.push(bytes)?;
-    Ok(pieces)
+    piece_of(rt, &bytes)
 }
 
 #[test]
-fn one_hearing_has_8192_bytes(rt: HostRuntime) -> Result<(), Fail> {
-    let alloc = rt.alloc();
-    let enq = syns(alloc, MAX_HEARD - 1, true)?;
-    let (quiet, babble) = (
-        syns(alloc, MAX_HEARD, false)?,
-        syns(alloc, MAX_HEARD, true)?,
-    );
-    let mut line = MemoryLine::new(alloc);
-    let mut receiver = ReceivingStation::new(alloc)?;
+fn one_hearing_has_8192_bytes(rt: HostRuntime) {
+    let enq = syns(&rt, MAX_HEARD - 1, true);
+    let (quiet, babble) = (syns(&rt, MAX_HEARD, false), syns(&rt, MAX_HEARD, true));
+    let mut line = MemoryLine::new(rt.alloc());
+    let mut receiver = receiver_of(&rt);
     line.put(enq);
     assert!(rt; receiver.hear(&mut line, Wish::Go) == Ok(Some(Reply::Ack0)));
     line.put(quiet);
@@ -305,7 +308,6 @@ fn one_hearing_has_8192_bytes(rt: HostRuntime) -> Result<(), Fail> {
         Event::Over,
     ];
     assert_events(&rt, receiver.trace(), &events);
-    Ok(())
 }
 
 /// This many pieces of one SYN each.
@@ -326,29 +328,27 @@ fn hear_single_syns(alloc: Global, call: u64) -> Result<Option<Reply>, StationFa
 }
 
 #[test]
-fn one_hearing_listens_8193_times_at_most(rt: HostRuntime) -> Result<(), Fail> {
+fn one_hearing_listens_8193_times_at_most(rt: HostRuntime) {
     let met = hear_single_syns(rt.alloc(), 8193).err();
     assert!(rt; met == Some(StationFault::Line(LineFault::Failed)));
-    assert!(rt; hear_single_syns(rt.alloc(), 8194)?.is_none());
-    Ok(())
+    assert!(rt; hear_single_syns(rt.alloc(), 8194) == Ok(None));
 }
 
 #[test]
-fn bytes_behind_a_frame_are_dropped(rt: HostRuntime) -> Result<(), Fail> {
-    let (mut receiver, mut line) = open_receiver(rt.alloc())?;
+fn bytes_behind_a_frame_are_dropped(rt: HostRuntime) {
+    let (mut receiver, mut line) = open_receiver(&rt);
     let mut bytes: ArrayVec<u8, 16> = buffer(&rt, &ENQ);
     assert!(rt; bytes.try_extend_from_slice(&[0x32, 0x32, 0x37]).is_ok());
-    line.put(one_piece(rt.alloc(), bytes.as_slice())?);
+    line.put(piece_of(&rt, bytes.as_slice()));
     assert!(rt; receiver.hear(&mut line, Wish::Go) == Ok(Some(Reply::Ack0)));
     assert!(rt; receiver.hear(&mut line, Wish::Go) == Ok(None));
     assert!(rt; receiver.trace().get(3) == Some(Event::Heard(Sound::Quiet)));
-    Ok(())
 }
 
 #[test]
-fn a_trace_keeps_64_events(rt: HostRuntime) -> Result<(), Fail> {
+fn a_trace_keeps_64_events(rt: HostRuntime) {
     let mut line = MemoryLine::new(rt.alloc());
-    let mut receiver = ReceivingStation::new(rt.alloc())?;
+    let mut receiver = receiver_of(&rt);
     for _i in 0..70 {
         assert!(rt; receiver.hear(&mut line, Wish::Go) == Ok(None));
     }
@@ -358,7 +358,6 @@ fn a_trace_keeps_64_events(rt: HostRuntime) -> Result<(), Fail> {
     assert!(rt; receiver.trace().get(63) == Some(Event::Over));
     assert!(rt; receiver.trace().get(64).is_none());
     assert!(rt; receiver.speak(&mut line).err() == Some(StationFault::Over));
-    Ok(())
 }
 
 /// Whether the sender is over: it neither speaks nor hears.
@@ -405,10 +404,10 @@ fn assert_call_fails(
     of_sender: bool,
     call: u64,
     (counted, handed): (usize, usize),
-) -> Result<(), Fail> {
-    let job = job_of(rt, 1, 1)?;
+) {
+    let job = job_of(rt, 1, 1);
     let jobs = slice::from_ref(&job);
-    let mut ends = Ends::new(rt.alloc(), jobs)?;
+    let mut ends = Ends::new(rt, jobs);
     if of_sender {
         ends.sending_line.fail_at(call);
     } else {
@@ -422,17 +421,15 @@ fn assert_call_fails(
     };
     assert!(rt; is_over);
     assert_counts(rt, &ends, counted, handed);
-    Ok(())
 }
 
 #[test]
-fn each_call_of_the_senders_or_the_receivers_line_fails_once(rt: HostRuntime) -> Result<(), Fail> {
+fn each_call_of_the_senders_or_the_receivers_line_fails_once(rt: HostRuntime) {
     for (i, counts) in COUNTS.iter().enumerate() {
         for of_sender in [true, false] {
-            assert_call_fails(&rt, of_sender, i as u64 + 1, *counts)?;
+            assert_call_fails(&rt, of_sender, i as u64 + 1, *counts);
         }
     }
-    Ok(())
 }
 
 /// The bid, the first job's block, and the first of the second job's two; then the receiver hears an EOT.
@@ -445,17 +442,17 @@ fn cut_second_job(ends: &mut Ends<'_>, alloc: Global) -> Result<Option<Reply>, S
 }
 
 /// A job of one block, and one of two.
-fn two_jobs(rt: &(impl Abort + AllocGlobal)) -> Result<Vec<Job>, Fail> {
+fn two_jobs(rt: &(impl Abort + AllocGlobal)) -> Vec<Job> {
     let mut jobs = Vec::new(rt.alloc());
-    jobs.push(job_of(rt, 1, 1)?)?;
-    jobs.push(job_of(rt, 7, 80)?)?;
-    Ok(jobs)
+    assert!(rt; jobs.push(job_of(rt, 1, 1)).is_ok());
+    assert!(rt; jobs.push(job_of(rt, 7, 80)).is_ok());
+    jobs
 }
 
 #[test]
-fn a_cut_job_is_not_whole(rt: HostRuntime) -> Result<(), Fail> {
-    let jobs = two_jobs(&rt)?;
-    let mut ends = Ends::new(rt.alloc(), &jobs)?;
+fn a_cut_job_is_not_whole(rt: HostRuntime) {
+    let jobs = two_jobs(&rt);
+    let mut ends = Ends::new(&rt, &jobs);
     assert!(rt; cut_second_job(&mut ends, rt.alloc()) == Ok(None));
     assert!(rt; receiver_is_over(&mut ends));
     let handed = ends.receiver.jobs();
@@ -465,18 +462,12 @@ fn a_cut_job_is_not_whole(rt: HostRuntime) -> Result<(), Fail> {
     assert!(rt; !handed[1].whole);
     assert!(rt; handed[1].records.len() == 6);
     assert!(rt; ends.sender.counted() == 1);
-    Ok(())
 }
 
 #[test]
-fn pieces_come_in_order_and_in_parts(rt: HostRuntime) -> Result<(), Fail> {
-    let alloc = rt.alloc();
-    let mut pieces = Vec::new(alloc);
-    for bytes in [&[] as &[u8], &[1, 2, 3], &[], &[4]] {
-        pieces.push(Vec::from_slice(alloc, bytes)?)?;
-    }
-    let mut line = MemoryLine::new(alloc);
-    line.put(pieces);
+fn pieces_come_in_order_and_in_parts(rt: HostRuntime) {
+    let coming: [&[u8]; 4] = [&[], &[1, 2, 3], &[], &[4]];
+    let mut line = line_of(&rt, &coming, 0);
     let mut piece = [0, 0];
     assert!(rt; line.listen(&mut piece) == Ok(Came::Bytes(2)));
     assert!(rt; piece == [1, 2]);
@@ -488,5 +479,4 @@ fn pieces_come_in_order_and_in_parts(rt: HostRuntime) -> Result<(), Fail> {
     assert!(rt; line.transmit(&[5, 6]).is_ok());
     assert!(rt; line.transmit(&[0; 1034]).err() == Some(LineFault::Failed));
     assert!(rt; line.sent() == [5, 6].as_slice());
-    Ok(())
 }
