@@ -13,9 +13,8 @@ mod traced;
 use arrayvec::ArrayVec;
 use line_world::MemoryLine;
 use rje_stores::{MemoryStore, Store};
-use std::alloc::Global;
+use std::alloc::{AllocError, Global};
 use std::process::Abort;
-use std::test::Fail;
 
 /// What a command writes, in memory of its own.
 type Written = ArrayVec<u8, 4096>;
@@ -36,22 +35,27 @@ fn joined(rt: &impl Abort, pieces: &[&[u8]]) -> Written {
     all
 }
 
-/// A line in memory on which these come, one in each hearing.
-fn line_of(alloc: Global, pieces: &[&[u8]]) -> Result<MemoryLine, Fail> {
+/// These pieces, in memory of their own.
+fn pieces_of(alloc: Global, pieces: &[&[u8]]) -> Result<Vec<Vec<u8>>, AllocError> {
     let mut put = Vec::new(alloc);
     for piece in pieces {
         put.push(Vec::from_slice(alloc, piece)?)?;
     }
-    let mut line = MemoryLine::new(alloc);
-    line.put(put);
-    Ok(line)
+    Ok(put)
+}
+
+/// A line in memory on which these come, one in each hearing.
+fn line_of(rt: &(impl Abort + AllocGlobal), pieces: &[&[u8]]) -> MemoryLine {
+    let mut line = MemoryLine::new(rt.alloc());
+    line.put(pieces_of(rt.alloc(), pieces).expect(rt, "no memory"));
+    line
 }
 
 /// A store of one file, of this name.
-fn store_of(alloc: Global, name: &str, file: &[u8]) -> Result<MemoryStore, Fail> {
-    let mut store = MemoryStore::new(alloc);
-    store.write(name, file)?;
-    Ok(store)
+fn store_of(rt: &(impl Abort + AllocGlobal), name: &str, file: &[u8]) -> MemoryStore {
+    let mut store = MemoryStore::new(rt.alloc());
+    assert!(rt; store.write(name, file).is_ok());
+    store
 }
 
 /// The file of this name is this.

@@ -3,7 +3,6 @@ use super::{FILE, Written, store_of};
 use rje_program::{command, is_for_sockets, socket_command};
 use rje_stores::{MAX_INPUT, MemoryStore};
 use std::io::{self, ErrorKind, Read};
-use std::test::Fail;
 
 /// A reader that gives this many bytes, and then fails.
 #[derive(Drop)]
@@ -54,13 +53,13 @@ fn an_input_that_fails_or_is_too_long_cannot_be_read(rt: HostRuntime) {
 }
 
 #[test]
-fn each_call_serves_its_own_commands(rt: HostRuntime) -> Result<(), Fail> {
+fn each_call_serves_its_own_commands(rt: HostRuntime) {
     assert!(rt; is_for_sockets(&["loop", "jobs"]));
     assert!(rt; is_for_sockets(&["send"]));
     assert!(rt; is_for_sockets(&["receive", "--help"]));
     assert!(rt; !is_for_sockets(&["show", "loop"]));
     assert!(rt; !is_for_sockets(&[]));
-    let mut store = store_of(rt.alloc(), "jobs", FILE)?;
+    let mut store = store_of(&rt, "jobs", FILE);
     let mut out = Written::new();
     let mut err = Written::new();
     let words = ["show", "jobs"];
@@ -78,5 +77,4 @@ fn each_call_serves_its_own_commands(rt: HostRuntime) -> Result<(), Fail> {
     assert!(rt; (over_sockets, over_files) == (2, 2));
     assert!(rt; out.is_empty());
     assert!(rt; err.as_slice() == b"rje: no command\nrje: no command\n".as_slice());
-    Ok(())
 }

@@ -1,12 +1,11 @@
 //! Connections: what a line does with its stream, the times that it sets and how often it reads, and how long a call waits for an answer.
 use super::scripted_stream::{Notes, ScriptedStream};
 use super::traced::Ticking;
-use super::{FILE, NO_JOBS, Written};
+use super::{FILE, NO_JOBS, Written, store_of};
 use bsc_link::Rank;
 use rje_program::socket_command;
 use rje_sockets::SocketLine;
 use rje_station::{Came, Line, LineFault};
-use rje_stores::{MemoryStore, Store};
 use std::cell::Cell;
 use std::io::{self, ErrorKind};
 use std::net::{Ipv4Addr, Net, OpenListener, SocketAddr, TcpListener};
@@ -23,33 +22,38 @@ const END: &[u8] = b"\x32\x32\x37\xFF";
 /// ACK0, as it is written.
 const ACK0: &[u8] = b"\x32\x32\x10\x70\xFF";
 
+/// A primary's line over this stream, with this time-out.
+fn line_over<'a>(
+    rt: &impl Abort,
+    stream: ScriptedStream<'a>,
+    timeout: u16,
+) -> SocketLine<ScriptedStream<'a>> {
+    SocketLine::new(stream, timeout, Rank::Primary).expect(rt, "a stream that takes its times")
+}
+
 #[test]
-fn each_hearing_and_each_transmission_has_its_time(rt: HostRuntime) -> Result<(), Fail> {
+fn each_hearing_and_each_transmission_has_its_time(rt: HostRuntime) {
     let notes = Notes::new();
-    let _line = SocketLine::new(ScriptedStream::new(&notes, &[]), 250, Rank::Primary)?;
+    let _line = line_over(&rt, ScriptedStream::new(&notes, &[]), 250);
     let time = Some(Duration::from_millis(250));
     assert!(rt; notes.read_time.get() == time);
     assert!(rt; notes.write_time.get() == time);
     assert!(rt; notes.is_undelayed.get());
     assert!(rt; notes.writes.get() == 0);
-    Ok(())
 }
 
 #[test]
-fn a_transmission_that_times_out_fails(rt: HostRuntime) -> Result<(), Fail> {
+fn a_transmission_that_times_out_fails(rt: HostRuntime) {
     let notes = Notes::new();
-    let mut line = SocketLine::new(ScriptedStream::blocked(&notes), 250, Rank::Primary)?;
+    let mut line = line_over(&rt, ScriptedStream::blocked(&notes), 250);
     assert!(rt; line.transmit(BID) == Err(LineFault::Failed));
-    Ok(())
 }
 
 #[test]
-fn a_silence_lasts_one_time_out_and_two_where_an_answer_is_awaited(
-    rt: HostRuntime,
-) -> Result<(), Fail> {
+fn a_silence_lasts_one_time_out_and_two_where_an_answer_is_awaited(rt: HostRuntime) {
     let notes = Notes::new();
     let silence: &[&[u8]] = &[b"", b"", b"", b"", b"", b""];
-    let mut line = SocketLine::new(ScriptedStream::new(&notes, silence), 250, Rank::Primary)?;
+    let mut line = line_over(&rt, ScriptedStream::new(&notes, silence), 250);
     let mut piece = [0; 160];
     assert!(rt; line.listen(&mut piece) == Ok(Came::Quiet));
     assert!(rt; notes.reads.get() == 1);
@@ -58,14 +62,13 @@ fn a_silence_lasts_one_time_out_and_two_where_an_answer_is_awaited(
     assert!(rt; notes.reads.get() == 3);
     assert!(rt; line.listen(&mut piece) == Ok(Came::Quiet));
     assert!(rt; notes.reads.get() == 4);
-    Ok(())
 }
 
 #[test]
-fn an_answer_is_awaited_once(rt: HostRuntime) -> Result<(), Fail> {
+fn an_answer_is_awaited_once(rt: HostRuntime) {
     let notes = Notes::new();
     let coming: &[&[u8]] = &[ACK0, b""];
-    let mut line = SocketLine::new(ScriptedStream::new(&notes, coming), 250, Rank::Primary)?;
+    let mut line = line_over(&rt, ScriptedStream::new(&notes, coming), 250);
     let mut piece = [0; 160];
     assert!(rt; line.transmit(BID) == Ok(()));
     assert!(rt; matches!(line.listen(&mut piece), Ok(Came::Bytes(_))));
@@ -73,47 +76,44 @@ fn an_answer_is_awaited_once(rt: HostRuntime) -> Result<(), Fail> {
     assert!(rt; line.listen(&mut piece) == Ok(Came::Quiet));
     assert!(rt; notes.reads.get() == 2);
     assert!(rt; line.listen(&mut piece) == Err(LineFault::Closed));
-    Ok(())
 }
 
 #[test]
-fn an_end_that_said_eot_hears_the_other_out(rt: HostRuntime) -> Result<(), Fail> {
+fn an_end_that_said_eot_hears_the_other_out(rt: HostRuntime) {
     let notes = Notes::new();
     let late: &[&[u8]] = &[b"", ACK0];
-    let mut line = SocketLine::new(ScriptedStream::new(&notes, late), 250, Rank::Primary)?;
+    let mut line = line_over(&rt, ScriptedStream::new(&notes, late), 250);
     assert!(rt; line.transmit(END) == Ok(()));
     assert!(rt; !line.ends_in_step());
     assert!(rt; notes.has_shut_down.get());
     assert!(rt; notes.reads.get() == 2);
     assert!(rt; notes.read_time.get() == Some(Duration::from_millis(250)));
     let notes = Notes::new();
-    let mut line = SocketLine::new(ScriptedStream::new(&notes, &[]), 900, Rank::Primary)?;
+    let mut line = line_over(&rt, ScriptedStream::new(&notes, &[]), 900);
     assert!(rt; line.transmit(END) == Ok(()));
     assert!(rt; line.ends_in_step());
     assert!(rt; notes.read_time.get() == Some(Duration::from_millis(250)));
-    Ok(())
 }
 
 #[test]
-fn an_answer_comes_in_pieces(rt: HostRuntime) -> Result<(), Fail> {
+fn an_answer_comes_in_pieces(rt: HostRuntime) {
     let notes = Notes::new();
     let coming: &[&[u8]] = &[b"\x32", b"\x32", b"\x10", b"\x70"];
-    let mut line = SocketLine::new(ScriptedStream::new(&notes, coming), 250, Rank::Primary)?;
+    let mut line = line_over(&rt, ScriptedStream::new(&notes, coming), 250);
     let mut piece = [0; 160];
     assert!(rt; line.transmit(BID) == Ok(()));
     assert!(rt; line.listen(&mut piece) == Ok(Came::Bytes(5)));
     assert!(rt; piece.starts_with(ACK0));
-    Ok(())
 }
 
 #[test]
-fn what_a_silence_cuts_in_two_is_no_answer(rt: HostRuntime) -> Result<(), Fail> {
+fn what_a_silence_cuts_in_two_is_no_answer(rt: HostRuntime) {
     for (coming, in_step) in [
         ([b"\x32\x32\x10".as_slice(), b"", b"\x70\xFF"], true),
         ([b"", b"\x32\x32\x10", b"\x70\xFF"], false),
     ] {
         let notes = Notes::new();
-        let mut line = SocketLine::new(ScriptedStream::new(&notes, &coming), 250, Rank::Primary)?;
+        let mut line = line_over(&rt, ScriptedStream::new(&notes, &coming), 250);
         let mut piece = [0; 160];
         assert!(rt; line.transmit(END) == Ok(()));
         for _ in 0..3 {
@@ -121,53 +121,49 @@ fn what_a_silence_cuts_in_two_is_no_answer(rt: HostRuntime) -> Result<(), Fail> 
         }
         assert!(rt; line.ends_in_step() == in_step);
     }
-    Ok(())
 }
 
 #[test]
-fn an_end_that_said_no_eot_leaves_at_once(rt: HostRuntime) -> Result<(), Fail> {
+fn an_end_that_said_no_eot_leaves_at_once(rt: HostRuntime) {
     let notes = Notes::new();
-    let mut line = SocketLine::new(ScriptedStream::new(&notes, &[ACK0]), 250, Rank::Primary)?;
+    let mut line = line_over(&rt, ScriptedStream::new(&notes, &[ACK0]), 250);
     assert!(rt; line.ends_in_step());
     assert!(rt; notes.reads.get() == 0);
     assert!(rt; !notes.has_shut_down.get());
-    Ok(())
 }
 
 #[test]
-fn an_end_hears_the_other_out_for_four_seconds(rt: HostRuntime) -> Result<(), Fail> {
+fn an_end_hears_the_other_out_for_four_seconds(rt: HostRuntime) {
     let notes = Notes::new();
     let silence: [&[u8]; 20] = [b""; 20];
-    let mut line = SocketLine::new(ScriptedStream::new(&notes, &silence), 900, Rank::Primary)?;
+    let mut line = line_over(&rt, ScriptedStream::new(&notes, &silence), 900);
     assert!(rt; line.transmit(END) == Ok(()));
     assert!(rt; line.ends_in_step());
     // Each of a quarter of a second.
     assert!(rt; notes.reads.get() == 16);
-    Ok(())
 }
 
 #[test]
-fn what_is_left_of_an_answer_goes_with_the_next_transmission(rt: HostRuntime) -> Result<(), Fail> {
+fn what_is_left_of_an_answer_goes_with_the_next_transmission(rt: HostRuntime) {
     let notes = Notes::new();
     let coming: &[&[u8]] = &[ACK0, b""];
-    let mut line = SocketLine::new(ScriptedStream::new(&notes, coming), 250, Rank::Primary)?;
+    let mut line = line_over(&rt, ScriptedStream::new(&notes, coming), 250);
     let mut piece = [0; 2];
     assert!(rt; line.transmit(BID) == Ok(()));
     assert!(rt; line.listen(&mut piece) == Ok(Came::Bytes(2)));
     assert!(rt; line.transmit(ACK0) == Ok(()));
     assert!(rt; line.listen(&mut piece) == Ok(Came::Quiet));
     assert!(rt; notes.reads.get() == 2);
-    Ok(())
 }
 
 #[test]
-fn a_line_babbles_until_the_next_transmission(rt: HostRuntime) -> Result<(), Fail> {
+fn a_line_babbles_until_the_next_transmission(rt: HostRuntime) {
     let notes = Notes::new();
     // With the 52nd read there are more than 8,192 bytes, and no answer.
     let noise: &[u8] = &[0x00; 160];
     let mut coming = [noise; 53];
     coming[52] = ACK0;
-    let mut line = SocketLine::new(ScriptedStream::new(&notes, &coming), 250, Rank::Primary)?;
+    let mut line = line_over(&rt, ScriptedStream::new(&notes, &coming), 250);
     let mut piece = [0; 160];
     assert!(rt; line.transmit(BID) == Ok(()));
     for _ in 0..60 {
@@ -177,7 +173,6 @@ fn a_line_babbles_until_the_next_transmission(rt: HostRuntime) -> Result<(), Fai
     assert!(rt; line.transmit(BID) == Ok(()));
     assert!(rt; line.listen(&mut piece) == Ok(Came::Bytes(5)));
     assert!(rt; piece.starts_with(ACK0));
-    Ok(())
 }
 
 /// A network on which nobody is reached, and who was called last and for how long.
@@ -217,10 +212,7 @@ impl<R> Clock for Unreached<'_, R> {
 }
 
 /// Whom `send` with this time-out calls, where nobody is reached, and for how long.
-fn called<R: Net + Abort + AllocGlobal>(
-    rt: &R,
-    timeout: &str,
-) -> Result<Option<(SocketAddr, Duration)>, Fail> {
+fn called<R: Net + Abort + AllocGlobal>(rt: &R, timeout: &str) -> Option<(SocketAddr, Duration)> {
     let net = Unreached {
         net: rt,
         called: Cell::new(None),
@@ -233,8 +225,7 @@ fn called<R: Net + Abort + AllocGlobal>(
         "--timeout",
         timeout,
     ];
-    let mut store = MemoryStore::new(rt.alloc());
-    store.write("jobs", FILE)?;
+    let mut store = store_of(rt, "jobs", FILE);
     let mut out = Written::new();
     let mut err = Written::new();
     let ended = socket_command(&net, rt.alloc(), &words, &mut store, &mut out, &mut err);
@@ -244,15 +235,14 @@ fn called<R: Net + Abort + AllocGlobal>(
         err.as_slice()
             == b"rje: can't connect to 192.0.2.1:3780: connection refused\nrje: line failed\n".as_slice()
     );
-    Ok(net.called.get())
+    net.called.get()
 }
 
 #[test]
-fn a_call_waits_for_a_hearing_and_three_seconds_at_least(rt: HostRuntime) -> Result<(), Fail> {
+fn a_call_waits_for_a_hearing_and_three_seconds_at_least(rt: HostRuntime) {
     let peer = SocketAddr::from(([192, 0, 2, 1], 3780));
-    assert!(rt; called(&rt, "40")? == Some((peer, Duration::from_millis(3000))));
-    assert!(rt; called(&rt, "5000")? == Some((peer, Duration::from_millis(5000))));
-    Ok(())
+    assert!(rt; called(&rt, "40") == Some((peer, Duration::from_millis(3000))));
+    assert!(rt; called(&rt, "5000") == Some((peer, Duration::from_millis(5000))));
 }
 
 /// What is reported of a call that takes 7 milliseconds, to an end that is there, with this time-out.
@@ -260,8 +250,7 @@ fn told_of_a_call<R: Net + Abort + AllocGlobal>(rt: &R, timeout: &str) -> Result
     let listener = TcpListener::bind(rt, SocketAddr::from((Ipv4Addr::LOCALHOST, 0)))?;
     let peer = format!(in rt.alloc(); "{}", listener.local_addr()?)?;
     let words = ["send", "jobs", "--to", peer.as_str(), "--timeout", timeout];
-    let mut store = MemoryStore::new(rt.alloc());
-    store.write("jobs", NO_JOBS)?;
+    let mut store = store_of(rt, "jobs", NO_JOBS);
     let mut out = Written::new();
     let mut err = Written::new();
     let clock = Ticking::new(rt, 100);

@@ -7,10 +7,9 @@ use rje_orders::{Destination, Existing};
 use rje_sockets::receive_over;
 use rje_station::Line;
 use rje_stores::{MemoryStore, Store, StoreFault};
-use std::alloc::Global;
+use std::alloc::{AllocError, Global};
 use std::io::ErrorKind;
 use std::process::Abort;
-use std::test::Fail;
 
 const ENQ: &[u8] = b"\x32\x32\x2D";
 
@@ -51,9 +50,17 @@ fn assert_receives(
     assert!(rt; err.as_slice() == told);
 }
 
-/// The receiver of these transmissions, which bring no job, ends with this status, and these are its answers on the line.
-fn assert_answers(rt: &(impl Abort + AllocGlobal), told: &[&[u8]], status: u8, answers: &[u8]) {
-    let mut line = ToldLine::new(told);
+/// The receiver of these transmissions between so many quiet hearings, which bring no job, ends with this status, and these are its answers on
+/// the line.
+fn assert_answers(
+    rt: &(impl Abort + AllocGlobal),
+    count: usize,
+    middle: &[&'static [u8]],
+    status: u8,
+    answers: &[u8],
+) {
+    let told = between(rt.alloc(), count, middle).expect(rt, "no memory");
+    let mut line = ToldLine::new(&told);
     let mut store = MemoryStore::new(rt.alloc());
     let text = b"handed 0 jobs, 0 whole\n";
     assert_receives(rt, &mut line, &mut store, status, text, b"");
@@ -62,11 +69,11 @@ fn assert_answers(rt: &(impl Abort + AllocGlobal), told: &[&[u8]], status: u8, a
 
 /// This many quiet hearings, these, as many quiet ones again, and the end.
 fn between(
-    rt: &(impl Abort + AllocGlobal),
+    alloc: Global,
     count: usize,
     middle: &[&'static [u8]],
-) -> Result<Vec<&'static [u8]>, Fail> {
-    let mut told = Vec::new(rt.alloc());
+) -> Result<Vec<&'static [u8]>, AllocError> {
+    let mut told = Vec::new(alloc);
     for _ in 0..count {
         told.push(QUIET)?;
     }
@@ -79,22 +86,21 @@ fn between(
 }
 
 #[test]
-fn quiet_hearings_are_counted_in_a_row(rt: HostRuntime) -> Result<(), Fail> {
+fn quiet_hearings_are_counted_in_a_row(rt: HostRuntime) {
     let ack0 = b"\x32\x32\x10\x70\xFF";
-    assert_answers(&rt, between(&rt, 39, &[ENQ])?.as_slice(), 0, ack0);
-    assert_answers(&rt, between(&rt, 40, &[ENQ])?.as_slice(), 4, b"");
+    assert_answers(&rt, 39, &[ENQ], 0, ack0);
+    assert_answers(&rt, 40, &[ENQ], 4, b"");
 
     // Noise isn't quiet, nor is a text that is spoiled; each ends with the line's quiet. Neither is answered before a bid.
     let noise: &[u8] = b"\x00";
     let spoiled: &[u8] = b"\x32\x32\x02\xC1";
     for heard in [noise, spoiled] {
-        assert_answers(&rt, between(&rt, 39, &[heard, QUIET])?.as_slice(), 0, b"");
+        assert_answers(&rt, 39, &[heard, QUIET], 0, b"");
     }
 
     // Pads are quiet: 39 and these are 40.
     let pads: &[u8] = b"\xFF\x55\x32";
-    assert_answers(&rt, between(&rt, 39, &[pads, QUIET])?.as_slice(), 4, b"");
-    Ok(())
+    assert_answers(&rt, 39, &[pads, QUIET], 4, b"");
 }
 
 /// A bid, the block of the record `A`, and the end.
@@ -109,18 +115,17 @@ const TWO_RECEIVED: &[u8] =
     b"RJ37\x00\x02\x00\x00\x00\x00\x00\x00\x00\x02        \x02\x00\x00\x00\x00\x00\x00\x00\x00\x00\x01\x00\x01\xC1        \x02\x00\x00\x00\x00\x00\x00\x00\x00\x00\x01\x00\x01\xC1";
 
 #[test]
-fn a_receiver_leaves_after_40_quiet_hearings(rt: HostRuntime) -> Result<(), Fail> {
-    let mut line = line_of(rt.alloc(), &TRANSMISSION[..2])?;
+fn a_receiver_leaves_after_40_quiet_hearings(rt: HostRuntime) {
+    let mut line = line_of(&rt, &TRANSMISSION[..2]);
 
     // Two hearings, an answer to each, and then 40 quiet ones: a call that would fail comes too late, and one before doesn't.
     line.fail_at(45);
     let mut store = MemoryStore::new(rt.alloc());
     assert_receives(&rt, &mut line, &mut store, 4, ONE_JOB, b"");
     assert_file(&rt, &mut store, "got", RECEIVED);
-    let mut line = line_of(rt.alloc(), &TRANSMISSION[..2])?;
+    let mut line = line_of(&rt, &TRANSMISSION[..2]);
     line.fail_at(44);
     assert_receives(&rt, &mut line, &mut store, 3, ONE_JOB, FAILED);
-    Ok(())
 }
 
 /// No files, and none that can be written.
@@ -144,14 +149,13 @@ impl Store for NoFiles {
 }
 
 #[test]
-fn a_job_file_that_cannot_be_written_is_told_behind_the_lines(rt: HostRuntime) -> Result<(), Fail> {
-    let mut line = line_of(rt.alloc(), &TRANSMISSION)?;
+fn a_job_file_that_cannot_be_written_is_told_behind_the_lines(rt: HostRuntime) {
+    let mut line = line_of(&rt, &TRANSMISSION);
     assert_receives(&rt, &mut line, &mut NoFiles, 3, ONE_JOB, NOT_WRITTEN);
-    let mut line = line_of(rt.alloc(), &TRANSMISSION[..2])?;
+    let mut line = line_of(&rt, &TRANSMISSION[..2]);
     line.fail_at(3);
     let text = b"handed 0 jobs, 0 whole\n";
     assert_receives(&rt, &mut line, &mut NoFiles, 3, text, FAILED);
-    Ok(())
 }
 
 /// A bid, the blocks of two jobs of the record `A`, and the end.
@@ -197,7 +201,7 @@ impl Store for FillingStore {
 }
 
 #[test]
-fn a_job_that_cannot_be_kept_is_not_acknowledged(rt: HostRuntime) -> Result<(), Fail> {
+fn a_job_that_cannot_be_kept_is_not_acknowledged(rt: HostRuntime) {
     let two_jobs = b"handed 2 jobs, 2 whole\n".as_slice();
     for (room, answer, status, text, told) in [
         (
@@ -210,7 +214,7 @@ fn a_job_that_cannot_be_kept_is_not_acknowledged(rt: HostRuntime) -> Result<(), 
         (1, b"\x32\x32\x10\x61\xFF", 3, two_jobs, NOT_WRITTEN),
         (2, b"\x32\x32\x10\x70\xFF", 0, two_jobs, b""),
     ] {
-        let mut line = line_of(rt.alloc(), &TWO_JOBS)?;
+        let mut line = line_of(&rt, &TWO_JOBS);
         let mut store = FillingStore {
             files: MemoryStore::new(rt.alloc()),
             room,
@@ -223,5 +227,4 @@ fn a_job_that_cannot_be_kept_is_not_acknowledged(rt: HostRuntime) -> Result<(), 
             _ => assert_file(&rt, &mut store, "got", TWO_RECEIVED),
         }
     }
-    Ok(())
 }

@@ -9,7 +9,6 @@ use rje_stores::{Place, Store, StoreFault};
 use std::alloc::Global;
 use std::io::{self, ErrorKind, Write};
 use std::process::Abort;
-use std::test::Fail;
 
 const ACK0: &[u8] = b"\x32\x32\x10\x70\xFF";
 
@@ -75,31 +74,30 @@ fn assert_marks(
     text: &[u8],
     told: &[u8],
     states: [u8; 3],
-) -> Result<(), Fail> {
-    let mut store = store_of(rt.alloc(), "jobs", three_jobs(rt, [0, 1, 0]).as_slice())?;
-    let mut line = line_of(rt.alloc(), answers)?;
+) {
+    let mut store = store_of(rt, "jobs", three_jobs(rt, [0, 1, 0]).as_slice());
+    let mut line = line_of(rt, answers);
     line.fail_at(call);
     assert_sends(rt, &mut line, &mut store, status, text, told);
     assert_file(rt, &mut store, "jobs", three_jobs(rt, states).as_slice());
-    Ok(())
 }
 
 #[test]
-fn what_was_counted_is_marked_however_a_transmission_ends(rt: HostRuntime) -> Result<(), Fail> {
+fn what_was_counted_is_marked_however_a_transmission_ends(rt: HostRuntime) {
     // Seven tries in silence, an RVI, and an EOT in place of an answer.
     let given_up = b"counted 0 of 2 jobs\noutcome gave up\n";
     let turned = b"counted 1 of 2 jobs\noutcome turned\n";
     let ended = b"counted 1 of 2 jobs\noutcome ended\n";
-    assert_marks(&rt, &[], 0, 4, given_up, b"", [0, 1, 0])?;
-    assert_marks(&rt, &[ACK0, RVI], 0, 4, turned, b"", [1, 1, 0])?;
-    assert_marks(&rt, &[ACK0, ACK1, EOT], 0, 4, ended, b"", [1, 1, 0])?;
+    assert_marks(&rt, &[], 0, 4, given_up, b"", [0, 1, 0]);
+    assert_marks(&rt, &[ACK0, RVI], 0, 4, turned, b"", [1, 1, 0]);
+    assert_marks(&rt, &[ACK0, ACK1, EOT], 0, 4, ended, b"", [1, 1, 0]);
 
     // Babble, and a second block that the line doesn't take.
     let open = b"counted 1 of 2 jobs\noutcome open\n";
     let babble = [ACK0, ACK1, &[0x00; 8193]];
-    assert_marks(&rt, &babble, 0, 3, open, b"rje: babble\n", [1, 1, 0])?;
+    assert_marks(&rt, &babble, 0, 3, open, b"rje: babble\n", [1, 1, 0]);
     let failed = b"rje: line failed\n";
-    assert_marks(&rt, &[ACK0, ACK1], 5, 3, open, failed, [1, 1, 0])
+    assert_marks(&rt, &[ACK0, ACK1], 5, 3, open, failed, [1, 1, 0]);
 }
 
 /// One file under any name, which can't be written.
@@ -128,28 +126,25 @@ impl Store for ReadOnly {
 }
 
 #[test]
-fn nothing_is_sent_that_cannot_be_marked(rt: HostRuntime) -> Result<(), Fail> {
+fn nothing_is_sent_that_cannot_be_marked(rt: HostRuntime) {
     let mut store = ReadOnly {
         file: three_jobs(&rt, [0, 1, 1]),
     };
-    let mut line = line_of(rt.alloc(), &[ACK0, ACK1])?;
+    let mut line = line_of(&rt, &[ACK0, ACK1]);
     assert_sends(&rt, &mut line, &mut store, 3, b"", NOT_WRITTEN);
     assert!(rt; line.sent().is_empty());
 
     // Nor of a device or a pipe.
     let mut store = Watched::new(three_jobs(&rt, [0, 0, 0]));
     store.place = Place::Once;
-    let mut line = line_of(rt.alloc(), &[ACK0, ACK1])?;
+    let mut line = line_of(&rt, &[ACK0, ACK1]);
     assert_sends(&rt, &mut line, &mut store, 3, b"", NO_MARKS);
     assert!(rt; line.sent().is_empty());
     assert!(rt; store.written == 0);
-    Ok(())
 }
 
 #[test]
-fn a_file_that_cannot_be_written_back_is_told_behind_the_lines(
-    rt: HostRuntime,
-) -> Result<(), Fail> {
+fn a_file_that_cannot_be_written_back_is_told_behind_the_lines(rt: HostRuntime) {
     for (call, text, told) in [
         (
             0,
@@ -162,12 +157,11 @@ fn a_file_that_cannot_be_written_back_is_told_behind_the_lines(
             b"rje: line failed\n",
         ),
     ] {
-        let files = store_of(rt.alloc(), "jobs", three_jobs(&rt, [0, 1, 1]).as_slice())?;
-        let mut line = line_of(rt.alloc(), &[ACK0, ACK1])?;
+        let files = store_of(&rt, "jobs", three_jobs(&rt, [0, 1, 1]).as_slice());
+        let mut line = line_of(&rt, &[ACK0, ACK1]);
         line.fail_at(call);
         assert_sends(&rt, &mut line, &mut FillingStore::new(files), 3, text, told);
     }
-    Ok(())
 }
 
 /// An output that can't be written.
@@ -185,10 +179,10 @@ impl Write for NoOutput {
 }
 
 #[test]
-fn of_a_file_and_an_output_that_fail_the_file_is_told(rt: HostRuntime) -> Result<(), Fail> {
-    let files = store_of(rt.alloc(), "jobs", three_jobs(&rt, [0, 1, 1]).as_slice())?;
+fn of_a_file_and_an_output_that_fail_the_file_is_told(rt: HostRuntime) {
+    let files = store_of(&rt, "jobs", three_jobs(&rt, [0, 1, 1]).as_slice());
     let mut store = FillingStore::new(files);
-    let mut line = line_of(rt.alloc(), &[ACK0, ACK1])?;
+    let mut line = line_of(&rt, &[ACK0, ACK1]);
     let mut err = Written::new();
     let ended = send_over(
         rt.alloc(),
@@ -200,7 +194,6 @@ fn of_a_file_and_an_output_that_fail_the_file_is_told(rt: HostRuntime) -> Result
     );
     assert!(rt; ended == 3);
     assert!(rt; err.as_slice() == NOT_WRITTEN);
-    Ok(())
 }
 
 /// One file, in memory, with what was asked of it.
@@ -279,18 +272,18 @@ fn sent_in(
     answers: &[&[u8]],
     status: u8,
     text: &[u8],
-) -> Result<Watched, Fail> {
-    let mut line = line_of(rt.alloc(), answers)?;
+) -> Watched {
+    let mut line = line_of(rt, answers);
     assert_sends(rt, &mut line, &mut store, status, text, b"");
-    Ok(store)
+    store
 }
 
 #[test]
-fn each_job_is_marked_as_it_is_counted(rt: HostRuntime) -> Result<(), Fail> {
+fn each_job_is_marked_as_it_is_counted(rt: HostRuntime) {
     // The copy before anything is said, then each by a byte in it, and at the end the whole file again.
     let store = Watched::new(three_jobs(&rt, [0, 0, 0]));
     let text = b"counted 3 of 3 jobs\noutcome done\n";
-    let store = sent_in(&rt, store, &[ACK0, ACK1, ACK0, ACK1], 0, text)?;
+    let store = sent_in(&rt, store, &[ACK0, ACK1, ACK0, ACK1], 0, text);
     assert!(rt; store.written == 2);
     assert!(rt; store.set == 3);
     assert!(rt; store.file.as_slice() == three_jobs(&rt, [1, 1, 1]).as_slice());
@@ -298,20 +291,18 @@ fn each_job_is_marked_as_it_is_counted(rt: HostRuntime) -> Result<(), Fail> {
     // Where nothing is counted, no byte is set.
     let store = Watched::new(three_jobs(&rt, [0, 0, 0]));
     let text = b"counted 0 of 3 jobs\noutcome gave up\n";
-    let store = sent_in(&rt, store, &[], 4, text)?;
+    let store = sent_in(&rt, store, &[], 4, text);
     assert!(rt; store.written == 2);
     assert!(rt; store.set == 0);
-    Ok(())
 }
 
 #[test]
-fn marks_that_fail_are_made_at_the_end(rt: HostRuntime) -> Result<(), Fail> {
+fn marks_that_fail_are_made_at_the_end(rt: HostRuntime) {
     let text = b"counted 3 of 3 jobs\noutcome done\n";
     let mut store = Watched::new(three_jobs(&rt, [0, 0, 0]));
     store.is_stiff = true;
-    let store = sent_in(&rt, store, &[ACK0, ACK1, ACK0, ACK1], 0, text)?;
+    let store = sent_in(&rt, store, &[ACK0, ACK1, ACK0, ACK1], 0, text);
     assert!(rt; store.written == 2);
     assert!(rt; store.set == 1);
     assert!(rt; store.file.as_slice() == three_jobs(&rt, [1, 1, 1]).as_slice());
-    Ok(())
 }

@@ -1,6 +1,6 @@
 //! What no clause says: that files in memory are there. What the system's files do stands in commands/.
-use super::joined;
 use super::recorded_disk::RecordedDisk;
+use super::{assert_file, joined};
 use rje_stores::{Disk, FileKind, FileStore, MemoryStore, Store, StoreFault, SystemDisk};
 use std::alloc::Global;
 use std::io::ErrorKind;
@@ -14,29 +14,27 @@ const FULL: StoreFault = StoreFault::Failed(ErrorKind::StorageFull);
 const INVALID: StoreFault = StoreFault::Failed(ErrorKind::InvalidInput);
 
 #[test]
-fn files_in_memory_are_read_back(rt: HostRuntime) -> Result<(), Fail> {
+fn files_in_memory_are_read_back(rt: HostRuntime) {
     let mut files = MemoryStore::new(rt.alloc());
-    files.write("a", b"one")?;
-    files.write("b", b"two")?;
-    files.write("a", b"three")?;
-    assert!(rt; files.read(rt.alloc(), "a")?.as_slice() == b"three".as_slice());
-    assert!(rt; files.read(rt.alloc(), "b")?.as_slice() == b"two".as_slice());
+    assert!(rt; files.write("a", b"one").is_ok());
+    assert!(rt; files.write("b", b"two").is_ok());
+    assert!(rt; files.write("a", b"three").is_ok());
+    assert_file(&rt, &mut files, "a", b"three");
+    assert_file(&rt, &mut files, "b", b"two");
     assert!(rt; files.read(rt.alloc(), "c").err() == Some(StoreFault::Missing));
-    Ok(())
 }
 
 #[test]
-fn a_file_in_memory_grows_and_has_a_byte_set(rt: HostRuntime) -> Result<(), Fail> {
+fn a_file_in_memory_grows_and_has_a_byte_set(rt: HostRuntime) {
     let mut files = MemoryStore::new(rt.alloc());
     assert!(rt; files.set_byte(rt.alloc(), "a", 0, b'-') == Err(StoreFault::Missing));
-    files.write("a", b"1 job")?;
-    files.extend(rt.alloc(), "a", b"2", b"s")?;
-    assert!(rt; files.read(rt.alloc(), "a")?.as_slice() == b"2 jobs".as_slice());
-    files.set_byte(rt.alloc(), "a", 1, b'-')?;
-    assert!(rt; files.read(rt.alloc(), "a")?.as_slice() == b"2-jobs".as_slice());
+    assert!(rt; files.write("a", b"1 job").is_ok());
+    assert!(rt; files.extend(rt.alloc(), "a", b"2", b"s").is_ok());
+    assert_file(&rt, &mut files, "a", b"2 jobs");
+    assert!(rt; files.set_byte(rt.alloc(), "a", 1, b'-').is_ok());
+    assert_file(&rt, &mut files, "a", b"2-jobs");
     assert!(rt; files.set_byte(rt.alloc(), "a", 6, b'-') == Err(StoreFault::TooShort));
     assert!(rt; files.extend(rt.alloc(), "b", b"2", b"s").is_err());
-    Ok(())
 }
 
 /// The store of a disk on which a file of four bytes stands under each name, and which fails so at its call of this number.
@@ -55,7 +53,7 @@ fn asked_to_write(rt: &impl Abort, alloc: Global, fails_at: usize, asked: &[u8])
 }
 
 #[test]
-fn a_file_is_on_disk_before_it_gets_its_name(rt: HostRuntime) -> Result<(), Fail> {
+fn a_file_is_on_disk_before_it_gets_its_name(rt: HostRuntime) {
     let alloc = rt.alloc();
     asked_to_write(
         &rt,
@@ -94,54 +92,50 @@ fn a_file_is_on_disk_before_it_gets_its_name(rt: HostRuntime) -> Result<(), Fail
         6,
         b"create a.job.rje-0\nmode of a.job.rje-0\nfill a.job.rje-0 with one\nsync a.job.rje-0\nrename a.job.rje-0 to a.job\nsync folder of a.job\n",
     );
-    Ok(())
 }
 
 #[test]
-fn a_file_grows_by_way_of_a_copy(rt: HostRuntime) -> Result<(), Fail> {
+fn a_file_grows_by_way_of_a_copy(rt: HostRuntime) {
     let alloc = rt.alloc();
     let mut files = FileStore::over(
         RecordedDisk::new(alloc, Some(FileKind::Regular), 4, 0),
         alloc,
     );
-    files.extend(alloc, "a.job", b"2", b"s")?;
-    files.extend(alloc, "a.job", b"3", b"t")?;
+    assert!(rt; files.extend(alloc, "a.job", b"2", b"s").is_ok());
+    assert!(rt; files.extend(alloc, "a.job", b"3", b"t").is_ok());
     files.settle();
     assert!(rt;
         files.disk().asked()
             == b"open a.job\ncreate a.job.rje-0\nmode of a.job.rje-0\ngo on with a.job.rje-0 as a.job and s\nwrite to a.job.rje-0: 2\nsync a.job.rje-0\nrename a.job.rje-0 to a.job\nsync folder of a.job\ncreate a.job.rje-0\nmode of a.job.rje-0\ngo on with a.job.rje-0 as a.job.rje-0 and t\nwrite to a.job.rje-0: 3\nsync a.job.rje-0\nlink a.job as a.job.rje-0\nrename a.job.rje-0 to a.job\nsync folder of a.job\nremove a.job.rje-0\n".as_slice()
     );
-    Ok(())
 }
 
 #[test]
-fn a_byte_is_set_where_the_file_is(rt: HostRuntime) -> Result<(), Fail> {
+fn a_byte_is_set_where_the_file_is(rt: HostRuntime) {
     let alloc = rt.alloc();
     let mut files = FileStore::over(
         RecordedDisk::new(alloc, Some(FileKind::Regular), 4, 0),
         alloc,
     );
-    files.set_byte(alloc, "a.job", 3, b'-')?;
+    assert!(rt; files.set_byte(alloc, "a.job", 3, b'-').is_ok());
     assert!(rt; files.set_byte(alloc, "a.job", 4, b'-') == Err(INVALID));
     assert!(rt;
         files.disk().asked()
             == b"open a.job\nwrite to a.job: -\nsync bytes of a.job\nopen a.job\n".as_slice()
     );
-    Ok(())
 }
 
 #[test]
-fn names_that_a_file_system_does_not_keep_are_no_fault(rt: HostRuntime) -> Result<(), Fail> {
+fn names_that_a_file_system_does_not_keep_are_no_fault(rt: HostRuntime) {
     let alloc = rt.alloc();
     let mut files = store_failing_at(alloc, 6, ErrorKind::InvalidInput);
     assert!(rt; files.write("a.job", b"one") == Ok(()));
     let mut files = store_failing_at(alloc, 6, ErrorKind::StorageFull);
     assert!(rt; files.write("a.job", b"one") == Err(StoreFault::Unsynced));
-    Ok(())
 }
 
 #[test]
-fn a_growth_that_fails_leaves_nothing_beside_the_file(rt: HostRuntime) -> Result<(), Fail> {
+fn a_growth_that_fails_leaves_nothing_beside_the_file(rt: HostRuntime) {
     let alloc = rt.alloc();
 
     // The copy can't be put on disk.
@@ -156,7 +150,7 @@ fn a_growth_that_fails_leaves_nothing_beside_the_file(rt: HostRuntime) -> Result
 
     // It can't have the name in the second growth, by which the file has a second one.
     let mut files = store_failing_at(alloc, 15, ErrorKind::StorageFull);
-    files.extend(alloc, "a.job", b"2", b"s")?;
+    assert!(rt; files.extend(alloc, "a.job", b"2", b"s").is_ok());
     assert!(rt; files.extend(alloc, "a.job", b"3", b"t") == Err(FULL));
     assert!(rt;
         files.disk().asked().ends_with(
@@ -166,26 +160,24 @@ fn a_growth_that_fails_leaves_nothing_beside_the_file(rt: HostRuntime) -> Result
 
     // A copy whose front is longer than the one that is to be written is of no use.
     let mut files = store_failing_at(alloc, 18, ErrorKind::StorageFull);
-    files.extend(alloc, "a.job", b"22", b"s")?;
-    files.extend(alloc, "a.job", b"33", b"t")?;
+    assert!(rt; files.extend(alloc, "a.job", b"22", b"s").is_ok());
+    assert!(rt; files.extend(alloc, "a.job", b"33", b"t").is_ok());
     assert!(rt; files.extend(alloc, "a.job", b"4", b"u") == Err(FULL));
     assert!(rt;
         files.disk().asked().ends_with(
             b"sync folder of a.job\nremove a.job.rje-0\ncreate a.job.rje-0\n"
         )
     );
-    Ok(())
 }
 
 #[test]
-fn a_device_neither_grows_nor_has_a_byte_set(rt: HostRuntime) -> Result<(), Fail> {
+fn a_device_neither_grows_nor_has_a_byte_set(rt: HostRuntime) {
     let alloc = rt.alloc();
     let disk = RecordedDisk::new(alloc, Some(FileKind::Device), 4, 0);
     let mut files = FileStore::over(disk, alloc);
     assert!(rt; files.set_byte(alloc, "a.job", 0, b'-') == Err(INVALID));
     assert!(rt; files.extend(alloc, "a.job", b"2", b"s") == Err(INVALID));
     assert!(rt; files.disk().asked() == b"open a.job\nopen a.job\n".as_slice());
-    Ok(())
 }
 
 #[test]
@@ -198,23 +190,22 @@ fn a_file_is_one_on_its_disk(rt: HostRuntime) -> Result<(), Fail> {
 }
 
 /// What a disk is asked for the lock of a file, where the lock's own file has so many names when it is given up.
-fn asked_to_lock(rt: &(impl Abort + AllocGlobal), links: u64, asked: &[u8]) -> Result<(), Fail> {
+fn asked_to_lock(rt: &(impl Abort + AllocGlobal), links: u64, asked: &[u8]) {
     let alloc = rt.alloc();
     let disk = RecordedDisk::new(alloc, Some(FileKind::Regular), 0, 0);
     let mut files = FileStore::over(disk, alloc);
-    files.lock(alloc, "a.job")?;
+    assert!(rt; files.lock(alloc, "a.job").is_ok());
     files.disk().links.set(links);
     files.release();
     assert!(rt; files.disk().asked() == asked);
-    Ok(())
 }
 
 #[test]
-fn the_file_of_a_lock_that_was_taken_away_is_not_removed(rt: HostRuntime) -> Result<(), Fail> {
+fn the_file_of_a_lock_that_was_taken_away_is_not_removed(rt: HostRuntime) {
     let lock = b"open or create .a.job.rje-lock\nmode of .a.job.rje-lock\n".as_slice();
     let removed = joined(&rt, &[lock, b"remove .a.job.rje-lock\n"]);
-    asked_to_lock(&rt, 1, removed.as_slice())?;
-    asked_to_lock(&rt, 0, lock)
+    asked_to_lock(&rt, 1, removed.as_slice());
+    asked_to_lock(&rt, 0, lock);
 }
 
 #[test]

@@ -1,11 +1,10 @@
 //! What `--trace` writes: its lines by hand, and those of a `loop` by a clock of the tests' own.
-use super::{FILE, Written};
+use super::{FILE, Written, store_of};
 use bsc_link::{Reply, Say, Sound};
 use line_world::Spoken;
 use rje_print::{both_text, peer_text, receiver_text, sender_text};
 use rje_program::socket_command;
 use rje_station::Arrival;
-use rje_stores::{MemoryStore, Store};
 use std::cell::Cell;
 use std::io::{self, ErrorKind, Write};
 use std::net::{Ipv4Addr, Ipv6Addr, Net, SocketAddr};
@@ -117,15 +116,13 @@ fn assert_loop<R: Net + Abort + AllocGlobal>(
     words: &[&str],
     looks: u64,
     err: &mut impl Write,
-) -> Result<(), Fail> {
+) {
     let clock = Ticking::new(rt, looks);
-    let mut store = MemoryStore::new(rt.alloc());
-    store.write("jobs", FILE)?;
+    let mut store = store_of(rt, "jobs", FILE);
     let mut out = Written::new();
     let ended = socket_command(&clock, rt.alloc(), words, &mut store, &mut out, err);
     assert!(rt; ended == 0);
     assert!(rt; out.as_slice() == TEXT);
-    Ok(())
 }
 
 /// The trace of that loop.
@@ -142,7 +139,7 @@ const CUT: [&[u8]; 2] = [
 const TRACED: [&str; 3] = ["loop", "jobs", "--trace"];
 
 #[test]
-fn a_trace_goes_quiet_where_the_clock_fails(rt: HostRuntime) -> Result<(), Fail> {
+fn a_trace_goes_quiet_where_the_clock_fails(rt: HostRuntime) {
     for (looks, told) in [
         (0, b"".as_slice()),
         (1, b""),
@@ -152,10 +149,9 @@ fn a_trace_goes_quiet_where_the_clock_fails(rt: HostRuntime) -> Result<(), Fail>
         (100, TRACE),
     ] {
         let mut err = Written::new();
-        assert_loop(&rt, &TRACED, looks, &mut err)?;
+        assert_loop(&rt, &TRACED, looks, &mut err);
         assert!(rt; err.as_slice() == told);
     }
-    Ok(())
 }
 
 /// A writer of which one write, counted from 0, fails.
@@ -182,15 +178,14 @@ impl Write for Failing {
 }
 
 #[test]
-fn a_trace_goes_quiet_where_a_write_fails(rt: HostRuntime) -> Result<(), Fail> {
+fn a_trace_goes_quiet_where_a_write_fails(rt: HostRuntime) {
     for (failing, told) in [(0, b"".as_slice()), (1, CUT[1]), (2, CUT[0]), (3, TRACE)] {
         let mut err = Failing {
             written: Written::new(),
             writes: 0,
             failing,
         };
-        assert_loop(&rt, &TRACED, 100, &mut err)?;
+        assert_loop(&rt, &TRACED, 100, &mut err);
         assert!(rt; err.written.as_slice() == told);
     }
-    Ok(())
 }
