@@ -7,8 +7,6 @@ mod laws;
 mod place;
 mod said;
 mod step;
-#[cfg(test)]
-mod tests;
 
 pub use from_adapter::FromAdapter;
 pub use laws::{

@@ -1,4 +1,6 @@
-//! What no clause says of bytes, checks, frames and the link cores: worked transmissions, the tables as they are printed, and worked histories.
+//! What no clause says of bytes, checks, frames, an adapter and the link cores: worked transmissions, the tables as they are printed, and worked
+//! histories.
+mod adapters;
 mod checks;
 mod codes;
 mod contention;

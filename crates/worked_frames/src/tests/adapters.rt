@@ -1,9 +1,9 @@
-//! What no clause says: worked forms, in every cutting.
-use crate::{
+//! Worked forms of an adapter, in every cutting.
+use arrayvec::ArrayVec;
+use bsc_adapter::{
     FromAdapter, every_hearing, for_adapter, form_is_made, nothing_is_idle, one_hearing,
     one_making, said_comes_back, said_is_form, same_is_heard,
 };
-use arrayvec::ArrayVec;
 use bsc_codes::{Block, Closing};
 use bsc_frame::{Frame, write_frame};
 
