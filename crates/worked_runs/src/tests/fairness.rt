@@ -1,9 +1,8 @@
 //! Fair lines, and how many turns are enough on them. What becomes of jobs on them stands in talks/fair.
-use super::schedules::{GOOD, HOLD, PAUSE, Place, TURN, Way, job_of, schedule, unfit_job};
+use super::schedules::{GOOD, HOLD, PAUSE, Place, TURN, Way, bad_jobs, job_of, schedule_of};
 use line_world::{is_fair, turns_needed};
 use std::alloc::AllocGlobal;
 use std::process::Abort;
-use std::test::Fail;
 
 const LOST: Place = Place {
     up: Way::Lost,
@@ -14,29 +13,27 @@ const LOST: Place = Place {
 // HOW MANY TURNS
 
 /// For jobs of these numbers of records of 80 bytes, this many turns are enough.
-fn assert_needed(rt: &(impl Abort + AllocGlobal), sizes: &[usize], turns: u64) -> Result<(), Fail> {
+fn assert_needed(rt: &(impl Abort + AllocGlobal), sizes: &[usize], turns: u64) {
     let mut jobs = Vec::new(rt.alloc());
     for records in sizes {
-        jobs.push(job_of(rt, *records, 80)?)?;
+        assert!(rt; jobs.push(job_of(rt, *records, 80)).is_ok());
     }
     assert!(rt; turns_needed(&jobs) == Some(turns));
-    Ok(())
 }
 
 #[test]
-fn the_bid_and_each_block_need_seven_turns(rt: HostRuntime) -> Result<(), Fail> {
+fn the_bid_and_each_block_need_seven_turns(rt: HostRuntime) {
     // Eighteen records of 80 bytes are three blocks; a job without records is one.
     let cases: [(&[usize], u64); 4] = [(&[], 7), (&[18], 28), (&[0], 14), (&[18, 0], 35)];
     for (sizes, turns) in cases {
-        assert_needed(&rt, sizes, turns)?;
+        assert_needed(&rt, sizes, turns);
     }
-    Ok(())
 }
 
 #[test]
-fn a_job_that_cannot_be_sent_has_no_number_of_turns(rt: HostRuntime) -> Result<(), Fail> {
-    assert!(rt; turns_needed(&[job_of(&rt, 1, 1)?, unfit_job(&rt)?]).is_none());
-    Ok(())
+fn a_job_that_cannot_be_sent_has_no_number_of_turns(rt: HostRuntime) {
+    let jobs = bad_jobs(&rt);
+    assert!(rt; turns_needed(&jobs).is_none());
 }
 
 // FAIR SCHEDULES
@@ -87,10 +84,9 @@ static SCHEDULES: &[(&[Place], bool)] = &[
 ];
 
 #[test]
-fn each_schedule_is_fair_or_is_not(rt: HostRuntime) -> Result<(), Fail> {
+fn each_schedule_is_fair_or_is_not(rt: HostRuntime) {
     for (places, fair) in SCHEDULES {
-        let turns = schedule(rt.alloc(), places)?;
+        let turns = schedule_of(&rt, places);
         assert!(rt; is_fair(&turns) == *fair);
     }
-    Ok(())
 }

@@ -1,7 +1,8 @@
 //! Runs of two stations that both have jobs: who speaks, who gives way, and that each way is a conversation of its own.
 use super::schedules::{
     BID, BLOCK_ACK1, DOWN_LOST, END, GOOD, HOLD, Line, PAUSE, Place, TURN, UP_LOST, Way,
-    assert_equal_jobs, assert_turn, cut, damaged, job_of, pair_schedule, schedule, unfit_job,
+    assert_equal_jobs, assert_turn, bad_jobs, cut, damaged, job_of, jobs_of, pair_schedule_of,
+    schedule_of,
 };
 use bsc_link::{Outcome, Rank, Reply, Say, Sound, Wish};
 use line_world::{Report, Spoken, WorldFault, run};
@@ -9,9 +10,8 @@ use pair_world::{Bids, PairReport, PairTurn, Paired, Side, drive_pair, run_pair}
 use rje_jobs::{Job, Jobs};
 use rje_station::Station;
 use rje_text::{Mode, Select};
-use std::alloc::{AllocError, AllocGlobal, Global};
+use std::alloc::{AllocGlobal, Global};
 use std::process::Abort;
-use std::test::Fail;
 
 /// A turn of a schedule: who speaks where both could, and what the line does.
 type Pairing = (Bids, Place);
@@ -120,6 +120,16 @@ pub(super) fn report_by(
     })
 }
 
+/// The report of these jobs, which can be sent, over a schedule that breaks no rule.
+fn report_of(
+    rt: &(impl Abort + AllocGlobal),
+    call: Call,
+    jobs: (&[Job], &[Job]),
+    turns: &[PairTurn],
+) -> PairReport {
+    report_by(call, rt.alloc(), jobs, turns).expect(rt, "a report")
+}
+
 fn side(handed: Vec<Job>, (counted, outcome): (usize, Option<Outcome>)) -> Side {
     Side {
         handed: Jobs::from(handed),
@@ -151,30 +161,26 @@ fn assert_pair(
     places: &[Pairing],
     lines: &[PairLine],
     fares: (Fares<'_>, Fares<'_>),
-) -> Result<(), Fail> {
-    let turns = pair_schedule(rt.alloc(), places)?;
+) {
+    let turns = pair_schedule_of(rt, places);
     for call in CALLS {
-        let report = report_by(call, rt.alloc(), jobs, &turns)?;
+        let report = report_of(rt, call, jobs, &turns);
         assert!(rt; report.turns.len() == lines.len(), "turns where {shows}");
-        for (turn, line) in report.turns.iter().zip(lines) {
+        for (place, turn) in report.turns.iter().enumerate() {
+            let line = lines[place];
             assert_part(rt, shows, turn.primary, line.0);
             assert_part(rt, shows, turn.secondary, line.1);
         }
         assert_side(rt, &report.up, fares.0);
         assert_side(rt, &report.down, fares.1);
     }
-    Ok(())
 }
 
 /// One job of one block each way: the turns, and what becomes of the jobs.
-fn assert_one_each(
-    rt: &(impl Abort + AllocGlobal),
-    places: &[Pairing],
-    lines: &[PairLine],
-) -> Result<(), Fail> {
-    let (ups, downs) = ([job_of(rt, 1, 1)?], [job_of(rt, 1, 2)?]);
+fn assert_one_each(rt: &(impl Abort + AllocGlobal), places: &[Pairing], lines: &[PairLine]) {
+    let (ups, downs) = (jobs_of(rt, &[(1, 1)]), jobs_of(rt, &[(1, 2)]));
     let fares = (all_sent(&ups), all_sent(&downs));
-    assert_pair(rt, "both are done", (&ups, &downs), places, lines, fares)
+    assert_pair(rt, "both are done", (&ups, &downs), places, lines, fares);
 }
 
 /// A conversation of one job of one block each way: what it shows, the schedule, the turns, and whether each way is done or given up.
@@ -272,13 +278,12 @@ fn fares(done: bool, jobs: &[Job]) -> Fares<'_> {
 }
 
 #[test]
-fn each_conversation_goes_turn_by_turn(rt: HostRuntime) -> Result<(), Fail> {
-    let (ups, downs) = ([job_of(&rt, 1, 1)?], [job_of(&rt, 1, 2)?]);
+fn each_conversation_goes_turn_by_turn(rt: HostRuntime) {
+    let (ups, downs) = (jobs_of(&rt, &[(1, 1)]), jobs_of(&rt, &[(1, 2)]));
     for Talk(shows, places, lines, (up, down)) in &TALKS {
         let fares = (fares(*up, &ups), fares(*down, &downs));
-        assert_pair(&rt, shows, (&ups, &downs), places, lines, fares)?;
+        assert_pair(&rt, shows, (&ups, &downs), places, lines, fares);
     }
-    Ok(())
 }
 
 // ONE WAY ALONE
@@ -296,12 +301,12 @@ static SCHEDULES: [&'static [Place]; 7] = [
 ];
 
 /// The schedule of a pair in which the secondary may always bid.
-fn as_pair_schedule(alloc: Global, places: &[Place]) -> Result<Vec<PairTurn>, AllocError> {
-    let mut pairings = Vec::new(alloc);
+fn as_pair_schedule(rt: &(impl Abort + AllocGlobal), places: &[Place]) -> Vec<PairTurn> {
+    let mut pairings = Vec::new(rt.alloc());
     for place in places {
-        pairings.push((Bids::Secondary, *place))?;
+        assert!(rt; pairings.push((Bids::Secondary, *place)).is_ok());
     }
-    pair_schedule(alloc, &pairings)
+    pair_schedule_of(rt, &pairings)
 }
 
 /// The primary's way is this run, and nothing goes the other way.
@@ -310,20 +315,15 @@ fn assert_one_way(rt: &impl Abort, pair: &PairReport, report: &Report) {
     assert_side(rt, &pair.up, (handed, report.counted, report.outcome));
     assert_side(rt, &pair.down, all_sent(&[]));
     assert!(rt; pair.turns.len() == report.turns.len());
-    for (turn, spoken) in pair.turns.iter().zip(&report.turns) {
-        assert!(rt; turn.primary == Some(*spoken));
-        assert!(rt; turn.secondary.is_none());
+    for (place, turn) in pair.turns.iter().enumerate() {
+        assert!(rt; turn.primary == Some(report.turns[place]) && turn.secondary.is_none());
     }
 }
 
 /// By each call, over this schedule the pair reports what a run of the primary's jobs does, or the same fault.
-fn assert_is_a_run(
-    rt: &(impl Abort + AllocGlobal),
-    jobs: &[Job],
-    places: &[Place],
-) -> Result<(), Fail> {
-    let turns = schedule(rt.alloc(), places)?;
-    let pair_turns = as_pair_schedule(rt.alloc(), places)?;
+fn assert_is_a_run(rt: &(impl Abort + AllocGlobal), jobs: &[Job], places: &[Place]) {
+    let turns = schedule_of(rt, places);
+    let pair_turns = as_pair_schedule(rt, places);
     for call in CALLS {
         let pair = report_by(call, rt.alloc(), (jobs, &[]), &pair_turns);
         match (run(rt.alloc(), jobs, &turns), pair) {
@@ -331,126 +331,101 @@ fn assert_is_a_run(
             (report, pair) => assert!(rt; report.err() == pair.err()),
         }
     }
-    Ok(())
 }
 
 #[test]
-fn without_jobs_of_the_secondary_the_primarys_way_is_a_run(rt: HostRuntime) -> Result<(), Fail> {
-    let jobs = [job_of(&rt, 7, 80)?, job_of(&rt, 1, 1)?];
+fn without_jobs_of_the_secondary_the_primarys_way_is_a_run(rt: HostRuntime) {
+    let jobs = jobs_of(&rt, &[(7, 80), (1, 1)]);
     for places in SCHEDULES {
-        assert_is_a_run(&rt, &jobs, places)?;
+        assert_is_a_run(&rt, &jobs, places);
     }
-    Ok(())
 }
 
-#[test]
-fn with_no_jobs_or_no_schedule_nothing_is_said(rt: HostRuntime) -> Result<(), Fail> {
-    let (none, open) = (all_sent(&[]), nothing(None));
-    let unread = [(Bids::Both, cut(&[0]))];
+/// With these jobs of both, the schedule ends at once, and after the last block of the primary was counted, before its EOT.
+fn assert_schedule_ends(rt: &(impl Abort + AllocGlobal), jobs: &[Job]) {
+    let (shows, open) = ("the schedule ends", nothing(None));
+    assert_pair(rt, shows, (jobs, jobs), &[], &[], (open, open));
+    let lines = [UP_BID, UP_BLOCK];
     assert_pair(
-        &rt,
-        "nobody has jobs",
-        (&[], &[]),
-        &unread,
-        &[],
-        (none, none),
-    )?;
-    assert_pair(&rt, "nobody has jobs", (&[], &[]), &[], &[], (none, none))?;
-    let jobs = [job_of(&rt, 1, 1)?];
-    assert_pair(
-        &rt,
-        "the schedule ends",
-        (&jobs, &jobs),
-        &[],
-        &[],
-        (open, open),
-    )?;
-    // The last block was counted, and the schedule ends before EOT.
-    let (lines, fares) = ([UP_BID, UP_BLOCK], (all_sent(&jobs), open));
-    assert_pair(
-        &rt,
-        "the schedule ends",
-        (&jobs, &jobs),
+        rt,
+        shows,
+        (jobs, jobs),
         &[P; 2],
         &lines,
-        fares,
-    )
+        (all_sent(jobs), open),
+    );
+}
+
+#[test]
+fn with_no_jobs_or_no_schedule_nothing_is_said(rt: HostRuntime) {
+    let (shows, none) = ("nobody has jobs", all_sent(&[]));
+    let unread = [(Bids::Both, cut(&[0]))];
+    assert_pair(&rt, shows, (&[], &[]), &unread, &[], (none, none));
+    assert_pair(&rt, shows, (&[], &[]), &[], &[], (none, none));
+    let jobs = jobs_of(&rt, &[(1, 1)]);
+    assert_schedule_ends(&rt, &jobs);
 }
 
 // JOBS
 
 /// On a clean line all these jobs are sent, in this many turns.
-fn assert_all_sent(
-    rt: &(impl Abort + AllocGlobal),
-    ups: &[Job],
-    downs: &[Job],
-    count: usize,
-) -> Result<(), Fail> {
+fn assert_all_sent(rt: &(impl Abort + AllocGlobal), ups: &[Job], downs: &[Job], count: usize) {
     let mut pairings = Vec::new(rt.alloc());
     for _ in 0..=count {
-        pairings.push(S)?;
+        assert!(rt; pairings.push(S).is_ok());
     }
-    let turns = pair_schedule(rt.alloc(), &pairings)?;
+    let turns = pair_schedule_of(rt, &pairings);
     for call in CALLS {
-        let report = report_by(call, rt.alloc(), (ups, downs), &turns)?;
+        let report = report_of(rt, call, (ups, downs), &turns);
         assert!(rt; report.turns.len() == count);
         assert_side(rt, &report.up, all_sent(ups));
         assert_side(rt, &report.down, all_sent(downs));
     }
-    Ok(())
 }
 
 /// Jobs of two cards for these devices.
-fn cards<const N: usize>(
-    rt: &(impl Abort + AllocGlobal),
-    kinds: [(Select, Mode); N],
-) -> Result<Vec<Job>, Fail> {
+fn cards<const N: usize>(rt: &(impl Abort + AllocGlobal), kinds: [(Select, Mode); N]) -> Vec<Job> {
     let mut jobs = Vec::new(rt.alloc());
     for (select, mode) in kinds {
-        let mut job = job_of(rt, 2, 80)?;
+        let mut job = job_of(rt, 2, 80);
         job.select = select;
         job.mode = mode;
-        jobs.push(job)?;
+        assert!(rt; jobs.push(job).is_ok());
     }
-    Ok(jobs)
+    jobs
 }
 
 #[test]
-fn jobs_of_each_device_and_mode_go_each_way(rt: HostRuntime) -> Result<(), Fail> {
+fn jobs_of_each_device_and_mode_go_each_way(rt: HostRuntime) {
     let plain = (Select::Unset, Mode::Normal);
     let printed = (Select::Printer, Mode::Normal);
     let punched = (Select::Punch, Mode::Normal);
     let transparent = (Select::Punch, Mode::Transparent);
-    let ups = cards(&rt, [plain, printed, punched, transparent])?;
-    let downs = cards(&rt, [transparent, punched, plain, printed])?;
-    assert_all_sent(&rt, &ups, &downs, 12)
+    let ups = cards(&rt, [plain, printed, punched, transparent]);
+    let downs = cards(&rt, [transparent, punched, plain, printed]);
+    assert_all_sent(&rt, &ups, &downs, 12);
 }
 
 #[test]
-fn a_hundred_jobs_go_each_way(rt: HostRuntime) -> Result<(), Fail> {
+fn a_hundred_jobs_go_each_way(rt: HostRuntime) {
     let (mut ups, mut downs) = (Vec::new(rt.alloc()), Vec::new(rt.alloc()));
     for i in 0..100 {
-        ups.push(job_of(&rt, 1, i + 1)?)?;
-        downs.push(job_of(&rt, 2, 100 - i)?)?;
+        assert!(rt; ups.push(job_of(&rt, 1, i + 1)).is_ok());
+        assert!(rt; downs.push(job_of(&rt, 2, 100 - i)).is_ok());
     }
-    assert_all_sent(&rt, &ups, &downs, 204)
+    assert_all_sent(&rt, &ups, &downs, 204);
 }
 
 // FAULTS
 
 /// Over this schedule one job of one block each way is refused so, by both calls.
-fn assert_refused(
-    rt: &(impl Abort + AllocGlobal),
-    places: &[Pairing],
-    fault: WorldFault,
-) -> Result<(), Fail> {
-    let jobs = [job_of(rt, 1, 1)?];
-    let turns = pair_schedule(rt.alloc(), places)?;
+fn assert_refused(rt: &(impl Abort + AllocGlobal), places: &[Pairing], fault: WorldFault) {
+    let jobs = jobs_of(rt, &[(1, 1)]);
+    let turns = pair_schedule_of(rt, places);
     for call in CALLS {
         let refused = report_by(call, rt.alloc(), (&jobs, &jobs), &turns).err();
         assert!(rt; refused == Some(fault));
     }
-    Ok(())
 }
 
 /// A good turn but for the fate of the reply.
@@ -464,13 +439,9 @@ const TEXT: Place = Place {
 };
 
 /// This place is refused so where one speaks, and not looked at in a collision.
-fn assert_not_looked_at(
-    rt: &(impl Abort + AllocGlobal),
-    place: Place,
-    fault: WorldFault,
-) -> Result<(), Fail> {
-    assert_refused(rt, &[(Bids::Primary, place)], fault)?;
-    assert_refused(rt, &[(Bids::Secondary, place)], fault)?;
+fn assert_not_looked_at(rt: &(impl Abort + AllocGlobal), place: Place, fault: WorldFault) {
+    assert_refused(rt, &[(Bids::Primary, place)], fault);
+    assert_refused(rt, &[(Bids::Secondary, place)], fault);
     let vain = Place {
         wish: Wish::Hold,
         pause: true,
@@ -481,11 +452,11 @@ fn assert_not_looked_at(
     let lines = [
         COLLISION, COLLISION, UP_BID, UP_BLOCK, UP_END, DOWN_BID, DOWN_BLOCK, DOWN_END,
     ];
-    assert_one_each(rt, &places, &lines)
+    assert_one_each(rt, &places, &lines);
 }
 
 #[test]
-fn in_a_collision_fates_and_wish_are_not_looked_at(rt: HostRuntime) -> Result<(), Fail> {
+fn in_a_collision_fates_and_wish_are_not_looked_at(rt: HostRuntime) {
     let eot: &[u8] = &[0x32, 0x32, 0x37];
     let (no_damage, bad_cut) = (WorldFault::NotDamage(1, 1), WorldFault::BadCut(1, 1));
     for (place, fault) in [
@@ -496,34 +467,33 @@ fn in_a_collision_fates_and_wish_are_not_looked_at(rt: HostRuntime) -> Result<()
         (cut(&[4]), bad_cut),
         (answered(Way::Cut(&[5])), bad_cut),
     ] {
-        assert_not_looked_at(&rt, place, fault)?;
+        assert_not_looked_at(&rt, place, fault);
     }
-    Ok(())
 }
 
 #[test]
-fn where_one_speaks_the_first_broken_fate_is_told(rt: HostRuntime) -> Result<(), Fail> {
+fn where_one_speaks_the_first_broken_fate_is_told(rt: HostRuntime) {
     let (p, s) = (Bids::Primary, Bids::Secondary);
     let (no_damage, bad_cut) = (WorldFault::NotDamage(1, 2), WorldFault::BadCut(1, 2));
-    assert_refused(&rt, &[BOTH, (p, TEXT)], no_damage)?;
+    assert_refused(&rt, &[BOTH, (p, TEXT)], no_damage);
     // A bid that is passed over arrives all the same, and no answer to it does.
-    assert_refused(&rt, &[BOTH, (s, TEXT)], no_damage)?;
-    assert_refused(&rt, &[BOTH, (s, cut(&[4]))], bad_cut)?;
+    assert_refused(&rt, &[BOTH, (s, TEXT)], no_damage);
+    assert_refused(&rt, &[BOTH, (s, cut(&[4]))], bad_cut);
     let places = [BOTH, (s, answered(Way::Cut(&[0]))), (p, TEXT)];
-    assert_refused(&rt, &places, WorldFault::NotDamage(1, 3))?;
+    assert_refused(&rt, &places, WorldFault::NotDamage(1, 3));
     // The acknowledgement has five bytes. Where both fates break a rule, the fault of the block's is reported.
     let down = answered(Way::Cut(&[5]));
-    assert_refused(&rt, &[S, (p, down)], bad_cut)?;
+    assert_refused(&rt, &[S, (p, down)], bad_cut);
     let up = Way::Damaged(&[0x32, 0x32, 0x37]);
     let places = [P, P, P, P, (p, Place { up, ..down })];
-    assert_refused(&rt, &places, WorldFault::NotDamage(1, 5))
+    assert_refused(&rt, &places, WorldFault::NotDamage(1, 5));
 }
 
 #[test]
-fn jobs_that_cannot_be_sent_count_from_the_primarys_first(rt: HostRuntime) -> Result<(), Fail> {
-    let good = [job_of(&rt, 1, 1)?, job_of(&rt, 1, 1)?];
-    let bad = [job_of(&rt, 1, 1)?, unfit_job(&rt)?];
-    let turns = pair_schedule(rt.alloc(), &[(Bids::Primary, cut(&[0]))])?;
+fn jobs_that_cannot_be_sent_count_from_the_primarys_first(rt: HostRuntime) {
+    let good = jobs_of(&rt, &[(1, 1), (1, 1)]);
+    let bad = bad_jobs(&rt);
+    let turns = pair_schedule_of(&rt, &[(Bids::Primary, cut(&[0]))]);
     let cases: [(&[Job], &[Job], usize); 5] = [
         (&bad, &good, 2),
         (&good, &bad, 4),
@@ -535,5 +505,4 @@ fn jobs_that_cannot_be_sent_count_from_the_primarys_first(rt: HostRuntime) -> Re
         let fault = run_pair(rt.alloc(), ups, downs, &turns).err();
         assert!(rt; fault == Some(WorldFault::BadJob(number)));
     }
-    Ok(())
 }

@@ -3,12 +3,13 @@
 use super::pairs::{Call, report_by};
 use super::schedules::{GOOD, TURN, assert_same_jobs, pair_schedule, record_of, schedule};
 use bsc_link::{Outcome, Rank, Reply, Say, Sound};
-use line_world::{Report, Spoken, WorldFault, run, run_all};
-use pair_world::{Bids, PairSpoken};
+use line_world::{Report, Series, Spoken, Turn, WorldFault, run, run_all};
+use pair_world::{Bids, PairSpoken, Side};
 use rje_jobs::Job;
 use rje_text::{Mode, Records, Select};
-use std::alloc::AllocError;
+use std::alloc::{AllocError, Global};
 use std::process::Abort;
+use std::slice;
 use std::test::Fail;
 
 /// A job of `count` records, at most 1,000, whose memory is taken in one growth.
@@ -28,8 +29,8 @@ fn job_of(rt: &(impl Abort + AllocGlobal), count: usize) -> Result<Job, AllocErr
 /// The sender said this, turn by turn. A block that found no memory got NAK, and one that was said again didn't.
 fn assert_said(rt: &impl Abort, report: &Report, said: &[Say]) {
     assert!(rt; report.turns.len() == said.len());
-    for (turn, say) in report.turns.iter().zip(said) {
-        assert!(rt; turn.said == *say);
+    for (place, turn) in report.turns.iter().enumerate() {
+        assert!(rt; turn.said == said[place]);
         assert!(rt;
             !turn.refused
                 || (turn.arrived, turn.reply, turn.heard)
@@ -70,15 +71,15 @@ fn a_run_says_a_block_again_that_found_no_memory(rt: HostRuntime) -> Result<(), 
     let (Ok(job), Ok(turns)) = (job_of(&rt, 7), schedule(rt.alloc(), &[GOOD; 6])) else {
         return Ok(());
     };
-    let jobs = [job];
-    let report = match run(rt.alloc(), &jobs, &turns) {
+    let jobs = slice::from_ref(&job);
+    let report = match run(rt.alloc(), jobs, &turns) {
         Ok(report) => report,
         Err(fault) => {
             assert!(rt; fault == WorldFault::OutOfMemory);
             return Ok(());
         }
     };
-    assert_same_jobs(&rt, report.handed.as_slice(), &jobs);
+    assert_same_jobs(&rt, report.handed.as_slice(), jobs);
     assert!(rt; report.counted == 1);
     if refused_block(&rt, &report) == Some(2) {
         println!(rt; "block 2 found no memory")?;
@@ -95,26 +96,25 @@ fn is_one_refused(rt: &impl Abort, report: &Report, outcome: Outcome) -> bool {
     refused_block(rt, report).is_some()
 }
 
-/// Two jobs go in two runs, the second where the receiver ends the first run by its wish to send; or there is no memory for them: what came
-/// of it, for the script.
-fn try_runs(rt: &(impl Abort + AllocGlobal)) -> &'static str {
-    // Seven and eight records of 80 bytes are two blocks each.
-    let (Ok(first), Ok(second)) = (job_of(rt, 7), job_of(rt, 8)) else {
-        return "no memory to begin with";
-    };
-    let turned = schedule(rt.alloc(), &[GOOD, TURN, TURN, TURN, TURN]);
-    let (Ok(turned), Ok(good)) = (turned, schedule(rt.alloc(), &[GOOD; 5])) else {
-        return "no memory to begin with";
-    };
-    let jobs = [first, second];
-    let series = match run_all(rt.alloc(), &jobs, &[turned, good]) {
-        Ok(series) => series,
-        Err(fault) => {
-            assert!(rt; fault == WorldFault::OutOfMemory);
-            return "no memory for the runs";
-        }
-    };
-    assert_same_jobs(rt, series.handed.as_slice(), &jobs);
+/// Jobs of two blocks each: seven and eight records of 80 bytes.
+fn two_jobs(rt: &(impl Abort + AllocGlobal)) -> Result<Vec<Job>, AllocError> {
+    let mut jobs = Vec::with_capacity(rt.alloc(), 2)?;
+    jobs.push(job_of(rt, 7)?)?;
+    jobs.push(job_of(rt, 8)?)?;
+    Ok(jobs)
+}
+
+/// The receiver ends the first run by its wish to send, and nothing is lost in the second.
+fn two_schedules(alloc: Global) -> Result<Vec<Vec<Turn>>, AllocError> {
+    let mut schedules = Vec::with_capacity(alloc, 2)?;
+    schedules.push(schedule(alloc, &[GOOD, TURN, TURN, TURN, TURN])?)?;
+    schedules.push(schedule(alloc, &[GOOD; 5])?)?;
+    Ok(schedules)
+}
+
+/// The two jobs went in the two runs of these reports, in one of which a block may have found no memory: what came of it, for the script.
+fn told_of_runs(rt: &impl Abort, series: &Series, jobs: &[Job]) -> &'static str {
+    assert_same_jobs(rt, series.handed.as_slice(), jobs);
     assert!(rt; series.counted == 2);
     assert!(rt; series.reports.len() == 2);
     let first = is_one_refused(rt, &series.reports[0], Outcome::Turned);
@@ -124,6 +124,20 @@ fn try_runs(rt: &(impl Abort + AllocGlobal)) -> &'static str {
         (true, _) => "a block of run 1 found no memory",
         (_, true) => "a block of run 2 found no memory",
         _ => "each block found memory",
+    }
+}
+
+/// Two jobs go in two runs, or there is no memory for them: what came of it, for the script.
+fn try_runs(rt: &(impl Abort + AllocGlobal)) -> &'static str {
+    let (Ok(jobs), Ok(schedules)) = (two_jobs(rt), two_schedules(rt.alloc())) else {
+        return "no memory to begin with";
+    };
+    match run_all(rt.alloc(), &jobs, &schedules) {
+        Ok(series) => told_of_runs(rt, &series, &jobs),
+        Err(fault) => {
+            assert!(rt; fault == WorldFault::OutOfMemory);
+            "no memory for the runs"
+        }
     }
 }
 
@@ -162,6 +176,27 @@ fn is_refused(rt: &impl Abort, turns: &[PairSpoken], rank: Rank) -> bool {
     refused
 }
 
+/// The job arrived and was counted.
+fn assert_sent(rt: &impl Abort, side: &Side, job: &Job) {
+    assert_same_jobs(rt, side.handed.as_slice(), slice::from_ref(job));
+    assert!(rt; side.counted == 1);
+    assert!(rt; side.outcome == Some(Outcome::Done));
+}
+
+/// A job of two blocks went each way, and one of these blocks may have found no memory: what came of it, for the script.
+fn told_of_pair(rt: &impl Abort, turns: &[PairSpoken]) -> &'static str {
+    let up = is_refused(rt, turns, Rank::Primary);
+    let down = is_refused(rt, turns, Rank::Secondary);
+    assert!(rt; !(up && down));
+    let (count, told) = match (up, down) {
+        (true, _) => (9, "a block of the primary found no memory"),
+        (_, true) => (9, "a block of the secondary found no memory"),
+        _ => (8, "each block found memory"),
+    };
+    assert!(rt; turns.len() == count);
+    told
+}
+
 /// By this call a job of two blocks goes each way, or there is no memory for the call: what came of it, for the script.
 fn try_pair(rt: &(impl Abort + AllocGlobal), call: Call) -> &'static str {
     // Seven records of 80 bytes are two blocks. Each way takes four turns, and a block that is said again one more.
@@ -169,29 +204,18 @@ fn try_pair(rt: &(impl Abort + AllocGlobal), call: Call) -> &'static str {
     let (Ok(up), Ok(down), Ok(turns)) = (job_of(rt, 7), job_of(rt, 7), schedule) else {
         return "no memory to begin with";
     };
-    let (ups, downs) = ([up], [down]);
-    let report = match report_by(call, rt.alloc(), (&ups, &downs), &turns) {
-        Ok(report) => report,
+    let jobs = (slice::from_ref(&up), slice::from_ref(&down));
+    match report_by(call, rt.alloc(), jobs, &turns) {
+        Ok(report) => {
+            assert_sent(rt, &report.up, &up);
+            assert_sent(rt, &report.down, &down);
+            told_of_pair(rt, &report.turns)
+        }
         Err(fault) => {
             assert!(rt; fault == WorldFault::OutOfMemory);
-            return "no memory for the run";
+            "no memory for the run"
         }
-    };
-    for (side, jobs) in [(&report.up, &ups), (&report.down, &downs)] {
-        assert_same_jobs(rt, side.handed.as_slice(), jobs);
-        assert!(rt; side.counted == 1);
-        assert!(rt; side.outcome == Some(Outcome::Done));
     }
-    let up = is_refused(rt, &report.turns, Rank::Primary);
-    let down = is_refused(rt, &report.turns, Rank::Secondary);
-    assert!(rt; !(up && down));
-    let (turns, told) = match (up, down) {
-        (true, _) => (9, "a block of the primary found no memory"),
-        (_, true) => (9, "a block of the secondary found no memory"),
-        _ => (8, "each block found memory"),
-    };
-    assert!(rt; report.turns.len() == turns);
-    told
 }
 
 /// Printed at some growth: no memory for the run, a block of the primary found no memory, a block of the secondary found no memory.

@@ -1,7 +1,7 @@
 //! Stations that are driven over a schedule, and what they note. The conversations of runs stand in talks/, as tables.
 use super::schedules::{
-    ASK_ACK1, BID, BLOCK_UNHEARD, DOWN_LOST, END, GOOD, assert_same_jobs, assert_turns, job_of,
-    schedule,
+    ASK_ACK1, BID, BLOCK_UNHEARD, DOWN_LOST, END, GOOD, assert_same_jobs, assert_turns, jobs_of,
+    schedule_of,
 };
 use bsc_link::{Outcome, Reply, Say, Sound};
 use line_world::{Driven, drive};
@@ -9,7 +9,6 @@ use rje_jobs::Job;
 use rje_station::{Event, ReceivingStation, SendingStation, Trace};
 use std::alloc::AllocGlobal;
 use std::process::Abort;
-use std::test::Fail;
 
 /// What a sender notes of one block whose acknowledgement is lost once.
 const SENDERS_EVENTS: [Event; 8] = [
@@ -54,12 +53,11 @@ fn assert_driven(rt: &impl Abort, driven: &Driven<'_>, jobs: &[Job]) {
 }
 
 #[test]
-fn driven_stations_are_given_back(rt: HostRuntime) -> Result<(), Fail> {
-    let jobs = [job_of(&rt, 1, 1)?];
-    let turns = schedule(rt.alloc(), &[GOOD, DOWN_LOST, GOOD, GOOD])?;
-    let sender = SendingStation::new(rt.alloc(), &jobs)?;
-    let receiver = ReceivingStation::new(rt.alloc())?;
-    let driven = drive(rt.alloc(), sender, receiver, &turns)?;
+fn driven_stations_are_given_back(rt: HostRuntime) {
+    let jobs = jobs_of(&rt, &[(1, 1)]);
+    let turns = schedule_of(&rt, &[GOOD, DOWN_LOST, GOOD, GOOD]);
+    let sender = SendingStation::new(rt.alloc(), &jobs).expect(&rt, "no memory");
+    let receiver = ReceivingStation::new(rt.alloc()).expect(&rt, "no memory");
+    let driven = drive(rt.alloc(), sender, receiver, &turns).expect(&rt, "a run");
     assert_driven(&rt, &driven, &jobs);
-    Ok(())
 }

@@ -7,7 +7,6 @@ use rje_jobs::Job;
 use rje_text::{Action, Mode, Record, Records, Select};
 use std::alloc::{AllocError, AllocGlobal, Global};
 use std::process::Abort;
-use std::test::Fail;
 
 /// A fate, before its bytes have memory.
 #[derive(Clone, Copy)]
@@ -125,6 +124,19 @@ pub(super) fn pair_schedule(
     Ok(turns)
 }
 
+/// The schedule, where there is memory.
+pub(super) fn schedule_of(rt: &(impl Abort + AllocGlobal), places: &[Place]) -> Vec<Turn> {
+    schedule(rt.alloc(), places).expect(rt, "no memory")
+}
+
+/// The schedule of two stations, where there is memory.
+pub(super) fn pair_schedule_of(
+    rt: &(impl Abort + AllocGlobal),
+    places: &[(Bids, Place)],
+) -> Vec<PairTurn> {
+    pair_schedule(rt.alloc(), places).expect(rt, "no memory")
+}
+
 /// A record of `length` bytes C1.
 pub(super) fn record_of(rt: &impl Abort, length: usize) -> Record {
     let given = [0xC1; 144];
@@ -138,11 +150,7 @@ pub(super) fn record_of(rt: &impl Abort, length: usize) -> Record {
 }
 
 /// A whole, normal job of this many records of `length` bytes C1 for the default device.
-pub(super) fn job_of(
-    rt: &(impl Abort + AllocGlobal),
-    records: usize,
-    length: usize,
-) -> Result<Job, Fail> {
+pub(super) fn job_of(rt: &(impl Abort + AllocGlobal), records: usize, length: usize) -> Job {
     let mut job = Job {
         select: Select::Unset,
         mode: Mode::Normal,
@@ -150,16 +158,32 @@ pub(super) fn job_of(
         whole: true,
     };
     for _i in 0..records {
-        job.records.push(record_of(rt, length))?;
+        assert!(rt; job.records.push(record_of(rt, length)).is_ok());
     }
-    Ok(job)
+    job
+}
+
+/// Such jobs, each of this many records of so many bytes.
+pub(super) fn jobs_of(rt: &(impl Abort + AllocGlobal), sizes: &[(usize, usize)]) -> Vec<Job> {
+    let mut jobs = Vec::new(rt.alloc());
+    for (records, length) in sizes {
+        assert!(rt; jobs.push(job_of(rt, *records, *length)).is_ok());
+    }
+    jobs
+}
+
+/// A job that can be sent, and one that can't be.
+pub(super) fn bad_jobs(rt: &(impl Abort + AllocGlobal)) -> Vec<Job> {
+    let mut jobs = jobs_of(rt, &[(1, 1)]);
+    assert!(rt; jobs.push(unfit_job(rt)).is_ok());
+    jobs
 }
 
 /// A job that can't be sent: its record is too long for the punch.
-pub(super) fn unfit_job(rt: &(impl Abort + AllocGlobal)) -> Result<Job, Fail> {
-    let mut job = job_of(rt, 1, 81)?;
+pub(super) fn unfit_job(rt: &(impl Abort + AllocGlobal)) -> Job {
+    let mut job = job_of(rt, 1, 81);
     job.select = Select::Punch;
-    Ok(job)
+    job
 }
 
 /// The jobs are the same, and all are whole.
@@ -180,8 +204,8 @@ fn is_same_job(given: &Job, job: &Job) -> bool {
 /// The jobs are the same, and the same of them are whole.
 pub(super) fn assert_equal_jobs(rt: &impl Abort, handed: &[Job], jobs: &[Job]) {
     assert!(rt; handed.len() == jobs.len());
-    for (given, job) in handed.iter().zip(jobs) {
-        assert!(rt; is_same_job(given, job));
+    for (place, given) in handed.iter().enumerate() {
+        assert!(rt; is_same_job(given, &jobs[place]));
     }
 }
 
@@ -220,8 +244,8 @@ pub(super) const END: Line = Line(Say::End, Sound::Eot, None, Sound::Quiet);
 /// The turns are what is printed; none was refused.
 pub(super) fn assert_turns(rt: &impl Abort, turns: &[Spoken], lines: &[Line]) {
     assert!(rt; turns.len() == lines.len());
-    for (turn, line) in turns.iter().zip(lines) {
-        assert_turn(rt, turn, line);
+    for (place, turn) in turns.iter().enumerate() {
+        assert_turn(rt, turn, &lines[place]);
     }
 }
 

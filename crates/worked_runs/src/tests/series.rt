@@ -1,14 +1,15 @@
 //! Several runs of the same jobs, one after another: where each begins, and what all of them hand out and count.
 use super::schedules::{
     ASK_LOST, ASK_UNHEARD, BID, BLOCK_ACK0, BLOCK_ACK1, BLOCK_LOST, BLOCK_UNHEARD, DOWN_LOST, END,
-    GOOD, Line, Place, TURN, UP_LOST, assert_same_jobs, assert_turns, cut, damaged, job_of,
-    schedule, unfit_job,
+    GOOD, Line, Place, TURN, UP_LOST, assert_same_jobs, assert_turns, bad_jobs, cut, damaged,
+    jobs_of, schedule, unfit_job,
 };
 use bsc_link::{Outcome, Reply, Say, Sound};
 use line_world::{Report, Series, Turn, WorldFault, run_all};
 use rje_jobs::Job;
 use std::alloc::{AllocError, AllocGlobal, Global};
 use std::process::Abort;
+use std::slice;
 use std::test::Fail;
 
 /// All answers from the second turn on are lost.
@@ -36,11 +37,11 @@ fn assert_series(
     jobs: &[Job],
     attempts: &[&[Place]],
     counted: usize,
-) -> Result<Series, Fail> {
-    let schedules = schedules(rt.alloc(), attempts)?;
-    let series = run_all(rt.alloc(), jobs, &schedules)?;
+) -> Series {
+    let schedules = schedules(rt.alloc(), attempts).expect(rt, "no memory");
+    let series = run_all(rt.alloc(), jobs, &schedules).expect(rt, "a series of runs");
     assert!(rt; series.counted == counted);
-    Ok(series)
+    series
 }
 
 /// A run: its turns, how many jobs it counted, and how it ended.
@@ -57,25 +58,23 @@ fn assert_run(rt: &impl Abort, report: &Report, run: &Run<'_>) {
 /// The reports are of these runs, one after another.
 fn assert_runs(rt: &impl Abort, reports: &[Report], runs: &[Run<'_>]) {
     assert!(rt; reports.len() == runs.len());
-    for (report, run) in reports.iter().zip(runs) {
-        assert_run(rt, report, run);
+    for (place, report) in reports.iter().enumerate() {
+        assert_run(rt, report, &runs[place]);
     }
 }
 
 /// Each of the reports has handed out these jobs, one list for each.
 fn assert_each_handed(rt: &impl Abort, series: &Series, jobs: &[&[Job]]) {
     assert!(rt; series.reports.len() == jobs.len());
-    for (report, handed) in series.reports.iter().zip(jobs) {
-        assert_same_jobs(rt, report.handed.as_slice(), handed);
+    for (place, report) in series.reports.iter().enumerate() {
+        assert_same_jobs(rt, report.handed.as_slice(), jobs[place]);
     }
 }
 
 #[test]
-fn a_job_that_was_handed_out_and_not_counted_is_handed_out_again(
-    rt: HostRuntime,
-) -> Result<(), Fail> {
-    let jobs = [job_of(&rt, 1, 1)?];
-    let series = assert_series(&rt, &jobs, &[&UNANSWERED, &[GOOD, GOOD, GOOD]], 1)?;
+fn a_job_that_was_handed_out_and_not_counted_is_handed_out_again(rt: HostRuntime) {
+    let jobs = jobs_of(&rt, &[(1, 1)]);
+    let series = assert_series(&rt, &jobs, &[&UNANSWERED, &[GOOD, GOOD, GOOD]], 1);
     let ask = ASK_UNHEARD;
     let unanswered = [BID, BLOCK_UNHEARD, ask, ask, ask, ask, ask, ask, END];
     let answered = [BID, BLOCK_ACK1, END];
@@ -84,9 +83,8 @@ fn a_job_that_was_handed_out_and_not_counted_is_handed_out_again(
         Run(&answered, 1, Outcome::Done),
     ];
     assert_runs(&rt, &series.reports, &runs);
-    assert_each_handed(&rt, &series, &[&jobs, &jobs]);
+    assert_each_handed(&rt, &series, &[jobs.as_slice(), jobs.as_slice()]);
     assert_twice(&rt, series.handed.as_slice(), &jobs);
-    Ok(())
 }
 
 /// The jobs, and then the same again.
@@ -97,11 +95,11 @@ fn assert_twice(rt: &impl Abort, handed: &[Job], jobs: &[Job]) {
 }
 
 #[test]
-fn a_job_that_was_cut_off_is_given_again(rt: HostRuntime) -> Result<(), Fail> {
+fn a_job_that_was_cut_off_is_given_again(rt: HostRuntime) {
     // Seven records of 80 bytes are two blocks, the first of six.
-    let jobs = [job_of(&rt, 7, 80)?, job_of(&rt, 1, 1)?];
+    let jobs = jobs_of(&rt, &[(7, 80), (1, 1)]);
     let clean = [GOOD, GOOD, GOOD, GOOD, GOOD];
-    let series = assert_series(&rt, &jobs, &[&CUT_OFF, &clean], 2)?;
+    let series = assert_series(&rt, &jobs, &[&CUT_OFF, &clean], 2);
     let ask = ASK_LOST;
     let cut_off = [BID, BLOCK_ACK1, BLOCK_LOST, ask, ask, ask, ask, ask, ask];
     let all = [BID, BLOCK_ACK1, BLOCK_ACK0, BLOCK_ACK1, END];
@@ -113,7 +111,6 @@ fn a_job_that_was_cut_off_is_given_again(rt: HostRuntime) -> Result<(), Fail> {
     assert!(rt; series.reports.len() == 2);
     assert!(rt; series.reports[0].handed.len() == 1);
     assert_begun_then_whole(&rt, series.handed.as_slice(), &jobs);
-    Ok(())
 }
 
 /// The first six records of the first job, which isn't whole, and then all jobs.
@@ -131,10 +128,10 @@ fn assert_begun_then_whole(rt: &impl Abort, handed: &[Job], jobs: &[Job]) {
 }
 
 #[test]
-fn a_run_begins_at_the_first_job_that_is_not_counted(rt: HostRuntime) -> Result<(), Fail> {
-    let jobs = [job_of(&rt, 1, 1)?, job_of(&rt, 1, 2)?];
+fn a_run_begins_at_the_first_job_that_is_not_counted(rt: HostRuntime) {
+    let jobs = jobs_of(&rt, &[(1, 1), (1, 2)]);
     let turned = [GOOD, TURN, GOOD];
-    let series = assert_series(&rt, &jobs, &[&turned, &[GOOD, GOOD, GOOD]], 2)?;
+    let series = assert_series(&rt, &jobs, &[&turned, &[GOOD, GOOD, GOOD]], 2);
     let block = Line(Say::Block, Sound::Block, Some(Reply::Rvi), Sound::Rvi);
     let (first, second) = ([BID, block, END], [BID, BLOCK_ACK1, END]);
     let runs = [
@@ -142,33 +139,32 @@ fn a_run_begins_at_the_first_job_that_is_not_counted(rt: HostRuntime) -> Result<
         Run(&second, 1, Outcome::Done),
     ];
     assert_runs(&rt, &series.reports, &runs);
+    let jobs = jobs.as_slice();
+    assert!(rt; jobs.len() == 2);
     let (counted, left) = jobs.split_at(1);
     assert_each_handed(&rt, &series, &[counted, left]);
-    assert_same_jobs(&rt, series.handed.as_slice(), &jobs);
-    Ok(())
+    assert_same_jobs(&rt, series.handed.as_slice(), jobs);
 }
 
 #[test]
-fn where_all_is_counted_nothing_is_said(rt: HostRuntime) -> Result<(), Fail> {
-    let jobs = [job_of(&rt, 1, 1)?];
-    let series = assert_series(&rt, &jobs, &[&[GOOD, GOOD, GOOD], &[cut(&[0])]], 1)?;
+fn where_all_is_counted_nothing_is_said(rt: HostRuntime) {
+    let jobs = jobs_of(&rt, &[(1, 1)]);
+    let series = assert_series(&rt, &jobs, &[&[GOOD, GOOD, GOOD], &[cut(&[0])]], 1);
     let runs = [
         Run(&[BID, BLOCK_ACK1, END], 1, Outcome::Done),
         Run(&[], 0, Outcome::Done),
     ];
     assert_runs(&rt, &series.reports, &runs);
-    assert_each_handed(&rt, &series, &[&jobs, &[]]);
+    assert_each_handed(&rt, &series, &[jobs.as_slice(), &[]]);
     assert_same_jobs(&rt, series.handed.as_slice(), &jobs);
-    Ok(())
 }
 
 #[test]
-fn without_a_schedule_nothing_is_run(rt: HostRuntime) -> Result<(), Fail> {
-    let jobs = [job_of(&rt, 1, 1)?];
-    let series = assert_series(&rt, &jobs, &[], 0)?;
+fn without_a_schedule_nothing_is_run(rt: HostRuntime) {
+    let jobs = jobs_of(&rt, &[(1, 1)]);
+    let series = assert_series(&rt, &jobs, &[], 0);
     assert!(rt; series.reports.is_empty());
     assert!(rt; series.handed.is_empty());
-    Ok(())
 }
 
 /// These jobs are refused so over these schedules.
@@ -177,41 +173,41 @@ fn assert_refused(
     jobs: &[Job],
     attempts: &[&[Place]],
     fault: WorldFault,
-) -> Result<(), Fail> {
-    let schedules = schedules(rt.alloc(), attempts)?;
+) {
+    let schedules = schedules(rt.alloc(), attempts).expect(rt, "no memory");
     let refused = run_all(rt.alloc(), jobs, &schedules).err();
     assert!(rt; refused == Some(fault));
-    Ok(())
 }
 
 #[test]
-fn a_job_that_cannot_be_sent_is_told_without_a_schedule(rt: HostRuntime) -> Result<(), Fail> {
-    assert_refused(&rt, &[unfit_job(&rt)?], &[], WorldFault::BadJob(1))?;
-    let second = [job_of(&rt, 1, 1)?, unfit_job(&rt)?];
-    assert_refused(&rt, &second, &[], WorldFault::BadJob(2))?;
+fn a_job_that_cannot_be_sent_is_told_without_a_schedule(rt: HostRuntime) {
+    let first = unfit_job(&rt);
+    assert_refused(&rt, slice::from_ref(&first), &[], WorldFault::BadJob(1));
+    let second = bad_jobs(&rt);
+    assert_refused(&rt, &second, &[], WorldFault::BadJob(2));
 
     // Before any turn, too.
     let attempts: [&[Place]; 1] = [&[cut(&[0])]];
-    assert_refused(&rt, &second, &attempts, WorldFault::BadJob(2))
+    assert_refused(&rt, &second, &attempts, WorldFault::BadJob(2));
 }
 
 #[test]
-fn a_broken_rule_is_told_with_its_attempt(rt: HostRuntime) -> Result<(), Fail> {
-    let jobs = [job_of(&rt, 1, 1)?];
+fn a_broken_rule_is_told_with_its_attempt(rt: HostRuntime) {
+    let jobs = jobs_of(&rt, &[(1, 1)]);
     let text = [damaged(&[0x32, 0x32, 0x02, 0xC1])];
     assert_refused(
         &rt,
         &jobs,
         &[&UNANSWERED, &text],
         WorldFault::NotDamage(2, 1),
-    )?;
+    );
     let nothing_before = [cut(&[0])];
     assert_refused(
         &rt,
         &jobs,
         &[&UNANSWERED, &nothing_before],
         WorldFault::BadCut(2, 1),
-    )
+    );
 }
 
 #[test]
