@@ -2,22 +2,23 @@
 _rje() {
     local word=${COMP_WORDS[COMP_CWORD]} before=${COMP_WORDS[COMP_CWORD - 1]} command=${COMP_WORDS[1]}
     local commands='blocks cards show check print try monitor loop send receive exchange help' words=--help
+    local connection='--to --listen --from --timeout --adapter --trace'
     case $command in
     show) words+=' --job --records' ;;
     print) words+=' --job --printer --punch --raw' ;;
     cards) words+=' --printer --punch --transparent --name --append' ;;
     monitor) words+=' --hex' ;;
     loop) words+=' --timeout --trace' ;;
-    send) words+=' --to --timeout --trace' ;;
-    receive) words+=' --listen --new --append --timeout --trace' ;;
-    exchange) words+=' --to --listen --new --append --timeout --trace' ;;
+    send) words+=" $connection" ;;
+    receive) words+=" $connection --patience --wait --new --append" ;;
+    exchange) words+=" $connection --patience --primary --secondary --new --append" ;;
     esac
     COMPREPLY=()
     if [ "$COMP_CWORD" = 1 ]; then
         mapfile -t COMPREPLY < <(compgen -W "$commands --help --version" -- "$word")
     elif [ "$command" = help ]; then
         mapfile -t COMPREPLY < <(compgen -W "$commands" -- "$word")
-    elif [[ $before = --@(job|name|timeout|to|listen) ]]; then
+    elif [[ $before = --@(job|name|timeout|to|listen|from|patience) ]]; then
         return
     elif [[ $word = -* ]]; then
         mapfile -t COMPREPLY < <(compgen -W "$words" -- "$word")

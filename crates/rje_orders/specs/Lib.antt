@@ -1,3 +1,5 @@
+pub mod Callers
 pub mod Choice
+pub mod Connection
 pub mod Device
 pub mod Existing

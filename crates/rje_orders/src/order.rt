@@ -3,10 +3,11 @@ ghost use Rattle.std.specs.Prelude.{◌≡◌};
 ghost use Rattle.rje_orders.specs.Existing.{existing_chosen};
 
 use crate::choice::Choice;
+use crate::connection::Connection;
 use crate::device::Device;
+use bsc_link::Rank;
 use rje_files::JobName;
 use rje_jobs::Form;
-use std::net::SocketAddr;
 
 /// The deck, or the capture, that is standard input.
 pub const STANDARD_INPUT: &str = "-";
@@ -123,12 +124,8 @@ pub struct LoopOrder<'a> {
 pub struct SendOrder<'a> {
     /// The job file that is sent.
     pub jobs: &'a str,
-    /// Where the receiver listens.
-    pub address: SocketAddr,
-    /// How long a hearing waits for more bytes, in milliseconds, 1 to 60000.
-    pub timeout: u16,
-    /// Whether each turn is reported on standard error as it happens.
-    pub trace: bool,
+    /// The connection to the receiver.
+    pub connection: Connection<'a>,
 }
 
 /// What `receive` is asked for.
@@ -136,12 +133,12 @@ pub struct SendOrder<'a> {
 pub struct ReceiveOrder<'a> {
     /// The job file that is received into.
     pub into: Destination<'a>,
-    /// Where it listens.
-    pub address: SocketAddr,
-    /// How long a hearing waits for more bytes, in milliseconds, 1 to 60000.
-    pub timeout: u16,
-    /// Whether each turn is reported on standard error as it happens.
-    pub trace: bool,
+    /// The connection to the sender.
+    pub connection: Connection<'a>,
+    /// Whether a call that brings nothing is followed by the next one.
+    pub waits: bool,
+    /// After so many hearings in a row without a word it leaves, 0 to 1000000000; with 0 never.
+    pub patience: u32,
 }
 
 /// A job file that is received into.
@@ -185,19 +182,10 @@ pub struct ExchangeOrder<'a> {
     pub send: &'a str,
     /// The job file that is received into.
     pub received: Destination<'a>,
-    /// Whom it calls, or where it is called.
-    pub place: Meeting,
-    /// How long a hearing waits for more bytes, in milliseconds, 1 to 60000.
-    pub timeout: u16,
-    /// Whether each turn is reported on standard error as it happens.
-    pub trace: bool,
-}
-
-/// How two stations come to a connection.
-#[derive(Clone, Copy, Debug, PartialEq, Eq)]
-pub enum Meeting {
-    /// This one calls the other at its address.
-    Calls(SocketAddr),
-    /// This one listens at its own.
-    Listens(SocketAddr),
+    /// The connection to the other end.
+    pub connection: Connection<'a>,
+    /// Which of the two ends this one is: where both bid at once the secondary gives way.
+    pub rank: Rank,
+    /// After so many hearings in a row without a word it leaves, 0 to 1000000000; with 0 never.
+    pub patience: u32,
 }

@@ -25,6 +25,10 @@ pub fn tell_words<O: Write, E: Write>(fault: &WordsFault, out: &mut O, err: &mut
         | WordsFault::BadName(_)
         | WordsFault::BadAddress(_)
         | WordsFault::NoMeeting
+        | WordsFault::CallersCalled
+        | WordsFault::BadCallers(_)
+        | WordsFault::WaitCalled
+        | WordsFault::TwoRanks
         | WordsFault::NewAndAppend => {
             let _ = writeln!(err, "rje: {fault}");
             2

@@ -50,7 +50,7 @@ pub took_answered : {W : Type 0} (Saw : SawReceiver W) (was is : Receiving × Li
 took_answered Saw was is h took = record { history = h; took = receiver_took Saw was is h took; sent = just_replies Saw was is h took }
 
 -- to the end, which leaves its jobs
-pub left_answered : {W : Type 0} (Saw : SawReceiver W) (left : Left) (r r' : Receiving) (t u : LineTells) (w w' : W) → Leaves Saw left (r, t, w) (r', u, w')
+pub left_answered : {W : Type 0} (most : ℕ) (Saw : SawReceiver W) (left : Left) (r r' : Receiving) (t u : LineTells) (w w' : W) → Leaves most Saw left (r, t, w) (r', u, w')
     → (far : Receiving) × Answered r far t.1 u.1 × (r'.jobs ≡ far.jobs)
-left_answered Saw Left.Ended r r' t u w w' (h, on, took, over) = (r', took_answered Saw (r, t, w) (r', u, w') h took, refl)
-left_answered Saw Left.Abandoned r r' t u w w' (far, (h, on, took, why), is) = (far, took_answered Saw (r, t, w) (far, u, w') h took, ap (λ (x : Receiving). x.jobs) is)
+left_answered most Saw Left.Ended r r' t u w w' (h, on, took, over) = (r', took_answered Saw (r, t, w) (r', u, w') h took, refl)
+left_answered most Saw Left.Abandoned r r' t u w w' (far, (h, on, took, why), is) = (far, took_answered Saw (r, t, w) (far, u, w') h took, ap (λ (x : Receiving). x.jobs) is)

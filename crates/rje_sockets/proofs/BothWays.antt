@@ -2,7 +2,7 @@
 use Rattle.std.proofs.Common.{◌≡◌, ◌⊎◌, inl, inr, ℕ, ◌+◌, ◌<◌, Bool, true, false, [], ◌∷◌, List, length, Option, Some, Result, Ok, Err, IfErr, if◌then◌else◌, refl, ap, sym, subst, ◌∙◌, arith}
 use Rattle.std.specs.Result.{IsErrAnd}
 use Rattle.line_world.proofs.TurnsOverLines.{turns_as}
-use Rattle.rje_sockets.proofs.Patience.{below_forty, quiet_on}
+use Rattle.rje_sockets.proofs.Patience.{below_most, quiet_on}
 use Rattle.bsc_frame.specs.declared.heard.Heard.{Heard}
 use Rattle.bsc_link.specs.declared.rank.Rank.{Rank}
 use Rattle.bsc_link.specs.declared.reply.Reply.{Reply}
@@ -80,7 +80,7 @@ others_listened : (rank : Rank) (arrival : Arrival) (reply : Option Reply) (past
 others_listened Rank.Primary arrival reply past = refl
 others_listened Rank.Secondary arrival reply past = refl
 
-module _ {W : Type 0} (Sent : SawSender W) (Came : SawReceiver W) (was : Contending × LineTells × W) where
+module _ {W : Type 0} (most : ℕ) (Sent : SawSender W) (Came : SawReceiver W) (was : Contending × LineTells × W) where
   -- whoever watches, these turns were taken
   pub took_turns : (turns : List StationTurn) (is : Contending × LineTells × W) → TookOver Sent Came was turns is → Took was.0.contender.rank was.0 turns is.0
   took_turns turns is took =
@@ -92,11 +92,11 @@ module _ {W : Type 0} (Sent : SawSender W) (Came : SawReceiver W) (was : Contend
     pub took : TookOver Sent Came was turns is
     pub long : length turns ≡ n
     pub quiet_is : quiet_in_a_row turns ≡ quiet
-    pub few : quiet < 40
+    pub few : quiet < most
     pub listened_is : listened ≡ has_listened was.0.contender.rank turns
 
-  pub so_first : (listened : Bool) → listened ≡ has_listened was.0.contender.rank [] → SoFar 0 0 listened was
-  so_first listened is = record { turns = []; took = refl; long = refl; quiet_is = refl; few = omega arith; listened_is = is }
+  pub so_first : 0 < most → (listened : Bool) → listened ≡ has_listened was.0.contender.rank [] → SoFar 0 0 listened was
+  so_first some listened is = record { turns = []; took = refl; long = refl; quiet_is = refl; few = some; listened_is = is }
 
   module _ (n quiet : ℕ) (listened : Bool) (near : Contending × LineTells × W) (p : SoFar n quiet listened near) where
     pub took : Took was.0.contender.rank was.0 p.turns near.0
@@ -109,7 +109,7 @@ module _ {W : Type 0} (Sent : SawSender W) (Came : SawReceiver W) (was : Contend
       took = (near, p.took, (subst (λ (b : Bool). due_at near.0 ≡ Say.Bid → (b ≡ true) ⊎ (near.0.receiver.over ≡ true)) p.listened_is bids, (takes, passed, saw)));
       long = omega (arith, p.long);
       quiet_is = refl;
-      few = omega arith;
+      few = omega (arith, p.few);
       listened_is = first ∙ own_listened was.0.contender.rank said heard p.turns;
     }
 
@@ -139,32 +139,32 @@ module _ {W : Type 0} (Sent : SawSender W) (Came : SawReceiver W) (was : Contend
       others_heard : (c : CameNow) → true ≡ has_listened was.0.contender.rank (with_others c)
       others_heard (arrival, reply, takes, passed, saw, came) = others_listened was.0.contender.rank arrival reply p.turns
 
-      pub so_others : (now : ℕ) → Listens listened → CameNow → now ≡ (if was_quiet is.0.receiver.arrival then quiet + 1 else 0) → (now ≡ 40 → ⊥) → SoFar (n + 1) now true is
+      pub so_others : (now : ℕ) → Listens listened → CameNow → now ≡ (if was_quiet is.0.receiver.arrival then quiet + 1 else 0) → (now ≡ most → ⊥) → SoFar (n + 1) now true is
       so_others now next c is_now not = record {
         turns = with_others c;
         took = others_took next c;
         long = others_long c;
         quiet_is = others_quiet c ∙ sym is_now;
-        few = below_forty now quiet (was_quiet is.0.receiver.arrival) is_now p.few not;
+        few = below_most most now quiet (was_quiet is.0.receiver.arrival) is_now p.few not;
         listened_is = others_heard c;
       }
 
       -- it gave up hope
-      pub forty_quiet : (now : ℕ) (left : Contending) → Listens listened → CameNow → now ≡ (if was_quiet is.0.receiver.arrival then quiet + 1 else 0) → now ≡ 40 → left ≡ after_other_ended is.0
-          → TakesTurnsTo Sent Came Left.Abandoned was (left, is.1, is.2)
-      forty_quiet now left next c is_now forty ended = (with_others c, is.0, others_took next c, inl (others_quiet c ∙ sym is_now ∙ forty, ended))
+      pub all_quiet : (now : ℕ) (left : Contending) → Listens listened → CameNow → now ≡ (if was_quiet is.0.receiver.arrival then quiet + 1 else 0) → now ≡ most → left ≡ after_other_ended is.0
+          → TakesTurnsTo most Sent Came Left.Abandoned was (left, is.1, is.2)
+      all_quiet now left next c is_now all ended = (with_others c, is.0, others_took next c, inl (others_quiet c ∙ sym is_now ∙ all, ended))
 
     -- HOW IT ENDS
 
-    pub ends_over : AreOver near.0 → TakesTurnsTo Sent Came Left.Ended was near
+    pub ends_over : AreOver near.0 → TakesTurnsTo most Sent Came Left.Ended was near
     ends_over over = (p.turns, near.0, near.1, p.took, inl (over, refl, refl))
 
     pub ends_hung_up : (s' : Contending) (u : LineTells) (w' : W) → w' ≡ near.2 → Waits near.0 → s' ≡ after_other_refusal (fault.Line Closed) near.0
-        → TakesTurnsTo Sent Came Left.Ended was (s', u, w')
+        → TakesTurnsTo most Sent Came Left.Ended was (s', u, w')
     ends_hung_up s' u w' same waits is =
         (p.turns, near.0, near.1, subst (λ (w : W). TookOver Sent Came was p.turns (near.0, near.1, w)) (sym same) p.took, inr (waits, is))
 
-    pub ends_long : n ≡ 1000000000 → TakesTurnsTo Sent Came Left.Abandoned was near
+    pub ends_long : n ≡ 1000000000 → TakesTurnsTo most Sent Came Left.Abandoned was near
     ends_long e = (p.turns, near.0, p.took, inr (p.long ∙ e, refl))
 
 -- whoever watches, they end so
@@ -177,10 +177,10 @@ turns_unseen Sent Came s s' t u w w' turns took =
       unseen past a b (Own said heard) (next, (takes, passed, saw)) = (next, (takes, passed, tt))
       unseen past a b (Others arrival reply) (next, (takes, passed, saw)) = (next, (takes, passed, tt))
 
-pub exchanges_unseen : {W : Type 0} (Sent : SawSender W) (Came : SawReceiver W) (left : Left) (s s' : Contending) (t u : LineTells) (w w' : W)
-    → TakesTurnsTo Sent Came left (s, t, w) (s', u, w') → ExchangesTo left s t s' u
-exchanges_unseen Sent Came Left.Ended s s' t u w w' (turns, near, mid, took, ends) = (turns, near, mid, turns_unseen Sent Came s near t mid w w' turns took, ends)
-exchanges_unseen Sent Came Left.Abandoned s s' t u w w' (turns, near, took, ends) = (turns, near, turns_unseen Sent Came s near t u w w' turns took, ends)
+pub exchanges_unseen : {W : Type 0} (most : ℕ) (Sent : SawSender W) (Came : SawReceiver W) (left : Left) (s s' : Contending) (t u : LineTells) (w w' : W)
+    → TakesTurnsTo most Sent Came left (s, t, w) (s', u, w') → ExchangesTo most left s t s' u
+exchanges_unseen most Sent Came Left.Ended s s' t u w w' (turns, near, mid, took, ends) = (turns, near, mid, turns_unseen Sent Came s near t mid w w' turns took, ends)
+exchanges_unseen most Sent Came Left.Abandoned s s' t u w w' (turns, near, took, ends) = (turns, near, turns_unseen Sent Came s near t u w w' turns took, ends)
 
 pub fails_as : {X : Type 0} (r : Result X BrokenOff) (broken : BrokenOff) (P : BrokenOff → Type 0) → IsErrAnd r (λ b. b ≡ broken) → P broken → IfErr r P
 fails_as (Err b) broken P is holds = subst P (sym is) holds

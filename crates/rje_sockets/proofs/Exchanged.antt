@@ -61,18 +61,18 @@ makes_both was is had s g h on sets makes two files held =
     )
 
 -- a transmission each way that nothing ended but itself
-pub all_exchanged : (left : Result Left BrokenOff) (marked kept printed : Result (Unit {0}) CommandFault) (t u : LineTells) (s station : Contending) (was is : HeldSoFar) (g h : Option FileMap)
-    (had has : Option (List ℕ)) (text : List ℕ) → IfOk left (λ l. ExchangesTo l s t station u)
+pub all_exchanged : (most : ℕ) (left : Result Left BrokenOff) (marked kept printed : Result (Unit {0}) CommandFault) (t u : LineTells) (s station : Contending) (was is : HeldSoFar) (g h : Option FileMap)
+    (had has : Option (List ℕ)) (text : List ℕ) → IfOk left (λ l. ExchangesTo most l s t station u)
     → OnOk left (GoesOnHolding was is (progress_of s) (progress_of station))
     → OnOk marked (MarksSent is.0.file.items station.sender.counted is.0.name.now is.2 g)
     → OnOk kept ((files : Option FileMap) → IfErr left (λ broken. IsOfFile broken → ⊥) → KeepsJobs is.1 station.receiver.jobs files g → MakesJobFile station.receiver.jobs is.1.file.into files h)
     → OnOk printed (Appends had has text) → text ≡ exchanged_text station.sender.counted (length s.sender.jobs) (outcome_of station.sender) station.receiver.jobs
-    → IfOk left (λ l. OnOk (result_and marked kept) (OnOk printed (Exchanges (ending_of_both (outcome_of station.sender) (is_idle (length s.sender.jobs) station.receiver.jobs) l) s was.0 was.1 (t, was.2, had) (u, h, has))))
-all_exchanged (Err b) marked kept printed t u s station was is g h had has text exchanges holds sets keeps prints says = tt
-all_exchanged (Ok l) (Err e) kept printed t u s station was is g h had has text exchanges holds sets keeps prints says = tt
-all_exchanged (Ok l) (Ok m) (Err e) printed t u s station was is g h had has text exchanges holds sets keeps prints says = tt
-all_exchanged (Ok l) (Ok m) (Ok k) (Err e) t u s station was is g h had has text exchanges holds sets keeps prints says = tt
-all_exchanged (Ok l) (Ok m) (Ok k) (Ok p) t u s station was is g h had has text exchanges holds sets keeps prints says = record {
+    → IfOk left (λ l. OnOk (result_and marked kept) (OnOk printed (Exchanges (ending_of_both (outcome_of station.sender) (is_idle (length s.sender.jobs) station.receiver.jobs) l) most s (was.0, was.1) (t, was.2, had) (u, h, has))))
+all_exchanged most (Err b) marked kept printed t u s station was is g h had has text exchanges holds sets keeps prints says = tt
+all_exchanged most (Ok l) (Err e) kept printed t u s station was is g h had has text exchanges holds sets keeps prints says = tt
+all_exchanged most (Ok l) (Ok m) (Err e) printed t u s station was is g h had has text exchanges holds sets keeps prints says = tt
+all_exchanged most (Ok l) (Ok m) (Ok k) (Err e) t u s station was is g h had has text exchanges holds sets keeps prints says = tt
+all_exchanged most (Ok l) (Ok m) (Ok k) (Ok p) t u s station was is g h had has text exchanges holds sets keeps prints says = record {
   left = l;
   station = station;
   exchanges = exchanges;
@@ -117,14 +117,14 @@ holds_nothing marker counted front keeper jobs f g none zero are copy two opened
       marked (Some f) (Some g) (bytes, is, few, sets) opened =
           (Some g, (bytes, is, few, sets), opened_as front keeper.file f g (left_alone marker.name.now keeper.file.into.jobs.now bytes f g two sets) opened, same_itself (Some g))
 
-pub exchanges_left : (r : Result Ending CommandFault) (t u : LineTells) (rank : Rank) (send : List ℕ) (into : Destination) (jobs : List Job) (s : Contending) (marker : Marker) (front : List Entry) (keeper : Keeper)
+pub exchanges_left : (r : Result Ending CommandFault) (t u : LineTells) (rank : Rank) (most : ℕ) (send : List ℕ) (into : Destination) (jobs : List Job) (s : Contending) (marker : Marker) (front : List Entry) (keeper : Keeper)
     (f g h : Option FileMap) (before after : Option (List ℕ))
     → IsOutgoing send f jobs marker → MarksSent marker.file.items 0 marker.name.now f g → s ≡ first_contending rank jobs
     → keeper.file.into ≡ into → keeper.kept ≡ 0 → IsOpened front keeper.file f → send ≢ into.jobs.now
-    → IfOk r (λ ending. Exchanges ending s marker keeper (t, g, before) (u, h, after))
-    → IfOk r (λ ending. ExchangesLeft ending rank send into (t, f, before) (u, h, after))
-exchanges_left (Err fault) t u rank send into jobs s marker front keeper f g h before after out copy first called kept opened two done = tt
-exchanges_left (Ok ending) t u rank send into jobs s marker front keeper f g h before after out copy first called kept opened two done =
+    → IfOk r (λ ending. Exchanges ending most s (marker, keeper) (t, g, before) (u, h, after))
+    → IfOk r (λ ending. ExchangesLeft ending (rank, most) send into (t, f, before) (u, h, after))
+exchanges_left (Err fault) t u rank most send into jobs s marker front keeper f g h before after out copy first called kept opened two done = tt
+exchanges_left (Ok ending) t u rank most send into jobs s marker front keeper f g h before after out copy first called kept opened two done =
     let file = marker.file.items in
     let left = out.left in
     let given : length jobs ≡ length (unsent left.0) = ap length left.3 ∙ length-map (unsent left.0) (λ e. e.job) in
@@ -140,7 +140,7 @@ exchanges_left (Ok ending) t u rank send into jobs s marker front keeper f g h b
       station = done.station;
       read = out.read;
       file_is = left.1;
-      exchanges = subst (λ (x : Contending). ExchangesTo done.left x t done.station u) (first ∙ ap (first_contending rank) left.3) done.exchanges;
+      exchanges = subst (λ (x : Contending). ExchangesTo most done.left x t done.station u) (first ∙ ap (first_contending rank) left.3) done.exchanges;
       makes = subst (λ (n : List ℕ). MakesBoth file done.station n into f h) out.named
           (subst (λ (x : Destination). MakesBoth file done.station marker.name.now x f h) called makes);
       ending_is = subst (λ (n : ℕ). ending ≡ ending_of_both (outcome_of done.station.sender) (is_idle n done.station.receiver.jobs) done.left) all done.ending_is;

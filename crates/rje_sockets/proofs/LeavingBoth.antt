@@ -39,13 +39,13 @@ counted_on s near start had has came before (inr new) = inr (near, came, sym new
 
 -- WHEN THEY ENDED
 
-came_left : (s s' : Contending) (t u : LineTells) (left : Left) → ExchangesTo left s t s' u → CameTo s s'
-came_left s s' t u Left.Ended (turns, near, mid, took, ends) = (turns, near, took_turns NobodySawSender NobodySawReceiver (s, t, tt) turns (near, mid, tt) took, inl (by ends)) where
+came_left : (most : ℕ) (s s' : Contending) (t u : LineTells) (left : Left) → ExchangesTo most left s t s' u → CameTo s s'
+came_left most s s' t u Left.Ended (turns, near, mid, took, ends) = (turns, near, took_turns most NobodySawSender NobodySawReceiver (s, t, tt) turns (near, mid, tt) took, inl (by ends)) where
   by : (AreOver near × (s' ≡ near) × (u ≡ mid)) ⊎ (Waits near × (s' ≡ after_other_refusal (fault.Line Closed) near)) → LeavesFrom near s'
   by (inl (over, same, told)) = inl same
   by (inr (waits, closed)) = inr (inr closed)
-came_left s s' t u Left.Abandoned (turns, near, took, ends) = (turns, near, took_turns NobodySawSender NobodySawReceiver (s, t, tt) turns (near, u, tt) took, inl (by ends)) where
-  by : ((quiet_in_a_row turns ≡ 40) × (s' ≡ after_other_ended near)) ⊎ ((length turns ≡ 1000000000) × (s' ≡ near)) → LeavesFrom near s'
+came_left most s s' t u Left.Abandoned (turns, near, took, ends) = (turns, near, took_turns most NobodySawSender NobodySawReceiver (s, t, tt) turns (near, u, tt) took, inl (by ends)) where
+  by : ((quiet_in_a_row turns ≡ most) × (s' ≡ after_other_ended near)) ⊎ ((length turns ≡ 1000000000) × (s' ≡ near)) → LeavesFrom near s'
   by (inl (quiet, ended)) = inr (inl ended)
   by (inr (long, same)) = inl same
 
@@ -58,14 +58,14 @@ record Held (left : Result Left BrokenOff) (s s' : Contending) (was is : HeldSoF
   pub same : IfErr left (λ broken. IsOfFile broken → ⊥) → last ≡ s'
   pub holds : GoesOnHolding was is (progress_of s) (counted, last.receiver.jobs)
 
-module _ (left : Result Left BrokenOff) (t u : LineTells) (s s' : Contending) (was is : HeldSoFar) (exchanges : IfOk left (λ l. ExchangesTo l s t s' u))
+module _ (most : ℕ) (left : Result Left BrokenOff) (t u : LineTells) (s s' : Contending) (was is : HeldSoFar) (exchanges : IfOk left (λ l. ExchangesTo most l s t s' u))
     (holds : OnOk left (GoesOnHolding was is (progress_of s) (progress_of s'))) (breaks : IfErr left (BreaksBoth s s' was is)) where
   held : Held left s s' was is
   held = by left exchanges holds breaks where
-    by : (left : Result Left BrokenOff) → IfOk left (λ l. ExchangesTo l s t s' u) → OnOk left (GoesOnHolding was is (progress_of s) (progress_of s')) → IfErr left (BreaksBoth s s' was is)
+    by : (left : Result Left BrokenOff) → IfOk left (λ l. ExchangesTo most l s t s' u) → OnOk left (GoesOnHolding was is (progress_of s) (progress_of s')) → IfErr left (BreaksBoth s s' was is)
         → Held left s s' was is
     by (Ok l) exchanges holds breaks =
-        record { counted = s'.sender.counted; last = s'; came = came_left s s' t u l exchanges; ended = came_left s s' t u l exchanges; same = λ well. refl; holds = holds }
+        record { counted = s'.sender.counted; last = s'; came = came_left most s s' t u l exchanges; ended = came_left most s s' t u l exchanges; same = λ well. refl; holds = holds }
     by (Err (BrokenOff.Line fault)) exchanges holds b = record {
       counted = b.near.sender.counted;
       last = s';
@@ -137,8 +137,8 @@ module _ (kept : Result (Unit {0}) CommandFault) (keeper : Keeper) (last s' : Co
   kept_then (Err (BrokenOff.File e)) same makes refused = has_kept keeper last.receiver.jobs marked made grows (still_keeps keeper last.receiver.jobs marked g made k (refused tt))
 
 -- both
-pub leaves_both : {X : Type 0} (left : Result Left BrokenOff) (written : Result X CommandFault) (kept : Result (Unit {0}) CommandFault) (t u : LineTells) (s s' : Contending) (was is : HeldSoFar)
-    (h made : Option FileMap) → IfOk left (λ l. ExchangesTo l s t s' u)
+pub leaves_both : {X : Type 0} (most : ℕ) (left : Result Left BrokenOff) (written : Result X CommandFault) (kept : Result (Unit {0}) CommandFault) (t u : LineTells) (s s' : Contending) (was is : HeldSoFar)
+    (h made : Option FileMap) → IfOk left (λ l. ExchangesTo most l s t s' u)
     → OnOk left (GoesOnHolding was is (progress_of s) (progress_of s')) → IfErr left (BreaksBoth s s' was is)
     → (is.0.marked ≡ was.0.marked) ⊎ HasCounted s is.0.marked
     → OnOk written (MarksSent is.0.file.items s'.sender.counted is.0.name.now is.2 h) → OnErr written (Discloses is.2 h IsSame)
@@ -146,8 +146,8 @@ pub leaves_both : {X : Type 0} (left : Result Left BrokenOff) (written : Result 
     → IfErr left (λ broken. IsOfFile broken → Discloses h made IsSame) → OnErr kept (Discloses h made IsSame)
     → was.0.marked ≡ s.sender.counted → was.1.file.place ≡ Growing → was.0.name.now ≢ was.1.file.into.jobs.now
     → (files : Option FileMap) → HoldsBoth was.0 s.sender.counted was.1 s.receiver.jobs files was.2 → LeavesBoth s was.0.file.items was.0.name.now was.1.file.into files made
-leaves_both left written kept t u s s' was is h made exchanges holding breaks count sets stays makes refused still start grows two files had =
-    let on = held left t u s s' was is exchanges holding breaks in
+leaves_both most left written kept t u s s' was is h made exchanges holding breaks count sets stays makes refused still start grows two files had =
+    let on = held most left t u s s' was is exchanges holding breaks in
     let apart : is.0.name.now ≢ is.1.file.into.jobs.now = λ e. two (sym (ap (λ (x : _). x.now) on.holds.name) ∙ e ∙ ap (λ (x : KeptFile). x.into.jobs.now) on.holds.own) in
     let m = marked_then s s' was.0 is.0 count start written on.counted is.1 on.last.receiver.jobs files is.2 h apart on.ended sets stays (on.holds.holds two files had) in
     record {

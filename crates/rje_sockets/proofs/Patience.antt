@@ -15,26 +15,26 @@ pub quiet_on : (sound : Sound) (n : ℕ) → elim sound [ Sound.Quiet ↦ n + 1 
 quiet_on Sound.Quiet n = refl
 quiet_on _ n = refl
 
--- fewer than forty and one more, but not forty
-pub below_forty : (now quiet : ℕ) (b : Bool) → now ≡ (if b then quiet + 1 else 0) → quiet < 40 → (now ≡ 40 → ⊥) → now < 40
-below_forty now quiet true e l n = omega (arith, e, l, n)
-below_forty now quiet false e l n = omega (arith, e)
+-- fewer than so many and one more, but not so many
+pub below_most : (most now quiet : ℕ) (b : Bool) → now ≡ (if b then quiet + 1 else 0) → quiet < most → (now ≡ most → ⊥) → now < most
+below_most most now quiet true e l n = omega (arith, e, l, n)
+below_most most now quiet false e l n = omega (arith, e, l)
 
-module _ {W : Type 0} (Saw : SawReceiver W) (was : Receiving × LineTells × W) where
+module _ {W : Type 0} (most : ℕ) (Saw : SawReceiver W) (was : Receiving × LineTells × W) where
   -- it took so many turns over a line, so many of the last of them quiet
   pub record HearsSoFar (n quiet : ℕ) (is : Receiving × LineTells × W) : Type 0 where
     pub history : History
     pub took : Turns (λ _. ReceiverTurn Saw) was history is
     pub long : length history ≡ n
     pub quiet_is : quiet_turns history ≡ quiet
-    pub few : quiet < 40
-    pub went_on : WentOn history
+    pub few : quiet < most
+    pub went_on : WentOn most history
 
-  pub hears_first : HearsSoFar 0 0 was
-  hears_first = record { history = []; took = refl; long = refl; quiet_is = refl; few = omega arith; went_on = tt }
+  pub hears_first : 0 < most → HearsSoFar 0 0 was
+  hears_first some = record { history = []; took = refl; long = refl; quiet_is = refl; few = some; went_on = tt }
 
   module _ (n quiet : ℕ) (near : Receiving × LineTells × W) (p : HearsSoFar n quiet near) where
-    pub hears_long : n ≡ 1000000000 → HearsOut Saw Left.Abandoned was near
+    pub hears_long : n ≡ 1000000000 → HearsOut most Saw Left.Abandoned was near
     hears_long e = (p.history, p.went_on, p.took, inr (p.long ∙ e))
 
     -- one more
@@ -50,21 +50,21 @@ module _ {W : Type 0} (Saw : SawReceiver W) (was : Receiving × LineTells × W) 
           quiet_on x.0.arrived (quiet_turns p.history) ∙ ap (λ m. if was_quiet (Some (record { sound = x.0.arrived; refused = x.0.refused })) then m + 1 else 0) p.quiet_is
           ∙ ap (λ a. if was_quiet a then quiet + 1 else 0) (sym (arrival_is near.0 is.0 x.0 x.1.0))
 
-      went_on : WentOn history
+      went_on : WentOn most history
       went_on = (omega (arith, p.quiet_is, p.few), p.went_on)
 
-      pub hears_end : is.0.over ≡ true → HearsOut Saw Left.Ended was is
+      pub hears_end : is.0.over ≡ true → HearsOut most Saw Left.Ended was is
       hears_end over = (history, went_on, one_more, over)
 
-      pub hears_quiet : (now : ℕ) → now ≡ (if was_quiet is.0.arrival then quiet + 1 else 0) → now ≡ 40 → HearsOut Saw Left.Abandoned was is
-      hears_quiet now is_now forty = (history, went_on, one_more, inl (quiet_now ∙ sym is_now ∙ forty))
+      pub hears_quiet : (now : ℕ) → now ≡ (if was_quiet is.0.arrival then quiet + 1 else 0) → now ≡ most → HearsOut most Saw Left.Abandoned was is
+      hears_quiet now is_now all = (history, went_on, one_more, inl (quiet_now ∙ sym is_now ∙ all))
 
-      pub hears_on : (now : ℕ) → now ≡ (if was_quiet is.0.arrival then quiet + 1 else 0) → (now ≡ 40 → ⊥) → HearsSoFar (n + 1) now is
+      pub hears_on : (now : ℕ) → now ≡ (if was_quiet is.0.arrival then quiet + 1 else 0) → (now ≡ most → ⊥) → HearsSoFar (n + 1) now is
       hears_on now is_now less = record {
         history = history;
         took = one_more;
         long = omega (arith, p.long);
         quiet_is = quiet_now ∙ sym is_now;
-        few = below_forty now quiet (was_quiet is.0.arrival) is_now p.few less;
+        few = below_most most now quiet (was_quiet is.0.arrival) is_now p.few less;
         went_on = went_on;
       }

@@ -53,14 +53,14 @@ pub err_unless_short : (r ending : Result Ending CommandFault) (P : CommandFault
 err_unless_short r ending P (inl same) holds memory = rw same holds
 err_unless_short r ending P (inr short) holds memory = rw short memory
 
-pub receives : {W : Type 0} (Saw : SawReceiver W) (left : Result Left BrokenOff) (written printed : Result (Unit {0}) CommandFault) (t u : LineTells) (w w' : W) (into : Destination) (files made : Option FileMap)
-    (before after : Option (List ℕ)) (station : Receiving) → IfOk left (λ l. Leaves Saw l (first_receiving, t, w) (station, u, w')) → IfOk left (λ l. OnOk written (MakesJobFile station.jobs into files made)) → OnOk printed (Appends before after (received_text station.jobs))
-    → IfOk left (λ l. OnOk written (OnOk printed (Receives (ending_of_left l) into (t, files, before) (u, made, after))))
-receives Saw (Err b) written printed t u w w' into files made before after station leaves makes text = tt
-receives Saw (Ok l) (Err e) printed t u w w' into files made before after station leaves makes text = tt
-receives Saw (Ok l) (Ok x) (Err e) t u w w' into files made before after station leaves makes text = tt
-receives Saw (Ok l) (Ok x) (Ok p) t u w w' into files made before after station leaves makes text =
-    record { left = l; station = station; leaves = leaves_unseen Saw l first_receiving station t u w w' leaves; ending_is = refl; makes = makes; text_is = text }
+pub receives : {W : Type 0} (most : ℕ) (Saw : SawReceiver W) (left : Result Left BrokenOff) (written printed : Result (Unit {0}) CommandFault) (t u : LineTells) (w w' : W) (into : Destination) (files made : Option FileMap)
+    (before after : Option (List ℕ)) (station : Receiving) → IfOk left (λ l. Leaves most Saw l (first_receiving, t, w) (station, u, w')) → IfOk left (λ l. OnOk written (MakesJobFile station.jobs into files made)) → OnOk printed (Appends before after (received_text station.jobs))
+    → IfOk left (λ l. OnOk written (OnOk printed (Receives most (ending_of_left l) into (t, files, before) (u, made, after))))
+receives most Saw (Err b) written printed t u w w' into files made before after station leaves makes text = tt
+receives most Saw (Ok l) (Err e) printed t u w w' into files made before after station leaves makes text = tt
+receives most Saw (Ok l) (Ok x) (Err e) t u w w' into files made before after station leaves makes text = tt
+receives most Saw (Ok l) (Ok x) (Ok p) t u w w' into files made before after station leaves makes text =
+    record { left = l; station = station; leaves = leaves_unseen most Saw l first_receiving station t u w w' leaves; ending_is = refl; makes = makes; text_is = text }
 
 -- where it came to an end, the file is that of its jobs
 pub made_at_end : (written : Result (Unit {0}) CommandFault) (front : List Entry) (first last : Keeper) (station : Receiving) (f looked kept made : Option FileMap) (left : Result Left BrokenOff)
@@ -104,7 +104,7 @@ pub has_rest : (written : Result (Unit {0}) CommandFault) (keeper : Keeper) (job
 has_rest (Ok x) keeper jobs files kept made grows k makes same = has_all jobs keeper.file.into files made (makes k)
 has_rest (Err e) keeper jobs files kept made grows k makes same = has_kept keeper jobs files made grows (still_keeps keeper jobs files kept made k same)
 
-module _ {W : Type 0} (Saw : SawReceiver W) (written : Result (Unit {0}) CommandFault) (front : List Entry) (first : Keeper) (looked : Option FileMap) (station : Receiving) (f made : Option FileMap)
+module _ {W : Type 0} (most : ℕ) (Saw : SawReceiver W) (written : Result (Unit {0}) CommandFault) (front : List Entry) (first : Keeper) (looked : Option FileMap) (station : Receiving) (f made : Option FileMap)
     (t u : LineTells) (w w' : W) (last : Keeper) (kept : Option FileMap)
     (opened : IsOpened front first.file f) (none : first.kept ≡ 0) (grows : first.file.place ≡ Growing) (same : Discloses f looked IsSame) where
   -- what goes on from nothing
@@ -117,10 +117,10 @@ module _ {W : Type 0} (Saw : SawReceiver W) (written : Result (Unit {0}) Command
   at_file : (keeper : Keeper) (jobs : List Job) → keeper.file ≡ first.file → HasWhole jobs keeper.file.into f made → HasWhole jobs first.file.into f made
   at_file keeper jobs is has = subst (λ (x : KeptFile). HasWhole jobs x.into f made) is has
 
-  kept_to_end : (left : Left) → Leaves Saw left (first_receiving, t, w) (station, u, w') → GoesOnKeeping first last [] station.jobs looked kept
+  kept_to_end : (left : Left) → Leaves most Saw left (first_receiving, t, w) (station, u, w') → GoesOnKeeping first last [] station.jobs looked kept
       → OnOk written (KeepsJobs last station.jobs f kept → MakesJobFile station.jobs last.file.into f made) → OnErr written (Discloses kept made IsSame) → KeepsAnswered first.file.into f made t.1 u.1
   kept_to_end left leaves goes makes still =
-      let end = left_answered Saw left first_receiving station t u w w' leaves in
+      let end = left_answered most Saw left first_receiving station t u w w' leaves in
       let k = from_none last station.jobs kept goes in
       (end.0, u.1, end.1, inl (refl, subst (λ (js : List Job). HasWhole js first.file.into f made) end.2 (at_file last station.jobs k.1 (has_rest written last station.jobs f kept made (grown last k.1) k.0 makes still))))
 
@@ -152,7 +152,7 @@ module _ {W : Type 0} (Saw : SawReceiver W) (written : Result (Unit {0}) Command
         (b.far, b.mid.1, b.answered, inr (one, (what, refused, may, subst (λ (js : List Job). HasWhole js first.file.into f made) jobs (at_file last station.jobs is (has station.jobs (inl refl) (grown last is) (more.1 f k.0))))))
 
   -- whatever is left of it
-  pub kept_whatever : (left : Result Left BrokenOff) → IfOk left (λ l. Leaves Saw l (first_receiving, t, w) (station, u, w')) → OnOk left (GoesOnKeeping first last [] station.jobs looked kept)
+  pub kept_whatever : (left : Result Left BrokenOff) → IfOk left (λ l. Leaves most Saw l (first_receiving, t, w) (station, u, w')) → OnOk left (GoesOnKeeping first last [] station.jobs looked kept)
       → IfErr left (BreaksOff first_receiving station (first, t.1, looked) (last, u.1, kept))
       → OnOk written ((files : Option FileMap) → IfErr left (λ broken. IsOfFile broken → ⊥) → KeepsJobs last station.jobs files kept → MakesJobFile station.jobs last.file.into files made)
       → IfErr left (λ broken. IsOfFile broken → Discloses kept made IsSame) → OnErr written (Discloses kept made IsSame) → KeepsAnswered first.file.into f made t.1 u.1
@@ -170,16 +170,16 @@ module _ {W : Type 0} (Saw : SawReceiver W) (written : Result (Unit {0}) Command
         subst (λ (js : List Job). HasWhole js last.file.into f made) same_jobs (rest growing (subst (λ (js : List Job). KeepsJobs last js f kept) (sym same_jobs) k))
 
 -- over a store that tells its files
-pub received_kept : {W : Type 0} (Saw : SawReceiver W) (written : Result (Unit {0}) CommandFault) (front : List Entry) (first : Keeper) (looked : Option FileMap) (station : Receiving) (f made : Option FileMap)
+pub received_kept : {W : Type 0} (most : ℕ) (Saw : SawReceiver W) (written : Result (Unit {0}) CommandFault) (front : List Entry) (first : Keeper) (looked : Option FileMap) (station : Receiving) (f made : Option FileMap)
     (t u : LineTells) (w w' : W) (last : Keeper) (kept : Option FileMap) (left : Result Left BrokenOff)
     → IsOpened front first.file f → first.kept ≡ 0 → Discloses f looked IsSame
-    → IfOk left (λ l. Leaves Saw l (first_receiving, t, w) (station, u, w')) → OnOk left (GoesOnKeeping first last [] station.jobs looked kept)
+    → IfOk left (λ l. Leaves most Saw l (first_receiving, t, w) (station, u, w')) → OnOk left (GoesOnKeeping first last [] station.jobs looked kept)
     → IfErr left (BreaksOff first_receiving station (first, t.1, looked) (last, u.1, kept))
     → OnOk written ((files : Option FileMap) → IfErr left (λ broken. IsOfFile broken → ⊥) → KeepsJobs last station.jobs files kept → MakesJobFile station.jobs last.file.into files made)
     → IfErr left (λ broken. IsOfFile broken → Discloses kept made IsSame) → OnErr written (Discloses kept made IsSame) → IfSome f (λ _. KeepsAnswered first.file.into f made t.1 u.1)
-received_kept Saw written front first looked station None made t u w w' last kept left opened none same leaves goes breaks makes refused still = tt
-received_kept Saw written front first looked station (Some f) made t u w w' last kept left opened none same leaves goes breaks makes refused still =
-    kept_whatever Saw written front first looked station (Some f) made t u w w' last kept opened none opened.grows same left leaves goes breaks makes refused still
+received_kept most Saw written front first looked station None made t u w w' last kept left opened none same leaves goes breaks makes refused still = tt
+received_kept most Saw written front first looked station (Some f) made t u w w' last kept left opened none same leaves goes breaks makes refused still =
+    kept_whatever most Saw written front first looked station (Some f) made t u w w' last kept opened none opened.grows same left leaves goes breaks makes refused still
 
 -- nothing was heard
 pub nothing_kept : (into : Destination) (f made : Option FileMap) (before after : ℕ) → Discloses f made IsSame → after ≡ before → IfSome f (λ _. KeepsAnswered into f made before after)

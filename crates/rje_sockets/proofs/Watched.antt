@@ -1,5 +1,5 @@
 -- What a station's calls did is a turn that its watch saw; and whoever watches, the turns are the same.
-use Rattle.std.proofs.Common.{◌≡◌, inl, Bool, true, false, List, [], ◌∷◌, map, Option, Some, refl, ap, sym, ◌∙◌, subst}
+use Rattle.std.proofs.Common.{◌≡◌, inl, ℕ, Bool, true, false, List, [], ◌∷◌, map, Option, Some, refl, ap, sym, ◌∙◌, subst}
 use Rattle.bsc_frame.specs.declared.heard.Heard.{Heard}
 use Rattle.bsc_link.specs.declared.reply.Reply.{Reply}
 use Rattle.bsc_link.specs.declared.say.Say.{Say}
@@ -87,9 +87,9 @@ receiver_unseen : {W : Type 0} (Saw : SawReceiver W) (r r' : Receiving) (t u : L
 receiver_unseen Saw r r' t u w w' h took =
     turns_as (λ _. ReceiverTurn Saw) (λ _. ReceiverTurn NobodySawReceiver) (λ a. (a.0, a.1, tt)) (λ past a b x turn. (turn.0, turn.1, turn.2, tt)) (r, t, w) h (r', u, w') took
 
-pub leaves_unseen : {W : Type 0} (Saw : SawReceiver W) (left : Left) (r r' : Receiving) (t u : LineTells) (w w' : W) → Leaves Saw left (r, t, w) (r', u, w') → LeavesSo left r t r' u
-leaves_unseen Saw Left.Ended r r' t u w w' (h, on, took, over) = (h, on, receiver_unseen Saw r r' t u w w' h took, over)
-leaves_unseen Saw Left.Abandoned r r' t u w w' (far, (h, on, took, why), is) = (far, (h, on, receiver_unseen Saw r far t u w w' h took, why), is)
+pub leaves_unseen : {W : Type 0} (most : ℕ) (Saw : SawReceiver W) (left : Left) (r r' : Receiving) (t u : LineTells) (w w' : W) → Leaves most Saw left (r, t, w) (r', u, w') → LeavesSo most left r t r' u
+leaves_unseen most Saw Left.Ended r r' t u w w' (h, on, took, over) = (h, on, receiver_unseen Saw r r' t u w w' h took, over)
+leaves_unseen most Saw Left.Abandoned r r' t u w w' (far, (h, on, took, why), is) = (far, (h, on, receiver_unseen Saw r far t u w w' h took, why), is)
 
 -- both took the same
 pub both_took : {W : Type 0} (Saw : SawBoth W) (was is : Sending × Receiving × W) (turns : List Spoken) → Turns (λ _. BothTurn Saw) was turns is

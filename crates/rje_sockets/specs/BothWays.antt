@@ -110,19 +110,19 @@ TurnOver Sent Came (s, t, w) (s', u, w') x = (takes : Takes s s' x) × PassedIn 
 abbrev pub TookOver : {W : Type 0} → SawSender W → SawReceiver W → Contending × LineTells × W → List StationTurn → Contending × LineTells × W → Type 0
 TookOver Sent Came was = Turns (λ past a b x. IsNext was.0.contender.rank past a.0 x × TurnOver Sent Came a b x) was
 
--- it took some turns so, until both transmissions were over, or the other hung up for which it waited; or until forty of the other's turns in
--- a row brought nothing, or a billion turns were taken in all
-abbrev pub TakesTurnsTo : {W : Type 0} → SawSender W → SawReceiver W → Left → Contending × LineTells × W → Contending × LineTells × W → Type 0
-TakesTurnsTo Sent Came Left.Ended was (s', u, w') =
+-- it took some turns so, until both transmissions were over, or the other hung up for which it waited; or until so many of the other's turns
+-- in a row brought nothing, or a billion turns were taken in all
+abbrev pub TakesTurnsTo : {W : Type 0} → (most : ℕ) → SawSender W → SawReceiver W → Left → Contending × LineTells × W → Contending × LineTells × W → Type 0
+TakesTurnsTo most Sent Came Left.Ended was (s', u, w') =
     (turns : List StationTurn) × (near : Contending) × (mid : LineTells) × TookOver Sent Came was turns (near, mid, w')
     × ((AreOver near × (s' ≡ near) × (u ≡ mid)) ⊎ (Waits near × (s' ≡ after_other_refusal (fault.Line Closed) near)))
-TakesTurnsTo Sent Came Left.Abandoned was (s', u, w') =
+TakesTurnsTo most Sent Came Left.Abandoned was (s', u, w') =
     (turns : List StationTurn) × (near : Contending) × TookOver Sent Came was turns (near, u, w')
-    × (((quiet_in_a_row turns ≡ 40) × (s' ≡ after_other_ended near)) ⊎ ((length turns ≡ 1000000000) × (s' ≡ near)))
+    × (((quiet_in_a_row turns ≡ most) × (s' ≡ after_other_ended near)) ⊎ ((length turns ≡ 1000000000) × (s' ≡ near)))
 
 -- over a line that nobody watches
-abbrev pub ExchangesTo : Left → Contending → LineTells → Contending → LineTells → Type 0
-ExchangesTo left s t s' u = TakesTurnsTo NobodySawSender NobodySawReceiver left (s, t, tt) (s', u, tt)
+abbrev pub ExchangesTo : (most : ℕ) → Left → Contending → LineTells → Contending → LineTells → Type 0
+ExchangesTo most left s t s' u = TakesTurnsTo most NobodySawSender NobodySawReceiver left (s, t, tt) (s', u, tt)
 
 -- a fault of the line ended its own turn: as it spoke, or as it listened
 abbrev pub FailsInOwn : Contending → Contending → StationFault → Type 0

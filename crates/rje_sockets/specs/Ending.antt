@@ -57,19 +57,20 @@ abbrev pub ending_of_left : Left → Ending
 ending_of_left Left.Ended = Ending.Done
 ending_of_left Left.Abandoned = Ending.Other
 
--- one transmission was received over a line: a new station took some turns there and left so, the file of the destination became that of the
+-- one transmission was received over a line: a new station, which left after so many quiet hearings in a row at most, took some turns there and
+-- left so, the file of the destination became that of the
 -- entries in front and its jobs, and just their line was printed
-pub record Receives (ending : Ending) (into : Destination) (was is : Outside) : Type 0 where
+pub record Receives (most : ℕ) (ending : Ending) (into : Destination) (was is : Outside) : Type 0 where
   pub left : Left
   pub station : Receiving
-  pub leaves : LeavesSo left first_receiving was.0 station is.0
+  pub leaves : LeavesSo most left first_receiving was.0 station is.0
   pub makes : MakesJobFile station.jobs into was.1 is.1
   pub ending_is : ending ≡ ending_of_left left
   pub text_is : Appends was.2 is.2 (received_text station.jobs)
 
--- a command over a line ended with this status, and one transmission was received
+-- a command over a line ended with this status, and one transmission was received, with the usual patience of forty quiet hearings
 abbrev pub EndsReceiving : (status : ℕ) → (into : Destination) → (was is : Outside) → Type 0
-EndsReceiving status into was is = (ending : Ending) × (status ≡ ending_status ending) × Receives ending into was is
+EndsReceiving status into was is = (ending : Ending) × (status ≡ ending_status ending) × Receives 40 ending into was is
 
 -- the file of this name became that of the same entries as this file's, in which just the first counted of those that were not Sent are Sent,
 -- and no other file changed

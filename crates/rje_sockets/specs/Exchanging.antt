@@ -11,8 +11,6 @@ use Rattle.rje_files.specs.Unsent.{unsent}
 use Rattle.rje_station.specs.Sending.{outcome_of}
 use Rattle.rje_station.specs.Station.{Contending, first_contending}
 use Rattle.rje_orders.specs.declared.order.Destination.{Destination}
-use Rattle.rje_orders.specs.declared.order.Meeting.{Meeting}
-use Rattle.rje_orders.specs.declared.order.Meeting.TheVariants.{Calls, Listens}
 use Rattle.rje_commands.specs.Commands.{OfFile}
 use Rattle.rje_sockets.specs.declared.left.Left.{Left}
 use Rattle.rje_sockets.specs.declared.socket_commands.ending.Ending.{Ending}
@@ -22,10 +20,9 @@ use Rattle.rje_sockets.specs.Ending.{MakesJobFile, MarksSent, ending_status, rec
 use Rattle.rje_sockets.specs.OverLine.{Outside}
 use Rattle.rje_stores.specs.Store.{FileMap}
 
--- the end that calls is the primary
-abbrev pub rank_at : Meeting → Rank
-rank_at (Calls address) = Rank.Primary
-rank_at (Listens address) = Rank.Secondary
+-- how a station takes part: its rank, and after how many of the other's turns in a row that brought nothing it leaves
+abbrev pub Part : Type 0
+Part = Rank × ℕ
 
 -- nothing was given to be sent, and nothing came
 abbrev pub is_idle : (given : ℕ) → List Job → Bool
@@ -48,21 +45,22 @@ abbrev pub MakesBoth : (file : List ℕ) → Contending → (send : List ℕ) �
 MakesBoth file s send into files made =
     (marked : Option FileMap) × MarksSent file s.sender.counted send files marked × MakesJobFile s.receiver.jobs into marked made
 
--- what was left of the job file of the one name was exchanged over a line for the jobs of the other station: a new station of this rank took some
--- turns there and left so; the jobs that it counted are Sent in that file now, the file of the destination is that of the entries in front and
+-- what was left of the job file of the one name was exchanged over a line for the jobs of the other station: a new station took some turns
+-- there in this part and left so; the jobs that it counted are Sent in that file now, the file of the destination is that of the entries in front and
 -- the jobs that came, no other file changed, and just the lines of both were printed
-pub record ExchangesLeft (ending : Ending) (rank : Rank) (send : List ℕ) (into : Destination) (was is : Outside) : Type 0 where
+pub record ExchangesLeft (ending : Ending) (part : Part) (send : List ℕ) (into : Destination) (was is : Outside) : Type 0 where
   pub file : List ℕ
   pub entries : List Entry
   pub left : Left
   pub station : Contending
   pub read : OfFile send was.1 (λ read. file ≡ read)
   pub file_is : HasEntries entries file
-  pub exchanges : ExchangesTo left (first_contending rank (jobs_in (unsent entries))) was.0 station is.0
+  pub exchanges : ExchangesTo part.1 left (first_contending part.0 (jobs_in (unsent entries))) was.0 station is.0
   pub makes : MakesBoth file station send into was.1 is.1
   pub ending_is : ending ≡ ending_of_both (outcome_of station.sender) (is_idle (length (unsent entries)) station.receiver.jobs) left
   pub text_is : Appends was.2 is.2 (exchanged_text station.sender.counted (length (unsent entries)) (outcome_of station.sender) station.receiver.jobs)
 
--- a command over a line ended with this status, and what was left of the job file of the one name was exchanged so
+-- a command over a line ended with this status, and what was left of the job file of the one name was exchanged so, with the usual patience of
+-- forty
 abbrev pub EndsExchanging : (status : ℕ) → Rank → (send : List ℕ) → (into : Destination) → (was is : Outside) → Type 0
-EndsExchanging status rank send into was is = (ending : Ending) × (status ≡ ending_status ending) × ExchangesLeft ending rank send into was is
+EndsExchanging status rank send into was is = (ending : Ending) × (status ≡ ending_status ending) × ExchangesLeft ending (rank, 40) send into was is

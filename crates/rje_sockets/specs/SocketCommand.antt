@@ -7,13 +7,14 @@ use Rattle.rje_commands.specs.Commands.{OfFile}
 use Rattle.rje_sockets.specs.declared.socket_commands.ending.Ending.{Ending}
 use Rattle.rje_sockets.specs.Answering.{KeepsAnswered}
 use Rattle.rje_sockets.specs.Ending.{IsUnsentFault, Receives, SendsLeft}
-use Rattle.rje_sockets.specs.Exchanging.{ExchangesLeft, rank_at}
+use Rattle.rje_sockets.specs.Exchanging.{ExchangesLeft}
 use Rattle.rje_sockets.specs.LeavingBoth.{LeavesExchange}
 use Rattle.rje_sockets.specs.InFront.{HasStandingFault, LooksInto}
 use Rattle.rje_sockets.specs.Looping.{IsUnloopedFault, Loops}
 use Rattle.rje_sockets.specs.Marking.{MarksNoMore}
 use Rattle.rje_sockets.specs.NamedFiles.{NamesOne}
 use Rattle.rje_sockets.specs.OverLine.{OverConnection}
+use Rattle.rje_sockets.specs.Patience.{most_quiet}
 use Rattle.rje_stores.specs.Store.{FileMap, Discloses, IsSame}
 
 -- WHAT A COMMAND DOES
@@ -24,9 +25,9 @@ abbrev pub Transmits : SocketOrder → Ending → (files made : Option FileMap) 
 Transmits (SocketOrder.Loop order) ending files made before after = OfFile order.jobs.now files (λ file. Loops ending file before after)
 Transmits (SocketOrder.Send order) ending files made before after =
     OverConnection (λ t u. SendsLeft ending order.jobs.now (t, files, before) (u, made, after))
-Transmits (SocketOrder.Receive order) ending files made before after = OverConnection (λ t u. Receives ending order.into (t, files, before) (u, made, after))
+Transmits (SocketOrder.Receive order) ending files made before after = OverConnection (λ t u. Receives (most_quiet order.patience) ending order.into (t, files, before) (u, made, after))
 Transmits (SocketOrder.Exchange order) ending files made before after =
-    OverConnection (λ t u. ExchangesLeft ending (rank_at order.place) order.send.now order.received (t, files, before) (u, made, after))
+    OverConnection (λ t u. ExchangesLeft ending (order.rank, most_quiet order.patience) order.send.now order.received (t, files, before) (u, made, after))
 
 -- Whatever ends it: `loop` changes no file, `send` marks just what was counted, in its file `receive` has what had come whole, and `exchange`
 -- does both.
@@ -35,7 +36,7 @@ LeavesFiles (SocketOrder.Loop order) files made = Discloses files made IsSame
 LeavesFiles (SocketOrder.Send order) files made = MarksNoMore ⊤ order.jobs.now files made
 LeavesFiles (SocketOrder.Receive order) files made = IfSome files (λ _. (after : ℕ) × KeepsAnswered order.into files made 0 after)
 LeavesFiles (SocketOrder.Exchange order) files made =
-    IfSome files (λ _. LeavesExchange ⊤ (rank_at order.place) order.send.now order.received files made)
+    IfSome files (λ _. LeavesExchange ⊤ order.rank order.send.now order.received files made)
 
 -- WHY IT ISN'T CARRIED OUT
 

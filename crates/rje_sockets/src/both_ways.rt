@@ -1,5 +1,5 @@
 //! A station that sends and receives, over one line, until both transmissions are over.
-ghost use Rattle.std.specs.Prelude.{◌≡◌, ◌≢◌, ◌⊎◌, [], Option, Some, true, false, IfOk, IfErr, OnErr, OnOk};
+ghost use Rattle.std.specs.Prelude.{◌≡◌, ◌≢◌, ◌<◌, ◌⊎◌, [], Option, Some, true, false, IfOk, IfErr, OnErr, OnOk};
 ghost use Rattle.bsc_link.specs.declared.reply.Reply.{Reply as Answer};
 ghost use Rattle.bsc_link.specs.declared.say.Say.{Say as Word};
 ghost use Rattle.bsc_link.specs.declared.say.Say.TheVariants as say;
@@ -21,25 +21,27 @@ use crate::broken_off::BrokenOff;
 use crate::keeper::Keeper;
 use crate::left::Left;
 use crate::marker::Marker;
-use crate::one_way::{MAX_HEARINGS, MAX_QUIET, quiet_after};
+use crate::one_way::{MAX_HEARINGS, quiet_after};
 use crate::watch::Watch;
 use bsc_link::{Rank, Say, Sound, Wish};
 use rje_station::{Line, LineFault, Station, StationFault};
 use rje_stores::Store;
 
 /// Sends what the station has and receives what the other one has, until both transmissions are over, the other has hung up or has been
-/// quiet for long. Each job that it sends is marked as soon as it is counted, and each that comes is kept before its last block is
+/// quiet for so many of its turns in a row. Each job that it sends is marked as soon as it is counted, and each that comes is kept before its last block is
 /// answered; where it can't be, the station leaves. A primary bids as soon as something is due; a secondary listens first, and after each
 /// bid that isn't granted.
 pub fn exchange_all<'a, 'b, L: Line, S: Store, W: Watch>(
     station: &mut Station<'a>,
     line: &mut L,
+    patience: u32,
     marker: &mut Marker<'b>,
     keeper: &mut Keeper<'b>,
     store: &mut S,
     watch: &mut W,
 ) -> Result<Left, BrokenOff<'b>>
-    ensures left { IfOk result (λ left. TakesTurnsTo W.saw_sender W.saw_receiver left
+    requires patient { 0 < patience }
+    ensures left { IfOk result (λ left. TakesTurnsTo patience W.saw_sender W.saw_receiver left
         (station.old, (L.talk line.old, L.transmissions line.old), watch.old)
         (station.new, (L.talk line.new, L.transmissions line.new), watch.new)) }
     ensures holds { OnOk result (GoesOnHolding
@@ -72,7 +74,7 @@ pub fn exchange_all<'a, 'b, L: Line, S: Store, W: Watch>(
         }
         has_listened = true;
         quiet = quiet_after(quiet, station.receiver());
-        if quiet == MAX_QUIET {
+        if quiet == patience {
             station.other_ended();
             return Ok(Left::Abandoned);
         }

@@ -1,13 +1,15 @@
 //! Connections, and whether the time-out is longer than they take.
 ghost use Rattle.std.specs.Prelude.{◌≡◌, IfErr, IfOk};
-ghost use Rattle.std.specs.declared.io.ErrorKind.{ErrorKind as Kind};
-ghost use Rattle.rje_sockets.specs.declared.line_cause.LineCause.TheVariants.{NotAwaited, NotCalled};
+ghost use Rattle.rje_orders.specs.Callers.{IsLetIn};
+ghost use Rattle.rje_sockets.specs.LineCause.{IsPeerAt, IsUnmet};
 
+use crate::adapter_stream::AdapterStream;
 use crate::line_cause::LineCause;
 use crate::observed_stream::ObservedStream;
 use crate::socket_line::SocketLine;
 use bsc_link::Rank;
-use std::io::{self, Write};
+use rje_orders::{Callers, Connection, Meeting};
+use std::io::{self, ErrorKind, Write};
 use std::net::{Net, OpenListener, SocketAddr, TcpListener, TcpStream};
 use std::time::{Clock, Duration, Instant};
 
@@ -15,86 +17,144 @@ use std::time::{Clock, Duration, Instant};
 const MIN_CONNECTING: u16 = 3000;
 
 /// A line over a connection that is observed.
-pub(crate) type ObservedLine<'r, R> = SocketLine<ObservedStream<&'r R, <R as Net>::Stream>>;
+pub(crate) type ObservedLine<'r, R> = SocketLine<
+    ObservedStream<&'r R, AdapterStream<<R as Net>::Stream>>,
+>;
 
-/// Calls the other end at this address, for a station of this rank. Where that takes as long as a hearing waits or longer, it is told to `err`:
-/// then answers come too late.
-pub(crate) fn connected<'r, R: Net + Clock, E: Write>(
+/// A line to the other end, for a station of this rank, and the other end's address: it is called, or its call is awaited. Where calling takes
+/// as long as a hearing waits or longer, that is told to `err`. A caller that isn't let in is hung up and told too, and so is one that says
+/// nothing within so many hearings, where that is wanted.
+pub(crate) fn met<'r, R: Net + Clock, E: Write>(
+    rt: &'r R,
+    connection: Connection,
+    rank: Rank,
+    hearings: Option<u32>,
+    err: &mut E,
+) -> Result<(ObservedLine<'r, R>, SocketAddr), LineCause>
+    ensures unused { IfOk result (λ met. met.0.transmissions ≡ 0) }
+    ensures peer { IfOk result (λ met. IsPeerAt connection.entry.place met.1) }
+    ensures cause { IfErr result (IsUnmet connection.entry.place) }
+{
+    match connection.place {
+        Meeting::Calls(address) => match connected(rt, address, connection, rank, err) {
+            Ok(line) => Ok((line, address)),
+            Err(error) => Err(LineCause::NotCalled(address, error.kind())),
+        },
+        Meeting::Listens(address, callers) => {
+            let listening = Listening {
+                address,
+                callers,
+                hearings,
+            };
+            match accepted(rt, listening, connection, rank, err) {
+                Ok(met) => Ok(met),
+                Err(error) => Err(LineCause::NotAwaited(address, error.kind())),
+            }
+        }
+    }
+}
+
+/// Calls the other end at this address.
+fn connected<'r, R: Net + Clock, E: Write>(
     rt: &'r R,
     address: SocketAddr,
-    timeout: u16,
+    connection: Connection,
+    rank: Rank,
     err: &mut E,
-) -> Result<ObservedLine<'r, R>, LineCause>
+) -> io::Result<ObservedLine<'r, R>>
     ensures unused { IfOk result (λ line. line.transmissions ≡ 0) }
-    ensures cause { IfErr result (λ cause. (kind : Kind) × (cause ≡ NotCalled address kind)) }
 {
+    let timeout = connection.timeout;
+    let longest = Duration::from_millis(u64::from(timeout.max(MIN_CONNECTING)));
     let start = Instant::now(rt).ok();
-    let line = match called(rt, address, timeout) {
-        Ok(line) => line,
-        Err(error) => return Err(LineCause::NotCalled(address, error.kind())),
-    };
+    let stream = TcpStream::connect_timeout(rt, &address, longest)?;
+    let line = line_over(Some(rt), stream, timeout, connection.adapter, rank)?;
     let took = start.and_then(|start| start.elapsed(rt).ok());
     tell_if_short(timeout, "the connection", took, err);
     Ok(line)
 }
 
-/// A line to the end that listens at this address.
-fn called<'r, R: Net>(
-    rt: &'r R,
+/// Where calls are awaited, and which of them are taken.
+struct Listening<'a> {
     address: SocketAddr,
-    timeout: u16,
-) -> io::Result<ObservedLine<'r, R>>
-    ensures unused { IfOk result (λ line. line.transmissions ≡ 0) }
-{
-    let longest = Duration::from_millis(u64::from(timeout.max(MIN_CONNECTING)));
-    let stream = TcpStream::connect_timeout(rt, &address, longest)?;
-    SocketLine::new(
-        ObservedStream::new(Some(rt), stream),
-        timeout,
-        Rank::Primary,
-    )
+    callers: Callers<'a>,
+    // Within how many hearings a caller has to say something, where it has to.
+    hearings: Option<u32>,
 }
 
-/// Waits at this address for whoever connects first, and answers the peer's address too.
-pub(crate) fn accepted<'r, R: Net>(
+/// Waits for the first call that is taken, and answers the caller's address too. Other callers are hung up.
+fn accepted<'r, R: Net + Clock, E: Write>(
     rt: &'r R,
-    address: SocketAddr,
-    timeout: u16,
-) -> Result<(ObservedLine<'r, R>, SocketAddr), LineCause>
+    listening: Listening,
+    connection: Connection,
+    rank: Rank,
+    err: &mut E,
+) -> io::Result<(ObservedLine<'r, R>, SocketAddr)>
     ensures unused { IfOk result (λ met. met.0.transmissions ≡ 0) }
-    ensures cause { IfErr result (λ cause. (kind : Kind) × (cause ≡ NotAwaited address kind)) }
+    ensures let_in { IfOk result (λ met. IsLetIn listening.entry.callers met.1) }
 {
-    match awaited(rt, address, timeout) {
-        Ok(met) => Ok(met),
-        Err(error) => Err(LineCause::NotAwaited(address, error.kind())),
+    let Listening {
+        address,
+        callers,
+        hearings,
+    } = listening;
+    let listener = TcpListener::bind(rt, address)?;
+    for _ in 0..u64::MAX {
+        let (stream, peer) = listener.accept()?;
+        if callers.take(peer) {
+            let mut line = line_over(
+                Some(rt),
+                stream,
+                connection.timeout,
+                connection.adapter,
+                rank,
+            )?;
+            if says_something(&mut line, hearings) {
+                return Ok((line, peer));
+            }
+        }
+        let _ = writeln!(err, "rje: hung up on {peer}");
+    }
+    Err(io::Error::from(ErrorKind::TimedOut))
+}
+
+/// Whether the caller says something within so many hearings, where it has to.
+fn says_something<R: Net + Clock>(line: &mut ObservedLine<R>, hearings: Option<u32>) -> bool
+    ensures none { line.new.transmissions ≡ line.old.transmissions }
+{
+    match hearings {
+        Some(hearings) => line.is_spoken_on(hearings),
+        None => true,
     }
 }
 
-/// A line to whoever connects first at this address, and the peer's address.
-fn awaited<'r, R: Net>(
-    rt: &'r R,
-    address: SocketAddr,
+/// A line over this stream, for a station of this rank; its waits are measured where there is a clock.
+pub(crate) fn line_over<'r, R: Net>(
+    clock: Option<&'r R>,
+    stream: R::Stream,
     timeout: u16,
-) -> io::Result<(ObservedLine<'r, R>, SocketAddr)>
-    ensures unused { IfOk result (λ met. met.0.transmissions ≡ 0) }
+    adapter: bool,
+    rank: Rank,
+) -> io::Result<ObservedLine<'r, R>>
+    ensures unused { IfOk result (λ line. line.transmissions ≡ 0) }
 {
-    let listener = TcpListener::bind(rt, address)?;
-    let (stream, peer) = listener.accept()?;
-    let line = SocketLine::new(
-        ObservedStream::new(Some(rt), stream),
-        timeout,
-        Rank::Secondary,
-    )?;
-    Ok((line, peer))
+    let stream = ObservedStream::new(clock, AdapterStream::new(stream, adapter));
+    SocketLine::new(stream, timeout, rank)
+}
+
+/// Tells at the end that was called where what came after its first words took too long.
+pub(crate) fn tell_if_late<R: Net + Clock, E: Write>(
+    connection: Connection,
+    line: &ObservedLine<R>,
+    err: &mut E,
+) {
+    if let Meeting::Listens(..) = connection.place {
+        tell_if_short(connection.timeout, "the peer", line.waited(), err);
+    }
 }
 
 /// Tells in one line where something took as long as a hearing waits, or longer. A line that can't be written is left out.
-pub(crate) fn tell_if_short<E: Write>(
-    timeout: u16,
-    what: &str,
-    took: Option<Duration>,
-    err: &mut E,
-) {
+fn tell_if_short<E: Write>(timeout: u16, what: &str, took: Option<Duration>, err: &mut E) {
     let Some(took) = took else {
         return;
     };

@@ -2,11 +2,13 @@
 //! counted.
 #![tactic(auto)]
 
+mod adapter_stream;
 mod both_ways;
 mod broken_off;
 mod connection;
 mod first_bytes;
 mod front;
+mod handing;
 mod keeper;
 mod kept_file;
 mod left;

@@ -1,8 +1,13 @@
 //! A stream that notes what its operator wants to know of it.
 use crate::first_bytes::FirstBytes;
+use crate::handing::hand_out;
+use arrayvec::ArrayVec;
 use std::io::{self, ErrorKind, Read, Write};
 use std::net::{OpenStream, Shutdown};
 use std::time::{Clock, Duration, Instant};
+
+/// The most that is read ahead.
+pub(crate) const MAX_AHEAD: usize = 160;
 
 /// A stream that notes how long the first answer took, where it has a clock, what came first, and how a call failed last.
 #[derive(Drop)]
@@ -17,6 +22,8 @@ pub struct ObservedStream<C, S> {
     first: FirstBytes,
     // How the last call failed that did.
     failure: Option<ErrorKind>,
+    // What was read ahead, and isn't read yet.
+    ahead: ArrayVec<u8, MAX_AHEAD>,
 }
 
 impl<C, S> ObservedStream<C, S> {
@@ -29,6 +36,16 @@ impl<C, S> ObservedStream<C, S> {
             waited: None,
             first: FirstBytes::new(),
             failure: None,
+            ahead: ArrayVec::new(),
+        }
+    }
+
+    /// The next reads bring this, which one brought already: all of it that can be kept.
+    pub fn read_ahead(&mut self, piece: &[u8]) {
+        for byte in piece {
+            if !self.ahead.is_full() {
+                self.ahead.push(*byte);
+            }
         }
     }
 
@@ -50,6 +67,9 @@ impl<C, S> ObservedStream<C, S> {
 
 impl<C: Clock, S: Read> Read for ObservedStream<C, S> {
     fn read(&mut self, buf: &mut [u8]) -> io::Result<usize> {
+        if !self.ahead.is_empty() {
+            return Ok(hand_out(&mut self.ahead, buf));
+        }
         match self.stream.read(buf) {
             Ok(count) => {
                 if let (Some(clock), Some(spoke), None) = (&self.clock, self.spoke, self.waited) {

@@ -1,5 +1,5 @@
 //! Stations that take turns over a line, until the transmission ends.
-ghost use Rattle.std.specs.Prelude.{◌≡◌, ◌⊎◌, ◌<◌, ◌+◌, ℕ, true, false, if◌then◌else◌, IfOk, OnOk, IfErr, OnErr};
+ghost use Rattle.std.specs.Prelude.{◌≡◌, ◌⊎◌, ◌<◌, ◌+◌, ◌-◌, ◌^◌, ℕ, true, false, if◌then◌else◌, IfOk, OnOk, IfErr, OnErr};
 ghost use Rattle.bsc_history.specs.declared.spoken_turn.SpokenTurn.{SpokenTurn};
 ghost use Rattle.rje_commands.specs.CommandFault.{IsFailing, of_station, status_of};
 ghost use Rattle.rje_sockets.specs.Inside.Marking.{GoesOnMarking, WereCounted};
@@ -7,7 +7,7 @@ ghost use Rattle.rje_sockets.specs.Inside.Keeping.{GoesOnKeeping};
 ghost use Rattle.rje_sockets.specs.Inside.BreakingOff.{BreaksOff, BreaksOffNow, of_broken_off};
 ghost use Rattle.rje_sockets.specs.NamedFiles.{NamesWritten};
 ghost use Rattle.rje_sockets.specs.OverLine.{BothTook, ReceiverTurn, Sends, SenderTurn};
-ghost use Rattle.rje_sockets.specs.Patience.{HearsOut, Leaves, was_quiet};
+ghost use Rattle.rje_sockets.specs.Patience.{HearsOut, Leaves, most_quiet, was_quiet};
 ghost use Rattle.line_world.specs.AnyLines.{SenderFails, SendsToFault, BothTake, BothFail, BothToFault};
 
 use crate::broken_off::BrokenOff;
@@ -20,8 +20,8 @@ use line_world::Spoken;
 use rje_station::{Arrival, Line, ReceivingStation, SendingStation, StationFault};
 use rje_stores::Store;
 
-/// After so many quiet hearings in a row a receiving station leaves.
-pub const MAX_QUIET: u32 = 40;
+/// After so many quiet hearings in a row a receiving station leaves that was told nothing else.
+pub const USUAL_PATIENCE: u32 = 40;
 
 /// After so many hearings in all it leaves too.
 pub const MAX_HEARINGS: u32 = 1_000_000_000;
@@ -112,16 +112,29 @@ fn speak_and_hear<L: Line, W: Watch>(
     }
 }
 
-/// Receives what comes, until the sender ends the transmission or stays quiet for long. Each job is kept before its last block is
-/// answered; where it can't be, the station leaves.
+/// How many quiet hearings in a row a station bears that is to bear so many; with 0 it bears all.
+pub fn most_quiet(patience: u32) -> u32
+    ensures most { result ≡ most_quiet patience }
+    ensures some { 0 < result }
+{
+    match patience {
+        0 => MAX_HEARINGS,
+        most => most,
+    }
+}
+
+/// Receives what comes, until the sender ends the transmission or stays quiet for so many hearings in a row. Each job is kept before its last
+/// block is answered; where it can't be, the station leaves.
 pub fn receive_all<'a, L: Line, S: Store, W: Watch>(
     station: &mut ReceivingStation,
     line: &mut L,
+    patience: u32,
     keeper: &mut Keeper<'a>,
     store: &mut S,
     watch: &mut W,
 ) -> Result<Left, BrokenOff<'a>>
-    ensures left { IfOk result (λ left. Leaves W.saw_receiver left
+    requires patient { 0 < patience }
+    ensures left { IfOk result (λ left. Leaves patience W.saw_receiver left
         (station.old, (L.talk line.old, L.transmissions line.old), watch.old)
         (station.new, (L.talk line.new, L.transmissions line.new), watch.new)) }
     ensures broken { IfErr result (BreaksOff station.old station.new
@@ -133,7 +146,7 @@ pub fn receive_all<'a, L: Line, S: Store, W: Watch>(
     ensures kept { OnOk result (GoesOnKeeping keeper.old keeper.new station.old.jobs
         station.new.jobs (S.files store.old) (S.files store.new)) }
 {
-    let left = hear_out(station, line, keeper, store, watch)?;
+    let left = hear_out(station, line, patience, keeper, store, watch)?;
     if left == Left::Abandoned {
         station.abandon();
     }
@@ -144,11 +157,13 @@ pub fn receive_all<'a, L: Line, S: Store, W: Watch>(
 fn hear_out<'a, L: Line, S: Store, W: Watch>(
     station: &mut ReceivingStation,
     line: &mut L,
+    patience: u32,
     keeper: &mut Keeper<'a>,
     store: &mut S,
     watch: &mut W,
 ) -> Result<Left, BrokenOff<'a>>
-    ensures heard { IfOk result (λ left. HearsOut W.saw_receiver left
+    requires patient { 0 < patience }
+    ensures heard { IfOk result (λ left. HearsOut patience W.saw_receiver left
         (station.old, (L.talk line.old, L.transmissions line.old), watch.old)
         (station.new, (L.talk line.new, L.transmissions line.new), watch.new)) }
     ensures broken { IfErr result (BreaksOff station.old station.new
@@ -166,7 +181,7 @@ fn hear_out<'a, L: Line, S: Store, W: Watch>(
             return Ok(Left::Ended);
         }
         quiet = quiet_after(quiet, station);
-        if quiet == MAX_QUIET {
+        if quiet == patience {
             return Ok(Left::Abandoned);
         }
     }
@@ -175,7 +190,7 @@ fn hear_out<'a, L: Line, S: Store, W: Watch>(
 
 /// How many quiet hearings in a row there are, with the last one.
 pub fn quiet_after(quiet: u32, station: &ReceivingStation) -> u32
-    requires few { quiet < MAX_QUIET }
+    requires few { quiet < 2 ^ 32 - 1 }
     ensures { result ≡ (if was_quiet station.now.arrival then quiet + 1 else 0) }
 {
     match station.arrival() {

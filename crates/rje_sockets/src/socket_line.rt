@@ -7,7 +7,7 @@ ghost use Rattle.rje_station.specs.declared.line_fault.LineFault.TheVariants.{Cl
 ghost use Rattle.rje_sockets.specs.Inside.Reading.{came_of, waited_in_vain};
 
 use crate::line_cause::LineCause;
-use crate::observed_stream::ObservedStream;
+use crate::observed_stream::{MAX_AHEAD, ObservedStream};
 use bsc_codes::PAD;
 use bsc_link::{Rank, Reply};
 use rje_answers::{Answers, Given, Handed, Handover, Said};
@@ -107,6 +107,15 @@ impl<C: Clock, S> SocketLine<ObservedStream<C, S>> {
             LineCause::HungUp if first.begin_otherwise() => Some(LineCause::NoTransmission(first)),
             cause => Some(cause),
         }
+    }
+}
+
+impl<C: Clock, S: Read> SocketLine<ObservedStream<C, S>> {
+    /// Whether the other end says something, now or within so many hearings; what it says is heard later.
+    pub fn is_spoken_on(&mut self, hearings: u32) -> bool
+        ensures none { self.new.transmissions ≡ self.old.transmissions }
+    {
+        comes_soon(&mut self.stream, hearings)
     }
 }
 
@@ -253,6 +262,22 @@ fn hear_out<S: Read>(stream: &mut S, answers: &mut Answers) {
             return;
         }
     }
+}
+
+/// Whether something comes within so many hearings, which is read ahead.
+fn comes_soon<C: Clock, S: Read>(stream: &mut ObservedStream<C, S>, hearings: u32) -> bool {
+    let mut piece = [0; MAX_AHEAD];
+    for _ in 0..hearings {
+        match came_in(stream, &mut piece) {
+            Ok(Came::Bytes(count)) => {
+                stream.read_ahead(&piece[..count]);
+                return true;
+            }
+            Ok(Came::Quiet) => {}
+            Err(_) => return false,
+        }
+    }
+    false
 }
 
 /// What comes of one read.

@@ -1,13 +1,10 @@
 -- What clap makes of `cards`, its two files and its options after them.
-use Rattle.std.proofs.Common.{ℕ, List, [], ◌∷◌, ◌++◌, ◌≡◌, ◌==◌, arith, Option, Some, None, Bool, true, false, refl, codes, ap, ap₂, ◌∙◌, sym, append_assoc, append-nil}
+use Rattle.std.proofs.Common.{ℕ, List, [], ◌∷◌, ◌++◌, ◌≡◌, Option, Some, None, Bool, true, false, refl, codes, ap, ap₂, ◌∙◌, sym, append_assoc, append-nil}
 use Rattle.std.specs.Prelude.{unwrap_or, is_some, find, fold, map, slice_get}
 use Rattle.std.specs.List.{flat_map}
 use Rattle.std.specs.Str.{bytes_eq}
-use Rattle.std.proofs.lemmas.Bool.{not-true}
-use Rattle.std.proofs.lemmas.Bool.Decides.{nat_tests}
 use Rattle.clap.specs.Words.{Kinds, Row, Rule, Shape, Text, built, fault_of, first_of, new_rule, subcommand_of}
 use Rattle.clap.specs.Kinds.{or_else}
-use Rattle.clap.specs.Lexer.{long_of, short_of}
 use Rattle.clap.specs.Simple.{entered, names_of, new_shape}
 use Rattle.clap.specs.Faults.{check_fault, defaults_fault, entered_fault, level_fault, react_fault, settle_fault, turn_fault, walk_fault}
 use Rattle.clap.specs.Walk.{Held, Names, Walk, finished, idle, nothing_held, positional_held, reacted, rows_after, settled, walk, walk_from, walked}
@@ -17,7 +14,7 @@ use Rattle.rje_orders.specs.declared.device.Device.{Device}
 use Rattle.rje_orders.specs.declared.device.Device.TheVariants.{Default, Printer, Punch, Transparent}
 use Rattle.rje_words.specs.Asking.{device_in, is_on, word_in}
 use Rattle.rje_words.specs.Canonical.{cards_options, in_each_order}
-use Rattle.rje_words.specs.CommandLine.{is_file, names_file, rje_app}
+use Rattle.rje_words.specs.CommandLine.{rje_app}
 use Rattle.rje_words.proofs.FileWords.{AreTaken, seen}
 use Rattle.rje_words.proofs.PlainWords.{IsPlain}
 

@@ -13,8 +13,8 @@ use Rattle.rje_orders.specs.declared.order.Order.{Order}
 use Rattle.rje_orders.specs.declared.order.Order.TheVariants.{Files, Sockets}
 use Rattle.rje_orders.specs.declared.order.FileOrder.TheVariants.{Cards}
 use Rattle.rje_words.specs.declared.words_fault.WordsFault.{WordsFault}
-use Rattle.rje_words.specs.declared.words_fault.WordsFault.TheVariants.{Refused, TwoDevices, BadName, BadAddress, NoMeeting, NewAndAppend}
-use Rattle.rje_words.specs.Asking.{IsFaultOf, IsGivenName, IsOrderOf}
+use Rattle.rje_words.specs.declared.words_fault.WordsFault.TheVariants.{TwoDevices, BadName}
+use Rattle.rje_words.specs.Asking.{IsCardsFaultOf, IsFaultOf, IsGivenName, IsOrderOf}
 use Rattle.rje_words.specs.Canonical.{AskOnlyFor, CardsWithOptionsAsked, in_each_order}
 use Rattle.rje_words.specs.Orders.{IsCards}
 use Rattle.rje_words.proofs.CardsLevel.{ArePlain, Part, Seen, Summary, append_parts, are_seen, cards_in, cards_parts, cards_taken, device_parts, flag, name_parts, named, part_words, summary}
@@ -80,16 +80,16 @@ module _ (deck jobs : Text) (device : Device) (given : Option Text) (name : Text
   order_read rows e (Files _) h = absurd (apart _ _ h.0 refl)
   order_read rows e (Sockets order) h = absurd (no_socket (codes "cards") rows order refl refl refl refl h)
 
+  cards_told : (rows : List Row) → cards_in rows ≡ value → (fault : WordsFault) → IsCardsFaultOf rows fault → ⊥
+  cards_told rows e TwoDevices h = none-some device (sym h ∙ ap (λ (v : Seen). v.2) e)
+  cards_told rows e (BadName word) h = names_apart given name named_is (subst (λ o. IsGivenName o None) (ap (λ (v : Seen). v.3) e) h.1.0)
+  cards_told rows e _ h = h
+
   none_told : (rows : List Row) → cards_in rows ≡ value → (fault : WordsFault) → IsFaultOf (codes "cards") rows fault → ⊥
-  none_told rows e (Refused error) h = h
-  none_told rows e TwoDevices h = none-some device (sym h.1 ∙ ap (λ (v : Seen). v.2) e)
-  none_told rows e (BadName word) h = names_apart given name named_is (subst (λ o. IsGivenName o None) (ap (λ (v : Seen). v.3) e) h.1.1.0)
-  none_told rows e (BadAddress word) (inl h) = apart _ _ h.0 refl
-  none_told rows e (BadAddress word) (inr (inl h)) = apart _ _ h.0 refl
-  none_told rows e (BadAddress word) (inr (inr h)) = apart _ _ h.0 refl
-  none_told rows e NoMeeting h = apart _ _ h.0 refl
-  none_told rows e NewAndAppend (inl h) = apart _ _ h.0 refl
-  none_told rows e NewAndAppend (inr h) = apart _ _ h.0 refl
+  none_told rows e fault (inl h) = cards_told rows e fault h.1
+  none_told rows e fault (inr (inl h)) = apart _ _ h.0 refl
+  none_told rows e fault (inr (inr (inl h))) = apart _ _ h.0 refl
+  none_told rows e fault (inr (inr (inr h))) = apart _ _ h.0 refl
 
   ask_all : IsPlain deck → IsPlain jobs → (all : List (List Part)) → AllByRecursion ArePlain all → map (summary deck jobs) all ≡ map (λ _. ([], [], value)) all
       → AllByRecursion (λ options. AskOnlyFor (codes "cards" ∷ deck ∷ jobs ∷ options) (IsCards deck jobs device name adds)) (map (flat_map part_words) all)

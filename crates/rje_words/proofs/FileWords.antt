@@ -11,11 +11,12 @@ use Rattle.clap.proofs.OnLiterals.{clap_on_literals}
 use Rattle.clap.specs.declared.error.Error.{Error}
 use Rattle.rje_orders.specs.declared.order.Order.{Order}
 use Rattle.rje_orders.specs.declared.order.Order.TheVariants.{Files, Sockets}
-use Rattle.rje_orders.specs.declared.order.FileOrder.TheVariants.{Blocks, Show, Check, Print, Try, Monitor}
+use Rattle.rje_orders.specs.declared.order.FileOrder.{FileOrder}
+use Rattle.rje_orders.specs.declared.order.FileOrder.TheVariants.{Blocks, Cards, Show, Check, Print, Try, Monitor}
 use Rattle.rje_orders.specs.declared.order.SocketOrder.{SocketOrder}
 use Rattle.rje_orders.specs.declared.order.SocketOrder.TheVariants.{Loop, Send, Receive, Exchange}
 use Rattle.rje_words.specs.declared.words_fault.WordsFault.{WordsFault}
-use Rattle.rje_words.specs.declared.words_fault.WordsFault.TheVariants.{Refused, TwoDevices, BadName, BadAddress, NoMeeting, NewAndAppend}
+use Rattle.rje_words.specs.declared.words_fault.WordsFault.TheVariants.{Refused}
 use Rattle.rje_orders.specs.Choice.{devices_chosen}
 use Rattle.rje_words.specs.Asking.{AsksFor, form_chosen, IsFaultOf, IsNumberOf, IsOrderOf, IsWordsFault, is_on, word_in}
 use Rattle.rje_words.specs.Canonical.{AskOnlyFor, flag_words, print_words, BlocksAsked, ShowAsked, CheckAsked, PrintAsked, TryAsked, MonitorAsked}
@@ -55,11 +56,7 @@ module _ {V : Type 0} (view : List Row → V) (word : Text) (words : List Text) 
   pub only_memory : ((rows : List Row) → view rows ≡ value → (fault : WordsFault) → IsFaultOf name rows fault → ⊥)
       → (fault : WordsFault) → IsWordsFault (word ∷ words) fault → IsWantOfMemory fault
   only_memory none (Refused error) h = memory_only error (subst (λ kinds. HasKind kinds error) taken.faultless h)
-  only_memory none TwoDevices h = let r = as_seen view _ name value (λ n rows. IsFaultOf n rows TwoDevices) taken.found h.1 in absurd (none r.0 r.1 TwoDevices r.2)
-  only_memory none (BadName word) h = let r = as_seen view _ name value (λ n rows. IsFaultOf n rows (BadName word)) taken.found h.1 in absurd (none r.0 r.1 (BadName word) r.2)
-  only_memory none (BadAddress word) h = let r = as_seen view _ name value (λ n rows. IsFaultOf n rows (BadAddress word)) taken.found h.1 in absurd (none r.0 r.1 (BadAddress word) r.2)
-  only_memory none NoMeeting h = let r = as_seen view _ name value (λ n rows. IsFaultOf n rows NoMeeting) taken.found h.1 in absurd (none r.0 r.1 NoMeeting r.2)
-  only_memory none NewAndAppend h = let r = as_seen view _ name value (λ n rows. IsFaultOf n rows NewAndAppend) taken.found h.1 in absurd (none r.0 r.1 NewAndAppend r.2)
+  only_memory none fault h = let r = as_seen view _ name value (λ n rows. IsFaultOf n rows fault) taken.found h.1 in absurd (none r.0 r.1 fault r.2)
 
   pub only_order : (P : Order → Type 0) → ((rows : List Row) → view rows ≡ value → (order : Order) → IsOrderOf name rows order → P order)
       → (order : Order) → AsksFor (word ∷ words) order → P order
@@ -251,6 +248,17 @@ no_socket name rows (Send order) loop send receive exchange h = apart _ _ h.0 se
 no_socket name rows (Receive order) loop send receive exchange h = apart _ _ h.0 receive
 no_socket name rows (Exchange order) loop send receive exchange h = apart _ _ h.0 exchange
 
+pub no_file : (name : Text) (rows : List Row) (order : FileOrder) → bytes_eq name (codes "blocks") ≡ false → bytes_eq name (codes "cards") ≡ false
+    → bytes_eq name (codes "show") ≡ false → bytes_eq name (codes "check") ≡ false → bytes_eq name (codes "print") ≡ false
+    → bytes_eq name (codes "try") ≡ false → bytes_eq name (codes "monitor") ≡ false → IsOrderOf name rows (Files order) → ⊥
+no_file name rows (Blocks deck) blocks cards show check print attempt monitor h = apart _ _ h.0 blocks
+no_file name rows (Cards order) blocks cards show check print attempt monitor h = apart _ _ h.0 cards
+no_file name rows (Show order) blocks cards show check print attempt monitor h = apart _ _ h.0 show
+no_file name rows (Check jobs) blocks cards show check print attempt monitor h = apart _ _ h.0 check
+no_file name rows (Print order) blocks cards show check print attempt monitor h = apart _ _ h.0 print
+no_file name rows (Try order) blocks cards show check print attempt monitor h = apart _ _ h.0 attempt
+no_file name rows (Monitor order) blocks cards show check print attempt monitor h = apart _ _ h.0 monitor
+
 blocks_read : (deck : Text) (rows : List Row) → deck_in rows ≡ deck → (order : Order) → IsOrderOf (codes "blocks") rows order → IsBlocks deck order
 blocks_read deck rows e (Files (Blocks named)) h = h.1 ∙ e
 blocks_read deck rows e (Files _) h = absurd (apart _ _ h.0 refl)
@@ -299,15 +307,10 @@ monitor_read capture hex rows e (Sockets order) h = absurd (no_socket (codes "mo
 -- only the values of these commands can be such that they can't be carried out
 no_fault : (name : Text) (rows : List Row) → bytes_eq name (codes "cards") ≡ false → bytes_eq name (codes "send") ≡ false
     → bytes_eq name (codes "receive") ≡ false → bytes_eq name (codes "exchange") ≡ false → (fault : WordsFault) → IsFaultOf name rows fault → ⊥
-no_fault name rows cards send receive exchange (Refused error) h = h
-no_fault name rows cards send receive exchange TwoDevices h = apart _ _ h.0 cards
-no_fault name rows cards send receive exchange (BadName word) h = apart _ _ h.0 cards
-no_fault name rows cards send receive exchange (BadAddress word) (inl e) = apart _ _ e.0 send
-no_fault name rows cards send receive exchange (BadAddress word) (inr (inl e)) = apart _ _ e.0 receive
-no_fault name rows cards send receive exchange (BadAddress word) (inr (inr e)) = apart _ _ e.0 exchange
-no_fault name rows cards send receive exchange NoMeeting h = apart _ _ h.0 exchange
-no_fault name rows cards send receive exchange NewAndAppend (inl e) = apart _ _ e.0 receive
-no_fault name rows cards send receive exchange NewAndAppend (inr e) = apart _ _ e.0 exchange
+no_fault name rows cards send receive exchange fault (inl h) = apart _ _ h.0 cards
+no_fault name rows cards send receive exchange fault (inr (inl h)) = apart _ _ h.0 send
+no_fault name rows cards send receive exchange fault (inr (inr (inl h))) = apart _ _ h.0 receive
+no_fault name rows cards send receive exchange fault (inr (inr (inr h))) = apart _ _ h.0 exchange
 
 module _ {V : Type 0} (view : List Row → V) (word : Text) (words : List Text) (name : Text) (value : V) (P : Order → Type 0) where
   ask_only : fault_of rje_app (word ∷ words) ≡ [] → seen view (subcommand_of rje_app (word ∷ words)) ≡ Some (name, value)

@@ -1,5 +1,5 @@
 -- What clap finds of any command, and the faults of it.
-use Rattle.std.proofs.Common.{ℕ, List, [], ◌∷◌, Option, Some, None, Bool, true, false, ◌≡◌, ◌≢◌, refl, sym, ap, ◌∙◌, codes, subst, length}
+use Rattle.std.proofs.Common.{ℕ, ◌^◌, List, [], ◌∷◌, Option, Some, None, Bool, true, false, ◌≡◌, ◌≢◌, inl, inr, refl, sym, ap, ◌∙◌, codes, subst, length}
 use Rattle.std.specs.Prelude.{option_map, unwrap_or, map, Result, Ok, Err, IfOk, IfErr, IsErrAnd, ◌==◌}
 use Rattle.std.specs.Option.{IsSomeAnd, option_map_or}
 use Rattle.std.specs.Borrow.{Bor}
@@ -13,8 +13,8 @@ use Rattle.clap.specs.declared.parser.ArgMatches.{ArgMatches}
 use Rattle.clap.specs.declared.parser.ArgMatches.TheViews.{out-ArgMatches}
 use Rattle.rje_orders.specs.declared.order.Order.{Order}
 use Rattle.rje_words.specs.declared.words_fault.WordsFault.{WordsFault}
-use Rattle.rje_words.specs.declared.words_fault.WordsFault.TheVariants.{Refused, TwoDevices, BadName, BadAddress, NoMeeting, NewAndAppend}
-use Rattle.rje_words.specs.Asking.{AsksFor, IsFound, IsOrderOf, IsNumberOf, IsTimeoutOf, IsFaultOf, IsWordsFault}
+use Rattle.rje_words.specs.declared.words_fault.WordsFault.TheVariants.{Refused}
+use Rattle.rje_words.specs.Asking.{AsksFor, IsFound, IsGivenNumber, IsOrderOf, IsNumberOf, IsFaultOf, IsMeetingFault, IsWordsFault}
 use Rattle.rje_words.specs.CommandLine.{rje_app}
 
 -- WHAT IS READ OF A VALUE
@@ -35,12 +35,12 @@ bool_read E (Some t) (Some true) none value = rw (value t refl) refl
 bool_read E (Some t) (Some false) none value = rw (value t refl) refl
 bool_read E (Some t) None none value = sym (not_text _ t (codes "true") refl (value t refl).1.0)
 
-module _ (E : Type 0) (gives : Text → Result ℕ E → Type 0) (parses : (text : Text) (r : Result ℕ E) → gives text r → ParsesUnsigned 16 10 text r) where
-  pub timeout_read : (o : Option Text) (r : Option ℕ) → (o ≡ None → r ≡ None) → ((t : Text) → o ≡ Some t → ReadsOne gives t r)
-      → IsTimeoutOf o (unwrap_or r 3000)
-  timeout_read None r none value = ap (λ x. unwrap_or x 3000) (none refl)
-  timeout_read (Some t) (Some n) none value = λ numeral small. (parses t (Ok n) (value t refl)).1
-  timeout_read (Some t) None none value = let error = value t refl in λ numeral small. absurd (parses t (Err error.0) error.1 (numeral, small))
+module _ (E : Type 0) (gives : Text → Result ℕ E → Type 0) (bits usual : ℕ) (parses : (text : Text) (r : Result ℕ E) → gives text r → ParsesUnsigned bits 10 text r) where
+  pub given_read : (o : Option Text) (r : Option ℕ) → (o ≡ None → r ≡ None) → ((t : Text) → o ≡ Some t → ReadsOne gives t r)
+      → IsGivenNumber (2 ^ bits) usual o (unwrap_or r usual)
+  given_read None r none value = ap (λ x. unwrap_or x usual) (none refl)
+  given_read (Some t) (Some n) none value = λ numeral small. (parses t (Ok n) (value t refl)).1
+  given_read (Some t) None none value = let error = value t refl in λ numeral small. absurd (parses t (Err error.0) error.1 (numeral, small))
 
 module _ (E : Type 0) (gives : Text → Result ℕ E → Type 0) (parses : (text : Text) (r : Result ℕ E) → gives text r → ParsesUnsigned 32 10 text r) where
   pub number_read : (o : Option Text) (r : Option ℕ) → (o ≡ None → r ≡ None) → ((t : Text) → o ≡ Some t → ReadsOne gives t r) → IsNumberOf o r
@@ -102,9 +102,26 @@ command_found app words m found met is h e names rows =
     met_by app words m is h ∙ command_met m met.0.now (rows_of (found_of met.1.now)) (ap (option_map (λ p. p.0.now)) (sym e) ∙ names)
     (ap (option_map (λ p. rows_of (found_of p.1.now))) (sym e) ∙ rows)
 
+no_meeting_refuses : (to listen from : Option Text) (error : Error) → IsMeetingFault to listen from (Refused error) → ⊥
+no_meeting_refuses None None from error h = h
+no_meeting_refuses None (Some listen) None error h = h
+no_meeting_refuses None (Some listen) (Some from) error h = h
+no_meeting_refuses (Some to) None None error h = h
+no_meeting_refuses (Some to) None (Some from) error h = h
+no_meeting_refuses (Some to) (Some listen) from error h = h
+
+-- what is found is never refused in the library's place
+never_refused : (name : Text) (rows : List Row) (error : Error) → IsFaultOf name rows (Refused error) → ⊥
+never_refused name rows error (inl h) = h.1
+never_refused name rows error (inr (inl h)) = no_meeting_refuses _ _ _ error h.1
+never_refused name rows error (inr (inr (inl (is, inl h)))) = no_meeting_refuses _ _ _ error h
+never_refused name rows error (inr (inr (inl (is, inr h)))) = h.2
+never_refused name rows error (inr (inr (inr (is, inl h)))) = no_meeting_refuses _ _ _ error h
+never_refused name rows error (inr (inr (inr (is, inr h)))) = h.2
+
 none_refused : (met : Option (Text × List Row)) (error : Error) → IsSomeAnd met (λ m. IsFaultOf m.0 m.1 (Refused error)) → ⊥
 none_refused None error h = h
-none_refused (Some m) error h = h
+none_refused (Some m) error h = never_refused m.0 m.1 error h
 
 module _ (words : List Text) (some_word : words ≢ []) where
   pub refused_told : (error : Error) → HasKind (fault_of rje_app words) error → IsWordsFault words (Refused error)
@@ -132,11 +149,7 @@ module _ (words : List Text) (some_word : words ≢ []) where
       go : (ws : List Text) → ws ≢ [] → (f : WordsFault) → IsFound ws (λ name rows. IsFaultOf name rows f) → IsWordsFault ws f
       go [] ne f h = absurd (ne refl)
       go (w ∷ ws) ne (Refused error) h = absurd (none_refused (subcommand_of rje_app (w ∷ ws)) error h.1)
-      go (w ∷ ws) ne TwoDevices h = h
-      go (w ∷ ws) ne (BadName word) h = h
-      go (w ∷ ws) ne (BadAddress word) h = h
-      go (w ∷ ws) ne NoMeeting h = h
-      go (w ∷ ws) ne NewAndAppend h = h
+      go (w ∷ ws) ne _ h = h
 
   module _ (taken : fault_of rje_app words ≡ []) (name : Text) (rows : List Row) (met : subcommand_of rje_app words ≡ Some (name, rows)) where
     pub orders_asked : (r : Result Order WordsFault) → IfOk r (IsOrderOf name rows) → IfOk r (AsksFor words)

@@ -4,4 +4,6 @@ pub mod PlainWords
 pub mod FileWords
 pub mod CardsLevel
 pub mod CardsWords
+pub mod Connections
 pub mod ReceiveWords
+pub mod SendWords

@@ -5,18 +5,22 @@ use Rattle.std.specs.declared.net.socket_addr.SocketAddr.{SocketAddr}
 use Rattle.std.specs.Str.{bytes_eq}
 use Rattle.std.specs.Str.Parse.{IsNumeral, digits_value, without_leading_plus}
 use Rattle.clap.specs.Words.{HasKind, Row, Text, fault_of, first_of, one_of, subcommand_of}
+use Rattle.bsc_link.specs.declared.rank.Rank.{Rank}
 use Rattle.rje_files.specs.Entry.{IsNameOf, blank_name}
 use Rattle.rje_jobs.specs.declared.punch.Form.{Form}
 use Rattle.rje_jobs.specs.declared.punch.Form.TheVariants.{Ascii, Raw}
+use Rattle.rje_orders.specs.declared.callers.Callers.{Callers}
+use Rattle.rje_orders.specs.declared.callers.Callers.TheVariants.{Anyone, These}
 use Rattle.rje_orders.specs.declared.choice.Devices.TheVariants.{All}
+use Rattle.rje_orders.specs.declared.connection.Connection.{Connection}
+use Rattle.rje_orders.specs.declared.connection.Meeting.{Meeting}
+use Rattle.rje_orders.specs.declared.connection.Meeting.TheVariants.{Calls, Listens}
 use Rattle.rje_orders.specs.declared.device.Device.{Device}
 use Rattle.rje_orders.specs.declared.order.CardsOrder.{CardsOrder}
 use Rattle.rje_orders.specs.declared.order.Destination.{Destination}
 use Rattle.rje_orders.specs.declared.order.ExchangeOrder.{ExchangeOrder}
 use Rattle.rje_orders.specs.declared.order.Existing.{Existing}
 use Rattle.rje_orders.specs.declared.order.LoopOrder.{LoopOrder}
-use Rattle.rje_orders.specs.declared.order.Meeting.{Meeting}
-use Rattle.rje_orders.specs.declared.order.Meeting.TheVariants.{Calls, Listens}
 use Rattle.rje_orders.specs.declared.order.Order.{Order}
 use Rattle.rje_orders.specs.declared.order.Order.TheVariants.{Files, Sockets}
 use Rattle.rje_orders.specs.declared.order.MonitorOrder.{MonitorOrder}
@@ -28,10 +32,12 @@ use Rattle.rje_orders.specs.declared.order.SendOrder.{SendOrder}
 use Rattle.rje_orders.specs.declared.order.ShowOrder.{ShowOrder}
 use Rattle.rje_orders.specs.declared.order.TryOrder.{TryOrder}
 use Rattle.rje_words.specs.declared.words_fault.WordsFault.{WordsFault}
-use Rattle.rje_words.specs.declared.words_fault.WordsFault.TheVariants.{Refused, TwoDevices, BadName, BadAddress, NoMeeting, NewAndAppend}
+use Rattle.rje_words.specs.declared.words_fault.WordsFault.TheVariants.{Refused, TwoDevices, BadName, BadAddress, NoMeeting, CallersCalled, BadCallers, WaitCalled, TwoRanks, NewAndAppend}
 use Rattle.rje_words.specs.Address.{IsAddressOf}
 use Rattle.rje_words.specs.CommandLine.{rje_app}
+use Rattle.rje_orders.specs.Callers.{AreAddresses}
 use Rattle.rje_orders.specs.Choice.{devices_chosen}
+use Rattle.rje_orders.specs.Connection.{rank_chosen}
 use Rattle.rje_orders.specs.Device.{chosen}
 use Rattle.rje_orders.specs.Existing.{existing_chosen}
 use Rattle.rje_words.specs.Orders.{IsBlocks}
@@ -64,10 +70,6 @@ pub record IsCardsOrderOf (rows : List Row) (order : CardsOrder) : Type 0 where
 -- what was found for a name is this word, and not a name
 abbrev pub IsBadName : Option Text → Text → Type 0
 IsBadName found word = IsGivenName found None × (found ≡ Some word)
-
--- what was found for an address is this word, and not an address
-abbrev pub IsBadAddress : (found word : Text) → Type 0
-IsBadAddress found word = IsAddressOf found None × (word ≡ found)
 
 -- the options that were found choose two devices, or they choose one and the name, by its word, is not a name
 abbrev pub IsCardsFaultOf : List Row → WordsFault → Type 0
@@ -110,10 +112,20 @@ pub record IsMonitorOrderOf (rows : List Row) (order : MonitorOrder) : Type 0 wh
   pub capture : order.capture.now ≡ unwrap_or (first_of (codes "CAPTURE") rows) (codes "-")
   pub hex : order.hex ≡ is_on (codes "hex") rows
 
--- the time-out of this text: the decimal number that it writes, which a plus may precede, and 3000 where none was found
+-- the number of this text, where it is below the bound: the decimal number that it writes, which a plus may precede, and the usual one where
+-- no text was found
+abbrev pub IsGivenNumber : (bound usual : ℕ) → Option Text → ℕ → Type 0
+IsGivenNumber bound usual (Some text) number =
+    let digits = without_leading_plus text in IsNumeral 10 digits → digits_value 10 digits < bound → number ≡ digits_value 10 digits
+IsGivenNumber bound usual None number = number ≡ usual
+
+-- the time-out of a hearing, in milliseconds, by the text that was found for it
 abbrev pub IsTimeoutOf : Option Text → ℕ → Type 0
-IsTimeoutOf (Some text) timeout = let digits = without_leading_plus text in IsNumeral 10 digits → digits_value 10 digits < 2 ^ 16 → timeout ≡ digits_value 10 digits
-IsTimeoutOf None timeout = timeout ≡ 3000
+IsTimeoutOf = IsGivenNumber (2 ^ 16) 3000
+
+-- after how many hearings in a row without a word it leaves, by the text that was found for it
+abbrev pub IsPatienceOf : Option Text → ℕ → Type 0
+IsPatienceOf = IsGivenNumber (2 ^ 32) 40
 
 -- the order has the job file and the time-out that were found, and reports each turn where that option was
 pub record IsLoopOrderOf (rows : List Row) (order : LoopOrder) : Type 0 where
@@ -121,17 +133,61 @@ pub record IsLoopOrderOf (rows : List Row) (order : LoopOrder) : Type 0 where
   pub timeout : IsTimeoutOf (one_of (codes "timeout") rows) order.timeout
   pub trace : order.trace ≡ is_on (codes "trace") rows
 
--- the order has the job file, the address of the receiver and the time-out that were found, and reports each turn where that option was
+-- what was found for an address is this word, and not an address
+abbrev pub IsBadAddress : (found word : Text) → Type 0
+IsBadAddress found word = IsAddressOf found None × (word ≡ found)
+
+-- the text is that of an address
+abbrev pub IsSomeAddress : Text → Type 0
+IsSomeAddress text = (address : SocketAddr) × IsAddressOf text (Some address)
+
+-- whose calls are taken, by the text that was found for them: anyone's where none was, and else those from its addresses
+abbrev pub IsCallersOf : Option Text → Callers → Type 0
+IsCallersOf None Anyone = ⊤
+IsCallersOf (Some text) (These addresses) = AreAddresses text × (addresses.now ≡ text)
+IsCallersOf _ _ = ⊥
+
+-- what was found for callers is this word, and not addresses
+abbrev pub IsBadCallers : Option Text → Text → Type 0
+IsBadCallers found word = (found ≡ Some word) × ¬ (AreAddresses word)
+
+-- the other end is called at the address of the one option, or the call of these callers is awaited at that of the other one, by the texts
+-- that were found: just one of the two was, and callers go with the second
+abbrev pub IsMeetingOf : (to listen from : Option Text) → Meeting → Type 0
+IsMeetingOf (Some text) None None (Calls address) = IsAddressOf text (Some address)
+IsMeetingOf None (Some text) from (Listens address callers) = IsAddressOf text (Some address) × IsCallersOf from callers
+IsMeetingOf _ _ _ _ = ⊥
+
+-- there are two texts for addresses or none, or the one is no address; or it is one, and callers were found where it calls, or bad ones
+abbrev pub IsMeetingFault : (to listen from : Option Text) → WordsFault → Type 0
+IsMeetingFault None None from NoMeeting = ⊤
+IsMeetingFault (Some to) (Some listen) from NoMeeting = ⊤
+IsMeetingFault (Some text) None from (BadAddress word) = IsBadAddress text word.now
+IsMeetingFault None (Some text) from (BadAddress word) = IsBadAddress text word.now
+IsMeetingFault (Some text) None (Some from) CallersCalled = IsSomeAddress text
+IsMeetingFault None (Some text) from (BadCallers word) = IsSomeAddress text × IsBadCallers from word.now
+IsMeetingFault _ _ _ _ = ⊥
+
+-- this was found for how the connection is come to
+abbrev pub IsMeetingIn : List Row → Meeting → Type 0
+IsMeetingIn rows = IsMeetingOf (first_of (codes "to") rows) (first_of (codes "listen") rows) (first_of (codes "from") rows)
+
+-- the connection is come to as the options for it say and has the time-out that was found, with a line adapter at the other end and with
+-- reports of each turn where these options were
+pub record IsConnectionOf (rows : List Row) (link : Connection) : Type 0 where
+  pub place : IsMeetingIn rows link.place
+  pub timeout : IsTimeoutOf (one_of (codes "timeout") rows) link.timeout
+  pub adapter : link.adapter ≡ is_on (codes "adapter") rows
+  pub trace : link.trace ≡ is_on (codes "trace") rows
+
+-- what was found is no connection
+abbrev pub IsConnectionFault : List Row → WordsFault → Type 0
+IsConnectionFault rows = IsMeetingFault (first_of (codes "to") rows) (first_of (codes "listen") rows) (first_of (codes "from") rows)
+
+-- the order has the job file and the connection that were found
 pub record IsSendOrderOf (rows : List Row) (order : SendOrder) : Type 0 where
   pub jobs : order.jobs.now ≡ word_in (codes "JOBS") rows
-  pub address : IsAddressOf (word_in (codes "to") rows) (Some order.address)
-  pub timeout : IsTimeoutOf (one_of (codes "timeout") rows) order.timeout
-  pub trace : order.trace ≡ is_on (codes "trace") rows
-
--- the address of the receiver that was found is not an address
-abbrev pub IsSendFaultOf : List Row → WordsFault → Type 0
-IsSendFaultOf rows (BadAddress word) = IsBadAddress (word_in (codes "to") rows) word.now
-IsSendFaultOf rows _ = ⊥
+  pub connection : IsConnectionOf rows order.connection
 
 -- what the options choose for the jobs that the file which is received into holds already
 abbrev pub existing_in : List Row → Option Existing
@@ -142,56 +198,52 @@ pub record IsDestinationOf (id : Text) (rows : List Row) (into : Destination) : 
   pub jobs : into.jobs.now ≡ word_in id rows
   pub existing : existing_in rows ≡ Some into.existing
 
--- the order has the job file with the choice for its jobs, the address to listen at and the time-out that were found, and reports each turn
--- where that option was
+-- whether a call that brings nothing is followed by the next, where that option was given: an end that calls can't be asked for it
+abbrev pub waits_in : Meeting → List Row → Option Bool
+waits_in (Calls address) rows = if is_on (codes "wait") rows then None else Some false
+waits_in (Listens address callers) rows = Some (is_on (codes "wait") rows)
+
+-- the order has the job file with the choice for its jobs, the connection and the patience that were found, and waits where that option was
+-- given
 pub record IsReceiveOrderOf (rows : List Row) (order : ReceiveOrder) : Type 0 where
   pub into : IsDestinationOf (codes "JOBS") rows order.into
-  pub address : IsAddressOf (word_in (codes "listen") rows) (Some order.address)
-  pub timeout : IsTimeoutOf (one_of (codes "timeout") rows) order.timeout
-  pub trace : order.trace ≡ is_on (codes "trace") rows
+  pub connection : IsConnectionOf rows order.connection
+  pub waits : waits_in order.connection.place rows ≡ Some order.waits
+  pub patience : IsPatienceOf (one_of (codes "patience") rows) order.patience
 
--- the text is that of an address
-abbrev pub IsSomeAddress : Text → Type 0
-IsSomeAddress text = (address : SocketAddr) × IsAddressOf text (Some address)
+-- an end that calls was to wait for calls; or not, but both options for the jobs of the file which is received into were given
+abbrev pub IsReceivingFault : Meeting → List Row → WordsFault → Type 0
+IsReceivingFault place rows WaitCalled = waits_in place rows ≡ None
+IsReceivingFault place rows NewAndAppend = (waits_in place rows ≢ None) × (existing_in rows ≡ None)
+IsReceivingFault place rows _ = ⊥
 
--- the address to listen at that was found is not an address, or it is one and both options for the jobs of the file were given
+-- what was found is no connection, or it is one and there is a fault in what else was chosen
 abbrev pub IsReceiveFaultOf : List Row → WordsFault → Type 0
-IsReceiveFaultOf rows (BadAddress word) = IsBadAddress (word_in (codes "listen") rows) word.now
-IsReceiveFaultOf rows NewAndAppend = IsSomeAddress (word_in (codes "listen") rows) × (existing_in rows ≡ None)
-IsReceiveFaultOf rows _ = ⊥
+IsReceiveFaultOf rows fault = IsConnectionFault rows fault ⊎ ((link : Connection) × IsConnectionOf rows link × IsReceivingFault link.place rows fault)
 
--- the other end is called at the address of the one option, or the call is awaited at that of the other one, by the texts that were
--- found for them: just one of the two was
-abbrev pub IsMeetingOf : (to listen : Option Text) → Meeting → Type 0
-IsMeetingOf (Some text) None (Calls address) = IsAddressOf text (Some address)
-IsMeetingOf None (Some text) (Listens address) = IsAddressOf text (Some address)
-IsMeetingOf _ _ _ = ⊥
+-- the rank that the options choose for this end of a connection that is come to so
+abbrev pub rank_in : Meeting → List Row → Option Rank
+rank_in place rows = rank_chosen place (is_on (codes "primary") rows) (is_on (codes "secondary") rows)
 
--- there are two texts or none; or the one is no address
-abbrev pub IsMeetingFault : (to listen : Option Text) → WordsFault → Type 0
-IsMeetingFault None None NoMeeting = ⊤
-IsMeetingFault (Some to) (Some listen) NoMeeting = ⊤
-IsMeetingFault (Some text) None (BadAddress word) = IsBadAddress text word.now
-IsMeetingFault None (Some text) (BadAddress word) = IsBadAddress text word.now
-IsMeetingFault _ _ _ = ⊥
-
--- there is just one text, and it is that of an address
-abbrev pub IsSomeMeeting : (to listen : Option Text) → Type 0
-IsSomeMeeting to listen = (place : Meeting) × IsMeetingOf to listen place
-
--- the order has the two job files, the second with the choice for its jobs, and the time-out that were found, calls or is called so, and
--- reports each turn where that option was
+-- the order has the two job files, the second with the choice for its jobs, the connection and the patience that were found, and the rank
+-- that the options choose
 pub record IsExchangeOrderOf (rows : List Row) (order : ExchangeOrder) : Type 0 where
   pub send : order.send.now ≡ word_in (codes "SEND") rows
   pub received : IsDestinationOf (codes "RECEIVED") rows order.received
-  pub place : IsMeetingOf (first_of (codes "to") rows) (first_of (codes "listen") rows) order.place
-  pub timeout : IsTimeoutOf (one_of (codes "timeout") rows) order.timeout
-  pub trace : order.trace ≡ is_on (codes "trace") rows
+  pub connection : IsConnectionOf rows order.connection
+  pub rank : rank_in order.connection.place rows ≡ Some order.rank
+  pub patience : IsPatienceOf (one_of (codes "patience") rows) order.patience
 
--- what was found is no meeting, or it is one and both options for the jobs of the file which is received into were given
+-- both options for a rank were given; or not both, but both for the jobs of the file which is received into were
+abbrev pub IsChoiceFault : Meeting → List Row → WordsFault → Type 0
+IsChoiceFault place rows TwoRanks = rank_in place rows ≡ None
+IsChoiceFault place rows NewAndAppend = (rank_in place rows ≢ None) × (existing_in rows ≡ None)
+IsChoiceFault place rows _ = ⊥
+
+-- what was found is no connection, or it is one and there is a fault in what else was chosen
 abbrev pub IsExchangeFaultOf : List Row → WordsFault → Type 0
-IsExchangeFaultOf rows NewAndAppend = IsSomeMeeting (first_of (codes "to") rows) (first_of (codes "listen") rows) × (existing_in rows ≡ None)
-IsExchangeFaultOf rows fault = IsMeetingFault (first_of (codes "to") rows) (first_of (codes "listen") rows) fault
+IsExchangeFaultOf rows fault =
+    IsConnectionFault rows fault ⊎ ((link : Connection) × IsConnectionOf rows link × IsChoiceFault link.place rows fault)
 
 -- the order is that of the command of this name, with the values that were found
 abbrev pub IsOrderOf : Text → List Row → Order → Type 0
@@ -209,15 +261,10 @@ IsOrderOf name rows (Sockets (Exchange order)) = (name ≡ codes "exchange") × 
 
 -- the values that were found for the command of this name can't be carried out
 abbrev pub IsFaultOf : Text → List Row → WordsFault → Type 0
-IsFaultOf name rows (Refused error) = ⊥
-IsFaultOf name rows TwoDevices = (name ≡ codes "cards") × IsCardsFaultOf rows TwoDevices
-IsFaultOf name rows (BadName word) = (name ≡ codes "cards") × IsCardsFaultOf rows (BadName word)
-IsFaultOf name rows (BadAddress word) =
-    ((name ≡ codes "send") × IsSendFaultOf rows (BadAddress word))
-    ⊎ (((name ≡ codes "receive") × IsReceiveFaultOf rows (BadAddress word)) ⊎ ((name ≡ codes "exchange") × IsExchangeFaultOf rows (BadAddress word)))
-IsFaultOf name rows NoMeeting = (name ≡ codes "exchange") × IsExchangeFaultOf rows NoMeeting
-IsFaultOf name rows NewAndAppend =
-    ((name ≡ codes "receive") × IsReceiveFaultOf rows NewAndAppend) ⊎ ((name ≡ codes "exchange") × IsExchangeFaultOf rows NewAndAppend)
+IsFaultOf name rows fault =
+    ((name ≡ codes "cards") × IsCardsFaultOf rows fault)
+    ⊎ (((name ≡ codes "send") × IsConnectionFault rows fault)
+    ⊎ (((name ≡ codes "receive") × IsReceiveFaultOf rows fault) ⊎ ((name ≡ codes "exchange") × IsExchangeFaultOf rows fault)))
 
 -- the words are taken, and what is found of the command that they name is this
 abbrev pub IsFound : List Text → (Text → List Row → Type 0) → Type 0
@@ -228,8 +275,7 @@ abbrev pub AsksFor : List Text → Order → Type 0
 AsksFor [] order = IsBlocks (codes "-") order
 AsksFor (word ∷ words) order = IsFound (word ∷ words) (λ name rows. IsOrderOf name rows order)
 
--- this is why the words ask for nothing that can be done: clap refuses them, memory ran out, or they choose two devices, a bad name or
--- a bad address, or both a new file and one that is added to
+-- this is why the words ask for nothing that can be done: clap refuses them, memory ran out, or the values that it finds can't be carried out
 abbrev pub IsWordsFault : List Text → WordsFault → Type 0
 IsWordsFault [] fault = ⊥
 IsWordsFault words (Refused error) = HasKind (fault_of rje_app words) error

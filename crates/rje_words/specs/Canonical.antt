@@ -5,12 +5,12 @@ use Rattle.clap.specs.Words.{Text}
 use Rattle.rje_orders.specs.declared.device.Device.{Device}
 use Rattle.rje_orders.specs.declared.order.Order.{Order}
 use Rattle.rje_words.specs.declared.words_fault.WordsFault.{WordsFault}
+use Rattle.rje_orders.specs.declared.connection.Connection.{Connection}
 use Rattle.rje_orders.specs.declared.order.Existing.{Existing}
 use Rattle.rje_orders.specs.declared.order.Order.TheVariants.{Sockets}
-use Rattle.rje_orders.specs.declared.order.SocketOrder.TheVariants.{Receive}
-use Rattle.rje_words.specs.Address.{IsAddressOf}
+use Rattle.rje_orders.specs.declared.order.SocketOrder.TheVariants.{Receive, Send}
 use Rattle.rje_orders.specs.Choice.{devices_chosen}
-use Rattle.rje_words.specs.Asking.{AsksFor, form_chosen, IsGivenName, IsSomeAddress, IsTimeoutOf, IsWordsFault}
+use Rattle.rje_words.specs.Asking.{AsksFor, form_chosen, IsGivenName, IsMeetingOf, IsPatienceOf, IsSomeAddress, IsTimeoutOf, IsWordsFault}
 use Rattle.rje_words.specs.CommandLine.{is_file, names_file}
 use Rattle.rje_words.specs.Orders.{IsBlocks, IsCards, IsShow, IsCheck, IsPrint, IsTry, IsMonitor}
 use Rattle.rje_words.specs.WordsFault.{IsWantOfMemory}
@@ -100,12 +100,31 @@ existing_words Existing.Replace = []
 existing_words Existing.Refuse = codes "--new" ∷ []
 existing_words Existing.Append = codes "--append" ∷ []
 
--- the order is to receive into this file, at this address, with this choice for the jobs that it holds already, with the usual time-out and
--- without a trace
+-- the connection is come to by these texts for the two addresses, with anyone's calls taken, and has the usual time-out, no line adapter and
+-- no trace
+pub record IsUsual (to listen : Option Text) (link : Connection) : Type 0 where
+  pub place : IsMeetingOf to listen None link.place
+  pub timeout : IsTimeoutOf (Some (codes "3000")) link.timeout
+  pub adapter : link.adapter ≡ false
+  pub trace : link.trace ≡ false
+
+-- the order is to send this file to this address over a usual connection
+abbrev pub IsSend : (jobs address : Text) → Order → Type 0
+IsSend jobs address (Sockets (Send order)) = (order.jobs.now ≡ jobs) × IsUsual (Some address) None order.connection
+IsSend jobs address _ = ⊥
+
+-- `send JOBS --to ADDR` asks to send the job file so
+abbrev pub SendAsked : Type 0
+SendAsked =
+    (jobs address : Text) → names_file jobs ≡ true → names_file address ≡ true → IsSomeAddress address
+    → AskOnlyFor (codes "send" ∷ jobs ∷ codes "--to" ∷ address ∷ []) (IsSend jobs address)
+
+-- the order is to receive into this file, at this address over a usual connection, with this choice for the jobs that it holds already,
+-- with the usual patience, whatever the call brings
 abbrev pub IsReceive : (jobs address : Text) → Existing → Order → Type 0
 IsReceive jobs address existing (Sockets (Receive order)) =
-    (order.into.jobs.now ≡ jobs) × IsAddressOf address (Some order.address) × (order.into.existing ≡ existing)
-    × IsTimeoutOf (Some (codes "3000")) order.timeout × (order.trace ≡ false)
+    (order.into.jobs.now ≡ jobs) × (order.into.existing ≡ existing) × IsUsual None (Some address) order.connection
+    × (order.waits ≡ false) × IsPatienceOf (Some (codes "40")) order.patience
 IsReceive jobs address existing _ = ⊥
 
 -- `receive JOBS --listen ADDR`, with `--new`, with `--append` or with neither, asks to receive into the job file so

@@ -28,26 +28,22 @@ capture_rule = record (new_rule (codes "CAPTURE")) { action = Some Set }
 abbrev pub flag_rule : Text → Rule
 flag_rule id = record (new_rule id) { long = Some id; action = Some SetTrue }
 
--- an option that must be given an address
-abbrev pub address_rule : Text → Rule
-address_rule id = record (file_rule id) { long = Some id; value_names = 1 }
-
--- an option that may be given an address
-abbrev pub meeting_rule : Text → Rule
-meeting_rule id = record (new_rule id) { long = Some id; value_names = 1; action = Some Set }
-
--- the option for the name of a job
-abbrev pub name_rule : Rule
-name_rule = record (new_rule (codes "name")) { long = Some (codes "name"); value_names = 1; action = Some Set }
+-- an option of this name that is given a value
+abbrev pub value_rule : Text → Rule
+value_rule id = record (new_rule id) { long = Some id; value_names = 1; action = Some Set }
 
 -- the option for how long a hearing waits, in milliseconds
 abbrev pub timeout_rule : Rule
-timeout_rule = record (new_rule (codes "timeout")) {
-  long = Some (codes "timeout");
-  value_names = 1;
-  action = Some Set;
+timeout_rule = record (value_rule (codes "timeout")) {
   parser = Some (parser.Signed (pos 1) (pos 60000));
   defaults = codes "3000" ∷ [];
+}
+
+-- the option for after how many hearings in a row without a word it leaves
+abbrev pub patience_rule : Rule
+patience_rule = record (value_rule (codes "patience")) {
+  parser = Some (parser.Signed (pos 0) (pos 1000000000));
+  defaults = codes "40" ∷ [];
 }
 
 -- the option to report each turn
@@ -56,12 +52,7 @@ trace_rule = flag_rule (codes "trace")
 
 -- the option for the number of the one job, from 1
 abbrev pub number_rule : Rule
-number_rule = record (new_rule (codes "job")) {
-  long = Some (codes "job");
-  value_names = 1;
-  action = Some Set;
-  parser = Some (parser.Signed (pos 1) (pos 4294967295));
-}
+number_rule = record (value_rule (codes "job")) { parser = Some (parser.Signed (pos 1) (pos 4294967295)) }
 
 -- a command of this name with one file
 abbrev pub file_app : Text → Text → App
@@ -80,7 +71,7 @@ with_device_rules app =
 abbrev pub cards_app : App
 cards_app =
     with_rule (with_rule (with_device_rules (with_rule (file_app (codes "cards") (codes "DECK")) (file_rule (codes "JOBS"))))
-    name_rule) (flag_rule (codes "append"))
+    (value_rule (codes "name"))) (flag_rule (codes "append"))
 
 -- the program: its words hold no name of the program, a command is required, and it has a version
 abbrev pub rje_top : App
@@ -110,29 +101,38 @@ monitor_app = with_rule (with_rule (new_app (codes "monitor")) capture_rule) (fl
 abbrev pub loop_app : App
 loop_app = with_rule (with_rule (file_app (codes "loop") (codes "JOBS")) timeout_rule) trace_rule
 
--- `send JOBS --to ADDR`
-abbrev pub send_app : App
-send_app = with_rule (with_rule (with_rule (file_app (codes "send") (codes "JOBS")) (address_rule (codes "to"))) timeout_rule) trace_rule
+-- the options for whom is called, for where it is listened, and for whose calls are taken
+abbrev pub with_meeting_rules : App → App
+with_meeting_rules app =
+    with_rule (with_rule (with_rule app (value_rule (codes "to"))) (value_rule (codes "listen"))) (value_rule (codes "from"))
+
+-- the options for a connection
+abbrev pub with_connection_rules : App → App
+with_connection_rules app = with_rule (with_rule (with_rule (with_meeting_rules app) timeout_rule) (flag_rule (codes "adapter"))) trace_rule
 
 -- the options for the jobs that the file which is received into holds already
 abbrev pub with_existing_rules : App → App
 with_existing_rules app = with_rule (with_rule app (flag_rule (codes "new"))) (flag_rule (codes "append"))
 
--- `receive JOBS --listen ADDR`, with the options for the jobs of the file
+-- the options for the rank
+abbrev pub with_rank_rules : App → App
+with_rank_rules app = with_rule (with_rule app (flag_rule (codes "primary"))) (flag_rule (codes "secondary"))
+
+-- `send JOBS`, with the options for the connection
+abbrev pub send_app : App
+send_app = with_connection_rules (file_app (codes "send") (codes "JOBS"))
+
+-- `receive JOBS`, with the options for the connection, for patience, to wait for a call that brings something, and for the jobs of the file
 abbrev pub receive_app : App
 receive_app =
-    with_rule (with_rule (with_existing_rules (with_rule (file_app (codes "receive") (codes "JOBS")) (address_rule (codes "listen"))))
-    timeout_rule) trace_rule
+    with_existing_rules (with_rule (with_rule (with_connection_rules (file_app (codes "receive") (codes "JOBS"))) patience_rule)
+    (flag_rule (codes "wait")))
 
--- the options for whom is called, and for where it is listened
-abbrev pub with_meeting_rules : App → App
-with_meeting_rules app = with_rule (with_rule app (meeting_rule (codes "to"))) (meeting_rule (codes "listen"))
-
--- `exchange SEND RECEIVED --to ADDR`, or with `--listen ADDR`, with the options for the jobs of RECEIVED
+-- `exchange SEND RECEIVED`, with the options for the connection, for patience, for the rank, and for the jobs of RECEIVED
 abbrev pub exchange_app : App
 exchange_app =
-    with_rule (with_rule (with_existing_rules (with_meeting_rules (with_rule (file_app (codes "exchange") (codes "SEND"))
-    (file_rule (codes "RECEIVED"))))) timeout_rule) trace_rule
+    with_existing_rules (with_rank_rules (with_rule (with_connection_rules (with_rule (file_app (codes "exchange") (codes "SEND"))
+    (file_rule (codes "RECEIVED")))) patience_rule))
 
 -- the commands over decks
 abbrev pub with_deck_apps : App → App

@@ -4,22 +4,24 @@ ghost use Rattle.clap.specs.Words.{first_of, found_of, one_of, rows_of};
 ghost use Rattle.rje_words.specs.CommandLine.{IsOneOf, command_names};
 ghost use Rattle.rje_words.specs.Address.{IsAddressOf};
 ghost use Rattle.rje_words.specs.Asking.{AsksFor, IsWordsFault, IsOrderOf, IsFaultOf, IsCardsOrderOf, IsCardsFaultOf};
-ghost use Rattle.rje_words.specs.Asking.{IsLoopOrderOf, IsSendOrderOf, IsSendFaultOf, IsReceiveOrderOf, IsReceiveFaultOf, IsExchangeOrderOf, IsExchangeFaultOf};
-ghost use Rattle.rje_words.specs.Asking.{IsMeetingOf, IsMeetingFault, IsTimeoutOf, IsBadName, IsGivenName, IsNumberOf, word_in, is_on, existing_in};
+ghost use Rattle.rje_words.specs.Asking.{IsLoopOrderOf, IsSendOrderOf, IsReceiveOrderOf, IsReceiveFaultOf, IsExchangeOrderOf, IsExchangeFaultOf};
+ghost use Rattle.rje_words.specs.Asking.{IsTimeoutOf, IsPatienceOf, IsBadName, IsGivenName, IsNumberOf, word_in, is_on, existing_in, rank_in, waits_in};
 ghost use Rattle.rje_words.specs.Asking.{IsMonitorOrderOf, IsPrintOrderOf, IsShowOrderOf};
+ghost use Rattle.rje_words.specs.Asking.{IsBadCallers, IsCallersOf, IsConnectionOf, IsConnectionFault, IsMeetingIn};
 
 mod app;
 
 use crate::address::address_of;
 use crate::words_fault::WordsFault;
 use app::program;
+use bsc_link::Rank;
 use clap::ArgMatches;
 use rje_files::{JobName, NO_NAME, name_of};
 use rje_jobs::Form;
 use rje_orders::{
-    CardsOrder, Choice, Destination, Device, Devices, ExchangeOrder, Existing, FileOrder,
-    LoopOrder, Meeting, MonitorOrder, Order, PrintOrder, ReceiveOrder, STANDARD_INPUT, SendOrder,
-    ShowOrder, SocketOrder, TryOrder,
+    Callers, CardsOrder, Choice, Connection, Destination, Device, Devices, ExchangeOrder, Existing,
+    FileOrder, LoopOrder, Meeting, MonitorOrder, Order, PrintOrder, ReceiveOrder, STANDARD_INPUT,
+    SendOrder, ShowOrder, SocketOrder, TryOrder,
 };
 use std::alloc::Global;
 
@@ -160,17 +162,11 @@ fn loop_order<'a>(matches: &ArgMatches<'a>) -> LoopOrder<'a>
 
 fn send_order<'a>(matches: &ArgMatches<'a>) -> Result<SendOrder<'a>, WordsFault<'a>>
     ensures asked { IfOk result (IsSendOrderOf (rows_of (found_of matches.now))) }
-    ensures told { IfErr result (IsSendFaultOf (rows_of (found_of matches.now))) }
+    ensures told { IfErr result (IsConnectionFault (rows_of (found_of matches.now))) }
 {
-    let to = word(matches, "to");
-    let Some(address) = address_of(to) else {
-        return Err(WordsFault::BadAddress(to));
-    };
     Ok(SendOrder {
         jobs: word(matches, "JOBS"),
-        address,
-        timeout: timeout_of(matches),
-        trace: has_trace(matches),
+        connection: connection_in(matches)?,
     })
 }
 
@@ -178,9 +174,9 @@ fn receive_order<'a>(matches: &ArgMatches<'a>) -> Result<ReceiveOrder<'a>, Words
     ensures asked { IfOk result (IsReceiveOrderOf (rows_of (found_of matches.now))) }
     ensures told { IfErr result (IsReceiveFaultOf (rows_of (found_of matches.now))) }
 {
-    let listen = word(matches, "listen");
-    let Some(address) = address_of(listen) else {
-        return Err(WordsFault::BadAddress(listen));
+    let connection = connection_in(matches)?;
+    let Some(waits) = waits_in(matches, connection.place) else {
+        return Err(WordsFault::WaitCalled);
     };
     let Some(existing) = existing_in(matches) else {
         return Err(WordsFault::NewAndAppend);
@@ -190,17 +186,32 @@ fn receive_order<'a>(matches: &ArgMatches<'a>) -> Result<ReceiveOrder<'a>, Words
             jobs: word(matches, "JOBS"),
             existing,
         },
-        address,
-        timeout: timeout_of(matches),
-        trace: has_trace(matches),
+        connection,
+        waits,
+        patience: patience_of(matches),
     })
+}
+
+/// Whether a call that brings nothing is followed by the next one; None where an end is to wait so that
+/// calls.
+fn waits_in(matches: &ArgMatches, place: Meeting) -> Option<bool>
+    ensures { result ≡ waits_in place.entry (rows_of (found_of matches.now)) }
+{
+    match (place, is_given(matches, "wait")) {
+        (Meeting::Calls(_), true) => None,
+        (Meeting::Calls(_), false) => Some(false),
+        (Meeting::Listens(..), waits) => Some(waits),
+    }
 }
 
 fn exchange_order<'a>(matches: &ArgMatches<'a>) -> Result<ExchangeOrder<'a>, WordsFault<'a>>
     ensures asked { IfOk result (IsExchangeOrderOf (rows_of (found_of matches.now))) }
     ensures told { IfErr result (IsExchangeFaultOf (rows_of (found_of matches.now))) }
 {
-    let place = meeting_in(matches)?;
+    let connection = connection_in(matches)?;
+    let Some(rank) = rank_in(matches, connection.place) else {
+        return Err(WordsFault::TwoRanks);
+    };
     let Some(existing) = existing_in(matches) else {
         return Err(WordsFault::NewAndAppend);
     };
@@ -210,10 +221,18 @@ fn exchange_order<'a>(matches: &ArgMatches<'a>) -> Result<ExchangeOrder<'a>, Wor
             jobs: word(matches, "RECEIVED"),
             existing,
         },
-        place,
-        timeout: timeout_of(matches),
-        trace: has_trace(matches),
+        connection,
+        rank,
+        patience: patience_of(matches),
     })
+}
+
+/// Which of the two ends of a connection that is come to so this one is; None where both of the
+/// options for it were given.
+fn rank_in(matches: &ArgMatches, place: Meeting) -> Option<Rank>
+    ensures { result ≡ rank_in place.entry (rows_of (found_of matches.now)) }
+{
+    place.rank_chosen(is_given(matches, "primary"), is_given(matches, "secondary"))
 }
 
 /// What becomes of the jobs that the file which is received into holds already; None where both of
@@ -224,25 +243,56 @@ fn existing_in(matches: &ArgMatches) -> Option<Existing>
     Existing::chosen(is_given(matches, "new"), is_given(matches, "append"))
 }
 
-/// How the two ends come to a connection: by one of two options.
-fn meeting_in<'a>(matches: &ArgMatches<'a>) -> Result<Meeting, WordsFault<'a>>
-    ensures asked { IfOk result (IsMeetingOf
-        (first_of (codes "to") (rows_of (found_of matches.now)))
-        (first_of (codes "listen") (rows_of (found_of matches.now)))) }
-    ensures told { IfErr result (IsMeetingFault
-        (first_of (codes "to") (rows_of (found_of matches.now)))
-        (first_of (codes "listen") (rows_of (found_of matches.now)))) }
+/// How a command comes to its connection, and what it keeps to there.
+fn connection_in<'a>(matches: &ArgMatches<'a>) -> Result<Connection<'a>, WordsFault<'a>>
+    ensures asked { IfOk result (IsConnectionOf (rows_of (found_of matches.now))) }
+    ensures told { IfErr result (IsConnectionFault (rows_of (found_of matches.now))) }
+{
+    Ok(Connection {
+        place: meeting_in(matches)?,
+        timeout: timeout_of(matches),
+        adapter: is_given(matches, "adapter"),
+        trace: has_trace(matches),
+    })
+}
+
+/// How the two ends come to a connection: by one of two options. A third one, for whose calls are
+/// taken, goes with the second alone.
+fn meeting_in<'a>(matches: &ArgMatches<'a>) -> Result<Meeting<'a>, WordsFault<'a>>
+    ensures asked { IfOk result (IsMeetingIn (rows_of (found_of matches.now))) }
+    ensures told { IfErr result (IsConnectionFault (rows_of (found_of matches.now))) }
 {
     match (value_of(matches, "to"), value_of(matches, "listen")) {
-        (Some(to), None) => match address_of(to) {
-            Some(address) => Ok(Meeting::Calls(address)),
-            None => Err(WordsFault::BadAddress(to)),
+        (Some(to), None) => match (address_of(to), value_of(matches, "from")) {
+            (None, _) => Err(WordsFault::BadAddress(to)),
+            (Some(_), Some(_)) => Err(WordsFault::CallersCalled),
+            (Some(address), None) => Ok(Meeting::Calls(address)),
         },
         (None, Some(listen)) => match address_of(listen) {
-            Some(address) => Ok(Meeting::Listens(address)),
             None => Err(WordsFault::BadAddress(listen)),
+            Some(address) => match callers_in(matches) {
+                Ok(callers) => Ok(Meeting::Listens(address, callers)),
+                Err(word) => Err(WordsFault::BadCallers(word)),
+            },
         },
         _ => Err(WordsFault::NoMeeting),
+    }
+}
+
+/// Whose calls are taken, which are anyone's where no addresses were found; the word where it is not
+/// addresses.
+fn callers_in<'a>(matches: &ArgMatches<'a>) -> Result<Callers<'a>, &'a str>
+    ensures callers { IfOk result (IsCallersOf
+        (first_of (codes "from") (rows_of (found_of matches.now)))) }
+    ensures none { IfErr result (λ word. IsBadCallers
+        (first_of (codes "from") (rows_of (found_of matches.now))) word.now) }
+{
+    match value_of(matches, "from") {
+        Some(word) => match Callers::of(word) {
+            Some(callers) => Ok(callers),
+            None => Err(word),
+        },
+        None => Ok(Callers::Anyone),
     }
 }
 
@@ -259,6 +309,13 @@ fn timeout_of(matches: &ArgMatches) -> u16
     ensures { IsTimeoutOf (one_of (codes "timeout") (rows_of (found_of matches.now))) result }
 {
     matches.get_one::<u16>("timeout").unwrap_or(3000)
+}
+
+/// After how many hearings in a row without a word it leaves: clap tests the range.
+fn patience_of(matches: &ArgMatches) -> u32
+    ensures { IsPatienceOf (one_of (codes "patience") (rows_of (found_of matches.now))) result }
+{
+    matches.get_one::<u32>("patience").unwrap_or(40)
 }
 
 /// Whether each turn is to be reported.

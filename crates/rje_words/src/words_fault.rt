@@ -24,6 +24,18 @@ pub enum WordsFault<'a> {
     /// Both of the options for an address, or none of them.
     #[error("choose --to or --listen")]
     NoMeeting,
+    /// Callers are named, but it calls by itself.
+    #[error("--from goes with --listen")]
+    CallersCalled,
+    /// Not the addresses of callers. Two lines.
+    #[error("{0}: not addresses of four numbers with commas between\nrje: bad address")]
+    BadCallers(&'a str),
+    /// It is to wait for a call that brings something, but it calls by itself.
+    #[error("--wait goes with --listen")]
+    WaitCalled,
+    /// Both of the options for a rank.
+    #[error("choose --primary or --secondary")]
+    TwoRanks,
     /// Both of the options for the jobs that a file which is received into holds already.
     #[error("choose --new or --append")]
     NewAndAppend,

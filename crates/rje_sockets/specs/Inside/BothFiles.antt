@@ -60,13 +60,14 @@ pub record BreaksBoth (s s' : Contending) (was is : HeldSoFar) (broken : BrokenO
 abbrev pub HasCounted : Contending → ℕ → Type 0
 HasCounted s n = (last : Contending) × CameTo s last × (last.sender.counted ≡ n)
 
--- one transmission was made each way over a line: the station took some turns there and left so; what it counted is marked in the one file, what
+-- one transmission was made each way over a line: the station, with this patience, took some turns there and left so; what it counted is marked in the one file, what
 -- came is kept in the other, and just the lines of both were printed
-pub record Exchanges (ending : Ending) (s : Contending) (marker : Marker) (keeper : Keeper) (was is : Outside) : Type 0 where
+pub record Exchanges (ending : Ending) (most : ℕ) (s : Contending) (files : Marker × Keeper) (was is : Outside) : Type 0 where
   pub left : Left
   pub station : Contending
-  pub exchanges : ExchangesTo left s was.0 station is.0
-  pub makes : marker.name.now ≢ keeper.file.into.jobs.now → (files : Option FileMap) → HoldsBoth marker s.sender.counted keeper s.receiver.jobs files was.1
-      → MakesBoth marker.file.items station marker.name.now keeper.file.into files is.1
+  pub exchanges : ExchangesTo most left s was.0 station is.0
+  pub makes : files.0.name.now ≢ files.1.file.into.jobs.now → (first : Option FileMap)
+      → HoldsBoth files.0 s.sender.counted files.1 s.receiver.jobs first was.1
+      → MakesBoth files.0.file.items station files.0.name.now files.1.file.into first is.1
   pub ending_is : ending ≡ ending_of_both (outcome_of station.sender) (is_idle (length s.sender.jobs) station.receiver.jobs) left
   pub text_is : Appends was.2 is.2 (exchanged_text station.sender.counted (length s.sender.jobs) (outcome_of station.sender) station.receiver.jobs)

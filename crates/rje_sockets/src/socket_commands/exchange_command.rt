@@ -1,5 +1,5 @@
 //! `exchange`: one transmission each way over one connection.
-ghost use Rattle.std.specs.Prelude.{◌≡◌, ◌≢◌, ◌⊎◌, List, Option, IfErr, IfOk, IfSome, OnOk, ⊤};
+ghost use Rattle.std.specs.Prelude.{◌≡◌, ◌≢◌, ◌<◌, ◌⊎◌, List, Option, IfErr, IfOk, IfSome, OnOk, ⊤};
 ghost use Rattle.std.specs.List.{flat_map};
 ghost use Rattle.rje_jobs.specs.declared.job.Job.{Job as Item};
 ghost use Rattle.rje_files.specs.declared.entry.Entry.{Entry};
@@ -7,7 +7,7 @@ ghost use Rattle.rje_files.specs.Unsent.{IsLeft};
 ghost use Rattle.rje_commands.specs.Commands.{OfFile};
 ghost use Rattle.rje_commands.specs.CommandFault.{IsFailing, status_of};
 ghost use Rattle.rje_sockets.specs.Ending.{IsRefusedFile};
-ghost use Rattle.rje_sockets.specs.Exchanging.{EndsExchanging, ExchangesLeft, ending_of_both, exchanged_text, is_idle, rank_at};
+ghost use Rattle.rje_sockets.specs.Exchanging.{EndsExchanging, ExchangesLeft, ending_of_both, exchanged_text, is_idle};
 ghost use Rattle.rje_sockets.specs.Inside.Sending.{IsExchangeFault, IsSendFault};
 ghost use Rattle.rje_sockets.specs.InFront.{IsRefusedDestination};
 ghost use Rattle.rje_sockets.specs.LeavingBoth.{LeavesBoth, LeavesExchange};
@@ -15,16 +15,18 @@ ghost use Rattle.rje_sockets.specs.Inside.Opening.{IsDestinationFault, IsOpened}
 ghost use Rattle.rje_sockets.specs.Inside.BothFiles.{HoldsBoth, Exchanges};
 ghost use Rattle.rje_sockets.specs.NamedFiles.{NamesOne};
 ghost use Rattle.rje_sockets.specs.OverLine.{OverConnection};
+ghost use Rattle.rje_sockets.specs.Patience.{most_quiet};
 ghost use Rattle.rje_stores.specs.Store.{FileMap, Discloses, IsSame};
 ghost use Rattle.rje_stores.specs.declared.store.Place.TheVariants.{Growing};
 
 use crate::both_ways::exchange_all;
-use crate::connection::{ObservedLine, accepted, connected, tell_if_short};
+use crate::connection::{met, tell_if_late};
 use crate::keeper::Keeper;
 use crate::kept_file::KeptFile;
 use crate::left::Left;
-use crate::line_cause::{LineCause, tell_cause};
+use crate::line_cause::tell_cause;
 use crate::marker::Marker;
+use crate::one_way::{USUAL_PATIENCE, most_quiet};
 use crate::parting::{HearsOut, Leaves, Parting, parts_in_step};
 use crate::socket_commands::Ending;
 use crate::socket_commands::receive_command::{keep_rest, left_after, unless_short};
@@ -40,12 +42,11 @@ use rje_station::{Line, Station};
 use rje_stores::Store;
 use std::alloc::Global;
 use std::io::Write;
-use std::net::{Net, SocketAddr};
+use std::net::Net;
 use std::time::Clock;
 
 /// Sends the jobs of a job file that were not sent, and receives those of the other end into another one, over one connection. It has both
-/// files for itself, but while it waits for a call that which is received alone: what is added meanwhile to the other is sent. The end that
-/// calls is the primary. Marks those that were counted, and prints how many there are, how it ended, and how many came. Where that is
+/// files for itself, but while it waits for a call that which is received alone: what is added meanwhile to the other is sent. Marks those that were counted, and prints how many there are, how it ended, and how many came. Where that is
 /// asked for, who is connected and each turn is told to `err` as it happens.
 pub fn exchange<'a, R: Net + Clock, S: Store, O: Write, E: Write>(
     rt: &R,
@@ -56,47 +57,46 @@ pub fn exchange<'a, R: Net + Clock, S: Store, O: Write, E: Write>(
     err: &mut E,
 ) -> Result<Ending, CommandFault<'a>>
     ensures exchanged { IfOk result (λ ending. OverConnection (λ t u.
-        ExchangesLeft ending (rank_at order.entry.place)
+        ExchangesLeft ending (order.entry.rank, most_quiet order.entry.patience)
         order.entry.send.now order.entry.received (t, S.files store.old, O.contents out.old)
         (u, S.files store.new, O.contents out.new))) }
     ensures fault { IfErr result (IsExchangeFault order.entry.send.now order.entry.received
         (S.files store.old)) }
-    ensures files { IfSome (S.files store.old) (λ _. LeavesExchange ⊤ (rank_at order.entry.place)
+    ensures files { IfSome (S.files store.old) (λ _. LeavesExchange ⊤ order.entry.rank
         order.entry.send.now order.entry.received (S.files store.old) (S.files store.new)) }
     ensures files_kept { IfErr result (λ fault. status_of fault ≡ 1
         → Discloses (S.files store.old) (S.files store.new) IsSame) }
     ensures silent { IfErr result (λ fault. status_of fault ≡ 1 → out.new ≡ out.old) }
 {
-    look_before_meeting(alloc, order.send, order.place, store, err)?;
+    look_before_meeting(alloc, order.send, order.connection.place, store, err)?;
     let keeper = keeper_beside(alloc, order.send, order.received, store, err)?;
-    let (mut line, peer) = match met(rt, order.place, order.timeout, err) {
+    let (mut line, peer) = match met(rt, order.connection, order.rank, None, err) {
         Ok(met) => met,
         Err(cause) => return Err(cause.told(err)),
     };
     let Outgoing { jobs, marker } = read_outgoing(alloc, order.send, store)?;
-    let station = Station::new(alloc, rank_of(order.place), jobs.as_slice())?;
+    let station = Station::new(alloc, order.rank, jobs.as_slice())?;
     marker.begin(store)?;
-    let mut tracer = Tracer::new(rt, order.trace, &mut *err);
+    let mut tracer = Tracer::new(rt, order.connection.trace, &mut *err);
     tracer.connected(peer);
     let ending = exchange_files(
         station,
         marker,
         keeper,
         &mut line,
+        most_quiet(order.patience),
         &HearsOut,
         store,
         &mut tracer,
         out,
     );
-    if matches!(order.place, Meeting::Listens(_)) {
-        tell_if_short(order.timeout, "the peer", line.waited(), err);
-    }
+    tell_if_late(order.connection, &line, err);
     tell_cause(&ending, line.cause(), err);
     ending
 }
 
 /// Exchanges over a line what is left of the job file of one name for the other station's jobs, which go into the file of another name.
-/// Then, also after a fault of the line, marks in the one what was counted, and prints how many of its jobs were counted, how it ended, and
+/// Forty of the other's turns in a row that bring nothing are the end. Then, also after a fault of the line, marks in the one what was counted, and prints how many of its jobs were counted, how it ended, and
 /// how many jobs came. Each job is in its file before its last block is answered. Answers the exit status, and tells why it isn't 0.
 pub fn exchange_over<L: Line, S: Store, O: Write, E: Write>(
     alloc: Global,
@@ -136,7 +136,7 @@ fn exchanged<'a, L: Line, S: Store, O: Write, E: Write>(
     out: &mut O,
     err: &mut E,
 ) -> Result<Ending, CommandFault<'a>>
-    ensures exchanged { IfOk result (λ ending. ExchangesLeft ending rank
+    ensures exchanged { IfOk result (λ ending. ExchangesLeft ending (rank, 40)
         send.entry.now received.entry
         ((L.talk line.old, L.transmissions line.old), S.files store.old, O.contents out.old)
         ((L.talk line.new, L.transmissions line.new), S.files store.new, O.contents out.new)) }
@@ -158,6 +158,7 @@ fn exchanged<'a, L: Line, S: Store, O: Write, E: Write>(
         marker,
         keeper,
         line,
+        USUAL_PATIENCE,
         &Leaves,
         store,
         &mut Unwatched,
@@ -190,7 +191,7 @@ fn look_before_meeting<'a, S: Store, E: Write>(
     looked?;
     match place {
         Meeting::Calls(_) => lock_file(alloc, name, store),
-        Meeting::Listens(_) => Ok(()),
+        Meeting::Listens(..) => Ok(()),
     }
 }
 
@@ -224,13 +225,15 @@ fn exchange_files<'a, 'b, L: Line, P: Parting<L>, S: Store, W: Watch, O: Write>(
     mut marker: Marker<'a>,
     mut keeper: Keeper<'a>,
     line: &mut L,
+    patience: u32,
     parting: &P,
     store: &mut S,
     watch: &mut W,
     out: &mut O,
 ) -> Result<Ending, CommandFault<'a>>
-    ensures exchanged { IfOk result (λ ending. Exchanges ending
-        station.entry marker.entry keeper.entry
+    requires patient { 0 < patience }
+    ensures exchanged { IfOk result (λ ending. Exchanges ending patience
+        station.entry (marker.entry, keeper.entry)
         ((L.talk line.old, L.transmissions line.old), S.files store.old, O.contents out.old)
         ((L.talk line.new, L.transmissions line.new), S.files store.new, O.contents out.new)) }
     ensures status { IfErr result (λ fault. (jobs : List Item)
@@ -247,7 +250,15 @@ fn exchange_files<'a, 'b, L: Line, P: Parting<L>, S: Store, W: Watch, O: Write>(
         keeper.entry.file.into files (S.files store.new) }
 {
     let given = station.sender().jobs().len();
-    let left = exchange_all(&mut station, line, &mut marker, &mut keeper, store, watch);
+    let left = exchange_all(
+        &mut station,
+        line,
+        patience,
+        &mut marker,
+        &mut keeper,
+        store,
+        watch,
+    );
     let outcome = station.sender().outcome();
     let counted = station.sender().counted();
     let lines = lines_of_both(counted, given, outcome, station.receiver().jobs());
@@ -276,31 +287,6 @@ fn lines_of_both(
         outcome_text(outcome),
         handed_text(jobs),
     ]
-}
-
-/// The end that calls is the primary.
-fn rank_of(place: Meeting) -> Rank
-    ensures { result ≡ rank_at place }
-{
-    match place {
-        Meeting::Calls(_) => Rank::Primary,
-        Meeting::Listens(_) => Rank::Secondary,
-    }
-}
-
-/// A line to the other end, and its address.
-fn met<'r, R: Net + Clock, E: Write>(
-    rt: &'r R,
-    place: Meeting,
-    timeout: u16,
-    err: &mut E,
-) -> Result<(ObservedLine<'r, R>, SocketAddr), LineCause>
-    ensures unused { IfOk result (λ met. met.0.transmissions ≡ 0) }
-{
-    match place {
-        Meeting::Calls(address) => Ok((connected(rt, address, timeout, err)?, address)),
-        Meeting::Listens(address) => accepted(rt, address, timeout),
-    }
 }
 
 /// Whether nothing was given to be sent, and nothing came.

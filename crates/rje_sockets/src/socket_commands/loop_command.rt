@@ -10,12 +10,10 @@ ghost use Rattle.rje_sockets.specs.OverLine.{BothTook};
 ghost use Rattle.rje_sockets.specs.NamedFiles.{NamesOne};
 ghost use Rattle.rje_stores.specs.Store.{Discloses, IsSame};
 
-use crate::connection::ObservedLine;
+use crate::connection::{ObservedLine, line_over};
 use crate::line_cause::{LineCause, tell_cause};
-use crate::observed_stream::ObservedStream;
 use crate::one_way::take_turns;
 use crate::socket_commands::Ending;
-use crate::socket_line::SocketLine;
 use crate::tracer::Tracer;
 use crate::watch::Watch;
 use bsc_link::{Outcome, Rank};
@@ -126,7 +124,7 @@ fn both_ends<'r, R: Net>(
     let near = TcpStream::connect(rt, listener.local_addr()?)?;
     let (far, _) = listener.accept()?;
     Ok((
-        SocketLine::new(ObservedStream::new(None, near), timeout, Rank::Primary)?,
-        SocketLine::new(ObservedStream::new(None, far), timeout, Rank::Secondary)?,
+        line_over(None, near, timeout, false, Rank::Primary)?,
+        line_over(None, far, timeout, false, Rank::Secondary)?,
     ))
 }

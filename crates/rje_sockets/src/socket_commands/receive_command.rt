@@ -1,5 +1,5 @@
 //! `receive`: one transmission from whoever connects, into a job file.
-ghost use Rattle.std.specs.Prelude.{◌≡◌, ◌⊎◌, ℕ, List, Option, Err, IfErr, IfOk, IfSome, IsErr, IsErrOf, IsOk, OnErr, OnOk, true, false};
+ghost use Rattle.std.specs.Prelude.{◌≡◌, ◌<◌, ◌⊎◌, ℕ, List, Option, Err, IfErr, IfOk, IfSome, IsErr, IsErrOf, IsOk, OnErr, OnOk, true, false};
 ghost use Rattle.std.specs.Result.{IsOkAnd};
 ghost use Rattle.rje_files.specs.declared.entry.Entry.{Entry};
 ghost use Rattle.rje_sockets.specs.Answering.{KeepsAnswered};
@@ -12,18 +12,20 @@ ghost use Rattle.rje_sockets.specs.Inside.Opening.{IsDestinationFault, IsOpened}
 ghost use Rattle.rje_sockets.specs.Inside.BreakingOff.{of_broken_off};
 ghost use Rattle.rje_sockets.specs.NamedFiles.{NamesWritten};
 ghost use Rattle.rje_sockets.specs.OverLine.{OverConnection};
+ghost use Rattle.rje_sockets.specs.Patience.{most_quiet};
 ghost use Rattle.rje_stores.specs.Store.{FileMap, Discloses, IsSame};
 
 use crate::broken_off::BrokenOff;
-use crate::connection::{accepted, tell_if_short};
+use crate::connection::{met, tell_if_late};
 use crate::keeper::Keeper;
 use crate::kept_file::KeptFile;
 use crate::left::Left;
 use crate::line_cause::tell_cause;
-use crate::one_way::receive_all;
+use crate::one_way::{USUAL_PATIENCE, most_quiet, receive_all};
 use crate::socket_commands::Ending;
 use crate::tracer::Tracer;
 use crate::watch::{Unwatched, Watch};
+use bsc_link::Rank;
 use rje_commands::{CommandFault, put, tell};
 use rje_jobs::Job;
 use rje_orders::{Destination, ReceiveOrder};
@@ -35,8 +37,8 @@ use std::io::Write;
 use std::net::Net;
 use std::time::Clock;
 
-/// Has the file of the order's destination for itself, takes one connection at the order's address and one transmission, writes its jobs into
-/// the file and prints how many there are. Where that is asked for, who is connected and each turn is told to `err` as it happens.
+/// Has the file of the order's destination for itself, comes to one connection and takes one transmission, writes its jobs into the file and
+/// prints how many there are. Where that is asked for, who is connected and each turn is told to `err` as it happens.
 pub fn receive<'a, R: Net + Clock, S: Store, O: Write, E: Write>(
     rt: &R,
     alloc: Global,
@@ -46,7 +48,7 @@ pub fn receive<'a, R: Net + Clock, S: Store, O: Write, E: Write>(
     err: &mut E,
 ) -> Result<Ending, CommandFault<'a>>
     ensures received { IfOk result (λ ending. OverConnection (λ t u.
-        Receives ending order.entry.into (t, S.files store.old, O.contents out.old)
+        Receives (most_quiet order.entry.patience) ending order.entry.into (t, S.files store.old, O.contents out.old)
         (u, S.files store.new, O.contents out.new))) }
     ensures fault { IfErr result (IsDestinationFault order.entry.into (S.files store.old)) }
     ensures kept { IfSome (S.files store.old) (λ _. (after : ℕ)
@@ -56,20 +58,25 @@ pub fn receive<'a, R: Net + Clock, S: Store, O: Write, E: Write>(
     ensures silent { IfErr result (λ fault. status_of fault ≡ 1 → out.new ≡ out.old) }
 {
     let file = KeptFile::open(alloc, order.into, store)?;
-    let (mut line, peer) = match accepted(rt, order.address, order.timeout) {
+    let patience = most_quiet(order.patience);
+    let hearings = match order.waits {
+        true => Some(patience),
+        false => None,
+    };
+    let (mut line, peer) = match met(rt, order.connection, Rank::Secondary, hearings, err) {
         Ok(met) => met,
         Err(cause) => return Err(cause.told(err)),
     };
-    let mut tracer = Tracer::new(rt, order.trace, &mut *err);
+    let mut tracer = Tracer::new(rt, order.connection.trace, &mut *err);
     tracer.connected(peer);
-    let ending = received(alloc, &mut line, file, store, &mut tracer, out);
-    tell_if_short(order.timeout, "the peer", line.waited(), err);
+    let ending = received(alloc, &mut line, patience, file, store, &mut tracer, out);
+    tell_if_late(order.connection, &line, err);
     tell_cause(&ending, line.cause(), err);
     ending
 }
 
-/// Receives one transmission over a line into the file of a destination, also where the line fails, and prints how many jobs there are.
-/// Each job is in the file before its last block is answered. Answers the exit status, and tells why it isn't 0.
+/// Receives one transmission over a line into the file of a destination, also where the line fails, and prints how many jobs there are. Forty
+/// quiet hearings in a row are the end of it. Each job is in the file before its last block is answered. Answers the exit status, and tells why it isn't 0.
 pub fn receive_over<L: Line, S: Store, O: Write, E: Write>(
     alloc: Global,
     line: &mut L,
@@ -102,7 +109,7 @@ fn received_into<'a, L: Line, S: Store, O: Write>(
     store: &mut S,
     out: &mut O,
 ) -> Result<Ending, CommandFault<'a>>
-    ensures received { IfOk result (λ ending. Receives ending into.entry
+    ensures received { IfOk result (λ ending. Receives 40 ending into.entry
         ((L.talk line.old, L.transmissions line.old), S.files store.old, O.contents out.old)
         ((L.talk line.new, L.transmissions line.new), S.files store.new, O.contents out.new)) }
     ensures fault { IfErr result (IsDestinationFault into.entry (S.files store.old)) }
@@ -115,21 +122,31 @@ fn received_into<'a, L: Line, S: Store, O: Write>(
         → (line.new ≡ line.old) × (out.new ≡ out.old)) }
 {
     let file = KeptFile::open(alloc, into, store)?;
-    received(alloc, line, file, store, &mut Unwatched, out)
+    received(
+        alloc,
+        line,
+        USUAL_PATIENCE,
+        file,
+        store,
+        &mut Unwatched,
+        out,
+    )
 }
 
 /// Receives one transmission over a line into this file.
 fn received<'a, L: Line, S: Store, W: Watch, O: Write>(
     alloc: Global,
     line: &mut L,
+    patience: u32,
     file: KeptFile<'a>,
     store: &mut S,
     watch: &mut W,
     out: &mut O,
 ) -> Result<Ending, CommandFault<'a>>
+    requires patient { 0 < patience }
     ensures received { (front : List Entry) (files : Option FileMap)
         → IsOpened front file.entry files → Discloses files (S.files store.old) IsSame
-        → IfOk result (λ ending. Receives ending file.entry.into
+        → IfOk result (λ ending. Receives patience ending file.entry.into
         ((L.talk line.old, L.transmissions line.old), files, O.contents out.old)
         ((L.talk line.new, L.transmissions line.new), S.files store.new, O.contents out.new)) }
     ensures status { IfErr result (λ fault. IsFailing (status_of fault)) }
@@ -141,7 +158,7 @@ fn received<'a, L: Line, S: Store, W: Watch, O: Write>(
 {
     let mut station = ReceivingStation::new(alloc)?;
     let mut keeper = Keeper::new(alloc, file);
-    let left = receive_all(&mut station, line, &mut keeper, store, watch);
+    let left = receive_all(&mut station, line, patience, &mut keeper, store, watch);
     let handed = handed_text(station.jobs());
     let written = keep_rest(&left, &mut keeper, station.take(), store);
     let printed = put(handed.as_slice(), out);

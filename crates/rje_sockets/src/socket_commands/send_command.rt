@@ -15,7 +15,7 @@ ghost use Rattle.rje_stores.specs.Store.{FileMap, Discloses, IsSame};
 ghost use Rattle.rje_sockets.specs.NamedFiles.{NamesOne, NamesWritten};
 ghost use Rattle.rje_sockets.specs.OverLine.{OverConnection, Sends};
 
-use crate::connection::connected;
+use crate::connection::{met, tell_if_late};
 use crate::line_cause::tell_cause;
 use crate::marker::Marker;
 use crate::one_way::send_all;
@@ -23,7 +23,7 @@ use crate::parting::{HearsOut, Leaves, Parting, parts_in_step};
 use crate::socket_commands::Ending;
 use crate::tracer::Tracer;
 use crate::watch::{Unwatched, Watch};
-use bsc_link::Outcome;
+use bsc_link::{Outcome, Rank};
 use rje_commands::{CommandFault, HeldFile, put_lines, read_file, tell};
 use rje_files::{first_unsendable, mark_places, read_entries, unsent_jobs};
 use rje_jobs::Jobs;
@@ -36,7 +36,7 @@ use std::io::Write;
 use std::net::Net;
 use std::time::Clock;
 
-/// Sends the jobs of a job file that were not sent to this address, marks those that were counted, and prints how many there are and how
+/// Sends the jobs of a job file that were not sent over one connection, marks those that were counted, and prints how many there are and how
 /// it ended. It has the file for itself from before it reads it, and nothing is said before the copy is in place that marks go into. Where
 /// that is asked for, who is connected and each turn is told to `err` as it happens.
 pub fn send<'a, R: Net + Clock, S: Store, O: Write, E: Write>(
@@ -59,12 +59,12 @@ pub fn send<'a, R: Net + Clock, S: Store, O: Write, E: Write>(
 {
     let Outgoing { jobs, mut marker } = read_outgoing(alloc, order.jobs, store)?;
     let mut station = SendingStation::new(alloc, jobs.as_slice())?;
-    let mut line = match connected(rt, order.address, order.timeout, err) {
-        Ok(line) => line,
+    let (mut line, peer) = match met(rt, order.connection, Rank::Primary, None, err) {
+        Ok(met) => met,
         Err(cause) => return Err(cause.told(err)),
     };
-    let mut tracer = Tracer::new(rt, order.trace, &mut *err);
-    tracer.connected(order.address);
+    let mut tracer = Tracer::new(rt, order.connection.trace, &mut *err);
+    tracer.connected(peer);
     marker.begin(store)?;
     let ending = transmit(
         &mut station,
@@ -75,6 +75,7 @@ pub fn send<'a, R: Net + Clock, S: Store, O: Write, E: Write>(
         &mut tracer,
         out,
     );
+    tell_if_late(order.connection, &line, err);
     tell_cause(&ending, line.cause(), err);
     ending
 }

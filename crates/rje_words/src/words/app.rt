@@ -1,18 +1,18 @@
 //! The command line that clap is given.
 ghost use Rattle.std.specs.Prelude.{◌≡◌, codes, IfOk};
 ghost use Rattle.clap.specs.Words.{App, Rule, with_rule, with_subcommand};
-ghost use Rattle.rje_words.specs.CommandLine.{IsArg, IsApp, file_rule, flag_rule, name_rule, address_rule};
-ghost use Rattle.rje_words.specs.CommandLine.{timeout_rule, trace_rule, file_app, blocks_app, cards_app};
-ghost use Rattle.rje_words.specs.CommandLine.{meeting_rule, try_app, loop_app, send_app, receive_app, exchange_app, rje_app};
+ghost use Rattle.rje_words.specs.CommandLine.{IsArg, IsApp, file_rule, flag_rule, value_rule};
+ghost use Rattle.rje_words.specs.CommandLine.{timeout_rule, patience_rule, trace_rule, file_app, blocks_app, cards_app};
+ghost use Rattle.rje_words.specs.CommandLine.{try_app, loop_app, send_app, receive_app, exchange_app, rje_app};
 ghost use Rattle.rje_words.specs.CommandLine.{capture_rule, monitor_app, number_rule, print_app, show_app, with_choice_rules};
-ghost use Rattle.rje_words.specs.CommandLine.{with_device_rules, with_existing_rules, with_meeting_rules};
+ghost use Rattle.rje_words.specs.CommandLine.{with_connection_rules, with_device_rules, with_existing_rules, with_meeting_rules, with_rank_rules};
 ghost use Rattle.rje_words.specs.CommandLine.{with_deck_apps, with_file_apps, with_line_apps};
 
 use clap::{Arg, ArgAction, Command, value_parser};
 use std::alloc::{AllocError, Global};
 
 /// The program's version.
-const VERSION: &str = "1.3.0";
+const VERSION: &str = "1.4.0";
 
 /// What stands after the commands where help is given.
 const AFTER_HELP: &str = "\
@@ -168,13 +168,10 @@ fn send<'a>(alloc: Global) -> Result<Command<'a>, AllocError>
     let command = of_jobs(
         alloc,
         "send",
-        "Send the jobs of a job file to a receiver that listens",
+        "Send the jobs of a job file to a receiver",
         "A job file; the jobs that are counted are marked in it as sent",
     )?;
-    let to = address(alloc, "to", "Where the receiver listens, as 192.0.2.1:3780");
-    let command = with_arg(command, to)?;
-    let command = with_arg(command, timeout(alloc))?;
-    with_arg(command, trace(alloc))
+    with_connection(alloc, command)
 }
 
 fn receive<'a>(alloc: Global) -> Result<Command<'a>, AllocError>
@@ -183,19 +180,19 @@ fn receive<'a>(alloc: Global) -> Result<Command<'a>, AllocError>
     let command = of_jobs(
         alloc,
         "receive",
-        "Take one transmission from whoever connects, into a job file",
+        "Take one transmission over a connection, into a job file",
         "The job file to write, in place of one that is there",
     )?;
-    let listen = address(alloc, "listen", "Where to listen, as 0.0.0.0:3780");
-    let command = with_arg(command, listen)?;
-    let command = with_existing(
+    let command = with_connection(alloc, command)?;
+    let command = with_arg(command, patience(alloc))?;
+    let wait = "With --listen: pass over callers that say nothing, until one speaks";
+    let command = with_arg(command, flag(alloc, "wait", wait))?;
+    with_existing(
         alloc,
         command,
         "Refuse JOBS where it holds jobs",
         "Keep the jobs that JOBS holds, and add those that come after them",
-    )?;
-    let command = with_arg(command, timeout(alloc))?;
-    with_arg(command, trace(alloc))
+    )
 }
 
 fn exchange<'a>(alloc: Global) -> Result<Command<'a>, AllocError>
@@ -216,33 +213,52 @@ fn exchange<'a>(alloc: Global) -> Result<Command<'a>, AllocError>
         "The job file to write, in place of one that is there",
     );
     let command = with_arg(command, received)?;
-    let command = with_meeting(alloc, command)?;
-    let command = with_existing(
+    let command = with_connection(alloc, command)?;
+    let command = with_arg(command, patience(alloc))?;
+    let command = with_rank(alloc, command)?;
+    with_existing(
         alloc,
         command,
         "Refuse RECEIVED where it holds jobs",
         "Keep the jobs that RECEIVED holds, and add those that come after them",
-    )?;
+    )
+}
+
+/// The command with the options for a connection.
+fn with_connection<'a>(alloc: Global, command: Command<'a>) -> Result<Command<'a>, AllocError>
+    ensures { (app : App) → IsApp app command.entry → IfOk result (IsApp (with_connection_rules app)) }
+{
+    let command = with_meeting(alloc, command)?;
     let command = with_arg(command, timeout(alloc))?;
+    let adapter = flag(
+        alloc,
+        "adapter",
+        "The other end is a line adapter, such as a 2703, that makes and takes SYN, pads and checks itself",
+    );
+    let command = with_arg(command, adapter)?;
     with_arg(command, trace(alloc))
 }
 
-/// The command with the options for whom it calls, and for where it listens.
+/// The command with the options for whom it calls, for where it listens, and for whose calls it takes.
 fn with_meeting<'a>(alloc: Global, command: Command<'a>) -> Result<Command<'a>, AllocError>
     ensures { (app : App) → IsApp app command.entry → IfOk result (IsApp (with_meeting_rules app)) }
 {
-    let to = meeting(
-        alloc,
-        "to",
-        "Call the other end, which listens at 192.0.2.1:3780, say",
-    );
-    let command = with_arg(command, to)?;
-    let listen = meeting(
-        alloc,
-        "listen",
-        "Wait for the other end's call, at 0.0.0.0:3780, say",
-    );
-    with_arg(command, listen)
+    let to = "Call the other end, which listens at 192.0.2.1:3780, say";
+    let command = with_arg(command, value(alloc, "to", "ADDR", to))?;
+    let listen = "Wait for the other end's call, at 0.0.0.0:3780, say";
+    let command = with_arg(command, value(alloc, "listen", "ADDR", listen))?;
+    let from = "With --listen: take calls from these addresses alone, as 192.0.2.1,192.0.2.2";
+    with_arg(command, value(alloc, "from", "ADDRS", from))
+}
+
+/// The command with the options for its rank.
+fn with_rank<'a>(alloc: Global, command: Command<'a>) -> Result<Command<'a>, AllocError>
+    ensures { (app : App) → IsApp app command.entry → IfOk result (IsApp (with_rank_rules app)) }
+{
+    let primary = "Where both ends bid at once, the other one gives way; usual with --to";
+    let command = with_arg(command, flag(alloc, "primary", primary))?;
+    let secondary = "Where both ends bid at once, this one gives way; usual with --listen";
+    with_arg(command, flag(alloc, "secondary", secondary))
 }
 
 /// The command with the options for the jobs that the file which it receives into holds already, and
@@ -274,7 +290,8 @@ fn cards<'a>(alloc: Global) -> Result<Command<'a>, AllocError>
     let jobs = "The job file to write, in place of one that is there";
     let command = with_arg(command, file(alloc, "JOBS", jobs))?;
     let command = with_devices(alloc, command)?;
-    let command = with_arg(command, name(alloc))?;
+    let name = "The job's name: one to eight of A to Z and 0 to 9";
+    let command = with_arg(command, value(alloc, "name", "NAME", name))?;
     let append = flag(
         alloc,
         "append",
@@ -338,31 +355,15 @@ fn flag<'a>(alloc: Global, id: &'a str, help: &'a str) -> Arg<'a>
         .help(help)
 }
 
-fn address<'a>(alloc: Global, id: &'a str, help: &'a str) -> Arg<'a>
-    ensures { IsArg (address_rule id.entry.now) result }
-{
-    file(alloc, id, help).long(id).value_name("ADDR")
-}
-
-/// An option for an address, which may be left out.
-fn meeting<'a>(alloc: Global, id: &'a str, help: &'a str) -> Arg<'a>
-    ensures { IsArg (meeting_rule id.entry.now) result }
+/// An option that is given a value, which the help calls so.
+fn value<'a>(alloc: Global, id: &'a str, called: &'a str, help: &'a str) -> Arg<'a>
+    ensures { IsArg (value_rule id.entry.now) result }
 {
     Arg::new(alloc, id)
         .long(id)
-        .value_name("ADDR")
+        .value_name(called)
         .action(ArgAction::Set)
         .help(help)
-}
-
-fn name<'a>(alloc: Global) -> Arg<'a>
-    ensures { IsArg name_rule result }
-{
-    Arg::new(alloc, "name")
-        .long("name")
-        .value_name("NAME")
-        .action(ArgAction::Set)
-        .help("The job's name: one to eight of A to Z and 0 to 9")
 }
 
 /// The option for the number of the one job, with this help.
@@ -389,6 +390,18 @@ fn timeout<'a>(alloc: Global) -> Arg<'a>
         .help(
             "How long a hearing waits for more bytes, 1 to 60000 milliseconds; both ends take the same, longer than a round trip and a sync of the other end's disk",
         )
+}
+
+fn patience<'a>(alloc: Global) -> Arg<'a>
+    ensures { IsArg patience_rule result }
+{
+    Arg::new(alloc, "patience")
+        .long("patience")
+        .value_name("N")
+        .action(ArgAction::Set)
+        .value_parser(value_parser!(u32).range(0..=1000000000))
+        .default_value("40")
+        .help("Leave after so many hearings in a row without a word, 0 to 1000000000; with 0 never")
 }
 
 fn trace<'a>(alloc: Global) -> Arg<'a>

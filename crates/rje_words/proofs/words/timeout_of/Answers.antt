@@ -4,7 +4,7 @@ use Rattle.std.specs.declared.num.ParseIntError.{ParseIntError}
 use Rattle.clap.specs.Words.{Text, found_of, one_text}
 use Rattle.clap.proofs.WalkLemmas.{one_text-rows}
 use Rattle.rje_words.specs.Asking.{IsTimeoutOf}
-use Rattle.rje_words.proofs.Found.{timeout_read}
+use Rattle.rje_words.proofs.Found.{given_read}
 use Rattle.rje_words.proofs.words.timeout_of.Goals as goal
 
 -- how a text is read as a number of 16 bits
@@ -15,4 +15,4 @@ pub returns : goal.returns
 returns c =
     let found = found_of c.args.matches.now in
     subst (λ o. IsTimeoutOf o c.unwrap_or.result) (one_text-rows found (codes "timeout")) (subst (IsTimeoutOf (one_text found (codes "timeout"))) (sym c.unwrap_or.ensures)
-    (timeout_read ParseIntError gives (λ text r h. h.0) (one_text found (codes "timeout")) c.get_one.result c.get_one.ensures.none c.get_one.ensures.value))
+    (given_read ParseIntError gives 16 3000 (λ text r h. h.0) (one_text found (codes "timeout")) c.get_one.result c.get_one.ensures.none c.get_one.ensures.value))

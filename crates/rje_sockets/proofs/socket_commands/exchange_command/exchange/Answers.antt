@@ -3,7 +3,8 @@ use Rattle.rje_station.specs.Station.{first_contending}
 use Rattle.rje_station.specs.StationFault.{IsNewCause}
 use Rattle.rje_orders.specs.declared.order.Destination.{Destination}
 use Rattle.rje_commands.specs.CommandFault.{of_station}
-use Rattle.rje_sockets.specs.Exchanging.{ExchangesLeft, rank_at}
+use Rattle.rje_sockets.specs.Exchanging.{ExchangesLeft}
+use Rattle.rje_sockets.specs.Patience.{most_quiet}
 use Rattle.rje_sockets.proofs.Exchanged.{destination_fault_of, exchanges_left, leaves_so, outgoing_before, send_fault_of}
 use Rattle.rje_sockets.proofs.OverLine.{over_connection}
 use Rattle.rje_sockets.proofs.Failing.{exchange_fails_so, left_fails, not_refused, station_fails, written_fails_so}
@@ -25,22 +26,23 @@ returns g c =
     let marker = c.in_ok-jobs.field-0.marker in
     let keeper = c.in_ok-keeper.keeper in
     let into = c.args.order.received in
-    let first : c.in_ok-station.station ≡ first_contending (rank_at c.args.order.place) jobs = rw (c.rank_of.ensures, c.as_slice.ensures.slice) at c.in_ok-station.ensures.ready in
+    let first : c.in_ok-station.station ≡ first_contending c.args.order.rank jobs = rw c.as_slice.ensures.slice at c.in_ok-station.ensures.ready in
     let begun = g.S.Store.files c.begin.new.store in
     let copy = marked_after marker.file.items marker.name.now 0 f read begun (same_twice f beside read same c.read_outgoing.ensures.same) c.in_ok-begin.ensures.begun in
     let fails = left_fails c.exchange_files-ending.result marker.file.items jobs out.left c.exchange_files-ending.ensures.status in
     let front = c.in_ok-keeper.ensures.opened.0 in
     let opened = opened_before front keeper.file f looked c.look_before_meeting.ensures.same c.in_ok-keeper.ensures.opened.1 in
+    let went = rw c.most_quiet.ensures.most at c.exchange_files-ending.ensures.exchanged in
     record {
-      exchanged = over_connection c.exchange_files-ending.result (λ t u ending. ExchangesLeft ending (rank_at c.args.order.place) c.args.order.send.now into
+      exchanged = over_connection c.exchange_files-ending.result (λ t u ending. ExchangesLeft ending (c.args.order.rank, most_quiet c.args.order.patience) c.args.order.send.now into
           (t, f, g.O.Write.contents c.args.out.now) (u, g.S.Store.files c.exchange_files-ending.new.store, g.O.Write.contents c.exchange_files-ending.new.out)) _ _ c.in-Ok.ensures.unused
-          (exchanges_left c.exchange_files-ending.result (None, _) (None, _) (rank_at c.args.order.place) c.args.order.send.now into jobs c.in_ok-station.station marker
+          (exchanges_left c.exchange_files-ending.result (None, _) (None, _) c.args.order.rank (most_quiet c.args.order.patience) c.args.order.send.now into jobs c.in_ok-station.station marker
           front keeper f begun (g.S.Store.files c.exchange_files-ending.new.store)
           (g.O.Write.contents c.args.out.now) (g.O.Write.contents c.exchange_files-ending.new.out) out copy first
-          c.in_ok-keeper.ensures.into c.in_ok-keeper.ensures.none opened c.in_ok-keeper.ensures.two c.exchange_files-ending.ensures.exchanged);
+          c.in_ok-keeper.ensures.into c.in_ok-keeper.ensures.none opened c.in_ok-keeper.ensures.two went);
       fault = exchange_fails_so c.exchange_files-ending.result c.args.order.send.now into f fails
           (both_names c.exchange_files-ending.result marker.name.now keeper.file.into.jobs.now c.args.order.send.now into out.named (ap (λ (x : Destination). x.jobs.now) c.in_ok-keeper.ensures.into) c.exchange_files-ending.ensures.names);
-      files = leaves_so _ (rank_at c.args.order.place) c.args.order.send.now into jobs c.in_ok-station.station marker front keeper f
+      files = leaves_so _ c.args.order.rank c.args.order.send.now into jobs c.in_ok-station.station marker front keeper f
           begun (g.S.Store.files c.exchange_files-ending.new.store) out copy first
           c.in_ok-keeper.ensures.into c.in_ok-keeper.ensures.none opened c.in_ok-keeper.ensures.two c.exchange_files-ending.ensures.files;
       files_kept = not_refused c.exchange_files-ending.result _ fails;

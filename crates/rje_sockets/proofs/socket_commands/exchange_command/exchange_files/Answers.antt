@@ -27,8 +27,8 @@ returns-clause-status g c =
     let is : LineTells = (g.L.Line.talk c.exchange_all-left.new.line, g.L.Line.transmissions c.exchange_all-left.new.line) in
     let held : HeldSoFar = (c.args.marker, c.args.keeper, g.S.Store.files c.args.store.now) in
     let holding : HeldSoFar = (c.exchange_all-left.new.marker, c.exchange_all-left.new.keeper, g.S.Store.files c.exchange_all-left.new.store) in
-    let exchanges : IfOk c.exchange_all-left.result (λ l. ExchangesTo l c.args.station was c.exchange_all-left.new.station is) =
-    IfOk-weaker c.exchange_all-left.result _ _ (λ l. exchanges_unseen g.W.Watch.saw_sender g.W.Watch.saw_receiver l c.args.station c.exchange_all-left.new.station was is c.args.watch.now c.exchange_all-left.new.watch) c.exchange_all-left.ensures.left in
+    let exchanges : IfOk c.exchange_all-left.result (λ l. ExchangesTo c.args.patience l c.args.station was c.exchange_all-left.new.station is) =
+    IfOk-weaker c.exchange_all-left.result _ _ (λ l. exchanges_unseen c.args.patience g.W.Watch.saw_sender g.W.Watch.saw_receiver l c.args.station c.exchange_all-left.new.station was is c.args.watch.now c.exchange_all-left.new.watch) c.exchange_all-left.ensures.left in
     let idle : c.is_idle-idle.result ≡ is_idle (length c.args.station.sender.jobs) c.exchange_all-left.new.station.receiver.jobs = search rules in
     let told : MatchResult c.left_after.result (λ l. IsOkAnd c.map-ending.result (λ ending. ending ≡ ending_of_both (outcome_of c.exchange_all-left.new.station.sender)
     (is_idle (length c.args.station.sender.jobs) c.exchange_all-left.new.station.receiver.jobs) l)) (λ e. c.map-ending.result ≡ Err e) =
@@ -37,7 +37,7 @@ returns-clause-status g c =
     err_unless_short c.unless_short.result c.map-ending.result (λ fault. (jobs : List Job) → IsLeft c.args.marker.file.items jobs → IsFailing (status_of fault)) c.unless_short.ensures.ending
     (exchange_fails c.map-ending.result c.left_after.result c.exchange_all-left.result c.finish-marked.result c.keep_rest-kept.result c.put_lines-printed.result (ending_of_both (outcome_of c.exchange_all-left.new.station.sender) (is_idle (length c.args.station.sender.jobs) c.exchange_all-left.new.station.receiver.jobs))
     c.args.marker c.exchange_all-left.new.marker
-    (file_stays c.exchange_all-left.result was is c.args.station c.exchange_all-left.new.station held holding exchanges c.exchange_all-left.ensures.holds c.exchange_all-left.ensures.broken)
+    (file_stays c.args.patience c.exchange_all-left.result was is c.args.station c.exchange_all-left.new.station held holding exchanges c.exchange_all-left.ensures.holds c.exchange_all-left.ensures.broken)
     (search rules) told c.map-ending.ensures.variant c.exchange_all-left.ensures.status c.finish-marked.ensures.status c.keep_rest-kept.ensures.status (search rules)) (λ jobs left. inr (inl refl))
 
 pub returns-clause-exchanged : goal.returns-clause-exchanged
@@ -46,8 +46,8 @@ returns-clause-exchanged g c =
     let is : LineTells = (g.L.Line.talk c.exchange_all-left.new.line, g.L.Line.transmissions c.exchange_all-left.new.line) in
     let held : HeldSoFar = (c.args.marker, c.args.keeper, g.S.Store.files c.args.store.now) in
     let holding : HeldSoFar = (c.exchange_all-left.new.marker, c.exchange_all-left.new.keeper, g.S.Store.files c.exchange_all-left.new.store) in
-    let exchanges : IfOk c.exchange_all-left.result (λ l. ExchangesTo l c.args.station was c.exchange_all-left.new.station is) =
-    IfOk-weaker c.exchange_all-left.result _ _ (λ l. exchanges_unseen g.W.Watch.saw_sender g.W.Watch.saw_receiver l c.args.station c.exchange_all-left.new.station was is c.args.watch.now c.exchange_all-left.new.watch) c.exchange_all-left.ensures.left in
+    let exchanges : IfOk c.exchange_all-left.result (λ l. ExchangesTo c.args.patience l c.args.station was c.exchange_all-left.new.station is) =
+    IfOk-weaker c.exchange_all-left.result _ _ (λ l. exchanges_unseen c.args.patience g.W.Watch.saw_sender g.W.Watch.saw_receiver l c.args.station c.exchange_all-left.new.station was is c.args.watch.now c.exchange_all-left.new.watch) c.exchange_all-left.ensures.left in
     let idle : c.is_idle-idle.result ≡ is_idle (length c.args.station.sender.jobs) c.exchange_all-left.new.station.receiver.jobs = search rules in
     let told : MatchResult c.left_after.result (λ l. IsOkAnd c.map-ending.result (λ ending. ending ≡ ending_of_both (outcome_of c.exchange_all-left.new.station.sender)
     (is_idle (length c.args.station.sender.jobs) c.exchange_all-left.new.station.receiver.jobs) l)) (λ e. c.map-ending.result ≡ Err e) =
@@ -59,11 +59,11 @@ returns-clause-exchanged g c =
     let written = g.S.Store.files c.finish-marked.new.store in
     let sets = marks_as_many c.finish-marked.result marker.file.items _ station.sender.counted marker.name.now mid written c.finish-marked.ensures.marked (search rules) in
     rw (c.parts_in_step-in_step.ensures.talk, c.parts_in_step-in_step.ensures.none)
-    (ok_unless_short c.unless_short.result c.map-ending.result (λ ending. Exchanges ending c.args.station c.args.marker c.args.keeper (was, g.S.Store.files c.args.store.now, g.O.Write.contents c.args.out.now) (is, g.S.Store.files c.keep_rest-kept.new.store, g.O.Write.contents c.put_lines-printed.new.out)) c.unless_short.ensures.ending
+    (ok_unless_short c.unless_short.result c.map-ending.result (λ ending. Exchanges ending c.args.patience c.args.station (c.args.marker, c.args.keeper) (was, g.S.Store.files c.args.store.now, g.O.Write.contents c.args.out.now) (is, g.S.Store.files c.keep_rest-kept.new.store, g.O.Write.contents c.put_lines-printed.new.out)) c.unless_short.ensures.ending
     (ends_well c.map-ending.result c.left_after.result c.exchange_all-left.result (result_and c.finish-marked.result c.keep_rest-kept.result) c.put_lines-printed.result (ending_of_both (outcome_of station.sender) (is_idle (length c.args.station.sender.jobs) station.receiver.jobs))
-    (λ ending. Exchanges ending c.args.station c.args.marker c.args.keeper (was, g.S.Store.files c.args.store.now, g.O.Write.contents c.args.out.now) (is, g.S.Store.files c.keep_rest-kept.new.store, g.O.Write.contents c.put_lines-printed.new.out))
+    (λ ending. Exchanges ending c.args.patience c.args.station (c.args.marker, c.args.keeper) (was, g.S.Store.files c.args.store.now, g.O.Write.contents c.args.out.now) (is, g.S.Store.files c.keep_rest-kept.new.store, g.O.Write.contents c.put_lines-printed.new.out))
     (search rules) told c.map-ending.ensures.variant
-    (all_exchanged c.exchange_all-left.result c.finish-marked.result c.keep_rest-kept.result c.put_lines-printed.result was is c.args.station station held holding
+    (all_exchanged c.args.patience c.exchange_all-left.result c.finish-marked.result c.keep_rest-kept.result c.put_lines-printed.result was is c.args.station station held holding
     (g.S.Store.files c.finish-marked.new.store) (g.S.Store.files c.keep_rest-kept.new.store)
     (g.O.Write.contents c.args.out.now) (g.O.Write.contents c.put_lines-printed.new.out)
     (flat_map (λ line. line.items) c.lines_of_both-lines.result) exchanges c.exchange_all-left.ensures.holds
@@ -76,14 +76,14 @@ returns-clause-files g c =
     let is : LineTells = (g.L.Line.talk c.exchange_all-left.new.line, g.L.Line.transmissions c.exchange_all-left.new.line) in
     let held : HeldSoFar = (c.args.marker, c.args.keeper, g.S.Store.files c.args.store.now) in
     let holding : HeldSoFar = (c.exchange_all-left.new.marker, c.exchange_all-left.new.keeper, g.S.Store.files c.exchange_all-left.new.store) in
-    let exchanges : IfOk c.exchange_all-left.result (λ l. ExchangesTo l c.args.station was c.exchange_all-left.new.station is) =
-    IfOk-weaker c.exchange_all-left.result _ _ (λ l. exchanges_unseen g.W.Watch.saw_sender g.W.Watch.saw_receiver l c.args.station c.exchange_all-left.new.station was is c.args.watch.now c.exchange_all-left.new.watch) c.exchange_all-left.ensures.left in
+    let exchanges : IfOk c.exchange_all-left.result (λ l. ExchangesTo c.args.patience l c.args.station was c.exchange_all-left.new.station is) =
+    IfOk-weaker c.exchange_all-left.result _ _ (λ l. exchanges_unseen c.args.patience g.W.Watch.saw_sender g.W.Watch.saw_receiver l c.args.station c.exchange_all-left.new.station was is c.args.watch.now c.exchange_all-left.new.watch) c.exchange_all-left.ensures.left in
     let station = c.exchange_all-left.new.station in
     let marker = c.exchange_all-left.new.marker in
     let mid = g.S.Store.files c.exchange_all-left.new.store in
     let written = g.S.Store.files c.finish-marked.new.store in
     let sets = marks_as_many c.finish-marked.result marker.file.items _ station.sender.counted marker.name.now mid written c.finish-marked.ensures.marked (search rules) in
-    leaves_both c.exchange_all-left.result c.finish-marked.result c.keep_rest-kept.result was is c.args.station station held holding
+    leaves_both c.args.patience c.exchange_all-left.result c.finish-marked.result c.keep_rest-kept.result was is c.args.station station held holding
     (g.S.Store.files c.finish-marked.new.store) (g.S.Store.files c.keep_rest-kept.new.store)
     exchanges c.exchange_all-left.ensures.holds c.exchange_all-left.ensures.broken c.exchange_all-left.ensures.count sets c.finish-marked.ensures.same
     (rw c.take.ensures at c.keep_rest-kept.ensures.file) c.keep_rest-kept.ensures.refused c.keep_rest-kept.ensures.same
@@ -94,8 +94,8 @@ returns-clause-names g c =
     let is : LineTells = (g.L.Line.talk c.exchange_all-left.new.line, g.L.Line.transmissions c.exchange_all-left.new.line) in
     let held : HeldSoFar = (c.args.marker, c.args.keeper, g.S.Store.files c.args.store.now) in
     let holding : HeldSoFar = (c.exchange_all-left.new.marker, c.exchange_all-left.new.keeper, g.S.Store.files c.exchange_all-left.new.store) in
-    let exchanges : IfOk c.exchange_all-left.result (λ l. ExchangesTo l c.args.station was c.exchange_all-left.new.station is) =
-    IfOk-weaker c.exchange_all-left.result _ _ (λ l. exchanges_unseen g.W.Watch.saw_sender g.W.Watch.saw_receiver l c.args.station c.exchange_all-left.new.station was is c.args.watch.now c.exchange_all-left.new.watch) c.exchange_all-left.ensures.left in
+    let exchanges : IfOk c.exchange_all-left.result (λ l. ExchangesTo c.args.patience l c.args.station was c.exchange_all-left.new.station is) =
+    IfOk-weaker c.exchange_all-left.result _ _ (λ l. exchanges_unseen c.args.patience g.W.Watch.saw_sender g.W.Watch.saw_receiver l c.args.station c.exchange_all-left.new.station was is c.args.watch.now c.exchange_all-left.new.watch) c.exchange_all-left.ensures.left in
     let idle : c.is_idle-idle.result ≡ is_idle (length c.args.station.sender.jobs) c.exchange_all-left.new.station.receiver.jobs = search rules in
     let told : MatchResult c.left_after.result (λ l. IsOkAnd c.map-ending.result (λ ending. ending ≡ ending_of_both (outcome_of c.exchange_all-left.new.station.sender)
     (is_idle (length c.args.station.sender.jobs) c.exchange_all-left.new.station.receiver.jobs) l)) (λ e. c.map-ending.result ≡ Err e) =
@@ -104,7 +104,7 @@ returns-clause-names g c =
     let one = c.args.marker.name.now in
     let other = c.args.keeper.file.into.jobs.now in
     let Names : CommandFault → Type 0 = NamesOne (λ _. ⊥) (λ n. (n ≡ one) ⊎ (n ≡ other)) in
-    let stay = names_stay c.exchange_all-left.result was is c.args.station c.exchange_all-left.new.station held holding exchanges c.exchange_all-left.ensures.holds c.exchange_all-left.ensures.broken in
+    let stay = names_stay c.args.patience c.exchange_all-left.result was is c.args.station c.exchange_all-left.new.station held holding exchanges c.exchange_all-left.ensures.holds c.exchange_all-left.ensures.broken in
     err_unless_short c.unless_short.result c.map-ending.result Names c.unless_short.ensures.ending
     (told_names c.map-ending.result c.left_after.result (ending_of_both (outcome_of c.exchange_all-left.new.station.sender) (is_idle (length c.args.station.sender.jobs) c.exchange_all-left.new.station.receiver.jobs)) Names c.exchange_all-left.result c.finish-marked.result c.keep_rest-kept.result
     c.put_lines-printed.result told c.left_after.ensures.first (search rules) (search rules) (search rules)

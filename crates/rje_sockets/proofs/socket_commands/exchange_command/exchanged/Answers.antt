@@ -28,7 +28,7 @@ returns g c =
     let front = c.in_ok-keeper.ensures.opened.0 in
     let opened = opened_before front keeper.file f read c.read_outgoing.ensures.same c.in_ok-keeper.ensures.opened.1 in
     record {
-      exchanged = exchanges_left c.exchange_files.result (g.L.Line.talk c.args.line.now, g.L.Line.transmissions c.args.line.now) (g.L.Line.talk c.exchange_files.new.line, g.L.Line.transmissions c.exchange_files.new.line) c.args.rank c.args.send.now c.args.received jobs c.in_ok-station.station marker
+      exchanged = exchanges_left c.exchange_files.result (g.L.Line.talk c.args.line.now, g.L.Line.transmissions c.args.line.now) (g.L.Line.talk c.exchange_files.new.line, g.L.Line.transmissions c.exchange_files.new.line) c.args.rank 40 c.args.send.now c.args.received jobs c.in_ok-station.station marker
           front keeper f begun (g.S.Store.files c.exchange_files.new.store)
           (g.O.Write.contents c.args.out.now) (g.O.Write.contents c.exchange_files.new.out) out copy first
           c.in_ok-keeper.ensures.into c.in_ok-keeper.ensures.none opened c.in_ok-keeper.ensures.two c.exchange_files.ensures.exchanged;

@@ -5,6 +5,7 @@ use Rattle.rje_sockets.specs.Answering.{KeepsAnswered}
 use Rattle.rje_sockets.specs.Ending.{Receives}
 use Rattle.rje_sockets.proofs.Failing.{not_refused, receive_fails_so}
 use Rattle.rje_sockets.specs.OverLine.{OverConnection}
+use Rattle.rje_sockets.specs.Patience.{most_quiet}
 use Rattle.rje_sockets.proofs.OverLine.{over_connection}
 use Rattle.rje_sockets.proofs.Received.{keeps_so_many, nothing_kept}
 use Rattle.rje_sockets.proofs.socket_commands.receive_command.receive.Goals as goal
@@ -16,9 +17,10 @@ returns-clause-received g c =
     let made = g.S.Store.files c.received-ending.new.store in
     let had = g.O.Write.contents c.args.out.now in
     let has = g.O.Write.contents c.received-ending.new.out in
-    subst (λ (into : Destination). IfOk c.received-ending.result (λ ending. OverConnection (λ t u. Receives ending into (t, files, had) (u, made, has)))) c.in_ok-file.ensures.into
-    (over_connection c.received-ending.result (λ t u ending. Receives ending c.in_ok-file.file.into (t, files, had) (u, made, has)) _ _ c.in-Ok.ensures.unused
-    (c.received-ending.ensures.received opened.0 files opened.1 c.in_ok-file.ensures.same))
+    let came = c.received-ending.ensures.received opened.0 files opened.1 c.in_ok-file.ensures.same in
+    subst (λ (into : Destination). IfOk c.received-ending.result (λ ending. OverConnection (λ t u. Receives (most_quiet c.args.order.patience) ending into (t, files, had) (u, made, has)))) c.in_ok-file.ensures.into
+    (over_connection c.received-ending.result (λ t u ending. Receives (most_quiet c.args.order.patience) ending c.in_ok-file.file.into (t, files, had) (u, made, has)) _ _ c.in-Ok.ensures.unused
+    (rw c.most_quiet-patience.ensures.most at came))
 
 pub returns-clause-kept : goal.returns-clause-kept
 returns-clause-kept g c =

@@ -1,7 +1,7 @@
 use Rattle.std.proofs.Common.{codes, ap, ◌∙◌}
 use Rattle.clap.specs.Words.{new_app}
 use Rattle.clap.specs.Simple.{app_of_fields}
-use Rattle.rje_words.specs.CommandLine.{IsApp, file_rule, timeout_rule, trace_rule}
+use Rattle.rje_words.specs.CommandLine.{IsApp, file_rule, patience_rule}
 use Rattle.rje_words.proofs.words.app.exchange.Goals as goal
 
 pub returns : goal.returns
@@ -10,7 +10,7 @@ returns c =
     (ap app_of_fields c.about-command.ensures ∙ c.new.ensures.app, ap (λ f. f.has_globals) c.about-command.ensures ∙ c.new.ensures.local) in
     let send = c.in_ok-command.ensures (new_app (codes "exchange")) (file_rule (codes "SEND")) named c.file-send.ensures in
     let received = c.in_ok-command-2.ensures _ (file_rule (codes "RECEIVED")) send c.file-received.ensures in
-    let meeting = c.in_ok-command-3.ensures _ received in
-    let existing = c.in_ok-command-4.ensures _ meeting in
-    let timeout = c.in_ok-command-5.ensures _ timeout_rule existing c.timeout.ensures in
-    c.with_arg-4.ensures _ trace_rule timeout c.trace.ensures
+    let connection = c.in_ok-command-3.ensures _ received in
+    let patience = c.in_ok-command-4.ensures _ patience_rule connection c.patience.ensures in
+    let rank = c.in_ok-command-5.ensures _ patience in
+    c.with_existing.ensures _ rank
