@@ -17,7 +17,7 @@ import typing
 
 sys.path.insert(0, os.path.dirname(os.path.abspath(__file__)))
 from connected import Checks  # noqa: E402
-from relayed import CUT, jobs_of  # noqa: E402
+from relayed import CUT  # noqa: E402
 import wire  # noqa: E402
 from wire import A_JOB, ALL, LONG, PRINTED, PUNCHED, Talk, counted, handed, job_file, kept, marked, met  # noqa: E402
 
@@ -548,7 +548,8 @@ def faults_of(program, talk):
     yield None if ending == (talk.status, talk.printed, talk.told) else f"it ends with {ending}"
     for name, wanted in talk.files.items():
         with open(command.at(name), "rb") as file:
-            yield None if file.read() == wanted else f"the file {name} has {jobs_of(command.at(name))}"
+            found = file.read()
+        yield None if found == wanted else f"the file {name} is {found[:200].hex()} in place of {wanted[:200].hex()}"
     shutil.rmtree(command.folder)
 
 

@@ -21,7 +21,7 @@ sys.path[:0] = [HERE, os.path.join(HERE, "..", "commands")]
 from adapter import ACK0, ACK1, ENQ, EOT, NAK, RULES, RVI, TTD, WACK, as_read, writes_of  # noqa: E402
 from guest import Event, block, disables, enables, leaves, read, receives, runs, sends, wrote  # noqa: E402
 import guest  # noqa: E402
-from holding import Call, Hears, Speaker, Talk, faults_of  # noqa: E402
+from holding import Call, Hears, HungUp, Speaker, Talk, faults_of  # noqa: E402
 from texts import CUT, PRINTER, PUNCH, TRANSPARENT, WHOLE, Job, cards, normal  # noqa: E402
 
 AT_ONCE, WAY = 16, 0.4
@@ -231,6 +231,18 @@ def leased_lines():
         "leased line: the host calls, and is called then", [send(FEW, words=SEND_CALLED + SECOND), send(FEW)],
         [enables(), receives(), receives(), disables(), *steps], [CALLED, *said_to(*FEW), LOST, DISABLED, CALLED, *events],
     )
+    yield Talk(
+        "leased line: a DISABLE doesn't hang up", [send(FEW, words=SEND_CALLED + SECOND)], [enables(), disables(), *steps],
+        [CALLED, DISABLED, CALLED, *events],
+    )
+
+
+def calls_too_late():
+    """A switched line takes a call just while the host waits for one."""
+    return Talk(
+        "switched line: a call that nobody waits for", [send(FEW)], [enables(), receives(), disables()], [CALLED, *said_to(*FEW), DISABLED],
+        late=[Speaker([HungUp()])],
+    )
 
 
 def two_calls():
@@ -355,6 +367,14 @@ def exchanges():
     yield host_receives_first("exchange: a long deck and a long listing", [DECK], [REPORT], EXCHANGE)
 
 
+def transparent_last_of_exchange():
+    """The host doesn't hear the EOT: it goes on when it has waited in vain, and what is left of that stands before the answer to its bid."""
+    up = [A_CARD, DLES]
+    steps = [enables(), receives(tries=2), sends(*entries(*OUTPUT)), disables()]
+    events = [CALLED, *said_to(*up)[:-1], wrote(ENQ), read(EOT + ACK0), *said_by(*OUTPUT), DISABLED]
+    return Talk("exchange: transparent text last", [exchange(up, OUTPUT, EXCHANGE)], steps, events, QUICK)
+
+
 def cut_exchange():
     """The host hangs up in the middle of what it sends."""
     part = LONG._replace(records=LONG.records[:6])
@@ -400,7 +420,9 @@ def rules():
 def all_talks():
     for group in (decks_sent, answers_given, called_to_send, leased_lines, listings_received, things_given, exchanges, contention, rules):
         yield from group()
-    for talk in (transparent_last, cut_by_the_program, cut_within_a_text, two_calls, stays_quiet, cut_exchange):
+    for talk in (
+        transparent_last, cut_by_the_program, cut_within_a_text, calls_too_late, two_calls, stays_quiet, transparent_last_of_exchange, cut_exchange,
+    ):
         yield talk()
 
 

@@ -39,7 +39,8 @@ class Call(typing.NamedTuple):
 
 
 class Speaker(typing.NamedTuple):
-    """A peer that is this script: it says bytes, hears just those of a `Hears`, or waits as many seconds as a number says; then it hangs up."""
+    """A peer that is this script: it says bytes, hears just those of a `Hears`, waits as many seconds as a number says, or is hung up on; at last
+    it hangs up."""
 
     pieces: list
 
@@ -48,10 +49,14 @@ class Hears(typing.NamedTuple):
     data: bytes
 
 
+class HungUp(typing.NamedTuple):
+    pass
+
+
 class Talk(typing.NamedTuple):
     """A conversation: what it shows, who calls the line or is called, the guest's plan and what its log says; the words of the line in the
-    configuration; how long each message takes on its way; decks whose blocks `rje blocks` has to tell, and these; and whether the line is a
-    leased one, as it is where the program is called."""
+    configuration; how long each message takes on its way; decks whose blocks `rje blocks` has to tell, and these; whether the line is a leased
+    one, as it is where the program is called; and who calls when the guest has ended."""
 
     shows: str
     calls: list
@@ -61,6 +66,7 @@ class Talk(typing.NamedTuple):
     way: float = 0.0
     decks: dict = {}
     is_leased: bool = False
+    late: list = []
 
 
 def is_called(call):
@@ -187,6 +193,8 @@ def held(folder, talk):
             yield None if machine.awaits_call() else f"no call is awaited: {machine.console()[-300:]}"
             yield fault_of_call(folder, call, through(port, talk))
         yield None if machine.is_over() else "the guest doesn't end"
+        for call in talk.late:
+            yield fault_of_call(folder, call, port)
         yield fault_of_events(machine.log(), talk.events)
     finally:
         if machine:
@@ -231,6 +239,9 @@ def fault_of_speaker(speaker, port):
                 line.sendall(piece)
             elif isinstance(piece, float):
                 time.sleep(piece)
+            elif isinstance(piece, HungUp):
+                if line.recv(1):
+                    return "nobody hangs up"
             elif (heard := heard_of(line, len(piece.data))) != piece.data:
                 return f"{heard.hex()} goes in place of {piece.data.hex()}"
     return None
