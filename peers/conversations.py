@@ -13,6 +13,7 @@ A 2703 writes a byte at a time, and waits some 40 ms for the other end's system 
 import concurrent.futures
 import itertools
 import os
+import signal
 import sys
 import time
 
@@ -21,6 +22,7 @@ sys.path[:0] = [HERE, os.path.join(HERE, "..", "commands")]
 from adapter import ACK0, ACK1, ENQ, EOT, NAK, RULES, RVI, TTD, WACK, as_read, writes_of  # noqa: E402
 from guest import Event, block, disables, enables, leaves, read, receives, runs, sends, wrote  # noqa: E402
 import guest  # noqa: E402
+from hercules import RUNNING  # noqa: E402
 from holding import Call, Hears, HungUp, Speaker, Talk, faults_of  # noqa: E402
 from texts import CUT, PRINTER, PUNCH, TRANSPARENT, WHOLE, Job, cards, normal  # noqa: E402
 
@@ -436,12 +438,19 @@ def main(program, *words):
         except Exception as fault:
             return [f"{type(fault).__name__}: {fault}"]
 
-    with concurrent.futures.ThreadPoolExecutor(AT_ONCE) as pool:
+    # No machine stays behind, also where this script is ended.
+    signal.signal(signal.SIGTERM, lambda *_: sys.exit(1))
+    pool = concurrent.futures.ThreadPoolExecutor(AT_ONCE)
+    try:
         for talk, faults in zip(talks, pool.map(hold, talks)):
             for fault in faults:
                 passed, failed = passed + (fault is None), failed + (fault is not None)
                 if fault:
                     print(f"peers: {talk.shows}: {fault}", flush=True)
+    finally:
+        pool.shutdown(wait=False, cancel_futures=True)
+        for machine in list(RUNNING):
+            machine.close()
     print(f"peers: {len(talks)} conversations in {time.monotonic() - began:.0f} s")
     print(f"{passed} passed, {failed} failed")
     return 1 if failed else 0

@@ -1,11 +1,10 @@
 """A machine of Hercules with one line of a 2703 and a guest. Needs `hercules` on the path, and Linux.
 
-It is told what to do by a file of commands at its start, and by its web server afterwards. It is ended by its process's number.
+It is told what to do by a file of commands at its start, and by its web server afterwards.
 """
 import os
 import random
 import re
-import signal
 import socket
 import subprocess
 import threading
@@ -53,6 +52,8 @@ class Ports:
 
 
 PORTS = Ports()
+# The machines that were begun and not ended yet.
+RUNNING = set()
 
 
 class Machine:
@@ -67,8 +68,9 @@ class Machine:
         with open(self.at("console"), "wb") as console:
             self.process = subprocess.Popen(
                 ["hercules", "-f", self.at("configuration")], cwd=folder, env=environment, stdin=subprocess.DEVNULL, stdout=console,
-                stderr=subprocess.STDOUT, start_new_session=True,
+                stderr=subprocess.STDOUT,
             )
+        RUNNING.add(self)
 
     def at(self, name):
         return os.path.join(self.folder, name)
@@ -121,6 +123,6 @@ class Machine:
         return []
 
     def close(self):
-        if self.process.poll() is None:
-            os.kill(self.process.pid, signal.SIGKILL)
+        self.process.kill()
         self.process.wait()
+        RUNNING.discard(self)
