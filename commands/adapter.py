@@ -311,7 +311,9 @@ class Waits(typing.NamedTuple):
 
 
 class Quiet(typing.NamedTuple):
-    """Nothing comes to the host's READ."""
+    """Nothing comes to the host's READ for so many seconds."""
+
+    seconds: float = wire.STILL
 
 
 class Pads(typing.NamedTuple):
@@ -358,7 +360,7 @@ class Host:
         if isinstance(piece, Waits):
             return self.waits_fault(piece)
         if isinstance(piece, Quiet):
-            return self.quiet_fault()
+            return self.quiet_fault(piece)
         if isinstance(piece, Pads):
             self.connection.sendall(piece.data)
         elif isinstance(piece, HangsUp):
@@ -378,8 +380,8 @@ class Host:
         fault = self.differs(self.adapter.write(piece.data), End("waited", piece.data))
         return fault or self.differs(self.adapter.read(), End("cleared"))
 
-    def quiet_fault(self):
-        self.adapter.timeout = wire.STILL
+    def quiet_fault(self, piece):
+        self.adapter.timeout = piece.seconds
         end = self.adapter.read()
         self.adapter.timeout = PATIENCE
         return self.differs(end, End("quiet"))
@@ -515,7 +517,9 @@ RECEIVES = [
         3, handed(1, 0), HUNG_UP, {"got": job_file([PART.entry(CUT)])},
     ),
     received("EOT at once", RECEIVE, [], [Writes(EOT)]),
-    Talk("receive: no patience", RECEIVE + SOON + ["--patience", "3"], None, [Left()], 4, handed(0), "", {"got": kept([])}),
+    # Patience for two seconds where 40 would be more than a READ waits, and for more than the two and a half that there are by default.
+    Talk("receive: little patience", RECEIVE + ["--timeout", "1000", "--patience", "2"], None, [Left()], 4, handed(0), "", {"got": kept([])}),
+    received("endless patience", RECEIVE + SOON + ["--patience", "0"], [A_JOB], [Quiet(4.0), *receives([A_JOB])]),
 ]
 DOWN = [PRINTED, PUNCHED, A_JOB]
 EXCHANGES = [
@@ -526,6 +530,7 @@ EXCHANGES = [
     exchanged("the end that is called, as the secondary", CALLED + ["--secondary"], TWO, DOWN, [*receives(DOWN), *sends(TWO), HangsUp()]),
     exchanged("the end that is called, as the primary", CALLED + ["--primary"], TWO, DOWN, [*sends(TWO), *receives(DOWN), HangsUp()]),
     exchanged("nothing to send", CALLS, [], DOWN, [*receives(DOWN), HangsUp()]),
+    exchanged("endless patience", CALLS + SOON + ["--patience", "0"], [], DOWN, [Quiet(4.0), *receives(DOWN), HangsUp()]),
     # The secondary bids when it has heard nothing; where the host's bid comes in place of the answer, it takes that first.
     exchanged(
         "the secondary gives way", CALLED + LATER, TWO, DOWN, [Reads(ENQ), *receives(DOWN), *sends(TWO), HangsUp()],

@@ -26,13 +26,13 @@ from hercules import RUNNING  # noqa: E402
 from holding import Call, Hears, HungUp, Speaker, Talk, faults_of  # noqa: E402
 from texts import CUT, PRINTER, PUNCH, TRANSPARENT, WHOLE, Job, cards, normal  # noqa: E402
 
-AT_ONCE, WAY = 16, 0.4
-# The time-out that is recommended beside the three seconds of a 2703; a short one where something is lost.
-SECOND, SHORT, FAR = ["--timeout", "1000"], ["--timeout", "300"], ["--timeout", "1500"]
+# How long a message takes on its way where both bid at once, and how long a READ waits by itself where nothing is to come, in seconds.
+AT_ONCE, WAY, READ_WAITS = 16, 0.8, 1.5
+# A time-out where something is lost: beside the three seconds of a 2703 an answer that doesn't come is asked for before a READ is over.
+SECOND = ["--timeout", "1000"]
 CALLED, DISABLED = Event("ENABLE"), Event("DISABLE")
 HEARD_EOT, SAID_EOT, LOST = Event("eot", EOT), wrote(EOT), Event("lost")
 HUNG_UP = "rje: peer hung up\nrje: line failed\n"
-QUICK = "rto=500"
 
 
 # What is said to a guest, and by it.
@@ -100,12 +100,12 @@ EXCHANGE_CALLED = ["exchange", "jobs", "got", "--adapter", "--listen", "%TO"]
 # Conversations in which the program sends.
 
 
-def send(jobs, count=None, outcome="done", status=0, words=SEND + SECOND, told=""):
+def send(jobs, count=None, outcome="done", status=0, words=SEND, told=""):
     count = len(jobs) if count is None else count
     return Call(words, jobs, count, None, status, counted(count, len(jobs), outcome), told)
 
 
-def sent(shows, jobs, decks=None, words=SEND + SECOND):
+def sent(shows, jobs, decks=None, words=SEND):
     """All of these jobs are sent, and acknowledged."""
     hangs_up = [] if words[3] == "--listen" else [disables()]
     return Talk(
@@ -113,7 +113,7 @@ def sent(shows, jobs, decks=None, words=SEND + SECOND):
     )
 
 
-def answered(shows, letters, turns, jobs, count, outcome="done", status=0, told="", words=SEND + SECOND, line=""):
+def answered(shows, letters, turns, jobs, count, outcome="done", status=0, told="", words=SEND, line=""):
     """The guest gives these answers; its log has these turns behind the call and before it hangs up."""
     call = send(jobs, count, outcome, status, words, told)
     return Talk(shows, [call], [enables(), receives(*letters), disables()], [CALLED, *turns, DISABLED], line)
@@ -173,11 +173,11 @@ def answers_given():
     yield answered("send: NAK to each block", [ACK, *[NOT] * 7], [*BID, *heard(ONE, NAK) * 7, HEARD_EOT], few, 0, "gave up", 4)
     yield answered(
         "send: an answer that is lost", [ACK, guest.SILENT],
-        [*BID, *heard(ONE), read(ENQ), wrote(ACK1), *heard(TWO, ACK0), HEARD_EOT], few, 2, words=SEND + SHORT,
+        [*BID, *heard(ONE), read(ENQ), wrote(ACK1), *heard(TWO, ACK0), HEARD_EOT], few, 2, words=SEND + SECOND,
     )
     yield answered(
         "send: a block that is lost", [ACK, guest.DEAF],
-        [*BID, *heard(ONE), read(ENQ), wrote(ACK0), *heard(ONE, ACK1), *heard(TWO, ACK0), HEARD_EOT], few, 2, words=SEND + SHORT,
+        [*BID, *heard(ONE), read(ENQ), wrote(ACK0), *heard(ONE, ACK1), *heard(TWO, ACK0), HEARD_EOT], few, 2, words=SEND + SECOND,
     )
     yield answered(
         "send: EOT in place of an answer", [ACK, ACK, guest.EOT], [*BID, *heard(ONE, ACK1), *heard(TWO), SAID_EOT], few, 1, "ended", 4,
@@ -185,6 +185,14 @@ def answers_given():
     yield answered(
         "send: the host hangs up in the middle", [ACK, ACK, guest.LEAVE], [*BID, *heard(ONE, ACK1), *heard(TWO)], few, 1, "open", 3, HUNG_UP,
     )
+
+
+def delays():
+    """A guest that receives answers a delay and an abort by NAK: the program says neither, so a script does."""
+    abort = b"\x02\xC1" + ENQ
+    speaker = Speaker([ENQ, Hears(ACK0), TTD, Hears(NAK), abort, Hears(NAK), ONE, Hears(ACK1), EOT, HungUp()])
+    events = [*BID, *heard(TTD, NAK), *heard(abort, NAK), *heard(ONE, ACK1), HEARD_EOT]
+    return Talk("a guest hears a delay and an abort", [speaker], [enables(), receives(), disables()], [CALLED, *events, DISABLED])
 
 
 def transparent_last():
@@ -195,18 +203,18 @@ def transparent_last():
 
 
 def called_to_send():
-    yield sent("send, called: one card", [A_CARD], words=SEND_CALLED + SECOND)
-    yield sent("send, called: several jobs", [*FEW, LONG, PUNCHED], words=SEND_CALLED + SECOND)
+    yield sent("send, called: one card", [A_CARD], words=SEND_CALLED)
+    yield sent("send, called: several jobs", [*FEW, LONG, PUNCHED], words=SEND_CALLED)
     yield answered(
         "send, called: WACK and NAK", [guest.WACK, ACK, NOT, guest.WACK],
         [read(ENQ), wrote(WACK), *BID, *heard(ONE, NAK), *heard(ONE, WACK), read(ENQ), wrote(ACK1), HEARD_EOT], [A_CARD], 1,
-        words=SEND_CALLED + SECOND,
+        words=SEND_CALLED,
     )
 
 
 def cut_by_the_program():
     """The program is killed before its block is acknowledged; the host takes the next call, in which all is sent."""
-    killed = send(FEW, 0, words=SEND + ["--timeout", "10000"])._replace(killed_after=1.0)
+    killed = send(FEW, 0, words=SEND + ["--timeout", "10000"])._replace(killed_after=3.0)
     steps = [enables(), receives(ACK, guest.SILENT), disables(), enables(), receives(), disables()]
     return Talk(
         "send: killed in the middle, and again", [killed, send(FEW)], steps,
@@ -219,7 +227,7 @@ def cut_within_a_text():
     steps = [enables(), receives(), disables(), enables(), receives(), disables()]
     left = [read(b"\x02\xC1\xC2" + ENQ)]
     return Talk(
-        "send: after a text that was cut", [Speaker([ENQ, Hears(ACK0), b"\x02\xC1\xC2", 0.3]), send(FEW, words=SEND + SHORT)], steps,
+        "send: after a text that was cut", [Speaker([ENQ, Hears(ACK0), b"\x02\xC1\xC2", 0.3]), send(FEW, words=SEND + SECOND)], steps,
         [CALLED, *BID, LOST, DISABLED, CALLED, *left, *said_to(*FEW), DISABLED],
     )
 
@@ -230,11 +238,11 @@ def leased_lines():
     steps, events = [enables(), receives(), disables()], [*said_to(*FEW), DISABLED]
     yield Talk("leased line: the host is first, and is called", [send(FEW)], steps, [LOST, CALLED, *events], is_leased=True)
     yield Talk(
-        "leased line: the host calls, and is called then", [send(FEW, words=SEND_CALLED + SECOND), send(FEW)],
+        "leased line: the host calls, and is called then", [send(FEW, words=SEND_CALLED), send(FEW)],
         [enables(), receives(), receives(), disables(), *steps], [CALLED, *said_to(*FEW), LOST, DISABLED, CALLED, *events],
     )
     yield Talk(
-        "leased line: a DISABLE doesn't hang up", [send(FEW, words=SEND_CALLED + SECOND)], [enables(), disables(), *steps],
+        "leased line: a DISABLE doesn't hang up", [send(FEW, words=SEND_CALLED)], [enables(), disables(), *steps],
         [CALLED, DISABLED, CALLED, *events],
     )
 
@@ -250,7 +258,7 @@ def calls_too_late():
 def two_calls():
     steps = [enables(), receives(), disables(), enables(), sends(*entries(*OUTPUT)), disables()]
     return Talk(
-        "send, and receive by another call", [send(FEW), receive(OUTPUT, words=RECEIVE + SECOND)], steps,
+        "send, and receive by another call", [send(FEW), receive(OUTPUT, words=RECEIVE)], steps,
         [CALLED, *said_to(*FEW), DISABLED, CALLED, *said_by(*OUTPUT), DISABLED],
     )
 
@@ -258,18 +266,18 @@ def two_calls():
 # Conversations in which the program receives.
 
 
-def receive(jobs, status=0, words=RECEIVE + SECOND, told="", state=WHOLE):
+def receive(jobs, status=0, words=RECEIVE, told="", state=WHOLE):
     return Call(words, None, 0, jobs, status, handed(len(jobs), len(jobs) if state == WHOLE else 0), told, state)
 
 
-def received(shows, jobs, words=RECEIVE + SECOND):
+def received(shows, jobs, words=RECEIVE):
     """All of these jobs come, and are acknowledged."""
     return Talk(
         shows, [receive(jobs, words=words)], [enables(), sends(*entries(*jobs)), disables()], [CALLED, *said_by(*jobs), DISABLED],
     )
 
 
-def given(shows, items, turns, jobs, words=RECEIVE + SECOND, status=0, told="", state=WHOLE, ends=(SAID_EOT,)):
+def given(shows, items, turns, jobs, words=RECEIVE, status=0, told="", state=WHOLE, ends=(SAID_EOT,)):
     """The guest says these things; its log has these turns between the grant and EOT."""
     call = receive(jobs, status, words, told, state)
     return Talk(shows, [call], [enables(), sends(*items), disables()], [CALLED, wrote(ENQ), read(ACK0), *turns, *ends, DISABLED])
@@ -277,9 +285,9 @@ def given(shows, items, turns, jobs, words=RECEIVE + SECOND, status=0, told="", 
 
 def listings_received():
     for called, words in (("", RECEIVE), (", called", RECEIVE_CALLED)):
-        yield received(f"receive{called}: a listing with all carriage control", [LISTING], words + SECOND)
-        yield received(f"receive{called}: listings and cards", [A_CARD, *OUTPUT, LONG], words + SECOND)
-        yield received(f"receive{called}: transparent text between normal text", [A_CARD, DLES, CARDS_OF_BYTES, A_CARD], words + SECOND)
+        yield received(f"receive{called}: a listing with all carriage control", [LISTING], words)
+        yield received(f"receive{called}: listings and cards", [A_CARD, *OUTPUT, LONG], words)
+        yield received(f"receive{called}: transparent text between normal text", [A_CARD, DLES, CARDS_OF_BYTES, A_CARD], words)
     yield received("receive: blanks of all lengths", [BLANKS])
     yield received("receive: transparent text last", [A_CARD, DLES])
     yield received("receive: a job without a record", [Job([]), A_CARD])
@@ -301,7 +309,7 @@ def things_given():
     ):
         yield given(
             f"receive: {shows}", [block(wrong, again=[text]), *entries(A_CARD)],
-            [*said(wrong, answer=NAK), *said(text, answer=ACK1), *said(ONE, answer=ACK0)], [one, A_CARD], RECEIVE + SHORT,
+            [*said(wrong, answer=NAK), *said(text, answer=ACK1), *said(ONE, answer=ACK0)], [one, A_CARD], RECEIVE + SECOND,
         )
     yield given(
         "receive: a delay", [runs(TTD, guest.READ), runs(TTD, guest.READ), block(text)],
@@ -327,21 +335,21 @@ def things_given():
     )
     yield given(
         "receive, called: a text that doesn't read", [block(spoiled, again=[text])], [*said(spoiled, answer=NAK), *said(text, answer=ACK1)],
-        [one], RECEIVE_CALLED + SECOND,
+        [one], RECEIVE_CALLED,
     )
 
 
 def stays_quiet():
-    """A receiver leaves after as many hearings without a word as it has patience for."""
-    call = receive([], 4, RECEIVE + ["--timeout", "200", "--patience", "4"])
-    return Talk("receive: a host that stays quiet", [call], [enables(), receives(tries=9), disables()], [CALLED, LOST, DISABLED], QUICK)
+    """A receiver leaves after as many hearings without a word as it has patience for; the host would hang up later."""
+    call = receive([], 4, RECEIVE + ["--timeout", "500", "--patience", "4"])
+    return Talk("receive: a host that stays quiet", [call], [enables(), receives(tries=4), disables()], [CALLED, LOST, DISABLED])
 
 
 # Conversations both ways.
 
 
-def exchange(up, down, words, timeout=SECOND):
-    return Call(words + timeout, up, len(up), down, 0, counted(len(up), len(up)) + handed(len(down)))
+def exchange(up, down, words):
+    return Call(words, up, len(up), down, 0, counted(len(up), len(up)) + handed(len(down)))
 
 
 def host_receives_first(shows, up, down, words):
@@ -374,13 +382,13 @@ def transparent_last_of_exchange():
     up = [A_CARD, DLES]
     steps = [enables(), receives(tries=2), sends(*entries(*OUTPUT)), disables()]
     events = [CALLED, *said_to(*up)[:-1], wrote(ENQ), read(EOT + ACK0), *said_by(*OUTPUT), DISABLED]
-    return Talk("exchange: transparent text last", [exchange(up, OUTPUT, EXCHANGE)], steps, events, QUICK)
+    return Talk("exchange: transparent text last", [exchange(up, OUTPUT, EXCHANGE)], steps, events)
 
 
 def cut_exchange():
     """The host hangs up in the middle of what it sends."""
     part = LONG._replace(records=LONG.records[:6])
-    call = Call(EXCHANGE + SECOND, FEW, 2, [part], 3, counted(2, 2) + handed(1, 0), HUNG_UP, CUT)
+    call = Call(EXCHANGE, FEW, 2, [part], 3, counted(2, 2) + handed(1, 0), HUNG_UP, CUT)
     steps = [enables(), receives(), sends(block(FIRST), leaves()), disables()]
     events = [CALLED, *said_to(*FEW), wrote(ENQ), read(ACK0), *said(FIRST, answer=ACK1), DISABLED]
     return Talk("exchange: the host hangs up in the middle", [call], steps, events)
@@ -389,22 +397,22 @@ def cut_exchange():
 def contention():
     """Both bid at once: what each says is on its way while the other speaks."""
     yield Talk(
-        "contention: the host gives way", [exchange(FEW, OUTPUT, EXCHANGE + ["--primary"], FAR)],
+        "contention: the host gives way", [exchange(FEW, OUTPUT, EXCHANGE + ["--primary"])],
         [enables(), sends(*entries(*OUTPUT)), disables()], [CALLED, wrote(ENQ), *said_to(*FEW), *said_by(*OUTPUT), DISABLED], way=WAY,
     )
     # The host bids when it has heard nothing for as long as the program hears before it bids.
-    call = exchange(FEW, OUTPUT, EXCHANGE + ["--secondary"], FAR)
+    call = exchange(FEW, OUTPUT, EXCHANGE + ["--secondary"])
     yield Talk(
         "contention: the program gives way", [call],
         [enables(), receives(tries=1), sends(*entries(*OUTPUT), first=True), receives(), disables()],
-        [CALLED, wrote(ENQ), read(ENQ), *said_by(*OUTPUT)[1:], *said_to(*FEW), DISABLED], line="rto=1500", way=WAY,
+        [CALLED, wrote(ENQ), read(ENQ), *said_by(*OUTPUT)[1:], *said_to(*FEW), DISABLED], way=WAY,
     )
 
 
 def rules():
     """What the adapter of commands/ keeps to, row by row, by the living one: behind a bid that is granted."""
     for shows, row in RULES:
-        pieces, items, events = [Hears(ENQ), ACK0, 0.1], [], [CALLED, wrote(ENQ), read(ACK0)]
+        pieces, items, events = [Hears(ENQ), ACK0, 0.5], [], [CALLED, wrote(ENQ), read(ACK0)]
         for what, data in row:
             if what == "comes":
                 pieces.append(data)
@@ -413,9 +421,9 @@ def rules():
             else:
                 items.append(runs(data if what in ("wrote", "waited") else guest.READ))
                 events.append(Event(what, data))
-                pieces += [0.8] if what == "quiet" else []
+                pieces += [1.5 * READ_WAITS] if what == "quiet" else []
         yield Talk(
-            f"rule: {shows}", [Speaker([*pieces, 0.2])], [enables(), sends(*items, leaves()), disables()], [*events, DISABLED], QUICK,
+            f"rule: {shows}", [Speaker([*pieces, 0.2])], [enables(), sends(*items, leaves()), disables()], [*events, DISABLED], f"rto={1000 * READ_WAITS:.0f}",
         )
 
 
@@ -423,7 +431,7 @@ def all_talks():
     for group in (decks_sent, answers_given, called_to_send, leased_lines, listings_received, things_given, exchanges, contention, rules):
         yield from group()
     for talk in (
-        transparent_last, cut_by_the_program, cut_within_a_text, calls_too_late, two_calls, stays_quiet, transparent_last_of_exchange, cut_exchange,
+        delays, transparent_last, cut_by_the_program, cut_within_a_text, calls_too_late, two_calls, stays_quiet, transparent_last_of_exchange, cut_exchange,
     ):
         yield talk()
 

@@ -1,6 +1,7 @@
 """A machine of Hercules with one line of a 2703 and a guest. Needs `hercules` on the path, and Linux.
 
-It is told what to do by a file of commands at its start, and by its web server afterwards.
+It takes its commands from its standard input, as for a console of somebody else's making: its web server, which would take them too, now and then
+ends the machine where it is asked too early.
 """
 import os
 import random
@@ -9,9 +10,6 @@ import socket
 import subprocess
 import threading
 import time
-import urllib.error
-import urllib.parse
-import urllib.request
 
 from guest import DONE, NAMES
 
@@ -22,15 +20,14 @@ MAINSIZE  2
 NUMCPU    1
 ARCHMODE  S/370
 PANRATE   SLOW
-HTTPPORT  {web} NOAUTH
-HTTPROOT  {folder}/
 0040      2703 {line}
 """
-# What is loaded, and begun.
-COMMANDS = "loadcore {folder}/storage 0\nrestart\n"
 STORAGE_END = 0x1FFFFF
-PATIENCE = 30.0
+PATIENCE, STEP = 30.0, 0.02
+# The guest is in a wait state that nothing ends; the line waits for a call, or calls.
 IS_OVER = re.compile(rb"HHCCP011I [^=]*PSW=[0-9A-F]{8} ([0-9A-F]{8})")
+AWAITS_CALL = re.compile(rb"^0:0040 2703 .* OP=ENABLE", re.MULTILINE)
+IS_LOADED, IS_SAVED = b"HHCPN113I", b"HHCPN170I"
 
 
 class Ports:
@@ -60,17 +57,27 @@ class Machine:
     """Hercules with the guest's storage; the line has these words in the configuration."""
 
     def __init__(self, folder, storage, line):
-        self.folder, self.storage, self.web = folder, storage, PORTS.one()
+        self.folder, self.storage = folder, storage
         self.write("storage", bytes(storage.data))
-        self.write("configuration", CONFIGURATION.format(web=self.web, folder=folder, line=line).encode())
-        self.write("commands", COMMANDS.format(folder=folder).encode())
-        environment = {**os.environ, "HERCULES_RC": self.at("commands")}
+        self.write("configuration", CONFIGURATION.format(line=line).encode())
         with open(self.at("console"), "wb") as console:
             self.process = subprocess.Popen(
-                ["hercules", "-f", self.at("configuration")], cwd=folder, env=environment, stdin=subprocess.DEVNULL, stdout=console,
+                ["hercules", "-f", self.at("configuration"), "EXTERNALGUI"], cwd=folder, stdin=subprocess.PIPE, stdout=console,
                 stderr=subprocess.STDOUT,
             )
         RUNNING.add(self)
+        self.begin()
+
+    def begin(self):
+        """Loads the storage, which is refused until the processor has come to its first stop, and lets the guest go."""
+
+        def is_loaded():
+            self.say(f"loadcore {self.at('storage')} 0")
+            time.sleep(STEP)
+            return IS_LOADED in self.console()
+
+        if self.wait(is_loaded):
+            self.say("restart")
 
     def at(self, name):
         return os.path.join(self.folder, name)
@@ -83,14 +90,13 @@ class Machine:
         with open(self.at("console"), "rb") as file:
             return file.read()
 
-    def told(self, command):
-        """What the machine tells of a command, or nothing where it doesn't hear yet."""
-        address = f"http://127.0.0.1:{self.web}/cgi-bin/tasks/cmd?cmd={urllib.parse.quote(command)}"
+    def say(self, *commands):
+        """Gives these commands; where the machine has ended, nobody takes them."""
         try:
-            with urllib.request.urlopen(address, timeout=5) as answer:
-                return answer.read().decode("latin-1")
-        except (OSError, urllib.error.URLError):
-            return ""
+            self.process.stdin.write("".join(f"{it}\n" for it in commands).encode())
+            self.process.stdin.flush()
+        except OSError:
+            pass
 
     def wait(self, is_so):
         """Waits until it is so, and says whether it ever was."""
@@ -98,11 +104,19 @@ class Machine:
         while time.monotonic() < until and self.process.poll() is None:
             if is_so():
                 return True
-            time.sleep(0.02)
+            time.sleep(STEP)
         return False
 
     def awaits_call(self):
-        return self.wait(lambda: "OP=ENABLE" in self.told("devlist"))
+        """Waits until the guest has begun an ENABLE."""
+        known = len(self.console())
+
+        def is_so():
+            self.say("devlist")
+            time.sleep(STEP)
+            return AWAITS_CALL.search(self.console(), known)
+
+        return self.wait(is_so)
 
     def is_over(self):
         """Whether the guest ends as its plan says."""
@@ -113,16 +127,16 @@ class Machine:
     def log(self):
         """The guest's log, out of its storage; it is stopped first where it goes on."""
         if not IS_OVER.search(self.console()):
-            self.told("stop")
-        for _ in range(20):
-            self.told(f"savecore {self.at('log')} {NAMES['LOG']:X} {STORAGE_END:X}")
-            if os.path.exists(self.at("log")):
-                with open(self.at("log"), "rb") as file:
-                    return self.storage.events(file.read())
-            time.sleep(0.1)
-        return []
+            self.say("stop")
+            time.sleep(10 * STEP)
+        self.say(f"savecore {self.at('log')} {NAMES['LOG']:X} {STORAGE_END:X}")
+        if not self.wait(lambda: IS_SAVED in self.console()):
+            return []
+        with open(self.at("log"), "rb") as file:
+            return self.storage.events(file.read())
 
     def close(self):
         self.process.kill()
         self.process.wait()
+        self.process.stdin.close()
         RUNNING.discard(self)
