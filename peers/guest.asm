@@ -382,14 +382,10 @@ WHATCAME LA    R15,EOT
          BE    ISENQ
          LA    R15,TEXT
          CLI   0(R2),X'03'
-         BE    ISTEXT2
+         BE    EXOVER
          CLI   0(R2),X'26'
-         BNE   NOTEXT
-ISTEXT2  CLI   0(R11),X'02'
          BE    EXOVER
-         CLC   0(2,R11),DLESTX
-         BE    EXOVER
-NOTEXT   LA    R15,OTHER
+         LA    R15,OTHER
          B     EXOVER
 *
 ISENQ    LA    R15,TEXTENQ
