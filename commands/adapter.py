@@ -408,7 +408,6 @@ def writes_of(form):
     return [data[:-2], data[-2:]] if data.startswith(b"\x10\x02") else [data]
 
 
-BLOCKS = [form(it) for job in ALL for it in job.blocks]
 FIRST, SECOND = map(form, LONG.blocks)
 A_BLOCK = form(A_JOB.blocks[0])
 ANSWERS = [ACK1, ACK0] * 3

@@ -107,7 +107,6 @@ def send(jobs, count=None, outcome="done", status=0, words=SEND, told=""):
 
 def sent(shows, jobs, decks=None, words=SEND):
     """All of these jobs are sent, and acknowledged."""
-    hangs_up = [] if words[3] == "--listen" else [disables()]
     return Talk(
         shows, [send(jobs, words=words)], [enables(), receives(), disables()], [CALLED, *said_to(*jobs), DISABLED], decks=decks or {},
     )
@@ -198,7 +197,7 @@ def delays():
 def transparent_last():
     """The 2703 doesn't hear an EOT right behind transparent text: its host learns that all is over when the program hangs up."""
     jobs = [A_CARD, DLES]
-    *before, eot = said_to(*jobs)
+    before = said_to(*jobs)[:-1]
     return Talk("send: transparent text last", [send(jobs)], [enables(), receives(), disables()], [CALLED, *before, LOST, DISABLED])
 
 
