@@ -28,9 +28,9 @@ use rje_station::{Line, LineFault, Station, StationFault};
 use rje_stores::Store;
 
 /// Sends what the station has and receives what the other one has, until both transmissions are over, the other has hung up or has been
-/// quiet for so many of its turns in a row. Each job that it sends is marked as soon as it is counted, and each that comes is kept before its last block is
-/// answered; where it can't be, the station leaves. A primary bids as soon as something is due; a secondary listens first, and after each
-/// bid that isn't granted.
+/// quiet for so many of its turns in a row. Each job that it sends is marked as soon as it is counted, and each that comes is kept before
+/// its last block is answered; where it can't be, the station leaves. A primary bids as soon as something is due; a secondary listens
+/// first, and after each bid that isn't granted.
 pub fn exchange_all<'a, 'b, L: Line, S: Store, W: Watch>(
     station: &mut Station<'a>,
     line: &mut L,

@@ -46,8 +46,9 @@ use std::net::Net;
 use std::time::Clock;
 
 /// Sends the jobs of a job file that were not sent, and receives those of the other end into another one, over one connection. It has both
-/// files for itself, but while it waits for a call that which is received alone: what is added meanwhile to the other is sent. Marks those that were counted, and prints how many there are, how it ended, and how many came. Where that is
-/// asked for, who is connected and each turn is told to `err` as it happens.
+/// files for itself, but while it waits for a call that which is received alone: what is added meanwhile to the other is sent. Marks those
+/// that were counted, and prints how many there are, how it ended, and how many came. Where that is asked for, who is connected and each
+/// turn is told to `err` as it happens.
 pub fn exchange<'a, R: Net + Clock, S: Store, O: Write, E: Write>(
     rt: &R,
     alloc: Global,
@@ -96,8 +97,9 @@ pub fn exchange<'a, R: Net + Clock, S: Store, O: Write, E: Write>(
 }
 
 /// Exchanges over a line what is left of the job file of one name for the other station's jobs, which go into the file of another name.
-/// Forty of the other's turns in a row that bring nothing are the end. Then, also after a fault of the line, marks in the one what was counted, and prints how many of its jobs were counted, how it ended, and
-/// how many jobs came. Each job is in its file before its last block is answered. Answers the exit status, and tells why it isn't 0.
+/// Forty of the other's turns in a row that bring nothing are the end. Then, also after a fault of the line, marks in the one what was
+/// counted, and prints how many of its jobs were counted, how it ended, and how many jobs came. Each job is in its file before its last
+/// block is answered. Answers the exit status, and tells why it isn't 0.
 pub fn exchange_over<L: Line, S: Store, O: Write, E: Write>(
     alloc: Global,
     rank: Rank,

@@ -75,8 +75,9 @@ pub fn receive<'a, R: Net + Clock, S: Store, O: Write, E: Write>(
     ending
 }
 
-/// Receives one transmission over a line into the file of a destination, also where the line fails, and prints how many jobs there are. Forty
-/// quiet hearings in a row are the end of it. Each job is in the file before its last block is answered. Answers the exit status, and tells why it isn't 0.
+/// Receives one transmission over a line into the file of a destination, also where the line fails, and prints how many jobs there are.
+/// Forty quiet hearings in a row are the end of it. Each job is in the file before its last block is answered. Answers the exit status, and
+/// tells why it isn't 0.
 pub fn receive_over<L: Line, S: Store, O: Write, E: Write>(
     alloc: Global,
     line: &mut L,
