@@ -1,0 +1,49 @@
+-- What a station keeps of its day is what looking back over the day tells: so whom it hangs up, and when it ends.
+use Rattle.std.proofs.Common.{◌≡◌, refl, ◌-◌, true, arith, [], ◌∷◌}
+use Rattle.std.proofs.lemmas.Grind.{common_steps}
+use Rattle.rje_day.specs.declared.duty.Duty.{Duty}
+use Rattle.rje_day.specs.declared.seen.Seen.{Seen}
+use Rattle.rje_day.specs.declared.settings.Settings.{Settings}
+use Rattle.rje_day.specs.Day.{DayState, after, can_come, duty_of}
+use Rattle.rje_day.specs.Duties.{MustEnd, MustHangUp}
+use Rattle.rje_day.specs.History.{History, IsDay, Moment, has_word, kept_after, quiet_hearings, stands_after, was_served}
+use Rattle.rje_day.specs.Laws.{EndsAfterOne, HangsUpTheSilent, HangsUpTheSilentAlone}
+
+-- what is kept is what is told
+record IsTold (settings : Settings) (h : History) (d : DayState) : Type 0 where
+  settings_are : d.settings ≡ settings
+  place_is : d.place ≡ stands_after h
+  word_is : d.has_spoken ≡ has_word h
+  patience_is : d.patience ≡ settings.patience - quiet_hearings h
+  served_is : d.served ≡ was_served h
+
+after-told : (settings : Settings) (m : Moment) (past : History) (d : DayState) → can_come m.event d.place ≡ true → IsTold settings past d → IsTold settings (m ∷ past) (after m.event d)
+after-told settings m past d here told = grind (arith, common_steps)
+
+kept-told : (settings : Settings) (h : History) → IsDay settings h → IsTold settings h (kept_after settings h)
+kept-told settings [] day = record { settings_are = refl; place_is = refl; word_is = refl; patience_is = omega arith; served_is = refl }
+kept-told settings (m ∷ past) day = after-told settings m past (kept_after settings past) day.0.here (kept-told settings past day.1)
+
+must_hang_up : (d : DayState) (seen : Seen) → duty_of d seen ≡ Duty.HangUp → MustHangUp d seen
+must_hang_up d seen e = grind (arith, common_steps)
+
+hangs_up : (d : DayState) (seen : Seen) → MustHangUp d seen → duty_of d seen ≡ Duty.HangUp
+hangs_up d seen must = grind (arith, common_steps)
+
+must_end : (d : DayState) (seen : Seen) → duty_of d seen ≡ Duty.End → MustEnd d seen
+must_end d seen e = grind (arith, common_steps)
+
+pub hangs_up_the_silent_alone : HangsUpTheSilentAlone
+hangs_up_the_silent_alone settings h seen day e =
+    let told = kept-told settings h day in let why = (must_hang_up (kept_after settings h) seen e).why in grind (arith, common_steps)
+
+pub hangs_up_the_silent : HangsUpTheSilent
+hangs_up_the_silent settings h seen day free none long =
+    let told = kept-told settings h day in
+    let d = kept_after settings h in
+    let must : MustHangUp d seen = grind (arith, common_steps) in
+    hangs_up d seen must
+
+pub ends_after_one : EndsAfterOne
+ends_after_one settings h seen day e =
+    let told = kept-told settings h day in let why = (must_end (kept_after settings h) seen e).why in grind (arith, common_steps)

@@ -1,0 +1,125 @@
+-- What a station that stays on the line does between transmissions, and what it keeps to know it: its table (own profile).
+use Rattle.std.specs.Prelude.{ℕ, ◌-◌, ◌==◌, Bool, true, false, not, ◌&&◌, ◌||◌, if◌then◌else◌}
+use Rattle.rje_day.specs.declared.day_place.DayPlace.{DayPlace}
+use Rattle.rje_day.specs.declared.duty.Duty.{Duty}
+use Rattle.rje_day.specs.declared.event.Event.{Event}
+use Rattle.rje_day.specs.declared.seen.Seen.{Seen}
+use Rattle.rje_day.specs.declared.settings.Settings.{Settings}
+use Rattle.rje_day.specs.Ended.{all_counted, was_answered}
+
+-- What a station keeps of its day.
+pub record DayState : Type 0 where
+  pub settings : Settings
+  pub place : DayPlace
+  -- its own transmission was the last, and the other end hasn't had a hearing to bid in since
+  pub others_turn : Bool
+  -- on this connection: whether the other end has said a word, and how many more hearings without one it has patience for
+  pub has_spoken : Bool
+  pub patience : ℕ
+  -- its last attempt failed: no connection could be had, or it is gone without a word or in the middle of a transmission, or its own last
+  -- transmission there ended before all jobs were counted
+  pub failed : Bool
+  -- a connection is over on which the other end said a word
+  pub served : Bool
+
+-- as the day begins
+abbrev pub first_day_state : Settings → DayState
+first_day_state settings = record {
+  settings = settings;
+  place = DayPlace.Apart;
+  others_turn = false;
+  has_spoken = false;
+  patience = settings.patience;
+  failed = false;
+  served = false;
+}
+
+-- THE TABLE OF WHAT IS NEXT
+
+-- something lies ready, and the operator doesn't hold it back
+abbrev pub may_send : Seen → Bool
+may_send seen = seen.ready && not seen.held
+
+-- it has been drained; or its one connection is over
+abbrev pub is_done : DayState → Seen → Bool
+is_done d seen = seen.drained || (d.settings.once && d.served)
+
+-- the time to call again has come; or something may be sent, and the last attempt didn't fail
+abbrev pub is_to_call : DayState → Seen → Bool
+is_to_call d seen = seen.call_due || (may_send seen && not d.failed)
+
+-- it has been drained; or the other end has said nothing for as long as it has patience
+abbrev pub is_to_hang_up : DayState → Seen → Bool
+is_to_hang_up d seen = seen.drained || (not d.has_spoken && d.patience == 0)
+
+-- no connection
+abbrev pub duty_apart : DayState → Seen → Duty
+duty_apart d seen =
+    if is_done d seen then Duty.End
+    else (if not d.settings.calls then Duty.Listen else (if is_to_call d seen then Duty.Call else Duty.Wait))
+
+-- a connection, and nothing in hand
+abbrev pub duty_free : DayState → Seen → Duty
+duty_free d seen =
+    if is_to_hang_up d seen then Duty.HangUp else (if may_send seen && not d.others_turn then Duty.Bid else Duty.Hear)
+
+abbrev pub duty_of : DayState → Seen → Duty
+duty_of d seen = elim d.place [
+  | DayPlace.Apart ↦ duty_apart d seen
+  | DayPlace.Free ↦ duty_free d seen
+  | DayPlace.Sending ↦ Duty.GoOn
+  | DayPlace.Receiving ↦ Duty.GoOn
+]
+
+-- THE TABLE OF EVENTS
+
+-- there is a connection
+abbrev pub is_connected : DayPlace → Bool
+is_connected DayPlace.Apart = false
+is_connected _ = true
+
+-- there is one, and no transmission is in hand
+abbrev pub is_free : DayPlace → Bool
+is_free DayPlace.Free = true
+is_free _ = false
+
+-- where an event can come
+abbrev pub can_come : Event → DayPlace → Bool
+can_come Event.Connected place = not (is_connected place)
+can_come Event.NoConnection place = not (is_connected place)
+can_come Event.Quiet place = is_connected place
+can_come Event.Heard place = is_connected place
+can_come Event.OwnBegan place = is_free place
+can_come Event.OtherBegan DayPlace.Free = true
+can_come Event.OtherBegan DayPlace.Sending = true
+can_come (Event.OwnEnded how) DayPlace.Sending = true
+can_come Event.OtherEnded DayPlace.Receiving = true
+can_come Event.Disconnected place = is_connected place
+can_come _ _ = false
+
+-- what an event comes to where it can come
+abbrev pub coming_of : Event → DayState → DayState
+coming_of Event.Connected d = record d { place = DayPlace.Free; failed = false }
+coming_of Event.NoConnection d = record d { failed = true }
+-- a hearing, in which the other end could have bid
+coming_of Event.Quiet d = record d { others_turn = false; patience = d.patience - 1 }
+coming_of Event.Heard d = record d { others_turn = false; has_spoken = true }
+coming_of Event.OwnBegan d = record d { place = DayPlace.Sending }
+coming_of Event.OtherBegan d = record d { place = DayPlace.Receiving; others_turn = false; has_spoken = true }
+-- then it is the other end's turn to bid
+coming_of (Event.OwnEnded how) d = record d {
+  place = DayPlace.Free;
+  others_turn = true;
+  has_spoken = d.has_spoken || was_answered how;
+  failed = not (all_counted how);
+}
+coming_of Event.OtherEnded d = record d { place = DayPlace.Free }
+-- the next connection begins as the first one did
+coming_of Event.Disconnected d = record (first_day_state d.settings) {
+  failed = d.failed || not (d.has_spoken && is_free d.place);
+  served = d.served || d.has_spoken;
+}
+
+-- an event that can't come changes nothing
+abbrev pub after : Event → DayState → DayState
+after event d = if can_come event d.place then coming_of event d else d

@@ -1,0 +1,118 @@
+-- A day, looked back over (own profile). Histories have the newest moment first.
+use Rattle.std.specs.Prelude.{◌≡◌, ℕ, ◌+◌, Bool, true, false, ◌||◌, List, [], ◌∷◌, if◌then◌else◌}
+use Rattle.rje_day.specs.declared.day_place.DayPlace.{DayPlace}
+use Rattle.rje_day.specs.declared.duty.Duty.{Duty}
+use Rattle.rje_day.specs.declared.event.Event.{Event}
+use Rattle.rje_day.specs.declared.seen.Seen.{Seen}
+use Rattle.rje_day.specs.declared.settings.Settings.{Settings}
+use Rattle.rje_day.specs.Day.{DayState, after, can_come, duty_of, first_day_state}
+use Rattle.rje_day.specs.Duties.{makes_stations}
+use Rattle.rje_day.specs.Ended.{was_answered}
+
+-- one moment of a day: what was seen as the station asked what is next, and what happened when it did that
+pub record Moment : Type 0 where
+  pub seen : Seen
+  pub event : Event
+
+abbrev pub History : Type 0
+History = List Moment
+
+-- what the station keeps after these
+abbrev pub kept_after : Settings → History → DayState
+kept_after settings [] = first_day_state settings
+kept_after settings (m ∷ past) = after m.event (kept_after settings past)
+
+-- what it did in a moment after these
+abbrev pub done_in : Settings → Moment → History → Duty
+done_in settings m past = duty_of (kept_after settings past) m.seen
+
+-- what can come of what it does
+abbrev pub can_follow : Duty → Event → Bool
+can_follow Duty.Listen Event.Connected = true
+can_follow Duty.Listen Event.NoConnection = true
+can_follow Duty.Call Event.Connected = true
+can_follow Duty.Call Event.NoConnection = true
+can_follow Duty.Bid Event.OwnBegan = true
+can_follow Duty.Bid Event.Disconnected = true
+can_follow Duty.Hear Event.Quiet = true
+can_follow Duty.Hear Event.Heard = true
+can_follow Duty.Hear Event.OtherBegan = true
+can_follow Duty.Hear Event.Disconnected = true
+can_follow Duty.GoOn Event.Quiet = true
+can_follow Duty.GoOn Event.Heard = true
+can_follow Duty.GoOn Event.OtherBegan = true
+can_follow Duty.GoOn (Event.OwnEnded how) = true
+can_follow Duty.GoOn Event.OtherEnded = true
+can_follow Duty.GoOn Event.Disconnected = true
+can_follow Duty.HangUp Event.Disconnected = true
+can_follow _ _ = false
+
+-- the moment may come after these: its event can come where the station stands, and of what it does
+pub record MayCome (settings : Settings) (m : Moment) (past : History) : Type 0 where
+  pub here : can_come m.event (kept_after settings past).place ≡ true
+  pub follows : can_follow (done_in settings m past) m.event ≡ true
+
+-- a day, in which the station does at each moment what is next
+abbrev pub IsDay : Settings → History → Type 0
+IsDay settings [] = Unit {0}
+IsDay settings (m ∷ past) = MayCome settings m past × IsDay settings past
+
+-- WHAT IS TOLD BY LOOKING BACK
+
+-- where the station stands: the last event that moved it tells
+abbrev pub stands_after : History → DayPlace
+stands_after [] = DayPlace.Apart
+stands_after (m ∷ past) = elim m.event [
+  | Event.Connected ↦ DayPlace.Free
+  | Event.OwnBegan ↦ DayPlace.Sending
+  | Event.OtherBegan ↦ DayPlace.Receiving
+  | Event.OwnEnded how ↦ DayPlace.Free
+  | Event.OtherEnded ↦ DayPlace.Free
+  | Event.Disconnected ↦ DayPlace.Apart
+  | _ ↦ stands_after past
+]
+
+-- the other end has said a word on this connection: something that was heard, a bid, or the answers of a transmission
+abbrev pub has_word : History → Bool
+has_word [] = false
+has_word (m ∷ past) = elim m.event [
+  | Event.Heard ↦ true
+  | Event.OtherBegan ↦ true
+  | Event.OwnEnded how ↦ has_word past || was_answered how
+  | Event.Disconnected ↦ false
+  | _ ↦ has_word past
+]
+
+-- how many hearings on this connection brought nothing
+abbrev pub quiet_hearings : History → ℕ
+quiet_hearings [] = 0
+quiet_hearings (m ∷ past) = elim m.event [
+  | Event.Quiet ↦ quiet_hearings past + 1
+  | Event.Disconnected ↦ 0
+  | _ ↦ quiet_hearings past
+]
+
+-- a connection is over on which the other end said a word
+abbrev pub was_served : History → Bool
+was_served [] = false
+was_served (m ∷ past) = elim m.event [ Event.Disconnected ↦ was_served past || has_word past | _ ↦ was_served past ]
+
+-- HOW MANY TRANSMISSIONS THE STATIONS IN USE HAVE CARRIED
+
+abbrev pub own_begun : Event → ℕ
+own_begun Event.OwnBegan = 1
+own_begun _ = 0
+
+abbrev pub other_begun : Event → ℕ
+other_begun Event.OtherBegan = 1
+other_begun _ = 0
+
+-- of the station's own, since new stations were made
+abbrev pub own_carried : Settings → History → ℕ
+own_carried settings [] = 0
+own_carried settings (m ∷ past) = (if makes_stations (done_in settings m past) then 0 else own_carried settings past) + own_begun m.event
+
+-- of the other end's, since new stations were made
+abbrev pub other_carried : Settings → History → ℕ
+other_carried settings [] = 0
+other_carried settings (m ∷ past) = (if makes_stations (done_in settings m past) then 0 else other_carried settings past) + other_begun m.event

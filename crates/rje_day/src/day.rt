@@ -1,0 +1,190 @@
+//! The day of a station that stays on the line, transmission after transmission (own).
+//!
+//! What is next, the first line that fits:
+//!
+//! | Place | Where | What is next |
+//! |---|---|---|
+//! | Apart | drained; or its one connection is over | End |
+//! | Apart | it is called | Listen |
+//! | Apart | the time to call again has come; or something may be sent, and the last attempt didn't fail | Call |
+//! | Apart | else | Wait |
+//! | Free | drained; or the other end hasn't said a word and patience is over | HangUp |
+//! | Free | something may be sent, and it isn't the other end's turn | Bid |
+//! | Free | else | Hear |
+//! | Sending, Receiving | any | GoOn |
+//!
+//! What an event comes to:
+//!
+//! | Event | Place | What follows |
+//! |---|---|---|
+//! | Connected | Apart | Free; nothing has failed |
+//! | NoConnection | Apart | the attempt failed |
+//! | Quiet | Free, Sending, Receiving | one hearing of patience less; it isn't the other end's turn any more |
+//! | Heard | Free, Sending, Receiving | a word was said; it isn't the other end's turn any more |
+//! | OwnBegan | Free | Sending |
+//! | OtherBegan | Free, Sending | Receiving; a word was said |
+//! | OwnEnded | Sending | Free; it is the other end's turn; a word was said if a job was counted or is in doubt; the attempt failed but for Done |
+//! | OtherEnded | Receiving | Free |
+//! | Disconnected | Free, Sending, Receiving | Apart, as the day began; the attempt failed where no word was said or a transmission was in hand |
+//!
+//! In every other place nothing changes.
+ghost use Rattle.std.specs.Prelude.{◌≡◌, ◌↔◌, true, false};
+
+use crate::{DayPlace, Duty, Ended, Event, Seen, Settings};
+use std::marker::Model;
+
+/// The day of a station that stays on the line.
+#[derive(Debug, Drop)]
+pub struct Day {
+    settings: Settings,
+    place: DayPlace,
+    others_turn: bool,
+    has_spoken: bool,
+    patience: u32,
+    failed: bool,
+    served: bool,
+}
+
+impl Model for Day {
+    ghost use Rattle.rje_day.specs.Day.{DayState};
+
+    ghost Value = { DayState };
+
+    ghost view = { λ d. record {
+      settings = d.settings;
+      place = d.place;
+      others_turn = d.others_turn;
+      has_spoken = d.has_spoken;
+      patience = d.patience;
+      failed = d.failed;
+      served = d.served;
+    } };
+}
+
+impl Day {
+    ghost use Rattle.rje_day.specs.Day.{first_day_state, duty_of, duty_apart, duty_free, after, coming_of, can_come};
+    ghost use Rattle.rje_day.specs.Duties.{MustBid, MustCall, seeks_connection, IsInHand, MustHangUp, MustEnd};
+
+    /// A day that begins, with no connection.
+    pub fn new(settings: Settings) -> Self
+        ensures { result ≡ first_day_state settings }
+    {
+        Day {
+            settings,
+            place: DayPlace::Apart,
+            others_turn: false,
+            has_spoken: false,
+            patience: settings.patience,
+            failed: false,
+            served: false,
+        }
+    }
+
+    /// What is next, as things stand and by what is seen.
+    pub fn next(&self, seen: Seen) -> Duty
+        ensures exact { result ≡ duty_of self.now seen }
+        ensures bids { (result ≡ Duty.Bid) ↔ MustBid self.now seen }
+        ensures calls { (result ≡ Duty.Call) ↔ MustCall self.now seen }
+        ensures one_connection { seeks_connection result ≡ true → self.now.place ≡ DayPlace.Apart }
+        ensures goes_on { (result ≡ Duty.GoOn) ↔ IsInHand self.now.place }
+        ensures hangs_up { (result ≡ Duty.HangUp) ↔ MustHangUp self.now seen }
+        ensures ends { (result ≡ Duty.End) ↔ MustEnd self.now seen }
+    {
+        match self.place {
+            DayPlace::Apart => self.next_apart(seen),
+            DayPlace::Free => self.next_free(seen),
+            DayPlace::Sending | DayPlace::Receiving => Duty::GoOn,
+        }
+    }
+
+    /// Something happened. What can't happen where the station stands changes nothing.
+    pub fn note(&mut self, event: Event)
+        ensures exact { self.new ≡ after event self.old }
+        ensures stays { can_come event self.old.place ≡ false → self.new ≡ self.old }
+    {
+        match (event, self.place) {
+            (Event::Connected, DayPlace::Apart) => self.connected(),
+            (Event::NoConnection, DayPlace::Apart) => self.failed = true,
+            (Event::OwnBegan, DayPlace::Free) => self.place = DayPlace::Sending,
+            (Event::OtherBegan, DayPlace::Free | DayPlace::Sending) => self.other_began(),
+            (Event::OwnEnded(how), DayPlace::Sending) => self.own_ended(how),
+            (Event::OtherEnded, DayPlace::Receiving) => self.place = DayPlace::Free,
+            (_, DayPlace::Apart) => {}
+            (Event::Quiet, _) => {
+                self.others_turn = false;
+                self.patience = self.patience.saturating_sub(1);
+            }
+            (Event::Heard, _) => {
+                self.others_turn = false;
+                self.has_spoken = true;
+            }
+            (Event::Disconnected, _) => self.disconnected(),
+            _ => {}
+        }
+    }
+
+    /// There is no connection.
+    fn next_apart(&self, seen: Seen) -> Duty
+        ensures { result ≡ duty_apart self.now seen }
+    {
+        let may_send = seen.ready && !seen.held;
+        if seen.drained || (self.settings.once && self.served) {
+            Duty::End
+        } else if !self.settings.calls {
+            Duty::Listen
+        } else if seen.call_due || (may_send && !self.failed) {
+            Duty::Call
+        } else {
+            Duty::Wait
+        }
+    }
+
+    /// There is a connection, and nothing is in hand.
+    fn next_free(&self, seen: Seen) -> Duty
+        ensures { result ≡ duty_free self.now seen }
+    {
+        let may_send = seen.ready && !seen.held;
+        if seen.drained || (!self.has_spoken && self.patience == 0) {
+            Duty::HangUp
+        } else if may_send && !self.others_turn {
+            Duty::Bid
+        } else {
+            Duty::Hear
+        }
+    }
+
+    fn connected(&mut self)
+        ensures { self.new ≡ coming_of Event.Connected self.old }
+    {
+        self.place = DayPlace::Free;
+        self.failed = false;
+    }
+
+    fn other_began(&mut self)
+        ensures { self.new ≡ coming_of Event.OtherBegan self.old }
+    {
+        self.place = DayPlace::Receiving;
+        self.others_turn = false;
+        self.has_spoken = true;
+    }
+
+    fn own_ended(&mut self, how: Ended)
+        ensures { self.new ≡ coming_of (Event.OwnEnded how) self.old }
+    {
+        self.place = DayPlace::Free;
+        self.others_turn = true;
+        self.has_spoken |= how.was_answered();
+        self.failed = how != Ended::Done;
+    }
+
+    fn disconnected(&mut self)
+        ensures { self.new ≡ coming_of Event.Disconnected self.old }
+    {
+        let well = self.has_spoken && self.place == DayPlace::Free;
+        *self = Day {
+            failed: self.failed || !well,
+            served: self.served || self.has_spoken,
+            ..Day::new(self.settings)
+        };
+    }
+}

@@ -1,0 +1,25 @@
+//! The day of a station that stays on the line: what it does next, and what becomes of the jobs of each of its transmissions.
+#![tactic(auto)]
+
+mod day;
+mod day_place;
+mod disposition;
+mod duty;
+mod ended;
+mod event;
+mod laws;
+mod seen;
+mod settings;
+
+pub use day::Day;
+pub use day_place::DayPlace;
+pub use disposition::Disposition;
+pub use duty::Duty;
+pub use ended::Ended;
+pub use event::Event;
+pub use laws::{
+    ends_after_one_connection, no_job_is_given_again, stations_carry_one_each_way,
+    the_silent_alone_are_hung_up,
+};
+pub use seen::Seen;
+pub use settings::Settings;

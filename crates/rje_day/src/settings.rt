@@ -1,0 +1,12 @@
+//! How a station spends its day.
+
+/// How a station spends its day.
+#[derive(Clone, Copy, Debug, PartialEq, Eq)]
+pub struct Settings {
+    /// Whether it calls; else it listens, and is called.
+    pub calls: bool,
+    /// Whether it ends after one connection on which the other end said something.
+    pub once: bool,
+    /// After how many hearings on a connection on which the other end hasn't said a word it hangs up; with 0 at once.
+    pub patience: u32,
+}
