@@ -3,10 +3,10 @@ use Rattle.std.proofs.Common.{◌≡◌, ◌≤◌, ℕ, Bor, Bool, true, false,
 use Rattle.std.specs.Prelude.{IfSome}
 use Rattle.std.specs.Option.{IsSomeAnd}
 use Rattle.std.specs.Result.{IsErrAnd}
+use Rattle.rje_text.specs.declared.record.Record.{Record}
 use Rattle.rje_jobs.specs.declared.job.Job.{Job}
-use Rattle.rje_jobs.specs.Deck.{deck_fault}
+use Rattle.rje_jobs.specs.Deck.{cards_of, deck_fault}
 use Rattle.rje_files.specs.declared.entry.Entry.{Entry}
-use Rattle.rje_files.specs.declared.entry.State.TheVariants.{Waiting}
 use Rattle.rje_files.specs.FileFault.{IsFileFault}
 use Rattle.rje_files.specs.JobFile.{HasJobs, IsEntryFile}
 use Rattle.line_world.specs.declared.turn.Turn.{Turn}
@@ -15,6 +15,7 @@ use Rattle.line_world.specs.Run.{IsRunFault}
 use Rattle.rje_print.specs.Script.{IsScript}
 use Rattle.rje_stores.proofs.Changes.{same_twice, set_after}
 use Rattle.rje_commands.specs.CommandFault.{of_world}
+use Rattle.rje_orders.specs.Device.{writing}
 use Rattle.rje_orders.specs.declared.order.CardsOrder.{CardsOrder}
 use Rattle.rje_monitor.specs.Turns.{IsFirstBadLine}
 use Rattle.rje_orders.specs.declared.order.MonitorOrder.{MonitorOrder}
@@ -24,9 +25,9 @@ use Rattle.rje_orders.specs.declared.order.TryOrder.{TryOrder}
 use Rattle.rje_orders.specs.declared.order.FileOrder.{FileOrder}
 use Rattle.rje_commands.specs.declared.command_fault.CommandFault.{CommandFault}
 use Rattle.rje_commands.specs.declared.command_fault.CommandFault.TheVariants as told
-use Rattle.rje_commands.specs.Commands.{AreEntriesOf, AreInFront, IsThere, OfFile, OfFiles, OfDeck, HasFewer, IsFault, MakesFile, deck_job}
+use Rattle.rje_commands.specs.Commands.{AreEntriesOf, AreInFront, IsThere, OfFile, OfFiles, OfDeck, HasFewer, IsFault, MakesFile}
 use Rattle.rje_commands.specs.NamedFile.{IsWriteFault}
-use Rattle.rje_commands.specs.Inside.Commands.{IsMadeFault, IsHeld, IsHeldFault, IsMade, IsTryFault, IsTextFault, IsCaptureFault, IsCheckFault, IsChoiceFault}
+use Rattle.rje_commands.specs.Inside.Commands.{cards_entry, IsMadeFault, IsHeld, IsHeldFault, IsMade, IsTryFault, IsTextFault, IsCaptureFault, IsCheckFault, IsChoiceFault}
 use Rattle.rje_stores.specs.Store.{FileMap, Discloses, IsSame, Sets}
 
 module _ (P Q : List ℕ → Type 0) (more : (file : List ℕ) → P file → Q file) where
@@ -137,13 +138,13 @@ module _ (order : TryOrder) (f g : Option FileMap) (a b : List ℕ)
   try_fault _ h = absurd h
 
 -- the file that `cards` makes of a deck, after that was read, the file had for itself, and what it held read
-pub made_file : (order : CardsOrder) (deck bytes : List ℕ) (job : Job) (held : Option (List ℕ)) (f g h i j : Option FileMap)
-    → (deck_fault deck ≡ None) × (job ≡ deck_job order.device deck) → IsMade held (record { name = order.name; state = Waiting; job = job }) bytes
+pub made_file : (order : CardsOrder) (deck bytes : List ℕ) (cards : List Record) (held : Option (List ℕ)) (f g h i j : Option FileMap)
+    → (deck_fault deck ≡ None) × (cards ≡ cards_of (writing order.device) deck) → IsMade held (cards_entry order cards) bytes
     → length bytes ≤ 16777216 → Discloses f g IsSame → Discloses g h IsSame → IsHeld order h held → Discloses h i IsSame
     → Discloses i j (Sets order.jobs.now bytes) → MakesFile order deck f j
-made_file order deck bytes job held f g h i j of_deck made few read locked kept still sets =
+made_file order deck bytes cards held f g h i j of_deck made few read locked kept still sets =
     let same = same_twice f g h read locked in
-    let made = subst (λ (job : Job). IsMade held (record { name = order.name; state = Waiting; job = job }) bytes) of_deck.1 made in (
+    let made = subst (λ (cards : List Record). IsMade held (cards_entry order cards) bytes) of_deck.1 made in (
       made.0,
       bytes,
       in_front order f h held made.0 same kept made.1,

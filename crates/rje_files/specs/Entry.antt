@@ -1,7 +1,11 @@
 -- A job in a job file, with its name and its state (own profile).
 use Rattle.std.specs.Prelude.{◌≡◌, ℕ, ◌+◌, ◌-◌, ◌<◌, ◌≤◌, Bool, true, false, not, ◌&&◌, ◌||◌, ◌==◌, nat_le, List, [], ◌∷◌, ◌++◌, length, map, replicate, Option, Some, None, if◌then◌else◌}
 use Rattle.std.specs.List.{list_all}
+use Rattle.rje_text.specs.declared.mode.Mode.{Mode}
+use Rattle.rje_text.specs.declared.select.Select.{Select}
+use Rattle.rje_text.specs.declared.record.Record.{Record}
 use Rattle.rje_jobs.specs.declared.job.Job.{Job}
+use Rattle.rje_jobs.specs.Deck.{job_of_cards}
 use Rattle.rje_files.specs.declared.entry.State.{State}
 use Rattle.rje_files.specs.declared.entry.State.TheVariants.{Waiting, Sent, Whole, Cut}
 use Rattle.rje_files.specs.declared.entry.Entry.{Entry}
@@ -62,6 +66,10 @@ IsEntry e = (length e.name ≡ 8) × (is_entry e ≡ true)
 -- the entry of these three
 abbrev pub entry_with : List ℕ → State → Job → Entry
 entry_with name state job = record { name = name; state = state; job = job }
+
+-- the entry of the job of a deck's cards, of this name, which waits to be sent
+abbrev pub entry_of_cards : (name : List ℕ) → Select → Mode → List Record → Entry
+entry_of_cards name select mode cards = entry_with name Waiting (job_of_cards select mode cards)
 
 -- the entry of a job that has no name and no state of its own
 abbrev pub entry_of : Job → Entry

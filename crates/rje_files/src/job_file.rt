@@ -13,8 +13,8 @@
 //!
 //! A job of version 2: its name, 8 bytes: up to eight of A to Z and 0 to 9 in ASCII, and then 20; its state in a byte (0 Waiting, 1 Sent, 2 Whole,
 //! 3 Cut); its selection, its mode, its records as in version 1.
-ghost use Rattle.std.specs.Prelude.{◌≡◌, ◌<◌, ◌-◌, ◌^◌, length, IfOk, IfErr};
-ghost use Rattle.rje_files.specs.Entry.{entry_of};
+ghost use Rattle.std.specs.Prelude.{◌≡◌, ◌<◌, ◌-◌, ◌^◌, ◌∷◌, [], length, IfOk, IfErr};
+ghost use Rattle.rje_files.specs.Entry.{entry_of, entry_of_cards};
 ghost use Rattle.rje_files.specs.Growth.{GrowsBy};
 ghost use Rattle.rje_files.specs.JobFile.{IsFileOf, IsEntryFileOf, IsJobFile, IsEntryFile, HasEntries};
 ghost use Rattle.rje_files.specs.FileFault.{IsFileFault, IsEntryFault};
@@ -26,14 +26,15 @@ mod reader;
 mod version;
 mod writing;
 
-use crate::{Entry, FileEntry, Growth};
+use crate::{Entry, FileEntry, Growth, JobName};
 use checking::first_fault;
 use collecting::{collect_entries, collect_file_entries, collect_jobs};
-use name::first_bad;
-use rje_jobs::{FileFault, Job, Jobs};
+use name::{first_bad, has_name};
+use rje_jobs::{Cards, FileFault, Job, Jobs};
+use rje_text::{Mode, Select};
 use std::alloc::{AllocError, Global};
 use version::FileVersion;
-use writing::{write_all_entries, write_all_jobs, write_growth};
+use writing::{write_all_entries, write_all_jobs, write_growth, written_deck};
 
 /// What a job file begins with: its name, and the first byte of its version.
 const HEAD: [u8; 5] = *b"RJ37\x00";
@@ -62,6 +63,29 @@ pub fn write_entries(alloc: Global, entries: &[Entry]) -> Result<Vec<u8>, FileFa
                 Err(_) => Err(FileFault::OutOfMemory),
             }
         }
+    }
+}
+
+/// The version 2 file of one job that waits to be sent: of these cards of a deck, which were made in this mode, with this name. Each card is
+/// written as it is made. The name is looked at before any memory is taken.
+pub fn write_deck(
+    alloc: Global,
+    name: &JobName,
+    select: Select,
+    mode: Mode,
+    cards: Cards,
+) -> Result<Vec<u8>, FileFault>
+    ensures file { IfOk result (λ bytes. IsEntryFileOf FileVersion.Second
+        (entry_of_cards name.now select mode cards.entry ∷ []) bytes.items) }
+    ensures told { IfErr result (λ fault.
+        IsEntryFault (entry_of_cards name.now select mode cards.entry ∷ []) fault) }
+{
+    if !has_name(name) {
+        return Err(FileFault::BadEntry(1));
+    }
+    match written_deck(alloc, name, select, mode, cards) {
+        Ok(bytes) => Ok(bytes),
+        Err(_) => Err(FileFault::OutOfMemory),
     }
 }
 

@@ -1,6 +1,6 @@
 -- What a deck stands for (own profile).
-use Rattle.std.specs.Prelude.{◌≡◌, ℕ, ◌+◌, ◌-◌, true, List, [], ◌∷◌, ◌++◌, length, map, replicate, Option, Some, None, option_map, is_none, position, nat_lt, if◌then◌else◌}
-use Rattle.std.specs.List.{filter_map}
+use Rattle.std.specs.Prelude.{◌≡◌, ℕ, ◌+◌, ◌-◌, true, false, List, [], ◌∷◌, ◌++◌, length, map, replicate, Option, Some, None, option_map, is_none, unwrap_or, position, nat_lt, if◌then◌else◌}
+use Rattle.std.specs.List.{filter_map, AllByRecursion}
 use Rattle.std.specs.Option.{option_or}
 use Rattle.std.specs.Str.Lines.{lines}
 use Rattle.bsc_codes.specs.Bytes.{BLANK}
@@ -20,6 +20,14 @@ abbrev pub line_fault : ℕ → List ℕ → Option DeckFault
 line_fault number line =
     if nat_lt 80 (length line) then Some (LongLine number)
     else option_map (λ i. BadCharacter number (i + 1)) (position (λ c. is_none (ebcdic_of c)) line)
+
+-- each character of a line has an EBCDIC code
+abbrev pub AreCoded : List ℕ → Type 0
+AreCoded line = AllByRecursion (λ c. is_none (ebcdic_of c) ≡ false) line
+
+-- the code of a character, and 00 for one that has none
+abbrev pub code_or_zero : ℕ → ℕ
+code_or_zero c = unwrap_or (ebcdic_of c) 0
 
 -- the fault of the first line that has one, where the lines are numbered from here on
 abbrev pub first_fault : ℕ → List (List ℕ) → Option DeckFault
@@ -48,9 +56,17 @@ deck_select select Transparent = Punch
 abbrev pub cards_of : Mode → List ℕ → List Record
 cards_of mode deck = map (card_of mode) (lines deck)
 
+-- the job of these cards, for the device that was asked for
+abbrev pub job_of_cards : Select → Mode → List Record → Job
+job_of_cards select mode cards = record { select = deck_select select mode; mode = mode; records = cards; whole = true }
+
 -- the job of a deck: its cards
 abbrev pub job_of : Select → Mode → List ℕ → Job
-job_of select mode deck = record { select = deck_select select mode; mode = mode; records = cards_of mode deck; whole = true }
+job_of select mode deck = job_of_cards select mode (cards_of mode deck)
+
+-- these are the cards of this deck, in some mode
+abbrev pub AreCardsOf : List ℕ → List Record → Type 0
+AreCardsOf deck cards = (mode : Mode) × (cards ≡ cards_of mode deck)
 
 -- the fault of a deck that makes no job: its first fault, and memory only where it has none
 abbrev pub IsDeckFault : List ℕ → DeckFault → Type 0

@@ -1,8 +1,9 @@
 //! Decks: printable text, one card a line.
-ghost use Rattle.std.specs.Prelude.{◌≡◌, ◌<◌, ◌≤◌, ◌^◌, length, position, is_none, IfSome, IfOk, IfErr, Some, None};
+ghost use Rattle.std.specs.Prelude.{◌≡◌, ◌<◌, ◌≤◌, ◌^◌, length, position, is_none, IfSome, IfOk, IfErr, Some, None, true};
 ghost use Rattle.std.specs.Str.Lines.{lines};
 ghost use Rattle.bsc_codes.specs.CodePage.{ebcdic_of};
-ghost use Rattle.rje_jobs.specs.Deck.{line_fault, deck_fault, deck_select, cards_of, job_of, IsDeckFault};
+ghost use Rattle.rje_jobs.specs.Deck.{AreCoded, line_fault, deck_fault, deck_select, cards_of, job_of, IsDeckFault};
+ghost use Rattle.rje_jobs.specs.Deck.{job_of_cards as JobOfCards};
 
 use crate::cards::{CARD, Cards};
 use crate::lines::next_line;
@@ -10,6 +11,11 @@ use crate::{DeckFault, Job};
 use bsc_codes::to_ebcdic;
 use rje_text::{Mode, Record, Records, Select};
 use std::alloc::{AllocError, Global};
+
+/// The first printable character, the blank, and the last one, the tilde.
+const FIRST: u8 = 0x20;
+
+const LAST: u8 = 0x7E;
 
 /// The job of a deck: a card for each line, in EBCDIC. A transparent job goes to the punch,
 /// its cards filled to 80 bytes. The first fault of the deck is reported before any memory is taken.
@@ -19,9 +25,21 @@ pub fn job_of_deck(alloc: Global, deck: &[u8], select: Select, mode: Mode) -> Re
     ensures told { IfErr result (λ fault. IsDeckFault deck.now fault) }
 {
     let cards = cards_of_deck(deck, mode)?;
+    Ok(job_of_cards(alloc, select, mode, cards)?)
+}
+
+/// The job of the cards of a deck in this mode. A transparent job goes to the punch.
+pub fn job_of_cards(
+    alloc: Global,
+    select: Select,
+    mode: Mode,
+    cards: Cards,
+) -> Result<Job, AllocError>
+    ensures job { IfOk result (λ job. job ≡ JobOfCards select mode cards.entry) }
+{
     let records = collected(alloc, cards)?;
     Ok(Job {
-        select: device(select, mode),
+        select: deck_device(select, mode),
         mode,
         records: Records::from(records),
         whole: true,
@@ -83,17 +101,39 @@ fn fault_in(line: &[u8], number: usize) -> Option<DeckFault>
 }
 
 /// The place, from 0, of the first character without an EBCDIC code.
+#[tactic(auto, using(crate::proofs::Coded::none_bad))]
 fn bad_place(line: &[u8]) -> Option<usize>
     ensures place { result ≡ position (λ character. is_none (ebcdic_of character)) line.now }
     ensures within { IfSome result (λ place. place < length line.now) }
 {
+    if is_printable(line) {
+        return None;
+    }
     line.iter()
         .position(|character| to_ebcdic(*character).is_none())
 }
 
-/// The device of a deck's job.
-fn device(select: Select, mode: Mode) -> Select
-    ensures { result ≡ deck_select select mode }
+/// Whether all characters of a line are printable, by the least and the greatest of them: each printable character has a code.
+#[tactic(auto, using(crate::proofs::Coded::all_printable))]
+fn is_printable(line: &[u8]) -> bool
+    ensures { result ≡ true → AreCoded line.now }
+{
+    let mut least = LAST;
+    let mut greatest = FIRST;
+    for character in line {
+        if *character < least {
+            least = *character;
+        }
+        if greatest < *character {
+            greatest = *character;
+        }
+    }
+    FIRST <= least && greatest <= LAST
+}
+
+/// The device of a deck's job: the one that is asked for, and the punch for a transparent job.
+pub fn deck_device(select: Select, mode: Mode) -> Select
+    ensures device { result ≡ deck_select select mode }
 {
     match mode {
         Mode::Normal => select,

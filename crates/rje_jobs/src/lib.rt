@@ -15,7 +15,7 @@ mod listing;
 mod punch;
 
 pub use cards::Cards;
-pub use deck::{cards_of_deck, job_of_deck};
+pub use deck::{cards_of_deck, deck_device, job_of_cards, job_of_deck};
 pub use deck_fault::DeckFault;
 pub use file_fault::FileFault;
 pub use fitting::{heading_fits, job_fits, record_fits};

@@ -5,12 +5,15 @@ use Rattle.rje_files.specs.FileFault.{IsFileFault}
 use Rattle.rje_files.specs.declared.entry.Entry.{Entry}
 use Rattle.rje_files.specs.declared.job_file.version.FileVersion.TheVariants.{Second}
 use Rattle.rje_files.specs.JobFile.{HasEntries, HasJobs, IsEntryFile, IsEntryFileOf}
+use Rattle.rje_files.specs.Entry.{entry_of_cards}
 use Rattle.rje_jobs.specs.declared.job.Job.{Job}
+use Rattle.rje_text.specs.declared.record.Record.{Record}
 use Rattle.line_world.specs.declared.world_fault.WorldFault.TheVariants as world
 use Rattle.rje_monitor.specs.Turns.{IsFirstBadLine as IsFirstBadTurn}
 use Rattle.rje_print.specs.Script.{IsFirstBadLine}
 use Rattle.rje_commands.specs.declared.command_fault.CommandFault.{CommandFault}
 use Rattle.rje_orders.specs.declared.choice.Choice.{Choice}
+use Rattle.rje_orders.specs.Device.{select_of, writing}
 use Rattle.rje_orders.specs.declared.order.CardsOrder.{CardsOrder}
 use Rattle.rje_commands.specs.Commands.{AreEntriesOf, HasBadJob, HasFewer, IsFaultOfRun, IsThere}
 use Rattle.rje_commands.specs.NamedFile.{IsReadFault}
@@ -23,6 +26,10 @@ IsHeld order files held = (order.append ≡ true → IsThere order.jobs.now file
 -- the job file to which the job is added can't be read
 abbrev pub IsHeldFault : CardsOrder → CommandFault → Type 0
 IsHeldFault order fault = (order.append ≡ true) × IsReadFault order.jobs.now fault
+
+-- the entry of the job of these cards, which waits to be sent, as the order has its name and its device
+abbrev pub cards_entry : CardsOrder → List Record → Entry
+cards_entry order cards = entry_of_cards order.name (select_of order.device) (writing order.device) cards
 
 -- these are the bytes of the version 2 file of what this file holds and, after it, of this entry
 abbrev pub IsMade : (held : Option (List ℕ)) → Entry → (bytes : List ℕ) → Type 0

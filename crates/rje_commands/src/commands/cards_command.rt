@@ -1,12 +1,8 @@
 //! `cards`: a job file of a deck's job, or one to which the job is added.
-ghost use Rattle.std.specs.Prelude.{◌≡◌, option_map, IfErr, IfOk, OnOk, true, false};
-ghost use Rattle.std.specs.Option.{IsSomeAnd};
-ghost use Rattle.rje_files.specs.FileFault.{IsFileFault};
-ghost use Rattle.rje_files.specs.JobFile.{IsEntryFile};
+ghost use Rattle.std.specs.Prelude.{◌≡◌, option_map, Some, IfErr, IfOk, OnOk, true, false};
 ghost use Rattle.rje_orders.specs.declared.order.FileOrder.{FileOrder};
 ghost use Rattle.rje_commands.specs.Commands.{Does, IsFault, Leaves, OfDeck, MakesFile};
-ghost use Rattle.rje_commands.specs.Commands.{AreEntriesOf};
-ghost use Rattle.rje_commands.specs.Inside.Commands.{IsHeld, IsHeldFault, IsMade, IsMadeFault};
+ghost use Rattle.rje_commands.specs.Inside.Commands.{cards_entry, IsHeld, IsHeldFault, IsMade, IsMadeFault};
 ghost use Rattle.rje_commands.specs.CommandFault.{is_of_output};
 ghost use Rattle.rje_stores.specs.Store.{Discloses, IsSame};
 
@@ -14,8 +10,8 @@ use crate::command_fault::CommandFault;
 use crate::commands::holding::{lock_file, read_if_there};
 use crate::commands::inputs::read_deck;
 use crate::commands::output::{put, write_file};
-use rje_files::{Entry, State, read_entries, write_entries};
-use rje_jobs::{FileFault, job_of_deck};
+use rje_files::{Entry, State, read_entries, write_deck, write_entries};
+use rje_jobs::{Cards, cards_of_deck, job_of_cards};
 use rje_orders::CardsOrder;
 use rje_print::cards_text;
 use rje_stores::Store;
@@ -47,17 +43,11 @@ pub fn cards<'a, S: Store, I: Read, O: Write>(
     ensures silent { IfErr result (λ fault. is_of_output fault ≡ false → out.new ≡ out.old) }
 {
     let deck = read_deck(alloc, order.deck, store, input)?;
-    let device = order.device;
-    let job = job_of_deck(alloc, deck.as_slice(), device.select(), device.mode())?;
-    let count = job.records.len();
-    let entry = Entry {
-        name: order.name,
-        state: State::Waiting,
-        job,
-    };
+    let cards = cards_of_deck(deck.as_slice(), order.device.mode())?;
+    let count = cards.len();
     lock_file(alloc, order.jobs, store)?;
     let held = held_file(alloc, order, store)?;
-    let made = longer_file(alloc, held, entry)?;
+    let made = made_file(alloc, order, held, cards)?;
     write_file(order.jobs, made.as_slice(), store)?;
     put(cards_text(count).as_slice(), out)
 }
@@ -80,36 +70,46 @@ fn held_file<'a, S: Store>(
     read_if_there(alloc, order.jobs, store)
 }
 
-/// The job file of what is held and, after it, this entry.
-fn longer_file<'a>(
+/// The job file of what is held and, after it, of the job of these cards.
+fn made_file<'a>(
     alloc: Global,
+    order: CardsOrder<'a>,
     held: Option<Vec<u8>>,
-    entry: Entry,
+    cards: Cards,
 ) -> Result<Vec<u8>, CommandFault<'a>>
-    ensures file { IfOk result (λ made.
-        IsMade (option_map (λ bytes. bytes.items) held) entry made.items) }
+    ensures file { IfOk result (λ made. IsMade (option_map (λ bytes. bytes.items) held)
+        (cards_entry order.entry cards.entry) made.items) }
     ensures fault { IfErr result (IsMadeFault (option_map (λ bytes. bytes.items) held)) }
 {
-    let mut entries = held_entries(alloc, held)?;
-    if entries.push(entry).is_err() {
-        return Err(CommandFault::OutOfMemory);
-    }
-    // Only memory can be missing for the file: the entry has a name, and a state that its job can have.
-    match write_entries(alloc, entries.as_slice()) {
-        Ok(bytes) => Ok(bytes),
-        Err(_) => Err(CommandFault::OutOfMemory),
+    let (select, mode) = (order.device.select(), order.device.mode());
+    // Only memory can be missing for either file: the job has a name, and a state that it can have.
+    match held {
+        Some(bytes) => {
+            let entry = Entry {
+                name: order.name,
+                state: State::Waiting,
+                job: job_of_cards(alloc, select, mode, cards)?,
+            };
+            longer_file(alloc, bytes.as_slice(), entry)
+        }
+        None => match write_deck(alloc, &order.name, select, mode, cards) {
+            Ok(bytes) => Ok(bytes),
+            Err(_) => Err(CommandFault::OutOfMemory),
+        },
     }
 }
 
-/// The entries of the job file that is held.
-fn held_entries(alloc: Global, held: Option<Vec<u8>>) -> Result<Vec<Entry>, FileFault>
-    ensures entries { IfOk result (λ entries.
-        AreEntriesOf (option_map (λ bytes. bytes.items) held) entries.items) }
-    ensures fault { IfErr result (λ fault. IsSomeAnd (option_map (λ bytes. bytes.items) held)
-        (λ file. IsFileFault IsEntryFile file fault)) }
+/// The job file of what this one holds and, after it, of this entry.
+fn longer_file<'a>(alloc: Global, held: &[u8], entry: Entry) -> Result<Vec<u8>, CommandFault<'a>>
+    ensures file { IfOk result (λ made. IsMade (Some held.now) entry made.items) }
+    ensures fault { IfErr result (IsMadeFault (Some held.now)) }
 {
-    match held {
-        Some(bytes) => read_entries(alloc, bytes.as_slice()),
-        None => Ok(Vec::new(alloc)),
+    let mut entries = read_entries(alloc, held)?;
+    if entries.push(entry).is_err() {
+        return Err(CommandFault::OutOfMemory);
+    }
+    match write_entries(alloc, entries.as_slice()) {
+        Ok(bytes) => Ok(bytes),
+        Err(_) => Err(CommandFault::OutOfMemory),
     }
 }

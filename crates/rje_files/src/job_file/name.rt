@@ -3,9 +3,9 @@ ghost use Rattle.std.specs.Prelude.{◌≡◌};
 ghost use Rattle.rje_files.specs.Entry.{is_entry, bad_entry, is_job_name};
 ghost use Rattle.rje_files.specs.Entry.{may_stand as MayStand};
 
-use crate::Entry;
 use crate::entry::whole_in;
 use crate::name::is_name_byte;
+use crate::{Entry, JobName};
 
 /// The number of the first that has no name, or a state that its job can't have.
 pub(super) fn first_bad(entries: &[Entry]) -> Option<usize>
@@ -25,7 +25,8 @@ fn is_good(entry: &Entry) -> bool
     has_name(&entry.name) && entry.job.whole == whole_in(entry.state)
 }
 
-fn has_name(name: &[u8; 8]) -> bool
+/// Whether these bytes are a name.
+pub(super) fn has_name(name: &JobName) -> bool
     ensures { result ≡ is_job_name name.now }
 {
     let mut ended = false;

@@ -1,19 +1,25 @@
 //! Jobs and entries into the bytes of a job file.
-ghost use Rattle.std.specs.Prelude.{◌≡◌, ◌<◌, ◌-◌, ◌^◌, ◌∷◌, ◌++◌, [], List, ℕ, None, true, length, map, OnOk};
+ghost use Rattle.std.specs.Prelude.{◌≡◌, ◌<◌, ◌-◌, ◌^◌, ◌∷◌, ◌++◌, [], List, ℕ, None, true, length, map, IfOk, OnOk};
 ghost use Rattle.std.specs.List.{AllByRecursion};
 ghost use Rattle.byteorder.specs.Endian.{big_bytes};
-ghost use Rattle.rje_files.specs.Entry.{entry_of, entry_with, is_entry, bad_entry};
+ghost use Rattle.rje_files.specs.Entry.{entry_of, entry_of_cards, entry_with, is_entry, is_job_name, bad_entry};
 ghost use Rattle.rje_files.specs.Growth.{GrowsBy};
-ghost use Rattle.rje_files.specs.JobFile.{AreForFile, FitsFields, HasRoom, file_of, head, entry_bytes, records_bytes, record_bytes, action_byte, select_byte, mode_byte, state_byte, version_byte};
+ghost use Rattle.rje_files.specs.JobFile.{AreForFile, FitsFields, IsEntryFileOf, HasRoom, file_of, head, entry_bytes, records_bytes, record_bytes, action_byte, select_byte, mode_byte, state_byte, version_byte};
 
 use super::HEAD;
 use super::version::FileVersion;
 use crate::entry::received_state;
 use crate::{Entry, JobName, NO_NAME, State};
 use byteorder::{BigEndian, ByteOrder};
-use rje_jobs::Job;
+use rje_jobs::{Cards, Job, deck_device};
 use rje_text::{Action, Mode, Record, Select};
-use std::alloc::AllocError;
+use std::alloc::{AllocError, Global};
+
+/// The columns of a card.
+const CARD: usize = 80;
+
+/// How many bytes stand before the first record in the version 2 file of one job.
+const BEFORE_RECORDS: usize = 33;
 
 /// Appends the version 1 file of these jobs.
 pub(super) fn write_all_jobs(jobs: &[Job], out: &mut Vec<u8>) -> Result<(), AllocError>
@@ -40,6 +46,37 @@ pub(super) fn write_all_entries(entries: &[Entry], out: &mut Vec<u8>) -> Result<
         write_entry(entry, out)?;
     }
     Ok(())
+}
+
+/// The version 2 file of a deck's job with these cards. Its memory is taken at once.
+pub(super) fn written_deck(
+    alloc: Global,
+    name: &JobName,
+    select: Select,
+    mode: Mode,
+    cards: Cards,
+) -> Result<Vec<u8>, AllocError>
+    requires named { is_job_name name.now ≡ true }
+    ensures file { IfOk result (λ bytes. IsEntryFileOf FileVersion.Second
+        (entry_of_cards name.now select mode cards.entry ∷ []) bytes.items) }
+{
+    let mut out = Vec::with_capacity(alloc, most_bytes(mode, &cards))?;
+    write_front(FileVersion::Second, 1, &mut out)?;
+    let device = deck_device(select, mode);
+    write_fields(name, State::Waiting, device, mode, &mut out)?;
+    write_cards(cards, &mut out)?;
+    Ok(out)
+}
+
+/// The most bytes that the file of a deck's job can have: a line has its end, unless it is the last one, and gives two bytes more than its
+/// characters, and one whose card is filled gives two more than a card.
+fn most_bytes(mode: Mode, cards: &Cards) -> usize {
+    let lines = cards.len();
+    let records = match mode {
+        Mode::Normal => cards.rest().len().saturating_add(lines).saturating_add(1),
+        Mode::Transparent => lines.saturating_mul(CARD + 2),
+    };
+    records.saturating_add(BEFORE_RECORDS)
 }
 
 /// Appends what stands before the first of `count` jobs.
@@ -91,13 +128,27 @@ fn write_parts(name: &JobName, state: State, job: &Job, out: &mut Vec<u8>) -> Re
     ensures fit { OnOk result (is_entry (entry_with name.now state job.now) ≡ true
         → FitsFields FileVersion.Second (entry_with name.now state job.now)) }
 {
+    write_fields(name, state, job.select, job.mode, out)?;
+    write_records(job.records.as_slice(), out)
+}
+
+/// Appends what stands before the records of a job of version 2.
+fn write_fields(
+    name: &JobName,
+    state: State,
+    select: Select,
+    mode: Mode,
+    out: &mut Vec<u8>,
+) -> Result<(), AllocError>
+    ensures { OnOk result (out.new.items ≡ out.old.items
+        ++ (name.now ++ state_byte state ∷ select_byte select ∷ mode_byte mode ∷ [])) }
+{
     out.extend_from_slice(name)?;
     out.extend_from_slice(&[
         byte_of_state(state),
-        byte_of_select(job.select),
-        byte_of_mode(job.mode),
-    ])?;
-    write_records(job.records.as_slice(), out)
+        byte_of_select(select),
+        byte_of_mode(mode),
+    ])
 }
 
 /// Appends to `front` and `tail` how the version 2 file of `count` entries goes on with this received job.
@@ -125,6 +176,19 @@ fn write_records(items: &[Record], out: &mut Vec<u8>) -> Result<(), AllocError>
     write_number(items.len(), out)?;
     for item in items {
         write_record(item, out)?;
+    }
+    Ok(())
+}
+
+/// Appends the number of these cards, and each card as it is made.
+fn write_cards(cards: Cards, out: &mut Vec<u8>) -> Result<(), AllocError>
+    ensures records { OnOk result (out.new.items ≡ out.old.items ++ records_bytes cards.entry) }
+    ensures room { OnOk result (AllByRecursion HasRoom cards.entry) }
+    ensures few { OnOk result (length cards.entry < 2 ^ 64) }
+{
+    write_number(cards.len(), out)?;
+    for card in cards {
+        write_record(&card, out)?;
     }
     Ok(())
 }

@@ -4,9 +4,10 @@ use super::entries::{FILE, OLD_FILE};
 use super::{CARD, block, record};
 use bsc_codes::Block;
 use rje_files::{
-    entries_in, growth_of, read_entries, read_jobs, sent_file, write_entries, write_jobs,
+    entries_in, growth_of, read_entries, read_jobs, sent_file, write_deck, write_entries,
+    write_jobs,
 };
-use rje_jobs::{DeckFault, FileFault, Form, job_of_deck, list_job, punch_job};
+use rje_jobs::{DeckFault, FileFault, Form, cards_of_deck, job_of_deck, list_job, punch_job};
 use rje_text::{Action, Mode, Select, TextFault, Unpacked, unpack};
 use std::process::Abort;
 use std::test::Fail;
@@ -106,6 +107,32 @@ fn a_deck_makes_a_job_or_finds_no_memory(rt: HostRuntime) {
     // A fault of the deck is reported whatever memory there is.
     let told = job_of_deck(rt.alloc(), b"A\n\t\n", Select::Unset, Mode::Normal).err();
     assert!(rt; told == Some(DeckFault::BadCharacter(2, 1)));
+}
+
+/// Printed at some growth: no memory for the file.
+#[test]
+fn a_deck_has_a_file_or_finds_no_memory(rt: HostRuntime) -> Result<(), Fail> {
+    let (select, mode) = (Select::Unset, Mode::Normal);
+    let cards = cards_of_deck(b"A\n", mode)?;
+    match write_deck(rt.alloc(), b"PAY1    ", select, mode, cards) {
+        Ok(bytes) => assert!(rt; bytes.as_slice() == FILE.as_slice()),
+        Err(fault) => {
+            assert!(rt; fault == FileFault::OutOfMemory);
+            println!(rt; "no memory for the file")?;
+        }
+    }
+
+    // A bad name is reported whatever memory there is.
+    let told = write_deck(
+        rt.alloc(),
+        b"pay1    ",
+        select,
+        mode,
+        cards_of_deck(b"A\n", mode)?,
+    )
+    .err();
+    assert!(rt; told == Some(FileFault::BadEntry(1)));
+    Ok(())
 }
 
 #[test]

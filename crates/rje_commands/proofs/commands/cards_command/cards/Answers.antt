@@ -1,23 +1,25 @@
-use Rattle.std.proofs.Common.{◌≡◌, length, ◌∙◌, subst, ap, inl, inr, OnOk}
+use Rattle.std.proofs.Common.{◌≡◌, List, length, ◌∙◌, subst, ap, inl, inr, OnOk}
 use Rattle.std.specs.Prelude.{None, option_map}
 use Rattle.std.specs.Io.KnownBytes.{Appends}
 use Rattle.std.proofs.lemmas.Result.{on_ok_weaker}
-use Rattle.rje_jobs.specs.Deck.{IsDeckFault, deck_fault}
+use Rattle.rje_text.specs.declared.record.Record.{Record}
+use Rattle.rje_jobs.specs.Deck.{IsDeckFault, cards_of, deck_fault}
 use Rattle.rje_print.specs.JobTexts.{cards_line}
+use Rattle.rje_orders.specs.Device.{writing}
 use Rattle.rje_orders.specs.declared.order.FileOrder.{FileOrder}
 use Rattle.rje_commands.specs.declared.command_fault.CommandFault.TheVariants as told
-use Rattle.rje_commands.specs.Commands.{IsFault, MakesCards, MakesFile, deck_job}
+use Rattle.rje_commands.specs.Commands.{IsFault, MakesCards, MakesFile}
 use Rattle.rje_commands.proofs.Inputs.{of_deck, told_as, made_file, whatever}
 use Rattle.rje_stores.proofs.Changes.{same_twice}
 use Rattle.rje_commands.proofs.commands.cards_command.cards.Goals as goal
 
-pub returns-in_err-job-clause-fault : goal.returns-in_err-job-clause-fault
-returns-in_err-job-clause-fault g c =
+pub returns-in_err-cards-clause-fault : goal.returns-in_err-cards-clause-fault
+returns-in_err-cards-clause-fault g c =
     let files = g.S.Store.files c.args.store.now in
     let input = g.I.Read.remaining c.args.input.now in
-    let fault = c.in_err-job.field-0.0 in
-    let is : IsDeckFault c.in_ok-deck.deck.items fault = rw c.as_slice.ensures.value at c.in_err-job.ensures.told in
-    told_as c.from_residual-in_err-job.result (told.Deck fault) (IsFault (FileOrder.Cards c.args.order) files input) c.from_residual-in_err-job.ensures.1
+    let fault = c.in_err-cards.field-0.0 in
+    let is : IsDeckFault c.in_ok-deck.deck.items fault = rw c.as_slice.ensures.value at c.in_err-cards.ensures.told in
+    told_as c.from_residual-in_err-cards.result (told.Deck fault) (IsFault (FileOrder.Cards c.args.order) files input) c.from_residual-in_err-cards.ensures.1
     (of_deck (λ read. IsDeckFault read fault) c.in_ok-deck.deck.items is c.args.order.deck.now files input c.in_ok-deck.ensures.deck)
 
 pub returns-clause-done : goal.returns-clause-done
@@ -26,13 +28,13 @@ returns-clause-done g c =
     let input = g.I.Read.remaining c.args.input.now in
     let deck = c.in_ok-deck.deck.items in
     let order = c.args.order in
-    let job : (deck_fault deck ≡ None) × (c.in_ok-job.job ≡ deck_job order.device deck) =
-    rw c.as_slice.ensures.value at (rw c.select.ensures.selection at (rw c.mode.ensures.writing at c.in_ok-job.ensures.job)) in
+    let cards : (deck_fault deck ≡ None) × (c.in_ok-cards.cards ≡ cards_of (writing order.device) deck) =
+    rw c.as_slice.ensures.value at (rw c.mode.ensures.writing at c.in_ok-cards.ensures.cards) in
     let made : MakesFile order deck files (g.S.Store.files c.write_file.new.store) =
-    made_file order deck c.in_ok-made.made.items c.in_ok-job.job (option_map (λ bytes. bytes.items) c.in_ok-held.held) files _ _ _ _ job
+    made_file order deck c.in_ok-made.made.items c.in_ok-cards.cards (option_map (λ bytes. bytes.items) c.in_ok-held.held) files _ _ _ _ cards
     c.in_ok-made.ensures.file (rw c.as_slice-2.ensures.value at c.in_ok-write_file.ensures.limit) c.in_ok-deck.ensures.same
     c.in_ok-lock_file.ensures.same c.in_ok-held.ensures.held c.in_ok-held.ensures.same (rw c.as_slice-2.ensures.value at c.in_ok-write_file.ensures.sets) in
-    let count = ap (λ job. length job.records) job.1 in
+    let count = ap (λ (records : List Record). length records) cards.1 in
     let line = c.as_slice-3.ensures.value ∙ c.cards_text.ensures.line ∙ ap cards_line (c.len-count.ensures ∙ count) in
     let before = g.O.Write.contents c.args.out.now in
     let after = g.O.Write.contents c.put.new.out in
@@ -46,10 +48,10 @@ returns-clause-files g c =
     let input = g.I.Read.remaining c.args.input.now in
     let deck = c.in_ok-deck.deck.items in
     let order = c.args.order in
-    let job : (deck_fault deck ≡ None) × (c.in_ok-job.job ≡ deck_job order.device deck) =
-    rw c.as_slice.ensures.value at (rw c.select.ensures.selection at (rw c.mode.ensures.writing at c.in_ok-job.ensures.job)) in
+    let cards : (deck_fault deck ≡ None) × (c.in_ok-cards.cards ≡ cards_of (writing order.device) deck) =
+    rw c.as_slice.ensures.value at (rw c.mode.ensures.writing at c.in_ok-cards.ensures.cards) in
     let made : MakesFile order deck files (g.S.Store.files c.write_file.new.store) =
-    made_file order deck c.in_ok-made.made.items c.in_ok-job.job (option_map (λ bytes. bytes.items) c.in_ok-held.held) files _ _ _ _ job
+    made_file order deck c.in_ok-made.made.items c.in_ok-cards.cards (option_map (λ bytes. bytes.items) c.in_ok-held.held) files _ _ _ _ cards
     c.in_ok-made.ensures.file (rw c.as_slice-2.ensures.value at c.in_ok-write_file.ensures.limit) c.in_ok-deck.ensures.same
     c.in_ok-lock_file.ensures.same c.in_ok-held.ensures.held c.in_ok-held.ensures.same (rw c.as_slice-2.ensures.value at c.in_ok-write_file.ensures.sets) in
     inr (of_deck (λ read. MakesFile order read files (g.S.Store.files c.write_file.new.store)) deck made order.deck.now files input
@@ -61,10 +63,10 @@ returns-clause-made g c =
     let input = g.I.Read.remaining c.args.input.now in
     let deck = c.in_ok-deck.deck.items in
     let order = c.args.order in
-    let job : (deck_fault deck ≡ None) × (c.in_ok-job.job ≡ deck_job order.device deck) =
-    rw c.as_slice.ensures.value at (rw c.select.ensures.selection at (rw c.mode.ensures.writing at c.in_ok-job.ensures.job)) in
+    let cards : (deck_fault deck ≡ None) × (c.in_ok-cards.cards ≡ cards_of (writing order.device) deck) =
+    rw c.as_slice.ensures.value at (rw c.mode.ensures.writing at c.in_ok-cards.ensures.cards) in
     let made : MakesFile order deck files (g.S.Store.files c.write_file.new.store) =
-    made_file order deck c.in_ok-made.made.items c.in_ok-job.job (option_map (λ bytes. bytes.items) c.in_ok-held.held) files _ _ _ _ job
+    made_file order deck c.in_ok-made.made.items c.in_ok-cards.cards (option_map (λ bytes. bytes.items) c.in_ok-held.held) files _ _ _ _ cards
     c.in_ok-made.ensures.file (rw c.as_slice-2.ensures.value at c.in_ok-write_file.ensures.limit) c.in_ok-deck.ensures.same
     c.in_ok-lock_file.ensures.same c.in_ok-held.ensures.held c.in_ok-held.ensures.same (rw c.as_slice-2.ensures.value at c.in_ok-write_file.ensures.sets) in
     let leaves = of_deck (λ read. MakesFile order read files (g.S.Store.files c.write_file.new.store)) deck made order.deck.now files input
