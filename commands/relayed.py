@@ -237,7 +237,7 @@ def main(program, seeds=5):
         """The answer to a spoiled text is awaited, though it comes only when the other's hearing is over."""
         run = Run(program, small, 300, "--trace")
         statuses, told, came = run.over(first_text_spoiled)
-        turns = [line.split(" ", 1)[1] for line in run.told["calls"].splitlines()]
+        turns = [" ".join(line.split()[1:3]) for line in run.told["calls"].splitlines()]
         checks.append("a spoiled text")
         if statuses != [0, 0] or told or came or turns[1:4] != ["bid ack0", "block nak", "again ack1"]:
             faults.append(f"a spoiled text: {statuses}, {told}, {came}, {turns}")

@@ -154,6 +154,8 @@ CALLS = ["exchange", "jobs", "got", "--to", "%TO"]
 CALLED = ["exchange", "jobs", "got", "--listen", "%TO"]
 SOON = ["--timeout", "60"]
 FIRST, SECOND = LONG.blocks
+# IGS stands last, at place 1, and so no count at place 2.
+UNCOUNTED = normal("C11D", "03")
 
 SENDS = [
     Talk(
@@ -211,6 +213,32 @@ RECEIVES = [
         0, handed(1, 0), "", {"got": job_file([LONG._replace(records=LONG.records[:6]).entry(CUT)])},
     ),
     Talk("receive: EOT at once", RECEIVE, None, [Hears(EOT)], 0, handed(0), "", {"got": kept([])}),
+    Talk(
+        "receive: a text without a count of blanks", RECEIVE, None,
+        hears_and_says((ENQ, ACK0), *[(UNCOUNTED, NAK)] * 7) + [Hears(EOT)],
+        3, handed(0), "rje: unreadable text: no count of blanks at 2\n", {"got": kept([])},
+    ),
+    Talk(
+        "receive: a text that reads when it comes again", RECEIVE, None,
+        hears_and_says((ENQ, ACK0), (UNCOUNTED, NAK), (A_JOB.blocks[0], ACK1)) + [Hears(EOT)],
+        0, handed(1), "", {"got": kept([A_JOB])},
+    ),
+    Talk(
+        "receive: a record that is too long, behind a job", RECEIVE, None,
+        hears_and_says((ENQ, ACK0), (A_JOB.blocks[0], ACK1), (normal("C1" * 145 + "1E", "03"), NAK)) + [Hears(EOT)],
+        3, handed(1), "rje: unreadable text: a record passes 144 bytes at 144\n", {"got": kept([A_JOB])},
+    ),
+    Talk(
+        "receive: a transparent text that is no cards", RECEIVE, None,
+        hears_and_says((ENQ, ACK0), (transparent("C1" * 79, "03"), NAK)) + [Hears(EOT)],
+        3, handed(0), "rje: unreadable text: transparent text that is no cards of 80 bytes\n", {"got": kept([])},
+    ),
+    Talk(
+        "receive: another mode within a job", RECEIVE, None,
+        hears_and_says((ENQ, ACK0), (FIRST, ACK1), (PUNCHED.blocks[0], NAK)) + [Hears(EOT)],
+        3, handed(1, 0), "rje: unreadable text: another mode than the job's earlier blocks\n",
+        {"got": job_file([LONG._replace(records=LONG.records[:6]).entry(CUT)])},
+    ),
 ]
 EXCHANGED = counted(1, 1, "done") + handed(2)
 EXCHANGES = [
@@ -231,6 +259,13 @@ EXCHANGES = [
         [Says(ENQ), *hears_and_says((ENQ, ACK0), (PRINTED.blocks[0], ACK1), (PUNCHED.blocks[0], ACK0)), Hears(EOT)]
         + says_and_hears((ENQ, ACK0), (FIRST, ACK1), (SECOND, ACK0)) + [Says(EOT)],
         0, EXCHANGED, "", {"jobs": marked([LONG], 1), "got": kept([PRINTED, PUNCHED])},
+    ),
+    Talk(
+        "exchange: a text that isn't read", CALLED, [LONG],
+        [*hears_and_says((ENQ, ACK0), (PRINTED.blocks[0], ACK1), (UNCOUNTED, NAK)), Hears(EOT)]
+        + says_and_hears((ENQ, ACK0), (FIRST, ACK1), (SECOND, ACK0)) + [Says(EOT)],
+        3, counted(1, 1, "done") + handed(1), "rje: unreadable text: no count of blanks at 2\n",
+        {"jobs": marked([LONG], 1), "got": kept([PRINTED])},
     ),
 ]
 
@@ -355,7 +390,7 @@ def faults_of(program, talk):
 
 
 def address_fault(program):
-    """`receive --trace` reports the address of the end that called."""
+    """`receive --trace` reports where it listens, and then the address of the end that called."""
     port = free_port()
     command = Command(program, [*RECEIVE, "--trace"], f"127.0.0.1:{port}")
     with command.connection(port, ("127.0.0.2", 0)) as connection:
@@ -363,7 +398,10 @@ def address_fault(program):
         connection.sendall(EOT)
         _, _, told = command.ended()
     shutil.rmtree(command.folder)
-    return None if told.split("\n")[0].endswith(f" connected {called}") else f"{called} calls, and {told!r} is reported"
+    first, second = told.split("\n")[:2]
+    if first != f"0.000 listening 127.0.0.1:{port}":
+        return f"it listens at port {port}, and {told!r} is reported"
+    return None if second.endswith(f" connected {called}") else f"{called} calls, and {told!r} is reported"
 
 
 def main(program):

@@ -2,13 +2,13 @@
 _rje() {
     local word=${COMP_WORDS[COMP_CWORD]} before=${COMP_WORDS[COMP_CWORD - 1]} command=${COMP_WORDS[1]}
     local commands='blocks cards show check print try monitor loop send receive exchange help' words=--help
-    local connection='--to --listen --from --timeout --adapter --trace'
+    local connection='--to --listen --from --timeout --adapter --trace --quiet'
     case $command in
     show) words+=' --job --records' ;;
     print) words+=' --job --printer --punch --raw' ;;
     cards) words+=' --printer --punch --transparent --name --append' ;;
     monitor) words+=' --hex' ;;
-    loop) words+=' --timeout --trace' ;;
+    loop) words+=' --timeout --trace --quiet' ;;
     send) words+=" $connection" ;;
     receive) words+=" $connection --patience --wait --new --append" ;;
     exchange) words+=" $connection --patience --primary --secondary --new --append" ;;

@@ -2,7 +2,7 @@
 #![tactic(auto)]
 
 use rje_commands::CommandFault;
-use rje_program::{command, is_for_sockets, socket_command};
+use rje_program::{command, is_for_sockets, socket_command_at};
 use rje_stores::FileStore;
 use std::fs::File;
 use std::io::IsTerminal;
@@ -30,13 +30,14 @@ fn run(rt: &HostRuntime) -> io::Result<u8> {
     let mut store = FileStore::new(rt, alloc);
     let status = if is_for_sockets(words.as_slice()) {
         let _held = [held_number(rt), held_number(rt), held_number(rt)];
-        socket_command(
+        socket_command_at(
             rt,
             alloc,
             words.as_slice(),
             &mut store,
             &mut rt.stdout(),
             &mut rt.stderr(),
+            rt.stderr().is_terminal(),
         )
     } else {
         command(

@@ -6,10 +6,11 @@ use Rattle.rje_jobs.specs.declared.deck_fault.DeckFault.{DeckFault}
 use Rattle.rje_jobs.specs.declared.file_fault.FileFault.{FileFault}
 use Rattle.rje_monitor.specs.declared.hex_fault.HexFault.{HexFault}
 use Rattle.rje_print.specs.declared.script_fault.ScriptFault.{ScriptFault}
+use Rattle.rje_text.specs.declared.text_fault.TextFault.{TextFault}
 use Rattle.rje_station.specs.declared.station_fault.StationFault.{StationFault}
 use Rattle.line_world.specs.declared.world_fault.WorldFault.{WorldFault}
 use Rattle.rje_commands.specs.declared.command_fault.CommandFault.{CommandFault}
-use Rattle.rje_commands.specs.declared.command_fault.CommandFault.TheVariants.{OutOfMemory, Deck, File, BadJob, NoJob, NotHex, Script, NotDamage, BadCut, HoldsJobs, NoCommand, LineFailed, Babble, OutOfStep, CannotRead, CannotWrite, InUse, Unsynced, Output, Closed}
+use Rattle.rje_commands.specs.declared.command_fault.CommandFault.TheVariants.{OutOfMemory, Deck, File, BadJob, NoJob, NotHex, Script, NotDamage, BadCut, HoldsJobs, NoCommand, LineFailed, Unreadable, Babble, OutOfStep, CannotRead, CannotWrite, InUse, Unsynced, Output, Closed}
 
 -- an input that is refused has status 1, out of memory 5
 abbrev pub deck_status : DeckFault → ℕ
@@ -36,6 +37,7 @@ status_of (BadCut turn) = 1
 status_of (HoldsJobs name) = 1
 status_of NoCommand = 2
 status_of LineFailed = 3
+status_of (Unreadable fault) = 3
 status_of Babble = 3
 status_of OutOfStep = 3
 status_of (CannotRead name fault) = 3
@@ -64,6 +66,10 @@ of_script (ScriptFault.NotATurn line) = Script line
 abbrev pub of_hex : HexFault → CommandFault
 of_hex HexFault.OutOfMemory = OutOfMemory
 of_hex (HexFault.NotHex line) = NotHex line
+
+abbrev pub of_text : TextFault → CommandFault
+of_text TextFault.OutOfMemory = OutOfMemory
+of_text fault = Unreadable fault
 
 abbrev pub of_station : StationFault → CommandFault
 of_station StationFault.OutOfMemory = OutOfMemory

@@ -1,7 +1,7 @@
 //! Why a command fails.
 ghost use Rattle.std.specs.Prelude.{◌≡◌};
 ghost use Rattle.rje_commands.specs.declared.command_fault.CommandFault.TheVariants.{Deck, File, OutOfMemory};
-ghost use Rattle.rje_commands.specs.CommandFault.{of_hex, of_script, of_station, of_world};
+ghost use Rattle.rje_commands.specs.CommandFault.{of_hex, of_script, of_station, of_text, of_world};
 
 use crate::write_cause::WriteCause;
 use line_world::WorldFault;
@@ -10,6 +10,7 @@ use rje_monitor::HexFault;
 use rje_print::ScriptFault;
 use rje_station::StationFault;
 use rje_stores::StoreFault;
+use rje_text::TextFault;
 use std::alloc::AllocError;
 use std::io::{self, ErrorKind};
 use thiserror::Error;
@@ -53,6 +54,9 @@ pub enum CommandFault<'a> {
     /// A connection can't be had, or failed.
     #[error("line failed")]
     LineFailed,
+    /// A block came whole whose text isn't read, and didn't come again so that it is.
+    #[error("unreadable text: {0}")]
+    Unreadable(TextFault),
     /// More than 8,192 bytes came in one hearing, and no frame; or more than 64 pieces before an answer.
     #[error("babble")]
     Babble,
@@ -115,6 +119,7 @@ impl CommandFault<'_> {
             | CommandFault::BadCut(_) => 1,
             CommandFault::NoCommand => 2,
             CommandFault::LineFailed
+            | CommandFault::Unreadable(_)
             | CommandFault::Babble
             | CommandFault::OutOfStep
             | CommandFault::CannotRead(_, _)
@@ -169,6 +174,17 @@ impl From<HexFault> for CommandFault<'_> {
         match fault {
             HexFault::OutOfMemory => CommandFault::OutOfMemory,
             HexFault::NotHex(line) => CommandFault::NotHex(line),
+        }
+    }
+}
+
+impl From<TextFault> for CommandFault<'_> {
+    ghost from_gives = { λ fault told. told ≡ of_text fault };
+
+    fn from(fault: TextFault) -> Self {
+        match fault {
+            TextFault::OutOfMemory => CommandFault::OutOfMemory,
+            fault => CommandFault::Unreadable(fault),
         }
     }
 }

@@ -17,6 +17,8 @@ pub struct Connection<'a> {
     pub adapter: bool,
     /// Whether each turn is reported on standard error as it happens.
     pub trace: bool,
+    /// Whether nothing is shown on a terminal of how far it is.
+    pub quiet: bool,
 }
 
 /// How two stations come to a connection.

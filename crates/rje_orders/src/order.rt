@@ -117,6 +117,8 @@ pub struct LoopOrder<'a> {
     pub timeout: u16,
     /// Whether each turn is reported on standard error as it happens.
     pub trace: bool,
+    /// Whether nothing is shown on a terminal of how far it is.
+    pub quiet: bool,
 }
 
 /// What `send` is asked for.

@@ -29,7 +29,7 @@ pub(crate) fn push_entry(line: &mut PrintedLine, number: usize, entry: &FileEntr
 }
 
 /// Puts a blank and a name after the bytes of a line, and nothing where the name has no character.
-fn push_name(line: &mut PrintedLine, name: &JobName)
+pub(crate) fn push_name(line: &mut PrintedLine, name: &JobName)
     requires { length line.old.items + 9 ≤ MAX_LINE }
     ensures name { line.new.items ≡ line.old.items ++ name_text (name_letters name.now) }
     ensures few { length line.new.items ≤ length line.old.items + 9 }

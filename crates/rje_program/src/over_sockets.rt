@@ -55,12 +55,38 @@ pub fn socket_command<R: Net + Clock, S: Store, O: Write, E: Write>(
         → Discloses (S.files store.old) (S.files store.new) IsSame }
     ensures silent { (result ≡ 1) ⊎ (result ≡ 2) → out.new ≡ out.old }
 {
+    socket_command_at(rt, alloc, words, store, out, err, false)
+}
+
+/// Does as `socket_command` does; where `err` is a terminal, it shows there how far it is, unless the words ask for the turns or for nothing.
+pub fn socket_command_at<R: Net + Clock, S: Store, O: Write, E: Write>(
+    rt: &R,
+    alloc: Global,
+    words: &[&str],
+    store: &mut S,
+    out: &mut O,
+    err: &mut E,
+    is_terminal: bool,
+) -> u8
+    ensures done { (result ≡ 0) ⊎ (result ≡ 4)
+        → TransmitsAsAsked result (map (λ word. word.now) words.now)
+        (S.files store.old) (S.files store.new) (O.contents out.old) (O.contents out.new) }
+    ensures refused { result ≡ 1
+        → RefusesAsAsked (map (λ word. word.now) words.now) (S.files store.old) }
+    ensures words { result ≡ 2 → AsksForNoSockets (map (λ word. word.now) words.now) }
+    ensures status { IsSocketStatus result }
+    ensures files { LeavesFilesAsAsked (map (λ word. word.now) words.now)
+        (S.files store.old) (S.files store.new) }
+    ensures files_kept { (result ≡ 1) ⊎ (result ≡ 2)
+        → Discloses (S.files store.old) (S.files store.new) IsSame }
+    ensures silent { (result ≡ 1) ⊎ (result ≡ 2) → out.new ≡ out.old }
+{
     let order = match parse(alloc, words) {
         Ok(Order::Sockets(order)) => order,
         Ok(Order::Files(_)) => return tell(&CommandFault::NoCommand, err),
         Err(fault) => return tell_words(&fault, out, err),
     };
-    match carry_out(rt, alloc, order, store, out, err) {
+    match carry_out(rt, alloc, order, store, out, err, is_terminal) {
         Ok(ending) => ending.status(),
         Err(fault) => tell_of(&fault, job_file(&order), err),
     }

@@ -13,13 +13,14 @@ use Rattle.rje_files.specs.Unsent.{CanPass, IsLeft, is_sent, unsent}
 use Rattle.rje_files.specs.FileFault.{IsEntryFault, IsFileFault}
 use Rattle.rje_files.specs.JobFile.{IsEntryFile}
 use Rattle.rje_files.proofs.GoodEntries.{all_received, none_bad}
+use Rattle.rje_text.specs.declared.text_fault.TextFault.{TextFault}
 use Rattle.rje_station.specs.declared.line_fault.LineFault.{LineFault}
 use Rattle.rje_station.specs.declared.station_fault.StationFault.{StationFault}
 use Rattle.rje_station.specs.declared.station_fault.StationFault.TheVariants as fault
 use Rattle.rje_station.specs.StationFault.{IsCause, IsNewCause}
 use Rattle.rje_commands.specs.declared.command_fault.CommandFault.{CommandFault}
 use Rattle.rje_commands.specs.declared.command_fault.CommandFault.TheVariants as told
-use Rattle.rje_commands.specs.CommandFault.{IsFailing, of_station, status_of}
+use Rattle.rje_commands.specs.CommandFault.{IsFailing, of_station, of_text, status_of}
 use Rattle.rje_commands.specs.Commands.{OfFile}
 use Rattle.rje_commands.specs.NamedFile.{IsReadFault, IsWriteFault}
 use Rattle.rje_orders.specs.declared.order.Destination.{Destination}
@@ -42,6 +43,14 @@ line_fails (fault.Line f) failed babbled over cause = inl refl
 line_fails fault.Babble failed babbled over cause = inl refl
 line_fails fault.Over failed babbled over cause = inl refl
 line_fails _ failed babbled over cause = absurd cause
+
+-- a text that isn't read, or finds no memory
+pub text_fails : (f : TextFault) → IsFailing (status_of (of_text f))
+text_fails TextFault.OutOfMemory = inr (inl refl)
+text_fails (TextFault.BadCount p) = inl refl
+text_fails (TextFault.RecordTooLong p) = inl refl
+text_fails TextFault.CardsNot80 = inl refl
+text_fails TextFault.MixedModes = inl refl
 
 -- so the file of received jobs is refused for want of memory alone
 pub file_fails : (jobs : List Job) (f : FileFault) → IsEntryFault (map entry_of jobs) f → IsFailing (status_of (told.File f))

@@ -3,11 +3,12 @@ use Rattle.std.proofs.Common.{◌≡◌, ◌⊎◌, inl, inr, ℕ, List, true, R
 use Rattle.std.specs.Prelude.{IsErrOf, IsOk}
 use Rattle.std.specs.Result.{IsOkAnd, MatchResult, is_ok, result_and}
 use Rattle.std.proofs.lemmas.Bool.{true≢false}
+use Rattle.rje_text.specs.declared.text_fault.TextFault.{TextFault}
 use Rattle.rje_station.specs.declared.station_fault.StationFault.{StationFault}
 use Rattle.rje_station.specs.declared.station_fault.StationFault.TheVariants as fault
 use Rattle.rje_commands.specs.declared.command_fault.CommandFault.{CommandFault}
 use Rattle.rje_commands.specs.declared.command_fault.CommandFault.TheVariants as told
-use Rattle.rje_commands.specs.CommandFault.{is_of_output, of_station}
+use Rattle.rje_commands.specs.CommandFault.{is_of_output, of_station, of_text}
 use Rattle.rje_sockets.specs.declared.broken_off.BrokenOff.{BrokenOff}
 use Rattle.rje_sockets.specs.declared.left.Left.{Left}
 use Rattle.rje_sockets.specs.declared.socket_commands.ending.Ending.{Ending}
@@ -30,6 +31,14 @@ station_names (fault.BadJob n) R W = tt
 station_names fault.Babble R W = tt
 station_names (fault.Line f) R W = tt
 station_names fault.Over R W = tt
+
+-- nor does a text that isn't read
+pub text_names : (R W : List ℕ → Type 0) (f : TextFault) → NamesOne R W (of_text f)
+text_names R W TextFault.OutOfMemory = tt
+text_names R W (TextFault.BadCount p) = tt
+text_names R W (TextFault.RecordTooLong p) = tt
+text_names R W TextFault.CardsNot80 = tt
+text_names R W TextFault.MixedModes = tt
 
 pub err_names : {X : Type 0} (r : Result X CommandFault) (R S V W : List ℕ → Type 0) → ((n : List ℕ) → R n → S n) → ((n : List ℕ) → V n → W n) → IfErr r (NamesOne R V) → IfErr r (NamesOne S W)
 err_names (Ok x) R S V W reads writes names = tt

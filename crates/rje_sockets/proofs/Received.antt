@@ -10,7 +10,8 @@ use Rattle.bsc_link.specs.declared.wish.Wish.{Wish}
 use Rattle.rje_station.specs.Receiving.{Receiving, after_receiving, first_receiving}
 use Rattle.rje_sockets.specs.declared.broken_off.BrokenOff.{BrokenOff}
 use Rattle.rje_commands.specs.declared.command_fault.CommandFault.{CommandFault}
-use Rattle.rje_commands.specs.declared.command_fault.CommandFault.TheVariants as told
+use Rattle.rje_commands.specs.CommandFault.{of_text}
+use Rattle.rje_text.specs.declared.text_fault.TextFault.{TextFault}
 use Rattle.rje_sockets.specs.declared.left.Left.{Left}
 use Rattle.rje_files.specs.declared.entry.Entry.{Entry}
 use Rattle.rje_orders.specs.declared.order.Destination.{Destination}
@@ -44,14 +45,14 @@ ends_well (Ok ending) (Ok l) (Ok was) (Err e) printed ending_by P well told same
 ends_well (Ok ending) (Ok l) (Ok was) (Ok w) (Err e) ending_by P well told same holds = absurd (true≢false (sym well.2))
 ends_well (Ok ending) (Ok l) (Ok was) (Ok w) (Ok p) ending_by P well told same holds = subst P (ap ending_by well.0 ∙ sym told) holds
 
--- or memory was short in the end
-pub ok_unless_short : (r ending : Result Ending CommandFault) (P : Ending → Type 0) → (r ≡ ending) ⊎ (r ≡ Err told.OutOfMemory) → IfOk ending P → IfOk r P
-ok_unless_short r ending P (inl same) holds = rw same holds
-ok_unless_short r ending P (inr short) holds = rw short tt
+-- or a block was refused
+pub ok_unless_refused : (r ending : Result Ending CommandFault) (P : Ending → Type 0) → (r ≡ ending) ⊎ ((why : TextFault) × (r ≡ Err (of_text why))) → IfOk ending P → IfOk r P
+ok_unless_refused r ending P (inl same) holds = rw same holds
+ok_unless_refused r ending P (inr refused) holds = rw refused.1 tt
 
-pub err_unless_short : (r ending : Result Ending CommandFault) (P : CommandFault → Type 0) → (r ≡ ending) ⊎ (r ≡ Err told.OutOfMemory) → IfErr ending P → P told.OutOfMemory → IfErr r P
-err_unless_short r ending P (inl same) holds memory = rw same holds
-err_unless_short r ending P (inr short) holds memory = rw short memory
+pub err_unless_refused : (r ending : Result Ending CommandFault) (P : CommandFault → Type 0) → (r ≡ ending) ⊎ ((why : TextFault) × (r ≡ Err (of_text why))) → IfErr ending P → ((why : TextFault) → P (of_text why)) → IfErr r P
+err_unless_refused r ending P (inl same) holds told = rw same holds
+err_unless_refused r ending P (inr refused) holds told = rw refused.1 (told refused.0)
 
 pub receives : {W : Type 0} (most : ℕ) (Saw : SawReceiver W) (left : Result Left BrokenOff) (written printed : Result (Unit {0}) CommandFault) (t u : LineTells) (w w' : W) (into : Destination) (files made : Option FileMap)
     (before after : Option (List ℕ)) (station : Receiving) → IfOk left (λ l. Leaves most Saw l (first_receiving, t, w) (station, u, w')) → IfOk left (λ l. OnOk written (MakesJobFile station.jobs into files made)) → OnOk printed (Appends before after (received_text station.jobs))

@@ -18,9 +18,9 @@ use Rattle.line_world.specs.AnyLines.{BothFail, BothToEnd, BothToFault, Receiver
 use Rattle.line_world.specs.declared.spoken.Spoken.{Spoken}
 use Rattle.line_world.proofs.TurnsOverLines.{arrived_turn, heard_turn, hears, no_end, turns_as}
 use Rattle.rje_sockets.specs.declared.left.Left.{Left}
-use Rattle.rje_sockets.specs.OverLine.{BothTook, BothTurn, HeardAndReplied, LineTells, ReceiverTurn, SenderTurn, Sends, SendsOver, SpokeAndHeard}
+use Rattle.rje_sockets.specs.OverLine.{BothTook, BothTookOut, BothTurn, HeardAndReplied, LineTells, ReceiverTurn, SenderTurn, Sends, SendsOut, SendsOver, SpokeAndHeard}
 use Rattle.rje_sockets.specs.Patience.{Leaves, LeavesSo}
-use Rattle.rje_sockets.specs.Watching.{NobodySawReceiver, NobodySawSender, SawBoth, SawReceiver, SawSender}
+use Rattle.rje_sockets.specs.Watching.{NobodySawReceiver, NobodySawSender, SawBoth, SawEnd, SawReceiver, SawSender}
 
 -- it said EOT
 pub end_turn : {W : Type 0} (Saw : SawSender W) (s s' : Sending) (t u : LineTells) (w w' : W) → s.over ≡ false → say_in s.core.place ≡ Say.End → s' ≡ after_speaking s
@@ -79,6 +79,9 @@ pub sends_unseen : {W : Type 0} (Saw : SawSender W) (s s' : Sending) (t u : Line
 sends_unseen Saw s s' t u w w' (h, took, through) =
     (h, turns_as (λ _. SenderTurn Saw) (λ _. SenderTurn NobodySawSender) (λ a. (a.0, a.1, tt)) (λ past a b x turn. (turn.0, turn.1, turn.2, tt)) (s, t, w) h (s', u, w') took, through)
 
+pub out_unseen : {W : Type 0} (Saw : SawSender W) (End : SawEnd W) (s s' : Sending) (t u : LineTells) (w w' : W) → SendsOut Saw End (s, t, w) (s', u, w') → SendsOver s t s' u
+out_unseen Saw End s s' t u w w' out = sends_unseen Saw s s' t u w out.seen out.sends
+
 pub receiver_took : {W : Type 0} (Saw : SawReceiver W) (was is : Receiving × LineTells × W) (h : History) → Turns (λ _. ReceiverTurn Saw) was h is → ReceiverTook was.0 h is.0
 receiver_took Saw was is h took = turns_as (λ _. ReceiverTurn Saw) (λ _. ReceiverTakes) (λ a. a.0) (λ past a b x turn. turn.0) was h is took
 
@@ -103,6 +106,9 @@ took_both Saw s s' r r' w w' (turns, took, through) = let both = both_took Saw (
 pub both_fault : {W : Type 0} (Saw : SawBoth W) (was near : Sending × Receiving × W) (turns : List Spoken) → Turns (λ _. BothTurn Saw) was turns near
     → (s' : Sending) (r' : Receiving) (fault : StationFault) → BothFail near.0 s' near.1 r' fault → BothToFault was.0 s' was.1 r' fault
 both_fault Saw was near turns took s' r' fault fails = let both = both_took Saw was near turns took in (map unhindered turns, near.0, near.1, both.0, both.1, fails)
+
+pub took_both_out : {W : Type 0} (Saw : SawBoth W) (End : SawEnd W) (s s' : Sending) (r r' : Receiving) (w w' : W) → BothTookOut Saw End (s, r, w) (s', r', w') → BothToEnd s s' r r'
+took_both_out Saw End s s' r r' w w' out = took_both Saw s s' r r' w out.seen out.took
 
 -- to the end, where the sender is over
 pub both_over : {W : Type 0} (Saw : SawBoth W) (was near : Sending × Receiving × W) (turns : List Spoken) → Turns (λ _. BothTurn Saw) was turns near → near.0.over ≡ true → BothTook Saw was near

@@ -16,7 +16,7 @@ use Rattle.rje_station.specs.Line.{Passes, Talk, one_more}
 use Rattle.rje_station.specs.Receiving.{Receiving, Replied, with_reply}
 use Rattle.rje_station.specs.Sending.{Sending, Spoke}
 use Rattle.rje_stores.specs.Store.{FileMap}
-use Rattle.rje_sockets.specs.Watching.{NobodySawSender, SawBoth, SawReceiver, SawSender}
+use Rattle.rje_sockets.specs.Watching.{NobodySawSender, SawBoth, SawEnd, SawReceiver, SawSender}
 
 -- what a line tells: its bytes, where it tells them, and how many transmissions it has begun
 abbrev pub LineTells : Type 0
@@ -50,6 +50,12 @@ SenderTurn Saw (s, t, w) (s', u, w') x =
 abbrev pub Sends : {W : Type 0} → SawSender W → Sending × LineTells × W → Sending × LineTells × W → Type 0
 Sends Saw was is = (h : History) × Turns (λ _. SenderTurn Saw) was h is × IsThrough is.0 h
 
+-- and then the watch saw that it was the end
+pub record SendsOut {W : Type 0} (Saw : SawSender W) (End : SawEnd W) (was is : Sending × LineTells × W) : Type 0 where
+  pub seen : W
+  pub sends : Sends Saw was (is.0, is.1, seen)
+  pub end : End seen is.2
+
 -- over a line that nobody watches
 abbrev pub SendsOver : Sending → LineTells → Sending → LineTells → Type 0
 SendsOver s t s' u = Sends NobodySawSender (s, t, tt) (s', u, tt)
@@ -66,6 +72,12 @@ BothTurn Saw (s, r, w) (s', r', w') x = BothTake (Some x) s s' r r' × Saw w w' 
 -- both took the same turns to the end
 abbrev pub BothTook : {W : Type 0} → SawBoth W → Sending × Receiving × W → Sending × Receiving × W → Type 0
 BothTook Saw was is = (turns : List Spoken) × Turns (λ _. BothTurn Saw) was turns is × IsThrough is.0 (map unhindered turns)
+
+-- and then the watch saw that it was the end
+pub record BothTookOut {W : Type 0} (Saw : SawBoth W) (End : SawEnd W) (was is : Sending × Receiving × W) : Type 0 where
+  pub seen : W
+  pub took : BothTook Saw was (is.0, is.1, seen)
+  pub end : End seen is.2
 
 -- over a new connection, which tells no bytes, and on which nothing was transmitted before
 abbrev pub OverConnection : (LineTells → LineTells → Type 0) → Type 0

@@ -18,6 +18,10 @@ SawReceiver W = W → W → Arrival → Option Reply → Type 0
 abbrev pub SawBoth : Type 0 → Type 1
 SawBoth W = W → W → Spoken → Type 0
 
+-- of the end of them
+abbrev pub SawEnd : Type 0 → Type 1
+SawEnd W = W → W → Type 0
+
 -- where nobody watches
 abbrev pub NobodySawSender : SawSender ⊤
 NobodySawSender w w' said heard = ⊤

@@ -139,7 +139,8 @@ fn take_own_turn<'a, 'b, L: Line, S: Store, W: Watch>(
         Say::End => Sound::Quiet,
         _ => station.hear_answer(line, false)?,
     };
-    watch.sender_took(said, heard);
+    let sender = station.sender();
+    watch.sender_took(sender, said, heard);
     marker.mark(station.sender().counted(), store);
     Ok(())
 }
@@ -179,12 +180,14 @@ fn take_others_turn<'a, 'b, L: Line, S: Store, W: Watch>(
         Err(StationFault::Line(LineFault::Closed)) if waits => return Ok(false),
         Err(fault) => return Err(BrokenOff::Line(fault)),
     };
-    let Some(arrival) = station.receiver().arrival() else {
+    let receiver = station.receiver();
+    let Some(arrival) = receiver.arrival() else {
         unreachable!()
     };
-    if let Err(fault) = keeper.keep(station.receiver().jobs(), arrival.refused, store) {
+    if let Err(fault) = keeper.keep(receiver.jobs(), receiver.refusal(), store) {
         station.other_ended();
-        watch.receiver_took(arrival, None);
+        let receiver = station.receiver();
+        watch.receiver_took(receiver, arrival, None);
         return Err(BrokenOff::File(fault));
     }
     if station.receiver().is_over() {
@@ -192,6 +195,7 @@ fn take_others_turn<'a, 'b, L: Line, S: Store, W: Watch>(
     } else {
         station.reply(line)?;
     }
-    watch.receiver_took(arrival, reply);
+    let receiver = station.receiver();
+    watch.receiver_took(receiver, arrival, reply);
     Ok(true)
 }

@@ -6,9 +6,11 @@ ghost use Rattle.rje_sockets.specs.LineCause.{IsPeerAt, IsUnmet};
 use crate::adapter_stream::AdapterStream;
 use crate::line_cause::LineCause;
 use crate::observed_stream::ObservedStream;
+use crate::report::Report;
 use crate::socket_line::SocketLine;
 use bsc_link::Rank;
 use rje_orders::{Callers, Connection, Meeting};
+use rje_print::{listening_text, shown_listening};
 use std::io::{self, ErrorKind, Write};
 use std::net::{Net, OpenListener, SocketAddr, TcpListener, TcpStream};
 use std::time::{Clock, Duration, Instant};
@@ -29,6 +31,7 @@ pub(crate) fn met<'r, R: Net + Clock, E: Write>(
     connection: Connection,
     rank: Rank,
     hearings: Option<u32>,
+    report: Report,
     err: &mut E,
 ) -> Result<(ObservedLine<'r, R>, SocketAddr), LineCause>
     ensures unused { IfOk result (λ met. met.0.transmissions ≡ 0) }
@@ -45,8 +48,11 @@ pub(crate) fn met<'r, R: Net + Clock, E: Write>(
                 address,
                 callers,
                 hearings,
+                report,
             };
-            match accepted(rt, listening, connection, rank, err) {
+            let met = accepted(rt, listening, connection, rank, err);
+            report.erase(err);
+            match met {
                 Ok(met) => Ok(met),
                 Err(error) => Err(LineCause::NotAwaited(address, error.kind())),
             }
@@ -80,6 +86,8 @@ struct Listening<'a> {
     callers: Callers<'a>,
     // Within how many hearings a caller has to say something, where it has to.
     hearings: Option<u32>,
+    // What is reported meanwhile.
+    report: Report,
 }
 
 /// Waits for the first call that is taken, and answers the caller's address too. Other callers are hung up.
@@ -97,8 +105,10 @@ fn accepted<'r, R: Net + Clock, E: Write>(
         address,
         callers,
         hearings,
+        report,
     } = listening;
     let listener = TcpListener::bind(rt, address)?;
+    tell_listening(report, &listener, err);
     for _ in 0..u64::MAX {
         let (stream, peer) = listener.accept()?;
         if callers.take(peer) {
@@ -113,9 +123,38 @@ fn accepted<'r, R: Net + Clock, E: Write>(
                 return Ok((line, peer));
             }
         }
-        let _ = writeln!(err, "rje: hung up on {peer}");
+        tell_hung_up(report, peer, &listener, err);
     }
     Err(io::Error::from(ErrorKind::TimedOut))
+}
+
+/// Reports at which address calls are awaited, with the port that was got. A line that can't be written is left out.
+fn tell_listening<L: OpenListener, E: Write>(report: Report, listener: &L, err: &mut E) {
+    let Ok(address) = listener.local_addr() else {
+        return;
+    };
+    let line = match report {
+        Report::Trace => listening_text(address),
+        Report::Progress => shown_listening(address),
+        Report::Nothing => return,
+    };
+    if let Ok(line) = line {
+        let _ = err.write_all(line.as_slice());
+    }
+}
+
+/// Reports that a caller was hung up; calls are awaited on. A line that can't be written is left out.
+fn tell_hung_up<L: OpenListener, E: Write>(
+    report: Report,
+    peer: SocketAddr,
+    listener: &L,
+    err: &mut E,
+) {
+    report.erase(err);
+    let _ = writeln!(err, "rje: hung up on {peer}");
+    if report == Report::Progress {
+        tell_listening(report, listener, err);
+    }
 }
 
 /// Whether the caller says something within so many hearings, where it has to.

@@ -1,5 +1,5 @@
 //! Keeps the jobs of a transmission in a file while they come.
-ghost use Rattle.std.specs.Prelude.{◌≡◌, ◌+◌, ◌-◌, ◌^◌, ◌<◌, ◌≤◌, ◌++◌, ◌∷◌, ℕ, [], List, Option, length, map, take, IfOk, IfSome, OnOk, OnErr, IfErr};
+ghost use Rattle.std.specs.Prelude.{◌≡◌, ◌+◌, ◌-◌, ◌^◌, ◌<◌, ◌≤◌, ◌++◌, ◌∷◌, ℕ, [], List, Option, length, map, take, None, Some, true, false, IfOk, IfSome, OnOk, OnErr, IfErr};
 ghost use Rattle.rje_commands.specs.CommandFault.{IsFailing, status_of};
 ghost use Rattle.rje_commands.specs.NamedFile.{IsWriteFault};
 ghost use Rattle.rje_files.specs.declared.entry.Entry.{Entry};
@@ -19,6 +19,7 @@ use rje_commands::{CommandFault, WriteCause, extend_file, write_file, write_grow
 use rje_files::{entries_of, growth_of, write_entries};
 use rje_jobs::{Job, Jobs};
 use rje_stores::{MAX_INPUT, Place, Store};
+use rje_text::TextFault;
 use std::alloc::Global;
 
 /// Keeps the jobs of a transmission in a file: each as soon as it has come to its end, or all at the end where the file is a device or a
@@ -33,8 +34,8 @@ pub struct Keeper<'a> {
     long: usize,
     /// How much has come.
     tally: Tally,
-    /// The last block was refused for want of memory, and hasn't come again.
-    is_short: bool,
+    /// Why a block was refused that hasn't come again so that it could be taken.
+    refusal: Option<TextFault>,
 }
 
 impl<'a> Keeper<'a> {
@@ -50,23 +51,23 @@ impl<'a> Keeper<'a> {
             kept: 0,
             long: 0,
             tally,
-            is_short: false,
+            refusal: None,
         }
     }
 
-    /// Whether the last block was refused for want of memory, and hasn't come again.
-    pub fn is_short(&self) -> bool
-        ensures { result ≡ self.now.is_short }
+    /// Why a block was refused that hasn't come again so that it could be taken.
+    pub fn refusal(&self) -> Option<TextFault>
+        ensures { result ≡ self.now.refusal }
     {
-        self.is_short
+        self.refusal
     }
 
-    /// Keeps the next of these jobs, where it has come to its end. The file can't be written where they are more than it has, or than is
+    /// Keeps the next of these jobs, where it has come to its end, and notes why the block that came last was refused, if it was. The file can't be written where they are more than it has, or than is
     /// held, also where the last one hasn't come to its end yet.
     pub fn keep<S: Store>(
         &mut self,
         jobs: &[Job],
-        refused: bool,
+        refusal: Option<TextFault>,
         store: &mut S,
     ) -> Result<(), CommandFault<'a>>
         ensures file { self.new.file ≡ self.old.file }
@@ -79,6 +80,7 @@ impl<'a> Keeper<'a> {
             → AreKept front (take self.new.kept jobs.now) self.new.long
             self.old.file.into.jobs.now files (S.files store.new)) }
         ensures fault { IfErr result (IsWriteFault self.old.file.into.jobs.now) }
+        ensures refused { OnOk result (IfSome refusal (λ why. self.new.refusal ≡ Some why)) }
         ensures unchanged { OnErr result (self.new ≡ self.old) }
         ensures same { OnErr result (Discloses (S.files store.old) (S.files store.new) IsSame) }
     {
@@ -89,7 +91,7 @@ impl<'a> Keeper<'a> {
         if self.file.place == Place::Growing && self.kept < jobs.len() && jobs[self.kept].whole {
             self.add(&jobs[self.kept], store)?;
         }
-        self.is_short = refused || self.is_short && tally == self.tally;
+        self.refusal = refusal_after(self.refusal, refusal, tally == self.tally);
         self.tally = tally;
         Ok(())
     }
@@ -158,6 +160,24 @@ impl<'a> Keeper<'a> {
             Some(count) if count < usize::MAX => Some(count),
             _ => None,
         }
+    }
+}
+
+/// Why a block was refused that hasn't come again, after one more hearing: why the new one was, or, as long as nothing more came, the one
+/// before.
+fn refusal_after(
+    before: Option<TextFault>,
+    refusal: Option<TextFault>,
+    is_still: bool,
+) -> Option<TextFault>
+    ensures refused { IfSome refusal (λ why. result ≡ Some why) }
+    ensures still { refusal ≡ None → is_still ≡ true → result ≡ before }
+    ensures taken { refusal ≡ None → is_still ≡ false → result ≡ None }
+{
+    match refusal {
+        Some(why) => Some(why),
+        None if is_still => before,
+        None => None,
     }
 }
 

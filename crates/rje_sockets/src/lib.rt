@@ -3,9 +3,11 @@
 #![tactic(auto)]
 
 mod adapter_stream;
+mod amount;
 mod both_ways;
 mod broken_off;
 mod connection;
+mod display;
 mod first_bytes;
 mod front;
 mod handing;
@@ -18,6 +20,12 @@ mod observed_stream;
 mod one_way;
 mod over_sockets;
 mod parting;
+mod received_amount;
+mod received_blocks;
+mod report;
+mod reporter;
+mod sent_amount;
+mod sent_blocks;
 mod socket_commands;
 mod socket_line;
 mod tally;

@@ -99,12 +99,12 @@ fn speak_and_hear<L: Line, W: Watch>(
 {
     match station.speak(line) {
         Ok(Say::End) => {
-            watch.sender_took(Say::End, Sound::Quiet);
+            watch.sender_took(station, Say::End, Sound::Quiet);
             Ok(true)
         }
         Ok(said) => {
             let heard = station.hear(line, false)?;
-            watch.sender_took(said, heard);
+            watch.sender_took(station, said, heard);
             Ok(true)
         }
         Err(StationFault::Over) => Ok(false),
@@ -230,18 +230,18 @@ fn hear_keep_and_speak<'a, L: Line, S: Store, W: Watch>(
     let Some(arrival) = station.arrival() else {
         unreachable!()
     };
-    if let Err(fault) = keeper.keep(station.jobs(), arrival.refused, store) {
+    if let Err(fault) = keeper.keep(station.jobs(), station.refusal(), store) {
         station.abandon();
-        watch.receiver_took(arrival, None);
+        watch.receiver_took(station, arrival, None);
         return Err(BrokenOff::File(fault));
     }
     match station.speak(line) {
         Ok(_) => {
-            watch.receiver_took(arrival, reply);
+            watch.receiver_took(station, arrival, reply);
             Ok(true)
         }
         Err(StationFault::Over) => {
-            watch.receiver_took(arrival, reply);
+            watch.receiver_took(station, arrival, reply);
             Ok(false)
         }
         Err(fault) => Err(BrokenOff::Line(fault)),
@@ -265,7 +265,7 @@ pub fn take_turns<N: Line, F: Line, W: Watch>(
         let Some(turn) = take_turn(sender, near, receiver, far)? else {
             return Ok(());
         };
-        watch.both_took(&turn);
+        watch.both_took(sender, &turn);
     }
     Ok(())
 }

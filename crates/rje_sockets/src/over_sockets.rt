@@ -14,7 +14,7 @@ use std::net::Net;
 use std::time::Clock;
 
 /// Does what an order over sockets asks for, and answers how it ended. What it gives goes to `out`, and its turns as they happen, where that
-/// is asked for, to `err`.
+/// is asked for, to `err`; where not, and where that is a terminal, how far it is.
 pub fn carry_out<'a, R: Net + Clock, S: Store, O: Write, E: Write>(
     rt: &R,
     alloc: Global,
@@ -22,6 +22,7 @@ pub fn carry_out<'a, R: Net + Clock, S: Store, O: Write, E: Write>(
     store: &mut S,
     out: &mut O,
     err: &mut E,
+    is_terminal: bool,
 ) -> Result<Ending, CommandFault<'a>>
     ensures done { IfOk result (λ ending. Transmits order.entry ending
         (S.files store.old) (S.files store.new) (O.contents out.old) (O.contents out.new)) }
@@ -32,9 +33,9 @@ pub fn carry_out<'a, R: Net + Clock, S: Store, O: Write, E: Write>(
     ensures silent { IfErr result (λ fault. status_of fault ≡ 1 → out.new ≡ out.old) }
 {
     match order {
-        SocketOrder::Loop(order) => loopback(rt, alloc, order, store, out, err),
-        SocketOrder::Send(order) => send(rt, alloc, order, store, out, err),
-        SocketOrder::Receive(order) => receive(rt, alloc, order, store, out, err),
-        SocketOrder::Exchange(order) => exchange(rt, alloc, order, store, out, err),
+        SocketOrder::Loop(order) => loopback(rt, alloc, order, store, out, err, is_terminal),
+        SocketOrder::Send(order) => send(rt, alloc, order, store, out, err, is_terminal),
+        SocketOrder::Receive(order) => receive(rt, alloc, order, store, out, err, is_terminal),
+        SocketOrder::Exchange(order) => exchange(rt, alloc, order, store, out, err, is_terminal),
     }
 }

@@ -1,13 +1,15 @@
 //! The watch that writes a line a turn.
 ghost use Rattle.std.specs.Prelude.{◌≡◌, false, None};
-ghost use Rattle.rje_sockets.specs.Tracing.{TracesLine};
+ghost use Rattle.rje_sockets.specs.Tracing.{TracesLine, TracesTurn};
 ghost use Rattle.rje_print.specs.TurnTexts.{peer_line, sender_line, receiver_line, both_line};
 
+use crate::received_blocks::ReceivedBlocks;
+use crate::sent_blocks::SentBlocks;
 use crate::watch::Watch;
 use bsc_link::{Reply, Say, Sound};
 use line_world::Spoken;
 use rje_print::{both_text, peer_text, receiver_text, sender_text};
-use rje_station::Arrival;
+use rje_station::{Arrival, ReceivingStation, SendingStation};
 use std::io::Write;
 use std::net::SocketAddr;
 use std::time::{Clock, Duration, Instant};
@@ -19,6 +21,8 @@ pub struct Tracer<C, W> {
     clock: C,
     // When the transmission started; None where the tracer is quiet.
     start: Option<Instant>,
+    sent: SentBlocks,
+    received: ReceivedBlocks,
     out: W,
 }
 
@@ -32,7 +36,13 @@ impl<C: Clock, W: Write> Tracer<C, W> {
             true => Instant::now(&clock).ok(),
             false => None,
         };
-        Tracer { clock, start, out }
+        Tracer {
+            clock,
+            start,
+            sent: SentBlocks::new(),
+            received: ReceivedBlocks::new(),
+            out,
+        }
     }
 
     /// The peer at this address is connected.
@@ -67,35 +77,52 @@ impl<C: Clock, W: Write> Tracer<C, W> {
 
 impl<C: Clock, W: Write> Watch for Tracer<C, W> {
     ghost saw_sender = { λ old new said heard.
-        TracesLine new.start (W.contents old.out) (W.contents new.out)
-        (λ nanos. sender_line nanos said heard) × (old.start ≡ None → new ≡ old) };
+        TracesTurn new.start (W.contents old.out) (W.contents new.out)
+        (λ nanos place. sender_line nanos said heard place) × (old.start ≡ None → new ≡ old) };
 
     ghost saw_receiver = { λ old new arrival reply.
-        TracesLine new.start (W.contents old.out) (W.contents new.out)
-        (λ nanos. receiver_line nanos arrival reply) × (old.start ≡ None → new ≡ old) };
+        TracesTurn new.start (W.contents old.out) (W.contents new.out)
+        (λ nanos place. receiver_line nanos arrival reply place) × (old.start ≡ None → new ≡ old) };
 
     ghost saw_both = { λ old new turn.
-        TracesLine new.start (W.contents old.out) (W.contents new.out)
-        (λ nanos. both_line nanos turn) × (old.start ≡ None → new ≡ old) };
+        TracesTurn new.start (W.contents old.out) (W.contents new.out)
+        (λ nanos place. both_line nanos turn place) × (old.start ≡ None → new ≡ old) };
 
-    fn sender_took(&mut self, said: Say, heard: Sound) {
-        match self.elapsed() {
-            Some(after) => self.write(sender_text(after, said, heard).as_slice()),
-            None => self.start = None,
-        }
+    ghost saw_end = { λ old new. new ≡ old };
+
+    fn sender_took(&mut self, station: &SendingStation, said: Say, heard: Sound) {
+        let Some(after) = self.elapsed() else {
+            self.start = None;
+            return;
+        };
+        let place = self.sent.said(said);
+        self.sent.after(station);
+        self.write(sender_text(after, said, heard, place).as_slice());
     }
 
-    fn receiver_took(&mut self, arrival: Arrival, reply: Option<Reply>) {
-        match self.elapsed() {
-            Some(after) => self.write(receiver_text(after, arrival, reply).as_slice()),
-            None => self.start = None,
-        }
+    fn receiver_took(
+        &mut self,
+        station: &ReceivingStation,
+        arrival: Arrival,
+        reply: Option<Reply>,
+    ) {
+        let Some(after) = self.elapsed() else {
+            self.start = None;
+            return;
+        };
+        let place = self.received.came(station, arrival);
+        self.write(receiver_text(after, arrival, reply, place).as_slice());
     }
 
-    fn both_took(&mut self, turn: &Spoken) {
-        match self.elapsed() {
-            Some(after) => self.write(both_text(after, turn).as_slice()),
-            None => self.start = None,
-        }
+    fn both_took(&mut self, sender: &SendingStation, turn: &Spoken) {
+        let Some(after) = self.elapsed() else {
+            self.start = None;
+            return;
+        };
+        let place = self.sent.said(turn.said);
+        self.sent.after(sender);
+        self.write(both_text(after, turn, place).as_slice());
     }
+
+    fn ended(&mut self) {}
 }

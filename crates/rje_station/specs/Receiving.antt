@@ -10,6 +10,8 @@ use Rattle.bsc_link.specs.declared.wish.Wish.{Wish}
 use Rattle.bsc_link.specs.declared.reply.Reply.{Reply}
 use Rattle.bsc_link.specs.Receiver.{ReceiverState, first_receiver_state, receiver_hears, receiver_news, receiver_quiet_long}
 use Rattle.rje_text.specs.declared.unpacked.Unpacked.{Unpacked}
+use Rattle.rje_text.specs.TextFault.{IsTextFault}
+use Rattle.rje_text.specs.declared.text_fault.TextFault.{TextFault}
 use Rattle.rje_text.specs.Reading.{IsRead}
 use Rattle.rje_jobs.specs.declared.job.Job.{Job}
 use Rattle.rje_jobs.specs.Joined.{mode_of_begun}
@@ -53,6 +55,16 @@ abbrev pub MayRefuse : Heard → Option Job → Bool → Type 0
 MayRefuse (heard.Frame (frame.Block b)) begun true = Unit {0}
 MayRefuse (heard.Frame (frame.Block b)) begun false = (u : Unpacked) × IsRead b (mode_of_begun begun) u
 MayRefuse h begun refused = refused ≡ false
+
+-- why a whole block is refused: its text isn't read in the mode of the job that is begun, for this reason
+abbrev pub IsRefusal : Heard → Option Job → TextFault → Type 0
+IsRefusal (heard.Frame (frame.Block b)) begun fault = IsTextFault b (mode_of_begun begun) fault
+IsRefusal h begun fault = ⊥
+
+-- the last hearing brought a block that was refused
+abbrev pub was_refused : Option Arrival → Bool
+was_refused None = false
+was_refused (Some arrival) = arrival.refused
 
 -- an accepted block is joined to the jobs, and nothing else changes them
 abbrev pub jobs_after : Heard → Bool → List Job → List Job

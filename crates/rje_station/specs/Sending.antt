@@ -12,6 +12,7 @@ use Rattle.bsc_link.specs.declared.outcome.Outcome.{Outcome}
 use Rattle.bsc_link.specs.Sender.{SenderState, first_sender_state, say_in, outcome_in, sender_hears, sender_sent_end, counts_block, line_for}
 use Rattle.rje_jobs.specs.declared.job.Job.{Job}
 use Rattle.rje_jobs.specs.Blocks.{blocks}
+use Rattle.rje_text.specs.NextBlock.{blocks_after}
 use Rattle.rje_station.specs.declared.event.Event.{Event}
 use Rattle.rje_station.specs.declared.event.Event.TheVariants as event
 use Rattle.rje_station.specs.declared.station_fault.StationFault.{StationFault}
@@ -39,6 +40,19 @@ first_sending jobs = record { jobs = jobs; rest = blocks jobs; counted = 0; core
 -- how the transmission ends; with no jobs it is done
 abbrev pub outcome_of : Sending → Option Outcome
 outcome_of s = if length s.jobs == 0 then Some Outcome.Done else outcome_in s.core.place
+
+-- ---- The outstanding block.
+
+-- the bytes of its text
+abbrev pub first_length : List Block → ℕ
+first_length [] = 0
+first_length (b ∷ rest) = length b.text.items
+
+-- after it come the blocks of the first job's records from this one on, and those of the jobs after it
+abbrev pub GoesOnAt : List Block → List Job → ℕ → Type 0
+GoesOnAt (b ∷ rest) (j ∷ jobs) record_after = rest ≡ blocks_after j.select j.mode j.records b.closing record_after ++ blocks jobs
+GoesOnAt (b ∷ rest) [] record_after = ⊥
+GoesOnAt [] jobs record_after = Unit {0}
 
 -- ---- Speaking.
 

@@ -1,9 +1,9 @@
 //! The receiving station.
-ghost use Rattle.std.specs.Prelude.{◌≡◌, ◌++◌, ◌∷◌, false, not, ◌&&◌, IfOk, IfErr, OnOk};
+ghost use Rattle.std.specs.Prelude.{◌≡◌, ◌++◌, ◌∷◌, false, not, ◌&&◌, is_some, IfOk, IfErr, IfSome, OnOk};
 ghost use Rattle.rje_station.specs.Hearing.{Hearing, Babbling};
 ghost use Rattle.rje_station.specs.JoinedJobs.{begun_in};
 ghost use Rattle.rje_station.specs.Line.{Passes, Ages, MayNotHear, MayNotSend, Fails, one_more};
-ghost use Rattle.rje_station.specs.Receiving.{first_receiving, sound_taken as taken, MayRefuse, jobs_after, Received, after_replying, Replied, with_reply, after_fault, after_refusal, after_abandon, frame_of as reply_frame, received_events};
+ghost use Rattle.rje_station.specs.Receiving.{first_receiving, sound_taken as taken, MayRefuse, IsRefusal, was_refused, jobs_after, Received, after_replying, Replied, with_reply, after_fault, after_refusal, after_abandon, frame_of as reply_frame, received_events};
 ghost use Rattle.rje_station.specs.Station.{after_passing};
 ghost use Rattle.rje_station.specs.StationFault.{IsCause, IfLine, IfOver, IsNoMemory};
 ghost use Rattle.rje_station.specs.Trace.{last_events};
@@ -20,8 +20,8 @@ use bsc_frame::{Frame, Heard};
 use bsc_link::{Receiver, Reply, Sound, Wish};
 use joined_jobs::JoinedJobs;
 use rje_jobs::Job;
-use rje_text::unpack;
-use std::alloc::Global;
+use rje_text::{TextFault, unpack};
+use std::alloc::{AllocError, Global};
 use std::marker::Model;
 
 /// The station that receives the jobs of one transmission.
@@ -33,11 +33,16 @@ pub struct ReceivingStation {
     due: Option<Reply>,
     over: bool,
     arrival: Option<Arrival>,
+    /// Why the block of the last hearing was refused, where it was.
+    refusal: Option<TextFault>,
     trace: Trace,
+    // The bytes of the last block that was heard; contracts don't see it.
+    length: usize,
 }
 
 impl Model for ReceivingStation {
-    ghost use Rattle.rje_station.specs.Receiving.{Receiving};
+    ghost use Rattle.std.specs.Prelude.{◌≡◌, is_some};
+    ghost use Rattle.rje_station.specs.Receiving.{Receiving, was_refused};
 
     ghost Value = { Receiving };
 
@@ -49,6 +54,8 @@ impl Model for ReceivingStation {
       arrival = s.arrival;
       trace = s.trace;
     } };
+
+    ghost invariant = { λ s. is_some s.refusal ≡ was_refused s.arrival };
 }
 
 impl ReceivingStation {
@@ -65,7 +72,9 @@ impl ReceivingStation {
             due: None,
             over: false,
             arrival: None,
+            refusal: None,
             trace,
+            length: 0,
         })
     }
 
@@ -87,7 +96,9 @@ impl ReceivingStation {
             due: _,
             over: _,
             arrival: _,
+            refusal: _,
             trace: _,
+            length: _,
         } = self;
         jobs.into_vec()
     }
@@ -97,6 +108,18 @@ impl ReceivingStation {
         ensures { result ≡ self.now.arrival }
     {
         self.arrival
+    }
+
+    /// Why the block of the last hearing was refused; none where none was.
+    pub fn refusal(&self) -> Option<TextFault>
+        ensures refused { is_some result ≡ was_refused self.now.arrival }
+    {
+        self.refusal
+    }
+
+    /// The bytes of the text of the last block that was heard, accepted or not; 0 where none was yet.
+    pub fn heard_length(&self) -> usize {
+        self.length
     }
 
     /// The last events.
@@ -163,7 +186,12 @@ impl ReceivingStation {
             return Err(StationFault::Over);
         }
         match self.ear.hear(line) {
-            Ok(heard) => Ok(heard),
+            Ok(heard) => {
+                if let Heard::Frame(Frame::Block(block)) = &heard {
+                    self.length = block.text.len();
+                }
+                Ok(heard)
+            }
             Err(HearFault::Lost(fault)) => {
                 self.fail();
                 Err(StationFault::Line(fault))
@@ -184,6 +212,7 @@ impl ReceivingStation {
             sound: Sound::Enq,
             refused: false,
         });
+        self.refusal = None;
         self.trace.note(Event::Heard(Sound::Enq));
     }
 
@@ -230,10 +259,12 @@ impl ReceivingStation {
     {
         let mut ahead = self.core;
         let accepted = ahead.hear(Sound::Block, wish).accepted;
-        let refused = refuses(&mut self.jobs, accepted, heard);
+        let refusal = join_heard(&mut self.jobs, accepted, heard);
+        let refused = refusal.is_some();
         let news = self.core.hear(sound_taken(heard, refused), wish);
         let sound = sound_of(heard);
         self.arrival = Some(Arrival { sound, refused });
+        self.refusal = refusal;
         note_received(&mut self.trace, sound, news.accepted, refused);
         self.due = news.reply;
         self.over = news.ended;
@@ -249,19 +280,22 @@ impl ReceivingStation {
     }
 }
 
-/// Reads a whole block, joins it where the core will accept it, and returns whether it was refused.
-fn refuses(jobs: &mut JoinedJobs, accepted: bool, heard: &Heard) -> bool
-    ensures may { MayRefuse heard.now (begun_in jobs.old) result }
-    ensures jobs { jobs.new ≡ jobs_after heard.now (accepted && not result) jobs.old }
+/// Reads a whole block, joins it where the core will accept it, and returns why it was refused, where it was.
+fn join_heard(jobs: &mut JoinedJobs, accepted: bool, heard: &Heard) -> Option<TextFault>
+    ensures may { MayRefuse heard.now (begun_in jobs.old) (is_some result) }
+    ensures why { IfSome result (λ fault. IsRefusal heard.now (begun_in jobs.old) fault) }
+    ensures jobs { jobs.new ≡ jobs_after heard.now (accepted && not (is_some result)) jobs.old }
 {
-    match heard {
-        Heard::Frame(Frame::Block(block)) => {
-            match unpack(jobs.allocator(), block, jobs.mode_of_begun()) {
-                Ok(unpacked) => accepted && jobs.join(unpacked, block.closing).is_err(),
-                Err(_) => true,
-            }
-        }
-        _ => false,
+    let Heard::Frame(Frame::Block(block)) = heard else {
+        return None;
+    };
+    match unpack(jobs.allocator(), block, jobs.mode_of_begun()) {
+        Ok(unpacked) if accepted => match jobs.join(unpacked, block.closing) {
+            Ok(()) => None,
+            Err(AllocError) => Some(TextFault::OutOfMemory),
+        },
+        Ok(_) => None,
+        Err(fault) => Some(fault),
     }
 }
 

@@ -1,11 +1,11 @@
 //! The sending station.
-ghost use Rattle.std.specs.Prelude.{◌≡◌, ◌++◌, ◌∷◌, false, IfOk, IfErr, OnOk};
+ghost use Rattle.std.specs.Prelude.{◌≡◌, ◌++◌, ◌∷◌, false, drop, IfOk, IfErr, OnOk};
 ghost use Rattle.std.specs.List.{AllByRecursion};
 ghost use Rattle.bsc_link.specs.Sender.{say_in, sender_yielded};
 ghost use Rattle.rje_jobs.specs.Fitting.{JobFits};
 ghost use Rattle.rje_station.specs.Hearing.{HearsSound, Babbling};
 ghost use Rattle.rje_station.specs.Line.{Passes, Ages, MayNotHear, MayNotSend, Fails, one_more};
-ghost use Rattle.rje_station.specs.Sending.{first_sending, after_speaking, after_hearing, after_fault, after_refusal, Spoke, IsWrittenOf, outcome_of, next_for, counted_events};
+ghost use Rattle.rje_station.specs.Sending.{first_sending, after_speaking, after_hearing, after_fault, after_refusal, Spoke, IsWrittenOf, outcome_of, next_for, counted_events, first_length, GoesOnAt};
 ghost use Rattle.rje_station.specs.Station.{due_in};
 ghost use Rattle.rje_station.specs.StationFault.{IsCause, IsNewCause, IfLine, IfOver};
 ghost use Rattle.rje_station.specs.Trace.{last_events};
@@ -84,6 +84,20 @@ impl<'a> SendingStation<'a> {
         ensures { result ≡ self.now.counted }
     {
         self.blocks.counted()
+    }
+
+    /// The bytes of the outstanding block's text; 0 where every block is counted.
+    pub fn outstanding_length(&self) -> usize
+        ensures { result ≡ first_length self.now.rest }
+    {
+        self.blocks.length()
+    }
+
+    /// The record after the outstanding block, one of its job's or their number: so many records it and the blocks before it have.
+    pub fn next_record(&self) -> usize
+        ensures { GoesOnAt self.now.rest (drop self.now.counted self.now.jobs) result }
+    {
+        self.blocks.place()
     }
 
     /// How the transmission ends, once that is known. With no jobs it is done.

@@ -12,7 +12,7 @@ use Rattle.rje_words.specs.Canonical.{IsUsual}
 
 -- what is seen of the rows of a connection
 abbrev pub Linked : Type 0
-Linked = Option Text × Option Text × Option Text × Option Text × Bool × Bool
+Linked = Option Text × Option Text × Option Text × Option Text × Bool × Bool × Bool
 
 abbrev pub link_in : List Row → Linked
 link_in rows = (
@@ -22,11 +22,12 @@ link_in rows = (
   one_of (codes "timeout") rows,
   is_on (codes "adapter") rows,
   is_on (codes "trace") rows,
+  is_on (codes "quiet") rows,
 )
 
 -- what is seen where only an address is given
 abbrev pub usual : (to listen : Option Text) → Linked
-usual to listen = (to, listen, None, Some (codes "3000"), false, false)
+usual to listen = (to, listen, None, Some (codes "3000"), false, false, false)
 
 module _ (to listen : Option Text) (rows : List Row) (e : link_in rows ≡ usual to listen) where
   pub usual_read : (link : Connection) → IsConnectionOf rows link → IsUsual to listen link
@@ -35,6 +36,7 @@ module _ (to listen : Option Text) (rows : List Row) (e : link_in rows ≡ usual
     timeout = subst (λ (v : Linked). IsTimeoutOf v.3 link.timeout) e h.timeout;
     adapter = h.adapter ∙ ap (λ (v : Linked). v.4) e;
     trace = h.trace ∙ ap (λ (v : Linked). v.5) e;
+    quiet = h.quiet ∙ ap (λ (v : Linked). v.6) e;
   }
 
   pub usual_fault : (fault : WordsFault) → IsConnectionFault rows fault → IsMeetingFault to listen None fault

@@ -127,11 +127,13 @@ IsTimeoutOf = IsGivenNumber (2 ^ 16) 3000
 abbrev pub IsPatienceOf : Option Text → ℕ → Type 0
 IsPatienceOf = IsGivenNumber (2 ^ 32) 40
 
--- the order has the job file and the time-out that were found, and reports each turn where that option was
+-- the order has the job file and the time-out that were found, reports each turn where that option was, and shows nothing of how far it is
+-- where that one was
 pub record IsLoopOrderOf (rows : List Row) (order : LoopOrder) : Type 0 where
   pub jobs : order.jobs.now ≡ word_in (codes "JOBS") rows
   pub timeout : IsTimeoutOf (one_of (codes "timeout") rows) order.timeout
   pub trace : order.trace ≡ is_on (codes "trace") rows
+  pub quiet : order.quiet ≡ is_on (codes "quiet") rows
 
 -- what was found for an address is this word, and not an address
 abbrev pub IsBadAddress : (found word : Text) → Type 0
@@ -172,13 +174,14 @@ IsMeetingFault _ _ _ _ = ⊥
 abbrev pub IsMeetingIn : List Row → Meeting → Type 0
 IsMeetingIn rows = IsMeetingOf (first_of (codes "to") rows) (first_of (codes "listen") rows) (first_of (codes "from") rows)
 
--- the connection is come to as the options for it say and has the time-out that was found, with a line adapter at the other end and with
--- reports of each turn where these options were
+-- the connection is come to as the options for it say and has the time-out that was found, with a line adapter at the other end, with reports
+-- of each turn, and with nothing shown of how far it is, where these options were
 pub record IsConnectionOf (rows : List Row) (link : Connection) : Type 0 where
   pub place : IsMeetingIn rows link.place
   pub timeout : IsTimeoutOf (one_of (codes "timeout") rows) link.timeout
   pub adapter : link.adapter ≡ is_on (codes "adapter") rows
   pub trace : link.trace ≡ is_on (codes "trace") rows
+  pub quiet : link.quiet ≡ is_on (codes "quiet") rows
 
 -- what was found is no connection
 abbrev pub IsConnectionFault : List Row → WordsFault → Type 0

@@ -101,12 +101,13 @@ existing_words Existing.Refuse = codes "--new" ∷ []
 existing_words Existing.Append = codes "--append" ∷ []
 
 -- the connection is come to by these texts for the two addresses, with anyone's calls taken, and has the usual time-out, no line adapter and
--- no trace
+-- no trace, and how far it is is shown
 pub record IsUsual (to listen : Option Text) (link : Connection) : Type 0 where
   pub place : IsMeetingOf to listen None link.place
   pub timeout : IsTimeoutOf (Some (codes "3000")) link.timeout
   pub adapter : link.adapter ≡ false
   pub trace : link.trace ≡ false
+  pub quiet : link.quiet ≡ false
 
 -- the order is to send this file to this address over a usual connection
 abbrev pub IsSend : (jobs address : Text) → Order → Type 0

@@ -50,6 +50,10 @@ patience_rule = record (value_rule (codes "patience")) {
 abbrev pub trace_rule : Rule
 trace_rule = flag_rule (codes "trace")
 
+-- the option to show nothing of how far it is
+abbrev pub quiet_rule : Rule
+quiet_rule = flag_rule (codes "quiet")
+
 -- the option for the number of the one job, from 1
 abbrev pub number_rule : Rule
 number_rule = record (value_rule (codes "job")) { parser = Some (parser.Signed (pos 1) (pos 4294967295)) }
@@ -99,7 +103,7 @@ monitor_app = with_rule (with_rule (new_app (codes "monitor")) capture_rule) (fl
 
 -- `loop JOBS`
 abbrev pub loop_app : App
-loop_app = with_rule (with_rule (file_app (codes "loop") (codes "JOBS")) timeout_rule) trace_rule
+loop_app = with_rule (with_rule (with_rule (file_app (codes "loop") (codes "JOBS")) timeout_rule) trace_rule) quiet_rule
 
 -- the options for whom is called, for where it is listened, and for whose calls are taken
 abbrev pub with_meeting_rules : App → App
@@ -108,7 +112,8 @@ with_meeting_rules app =
 
 -- the options for a connection
 abbrev pub with_connection_rules : App → App
-with_connection_rules app = with_rule (with_rule (with_rule (with_meeting_rules app) timeout_rule) (flag_rule (codes "adapter"))) trace_rule
+with_connection_rules app =
+    with_rule (with_rule (with_rule (with_rule (with_meeting_rules app) timeout_rule) (flag_rule (codes "adapter"))) trace_rule) quiet_rule
 
 -- the options for the jobs that the file which is received into holds already
 abbrev pub with_existing_rules : App → App

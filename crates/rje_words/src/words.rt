@@ -157,6 +157,7 @@ fn loop_order<'a>(matches: &ArgMatches<'a>) -> LoopOrder<'a>
         jobs: word(matches, "JOBS"),
         timeout: timeout_of(matches),
         trace: has_trace(matches),
+        quiet: is_quiet(matches),
     }
 }
 
@@ -253,6 +254,7 @@ fn connection_in<'a>(matches: &ArgMatches<'a>) -> Result<Connection<'a>, WordsFa
         timeout: timeout_of(matches),
         adapter: is_given(matches, "adapter"),
         trace: has_trace(matches),
+        quiet: is_quiet(matches),
     })
 }
 
@@ -323,6 +325,13 @@ fn has_trace(matches: &ArgMatches) -> bool
     ensures { result ≡ is_on (codes "trace") (rows_of (found_of matches.now)) }
 {
     is_given(matches, "trace")
+}
+
+/// Whether nothing is to be shown on a terminal of how far it is.
+fn is_quiet(matches: &ArgMatches) -> bool
+    ensures { result ≡ is_on (codes "quiet") (rows_of (found_of matches.now)) }
+{
+    is_given(matches, "quiet")
 }
 
 /// The value that was found, and no character where none was.

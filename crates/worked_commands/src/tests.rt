@@ -6,6 +6,7 @@ mod receiving;
 mod recorded_disk;
 mod scripted_stream;
 mod sending;
+mod shown;
 mod stores;
 mod told_line;
 mod traced;

@@ -28,10 +28,11 @@ use crate::line_cause::tell_cause;
 use crate::marker::Marker;
 use crate::one_way::{USUAL_PATIENCE, most_quiet};
 use crate::parting::{HearsOut, Leaves, Parting, parts_in_step};
+use crate::report::Report;
+use crate::reporter::Reporter;
 use crate::socket_commands::Ending;
-use crate::socket_commands::receive_command::{keep_rest, left_after, unless_short};
+use crate::socket_commands::receive_command::{keep_rest, left_after, unless_refused};
 use crate::socket_commands::send_command::{Outgoing, look_at_outgoing, read_outgoing};
-use crate::tracer::Tracer;
 use crate::watch::{Unwatched, Watch};
 use bsc_link::{Outcome, Rank};
 use rje_commands::{CommandFault, lock_file, look_beside, put_lines, tell};
@@ -48,7 +49,7 @@ use std::time::Clock;
 /// Sends the jobs of a job file that were not sent, and receives those of the other end into another one, over one connection. It has both
 /// files for itself, but while it waits for a call that which is received alone: what is added meanwhile to the other is sent. Marks those
 /// that were counted, and prints how many there are, how it ended, and how many came. Where that is asked for, who is connected and each
-/// turn is told to `err` as it happens.
+/// turn is told to `err` as it happens, and else, where that is a terminal, how far it is.
 pub fn exchange<'a, R: Net + Clock, S: Store, O: Write, E: Write>(
     rt: &R,
     alloc: Global,
@@ -56,6 +57,7 @@ pub fn exchange<'a, R: Net + Clock, S: Store, O: Write, E: Write>(
     store: &mut S,
     out: &mut O,
     err: &mut E,
+    is_terminal: bool,
 ) -> Result<Ending, CommandFault<'a>>
     ensures exchanged { IfOk result (λ ending. OverConnection (λ t u.
         ExchangesLeft ending (order.entry.rank, most_quiet order.entry.patience)
@@ -71,15 +73,20 @@ pub fn exchange<'a, R: Net + Clock, S: Store, O: Write, E: Write>(
 {
     look_before_meeting(alloc, order.send, order.connection.place, store, err)?;
     let keeper = keeper_beside(alloc, order.send, order.received, store, err)?;
-    let (mut line, peer) = match met(rt, order.connection, order.rank, None, err) {
+    let report = Report::of(order.connection.trace, order.connection.quiet, is_terminal);
+    let (mut line, peer) = match met(rt, order.connection, order.rank, None, report, err) {
         Ok(met) => met,
         Err(cause) => return Err(cause.told(err)),
     };
-    let Outgoing { jobs, marker } = read_outgoing(alloc, order.send, store)?;
+    let Outgoing {
+        jobs,
+        marker,
+        names,
+    } = read_outgoing(alloc, order.send, store)?;
     let station = Station::new(alloc, order.rank, jobs.as_slice())?;
     marker.begin(store)?;
-    let mut tracer = Tracer::new(rt, order.connection.trace, &mut *err);
-    tracer.connected(peer);
+    let mut reporter = Reporter::new(rt, report, names.as_slice(), &mut *err);
+    reporter.connected(peer);
     let ending = exchange_files(
         station,
         marker,
@@ -88,7 +95,7 @@ pub fn exchange<'a, R: Net + Clock, S: Store, O: Write, E: Write>(
         most_quiet(order.patience),
         &HearsOut,
         store,
-        &mut tracer,
+        &mut reporter,
         out,
     );
     tell_if_late(order.connection, &line, err);
@@ -151,7 +158,11 @@ fn exchanged<'a, L: Line, S: Store, O: Write, E: Write>(
     ensures silent { IfErr result (λ fault. status_of fault ≡ 1
         → (line.new ≡ line.old) × (out.new ≡ out.old)) }
 {
-    let Outgoing { jobs, marker } = read_outgoing(alloc, send, store)?;
+    let Outgoing {
+        jobs,
+        marker,
+        names: _,
+    } = read_outgoing(alloc, send, store)?;
     let station = Station::new(alloc, rank, jobs.as_slice())?;
     let keeper = keeper_beside(alloc, send, received, store, err)?;
     marker.begin(store)?;
@@ -261,6 +272,7 @@ fn exchange_files<'a, 'b, L: Line, P: Parting<L>, S: Store, W: Watch, O: Write>(
         store,
         watch,
     );
+    watch.ended();
     let outcome = station.sender().outcome();
     let counted = station.sender().counted();
     let lines = lines_of_both(counted, given, outcome, station.receiver().jobs());
@@ -272,7 +284,7 @@ fn exchange_files<'a, 'b, L: Line, P: Parting<L>, S: Store, W: Watch, O: Write>(
     let ending = left_after(left, marked.and(kept), printed).map(|left| ending_of_both(
         outcome, idle, left,
     ));
-    unless_short(ending, keeper.is_short())
+    unless_refused(ending, keeper.refusal())
 }
 
 /// How many of so many jobs were counted, how that ended, and how many jobs came.

@@ -6,15 +6,16 @@ ghost use Rattle.rje_commands.specs.CommandFault.{IsFailing, is_of_output, statu
 ghost use Rattle.rje_commands.specs.Commands.{OfFile};
 ghost use Rattle.rje_sockets.specs.Ending.{ending_of, loop_text};
 ghost use Rattle.rje_sockets.specs.Looping.{IsUnloopedFault, Loops};
-ghost use Rattle.rje_sockets.specs.OverLine.{BothTook};
+ghost use Rattle.rje_sockets.specs.OverLine.{BothTookOut};
 ghost use Rattle.rje_sockets.specs.NamedFiles.{NamesOne};
 ghost use Rattle.rje_stores.specs.Store.{Discloses, IsSame};
 
 use crate::connection::{ObservedLine, line_over};
 use crate::line_cause::{LineCause, tell_cause};
 use crate::one_way::take_turns;
+use crate::report::Report;
+use crate::reporter::Reporter;
 use crate::socket_commands::Ending;
-use crate::tracer::Tracer;
 use crate::watch::Watch;
 use bsc_link::{Outcome, Rank};
 use rje_commands::{CommandFault, put_lines, read_job_file};
@@ -29,7 +30,7 @@ use std::net::{Ipv4Addr, Net, OpenListener, SocketAddr, TcpListener, TcpStream};
 use std::time::Clock;
 
 /// Sends the jobs of a job file from one end of a connection to the other, and prints how many were counted, how many handed out, and how
-/// it ended. Where that is asked for, each turn is told to `err` as it happens.
+/// it ended. Where that is asked for, each turn is told to `err` as it happens, and else, where that is a terminal, how far it is.
 pub fn loopback<'a, R: Net + Clock, S: Store, O: Write, E: Write>(
     rt: &R,
     alloc: Global,
@@ -37,6 +38,7 @@ pub fn loopback<'a, R: Net + Clock, S: Store, O: Write, E: Write>(
     store: &mut S,
     out: &mut O,
     err: &mut E,
+    is_terminal: bool,
 ) -> Result<Ending, CommandFault<'a>>
     ensures looped { IfOk result (λ ending. OfFile order.entry.jobs.now (S.files store.old)
         (λ file. Loops ending file (O.contents out.old) (O.contents out.new))) }
@@ -54,14 +56,15 @@ pub fn loopback<'a, R: Net + Clock, S: Store, O: Write, E: Write>(
         Ok(ends) => ends,
         Err(error) => return Err(LineCause::Failed(error.kind()).told(err)),
     };
-    let mut tracer = Tracer::new(rt, order.trace, &mut *err);
+    let report = Report::of(order.trace, order.quiet, is_terminal);
+    let mut reporter = Reporter::new(rt, report, &[], &mut *err);
     let ending = loop_over(
         &mut sender,
         &mut near,
         &mut receiver,
         &mut far,
         jobs.len(),
-        &mut tracer,
+        &mut reporter,
         out,
     );
     tell_cause(&ending, near.cause().or(far.cause()), err);
@@ -80,13 +83,14 @@ fn loop_over<'a, N: Line, F: Line, W: Watch, O: Write>(
 ) -> Result<Ending, CommandFault<'a>>
     ensures status { IfErr result (λ fault. IsFailing (status_of fault)) }
     ensures names { IfErr result (NamesOne (λ _. ⊥) (λ _. ⊥)) }
-    ensures took { OnOk result (BothTook W.saw_both
+    ensures took { OnOk result (BothTookOut W.saw_both W.saw_end
         (sender.old, receiver.old, watch.old) (sender.new, receiver.new, watch.new)) }
     ensures ended { IfOk result (λ ending. ending ≡ ending_of (outcome_of sender.new)) }
     ensures printed { OnOk result (Appends (O.contents out.old) (O.contents out.new)
         (loop_text sender.new.counted given receiver.new.jobs (outcome_of sender.new))) }
 {
     let taken = take_turns(sender, near, receiver, far, watch);
+    watch.ended();
     let outcome = sender.outcome();
     let printed = print_looped(sender.counted(), given, receiver.jobs(), outcome, out);
     taken?;

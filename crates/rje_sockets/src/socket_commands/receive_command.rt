@@ -1,10 +1,10 @@
 //! `receive`: one transmission from whoever connects, into a job file.
-ghost use Rattle.std.specs.Prelude.{◌≡◌, ◌<◌, ◌⊎◌, ℕ, List, Option, Err, IfErr, IfOk, IfSome, IsErr, IsErrOf, IsOk, OnErr, OnOk, true, false};
+ghost use Rattle.std.specs.Prelude.{◌≡◌, ◌<◌, ◌⊎◌, ℕ, List, Option, None, Err, IfErr, IfOk, IfSome, IsErr, IsErrOf, IsOk, OnErr, OnOk, true, false};
 ghost use Rattle.std.specs.Result.{IsOkAnd};
 ghost use Rattle.rje_files.specs.declared.entry.Entry.{Entry};
 ghost use Rattle.rje_sockets.specs.Answering.{KeepsAnswered};
-ghost use Rattle.rje_commands.specs.CommandFault.{IsFailing, status_of};
-ghost use Rattle.rje_commands.specs.declared.command_fault.CommandFault.TheVariants.{OutOfMemory};
+ghost use Rattle.rje_commands.specs.CommandFault.{IsFailing, of_text, status_of};
+ghost use Rattle.rje_text.specs.declared.text_fault.TextFault.{TextFault as Refusal};
 ghost use Rattle.rje_sockets.specs.Ending.{MakesJobFile, Receives, EndsReceiving};
 ghost use Rattle.rje_sockets.specs.InFront.{IsRefusedDestination};
 ghost use Rattle.rje_sockets.specs.Inside.Keeping.{IsOfFile, KeepsJobs};
@@ -22,8 +22,9 @@ use crate::kept_file::KeptFile;
 use crate::left::Left;
 use crate::line_cause::tell_cause;
 use crate::one_way::{USUAL_PATIENCE, most_quiet, receive_all};
+use crate::report::Report;
+use crate::reporter::Reporter;
 use crate::socket_commands::Ending;
-use crate::tracer::Tracer;
 use crate::watch::{Unwatched, Watch};
 use bsc_link::Rank;
 use rje_commands::{CommandFault, put, tell};
@@ -32,13 +33,15 @@ use rje_orders::{Destination, ReceiveOrder};
 use rje_print::handed_text;
 use rje_station::{Line, ReceivingStation};
 use rje_stores::Store;
+use rje_text::TextFault;
 use std::alloc::Global;
 use std::io::Write;
 use std::net::Net;
 use std::time::Clock;
 
 /// Has the file of the order's destination for itself, comes to one connection and takes one transmission, writes its jobs into the file and
-/// prints how many there are. Where that is asked for, who is connected and each turn is told to `err` as it happens.
+/// prints how many there are. Where that is asked for, who is connected and each turn is told to `err` as it happens, and else, where that is a
+/// terminal, how far it is.
 pub fn receive<'a, R: Net + Clock, S: Store, O: Write, E: Write>(
     rt: &R,
     alloc: Global,
@@ -46,6 +49,7 @@ pub fn receive<'a, R: Net + Clock, S: Store, O: Write, E: Write>(
     store: &mut S,
     out: &mut O,
     err: &mut E,
+    is_terminal: bool,
 ) -> Result<Ending, CommandFault<'a>>
     ensures received { IfOk result (λ ending. OverConnection (λ t u.
         Receives (most_quiet order.entry.patience) ending order.entry.into (t, S.files store.old, O.contents out.old)
@@ -63,13 +67,15 @@ pub fn receive<'a, R: Net + Clock, S: Store, O: Write, E: Write>(
         true => Some(patience),
         false => None,
     };
-    let (mut line, peer) = match met(rt, order.connection, Rank::Secondary, hearings, err) {
+    let report = Report::of(order.connection.trace, order.connection.quiet, is_terminal);
+    let (mut line, peer) = match met(rt, order.connection, Rank::Secondary, hearings, report, err) {
         Ok(met) => met,
         Err(cause) => return Err(cause.told(err)),
     };
-    let mut tracer = Tracer::new(rt, order.connection.trace, &mut *err);
-    tracer.connected(peer);
-    let ending = received(alloc, &mut line, patience, file, store, &mut tracer, out);
+    let mut reporter = Reporter::new(rt, report, &[], &mut *err);
+    reporter.connected(peer);
+    let ending = received(alloc, &mut line, patience, file, store, &mut reporter, out);
+    reporter.ended();
     tell_if_late(order.connection, &line, err);
     tell_cause(&ending, line.cause(), err);
     ending
@@ -160,25 +166,28 @@ fn received<'a, L: Line, S: Store, W: Watch, O: Write>(
     let mut station = ReceivingStation::new(alloc)?;
     let mut keeper = Keeper::new(alloc, file);
     let left = receive_all(&mut station, line, patience, &mut keeper, store, watch);
+    watch.ended();
     let handed = handed_text(station.jobs());
     let written = keep_rest(&left, &mut keeper, station.take(), store);
     let printed = put(handed.as_slice(), out);
     let ending = left_after(left, written, printed).map(Ending::from);
-    unless_short(ending, keeper.is_short())
+    unless_refused(ending, keeper.refusal())
 }
 
-/// How it ended, or out of memory where a block was refused for want of it and didn't come again.
-pub(super) fn unless_short<'a>(
+/// How it ended, or why a block was refused that didn't come again so that it could be taken.
+pub(super) fn unless_refused<'a>(
     ending: Result<Ending, CommandFault<'a>>,
-    is_short: bool,
+    refusal: Option<TextFault>,
 ) -> Result<Ending, CommandFault<'a>>
-    ensures ending { (result ≡ ending.entry) ⊎ (result ≡ Err OutOfMemory) }
-    ensures short { is_short ≡ true → IsErr result }
-    ensures enough { is_short ≡ false → result ≡ ending.entry }
+    ensures ending { (result ≡ ending.entry)
+        ⊎ ((why : Refusal) × (result ≡ Err (of_text why))) }
+    ensures refused { IfSome refusal (λ why.
+        IfOk ending.entry (λ _. result ≡ Err (of_text why))) }
+    ensures taken { refusal ≡ None → result ≡ ending.entry }
 {
-    match ending {
-        Ok(_) if is_short => Err(CommandFault::OutOfMemory),
-        ending => ending,
+    match (ending, refusal) {
+        (Ok(_), Some(why)) => Err(CommandFault::from(why)),
+        (ending, _) => ending,
     }
 }
 

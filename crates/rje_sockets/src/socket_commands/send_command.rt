@@ -13,32 +13,33 @@ ghost use Rattle.rje_sockets.specs.Marking.{MarksNoMore};
 ghost use Rattle.rje_sockets.specs.Inside.Marking.{Marks, MarksCounted};
 ghost use Rattle.rje_stores.specs.Store.{FileMap, Discloses, IsSame};
 ghost use Rattle.rje_sockets.specs.NamedFiles.{NamesOne, NamesWritten};
-ghost use Rattle.rje_sockets.specs.OverLine.{OverConnection, Sends};
+ghost use Rattle.rje_sockets.specs.OverLine.{OverConnection, SendsOut};
 
 use crate::connection::{met, tell_if_late};
 use crate::line_cause::tell_cause;
 use crate::marker::Marker;
 use crate::one_way::send_all;
 use crate::parting::{HearsOut, Leaves, Parting, parts_in_step};
+use crate::report::Report;
+use crate::reporter::Reporter;
 use crate::socket_commands::Ending;
-use crate::tracer::Tracer;
 use crate::watch::{Unwatched, Watch};
 use bsc_link::{Outcome, Rank};
 use rje_commands::{CommandFault, HeldFile, put_lines, read_file, tell};
-use rje_files::{first_unsendable, mark_places, read_entries, unsent_jobs};
+use rje_files::{Entry, JobName, State, first_unsendable, mark_places, read_entries, unsent_jobs};
 use rje_jobs::Jobs;
 use rje_orders::SendOrder;
 use rje_print::{counted_text, outcome_text};
 use rje_station::{Line, SendingStation};
 use rje_stores::Store;
-use std::alloc::Global;
+use std::alloc::{AllocError, Global};
 use std::io::Write;
 use std::net::Net;
 use std::time::Clock;
 
 /// Sends the jobs of a job file that were not sent over one connection, marks those that were counted, and prints how many there are and how
 /// it ended. It has the file for itself from before it reads it, and nothing is said before the copy is in place that marks go into. Where
-/// that is asked for, who is connected and each turn is told to `err` as it happens.
+/// that is asked for, who is connected and each turn is told to `err` as it happens, and else, where that is a terminal, how far it is.
 pub fn send<'a, R: Net + Clock, S: Store, O: Write, E: Write>(
     rt: &R,
     alloc: Global,
@@ -46,6 +47,7 @@ pub fn send<'a, R: Net + Clock, S: Store, O: Write, E: Write>(
     store: &mut S,
     out: &mut O,
     err: &mut E,
+    is_terminal: bool,
 ) -> Result<Ending, CommandFault<'a>>
     ensures sent { IfOk result (λ ending. OverConnection (λ t u.
         SendsLeft ending order.entry.jobs.now (t, S.files store.old, O.contents out.old)
@@ -57,22 +59,31 @@ pub fn send<'a, R: Net + Clock, S: Store, O: Write, E: Write>(
         → Discloses (S.files store.old) (S.files store.new) IsSame) }
     ensures silent { IfErr result (λ fault. status_of fault ≡ 1 → out.new ≡ out.old) }
 {
-    let Outgoing { jobs, mut marker } = read_outgoing(alloc, order.jobs, store)?;
+    let Outgoing {
+        jobs,
+        mut marker,
+        names,
+    } = read_outgoing(alloc, order.jobs, store)?;
     let mut station = SendingStation::new(alloc, jobs.as_slice())?;
-    let (mut line, peer) = match met(rt, order.connection, Rank::Primary, None, err) {
+    let report = Report::of(order.connection.trace, order.connection.quiet, is_terminal);
+    let (mut line, peer) = match met(rt, order.connection, Rank::Primary, None, report, err) {
         Ok(met) => met,
         Err(cause) => return Err(cause.told(err)),
     };
-    let mut tracer = Tracer::new(rt, order.connection.trace, &mut *err);
-    tracer.connected(peer);
-    marker.begin(store)?;
+    let mut reporter = Reporter::new(rt, report, names.as_slice(), &mut *err);
+    reporter.connected(peer);
+    let begun = marker.begin(store);
+    if begun.is_err() {
+        reporter.ended();
+    }
+    begun?;
     let ending = transmit(
         &mut station,
         &mut marker,
         &mut line,
         &HearsOut,
         store,
-        &mut tracer,
+        &mut reporter,
         out,
     );
     tell_if_late(order.connection, &line, err);
@@ -126,7 +137,11 @@ fn sent<'a, L: Line, S: Store, O: Write>(
     ensures silent { IfErr result (λ fault. status_of fault ≡ 1
         → (line.new ≡ line.old) × (out.new ≡ out.old)) }
 {
-    let Outgoing { jobs, mut marker } = read_outgoing(alloc, name, store)?;
+    let Outgoing {
+        jobs,
+        mut marker,
+        names: _,
+    } = read_outgoing(alloc, name, store)?;
     let mut station = SendingStation::new(alloc, jobs.as_slice())?;
     marker.begin(store)?;
     transmit(
@@ -145,6 +160,8 @@ fn sent<'a, L: Line, S: Store, O: Write>(
 pub(super) struct Outgoing<'a> {
     pub(super) jobs: Jobs,
     pub(super) marker: Marker<'a>,
+    /// The names of the jobs.
+    pub(super) names: Vec<JobName>,
 }
 
 /// What is left to send of the job file of this name, which the command has for itself, where all of it can be sent. Nothing is marked yet.
@@ -160,9 +177,17 @@ pub(super) fn read_outgoing<'a, S: Store>(
     ensures same { Discloses (S.files store.old) (S.files store.new) IsSame }
 {
     let held = HeldFile::take(alloc, name, store)?;
-    let Unsent { jobs, places } = unsent_of(alloc, held.bytes())?;
+    let Unsent {
+        jobs,
+        places,
+        names,
+    } = unsent_of(alloc, held.bytes())?;
     let marker = Marker::new(alloc, held, places);
-    Ok(Outgoing { jobs, marker })
+    Ok(Outgoing {
+        jobs,
+        marker,
+        names,
+    })
 }
 
 /// Looks whether what is left of the job file of this name can be sent, and changes none.
@@ -184,6 +209,7 @@ pub(super) fn look_at_outgoing<'a, S: Store>(
 struct Unsent {
     jobs: Jobs,
     places: Vec<usize>,
+    names: Vec<JobName>,
 }
 
 /// What is left to send of a job file, where all of it can be sent.
@@ -199,8 +225,24 @@ fn unsent_of<'a>(alloc: Global, file: &[u8]) -> Result<Unsent, CommandFault<'a>>
         return Err(CommandFault::BadJob(number));
     }
     let places = mark_places(alloc, entries.as_slice())?;
+    let names = unsent_names(alloc, entries.as_slice())?;
     let jobs = unsent_jobs(alloc, entries)?;
-    Ok(Unsent { jobs, places })
+    Ok(Unsent {
+        jobs,
+        places,
+        names,
+    })
+}
+
+/// The names of those of the jobs that were not sent, in order.
+fn unsent_names(alloc: Global, entries: &[Entry]) -> Result<Vec<JobName>, AllocError> {
+    let mut names = Vec::new(alloc);
+    for entry in entries {
+        if entry.state != State::Sent {
+            names.push(entry.name)?;
+        }
+    }
+    Ok(names)
 }
 
 /// Sends what the station has over a line, marks what is counted, at the end in the whole file, and prints the lines of it. Where an answer
@@ -214,7 +256,7 @@ fn transmit<'a, L: Line, P: Parting<L>, S: Store, W: Watch, O: Write>(
     watch: &mut W,
     out: &mut O,
 ) -> Result<Ending, CommandFault<'a>>
-    ensures took { OnOk result (Sends W.saw_sender
+    ensures took { OnOk result (SendsOut W.saw_sender W.saw_end
         (station.old, (L.talk line.old, L.transmissions line.old), watch.old)
         (station.new, (L.talk line.new, L.transmissions line.new), watch.new)) }
     ensures ended { IfOk result (λ ending. ending ≡ ending_of (outcome_of station.new)) }
@@ -234,6 +276,7 @@ fn transmit<'a, L: Line, P: Parting<L>, S: Store, W: Watch, O: Write>(
 {
     let given = station.jobs().len();
     let sent = send_all(station, line, marker, store, watch);
+    watch.ended();
     let in_step = parts_in_step(sent.is_ok(), line, parting);
     let counted = station.counted();
     let marked = marker.finish(counted, in_step, store);

@@ -3,7 +3,7 @@ ghost use Rattle.std.specs.Prelude.{◌≡◌, ◌≢◌, ◌==◌, [], length, 
 ghost use Rattle.std.specs.List.{AllByRecursion};
 ghost use Rattle.rje_jobs.specs.Blocks.{blocks};
 ghost use Rattle.rje_jobs.specs.Fitting.{JobFits};
-ghost use Rattle.rje_station.specs.Sending.{next_in, counted_by, IsFirstWritten};
+ghost use Rattle.rje_station.specs.Sending.{next_in, counted_by, first_length, GoesOnAt, IsFirstWritten};
 ghost use Rattle.rje_station.specs.Inside.Uncounted.{rest_in, more_in, StandsAt, IsPlace, all_uncounted, after_count};
 
 use crate::writing::{Transmission, write};
@@ -79,6 +79,23 @@ impl<'a> Uncounted<'a> {
         ensures { result ≡ next_in self.now.rest }
     {
         next_of(self.jobs, self.counted, &self.outstanding, self.place)
+    }
+
+    /// The bytes of the outstanding block's text; 0 where every block is counted.
+    pub(crate) fn length(&self) -> usize
+        ensures { result ≡ first_length self.now.rest }
+    {
+        match &self.outstanding {
+            Frame::Block(block) => block.text.len(),
+            _ => 0,
+        }
+    }
+
+    /// The record after the outstanding block.
+    pub(crate) fn place(&self) -> usize
+        ensures { GoesOnAt self.now.rest (drop self.now.counted self.now.jobs) result }
+    {
+        self.place
     }
 
     /// Writes the transmission of the outstanding block.

@@ -2,7 +2,7 @@
 ghost use Rattle.std.specs.Prelude.{◌≡◌, codes, IfOk};
 ghost use Rattle.clap.specs.Words.{App, Rule, with_rule, with_subcommand};
 ghost use Rattle.rje_words.specs.CommandLine.{IsArg, IsApp, file_rule, flag_rule, value_rule};
-ghost use Rattle.rje_words.specs.CommandLine.{timeout_rule, patience_rule, trace_rule, file_app, blocks_app, cards_app};
+ghost use Rattle.rje_words.specs.CommandLine.{timeout_rule, patience_rule, trace_rule, quiet_rule, file_app, blocks_app, cards_app};
 ghost use Rattle.rje_words.specs.CommandLine.{try_app, loop_app, send_app, receive_app, exchange_app, rje_app};
 ghost use Rattle.rje_words.specs.CommandLine.{capture_rule, monitor_app, number_rule, print_app, show_app, with_choice_rules};
 ghost use Rattle.rje_words.specs.CommandLine.{with_connection_rules, with_device_rules, with_existing_rules, with_meeting_rules, with_rank_rules};
@@ -12,7 +12,7 @@ use clap::{Arg, ArgAction, Command, value_parser};
 use std::alloc::{AllocError, Global};
 
 /// The program's version.
-const VERSION: &str = "1.4.0";
+const VERSION: &str = "1.5.0";
 
 /// What stands after the commands where help is given.
 const AFTER_HELP: &str = "\
@@ -159,7 +159,8 @@ fn loopback<'a>(alloc: Global) -> Result<Command<'a>, AllocError>
         JOBS_HELP,
     )?;
     let command = with_arg(command, timeout(alloc))?;
-    with_arg(command, trace(alloc))
+    let command = with_arg(command, trace(alloc))?;
+    with_arg(command, quiet(alloc))
 }
 
 fn send<'a>(alloc: Global) -> Result<Command<'a>, AllocError>
@@ -236,7 +237,8 @@ fn with_connection<'a>(alloc: Global, command: Command<'a>) -> Result<Command<'a
         "The other end is a line adapter, such as a 2703, that makes and takes SYN, pads and checks itself",
     );
     let command = with_arg(command, adapter)?;
-    with_arg(command, trace(alloc))
+    let command = with_arg(command, trace(alloc))?;
+    with_arg(command, quiet(alloc))
 }
 
 /// The command with the options for whom it calls, for where it listens, and for whose calls it takes.
@@ -411,6 +413,16 @@ fn trace<'a>(alloc: Global) -> Arg<'a>
         alloc,
         "trace",
         "Tell each turn on standard error as it happens",
+    )
+}
+
+fn quiet<'a>(alloc: Global) -> Arg<'a>
+    ensures { IsArg quiet_rule result }
+{
+    flag(
+        alloc,
+        "quiet",
+        "Show nothing on a terminal of how far it is",
     )
 }
 

@@ -2,7 +2,7 @@
 use super::{FILE, Written, store_of};
 use bsc_link::{Reply, Say, Sound};
 use line_world::Spoken;
-use rje_print::{both_text, peer_text, receiver_text, sender_text};
+use rje_print::{BlockPlace, both_text, listening_text, peer_text, receiver_text, sender_text};
 use rje_program::socket_command;
 use rje_station::Arrival;
 use std::cell::Cell;
@@ -13,28 +13,33 @@ use std::test::Fail;
 use std::time::{Clock, Duration};
 
 /// What a loop of that file prints.
-const TEXT: &[u8] = b"counted 1 of 1 jobs\nhanded 1 jobs, 1 whole\noutcome done\n";
+pub(super) const TEXT: &[u8] = b"counted 1 of 1 jobs\nhanded 1 jobs, 1 whole\noutcome done\n";
 
 #[test]
 fn a_line_tells_a_time_and_a_turn(rt: HostRuntime) {
     let none = Duration::new(0, 999_999);
     let long = Duration::new(3661, 50_999_999);
-    let line = sender_text(none, Say::Bid, Sound::Ack0);
+    let line = sender_text(none, Say::Bid, Sound::Ack0, None);
     assert!(rt; line.as_slice() == b"0.000 bid ack0\n".as_slice());
-    let line = sender_text(long, Say::Again, Sound::Quiet);
-    assert!(rt; line.as_slice() == b"3661.050 again quiet\n".as_slice());
+    let place = Some(BlockPlace {
+        job: 2,
+        block: 17,
+        length: 498,
+    });
+    let line = sender_text(long, Say::Again, Sound::Quiet, place);
+    assert!(rt; line.as_slice() == b"3661.050 again quiet job 2 block 17 498 bytes\n".as_slice());
     let block = Arrival {
         sound: Sound::Block,
         refused: false,
     };
-    let line = receiver_text(long, block, Some(Reply::Ack1));
+    let line = receiver_text(long, block, Some(Reply::Ack1), None);
     assert!(rt; line.as_slice() == b"3661.050 block ack1\n".as_slice());
     let refused = Arrival {
         sound: Sound::Block,
         refused: true,
     };
-    let line = receiver_text(none, refused, Some(Reply::Nak));
-    assert!(rt; line.as_slice() == b"0.000 block! nak\n".as_slice());
+    let line = receiver_text(none, refused, Some(Reply::Nak), place);
+    assert!(rt; line.as_slice() == b"0.000 block! nak job 2 block 17 498 bytes\n".as_slice());
     let turn = Spoken {
         said: Say::End,
         arrived: Sound::Eot,
@@ -42,7 +47,7 @@ fn a_line_tells_a_time_and_a_turn(rt: HostRuntime) {
         reply: None,
         heard: Sound::Quiet,
     };
-    let line = both_text(Duration::new(12, 340_000_000), &turn);
+    let line = both_text(Duration::new(12, 340_000_000), &turn, None);
     assert!(rt; line.as_slice() == b"12.340 end eot - quiet\n".as_slice());
 }
 
@@ -55,6 +60,7 @@ fn a_line_tells_who_is_connected(rt: HostRuntime) -> Result<(), Fail> {
     );
     let peer = SocketAddr::from((Ipv6Addr::LOCALHOST, 3780));
     assert!(rt; peer_text(after, peer)?.as_slice() == b"0.009 connected [::1]:3780\n".as_slice());
+    assert!(rt; listening_text(peer)?.as_slice() == b"0.000 listening [::1]:3780\n".as_slice());
     Ok(())
 }
 
@@ -127,11 +133,11 @@ fn assert_loop<R: Net + Abort + AllocGlobal>(
 
 /// The trace of that loop.
 const TRACE: &[u8] =
-    b"0.007 bid enq ack0 ack0\n0.014 block block ack1 ack1\n0.021 end eot - quiet\n";
+    b"0.007 bid enq ack0 ack0\n0.014 block block ack1 ack1 job 1 block 1 2 bytes\n0.021 end eot - quiet\n";
 
 /// What is left of it where the third line isn't written, and where the second isn't.
 const CUT: [&[u8]; 2] = [
-    b"0.007 bid enq ack0 ack0\n0.014 block block ack1 ack1\n",
+    b"0.007 bid enq ack0 ack0\n0.014 block block ack1 ack1 job 1 block 1 2 bytes\n",
     b"0.007 bid enq ack0 ack0\n",
 ];
 
@@ -156,10 +162,10 @@ fn a_trace_goes_quiet_where_the_clock_fails(rt: HostRuntime) {
 
 /// A writer of which one write, counted from 0, fails.
 #[derive(Drop)]
-struct Failing {
-    written: Written,
-    writes: u32,
-    failing: u32,
+pub(super) struct Failing {
+    pub(super) written: Written,
+    pub(super) writes: u32,
+    pub(super) failing: u32,
 }
 
 impl Write for Failing {

@@ -8,7 +8,7 @@ use bsc_link::{Rank, Reply, Say, Sound, Wish};
 use line_world::MemoryLine;
 use rje_jobs::Job;
 use rje_station::{Arrival, ReceivingStation, SendingStation, Station, StationFault};
-use rje_text::{Action, Mode, Records, Select};
+use rje_text::{Action, Mode, Records, Select, TextFault};
 use std::alloc::{AllocError, Global};
 use std::process::Abort;
 use std::slice;
@@ -187,6 +187,11 @@ fn hear_step(
     let refused = station.hear(&mut line, Wish::Go)? == Some(Reply::Nak);
     let sound = Sound::Block;
     assert!(rt; station.arrival() == Some(Arrival { sound, refused }));
+    let why = match refused {
+        true => Some(TextFault::OutOfMemory),
+        false => None,
+    };
+    assert!(rt; station.refusal() == why);
     if refused {
         assert_came(rt, station.jobs(), step.before);
         put_frame(rt.alloc(), &mut line, &block)?;

@@ -10,7 +10,7 @@ use rje_jobs::{Job, job_fits};
 use rje_station::{
     Came, Event, Line, LineFault, MAX_HEARD, ReceivingStation, SendingStation, StationFault, Trace,
 };
-use rje_text::{Action, Mode, Select, next_block};
+use rje_text::{Action, Mode, Select, TextFault, next_block};
 use std::alloc::{AllocError, Global};
 use std::process::Abort;
 use std::slice;
@@ -261,12 +261,15 @@ fn a_block_that_cannot_be_read_leaves_the_jobs(rt: HostRuntime) {
     let (short, cards) = (transparent_block(&rt, 79), transparent_block(&rt, 480));
     let (mut receiver, mut line) = open_receiver(&rt);
     line.put(short);
+    assert!(rt; receiver.refusal().is_none());
     assert!(rt; receiver.hear(&mut line, Wish::Go) == Ok(Some(Reply::Nak)));
+    assert!(rt; receiver.refusal() == Some(TextFault::CardsNot80));
     assert!(rt; receiver.jobs().is_empty());
     assert!(rt; receiver.trace().get(2) == Some(Event::Heard(Sound::Block)));
     assert!(rt; receiver.trace().get(3) == Some(Event::Refused));
     line.put(cards);
     assert!(rt; receiver.hear(&mut line, Wish::Go) == Ok(Some(Reply::Ack1)));
+    assert!(rt; receiver.refusal().is_none());
     let jobs = receiver.jobs();
     assert!(rt; jobs.len() == 1);
     assert!(rt; jobs[0].mode == Mode::Transparent);

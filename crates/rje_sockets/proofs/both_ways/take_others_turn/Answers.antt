@@ -21,7 +21,7 @@ returns-clause-kept g c =
       | else-is_over+in_ok-reply w ↦ search rules
     ] in
     other_kept c.args.station.now c.hear_other.new.self heard.what heard.refused c.args.keeper.now c.keep.new.self c.jobs.result.now c.if-is_over.station.receiver.jobs
-    (g.S.Store.files c.args.store.now) (g.S.Store.files c.keep.new.store) heard.state (c.jobs.ensures ∙ ap (λ (r : Receiving). r.jobs) c.receiver-2.ensures)
+    (g.S.Store.files c.args.store.now) (g.S.Store.files c.keep.new.store) heard.state (c.jobs.ensures ∙ ap (λ (r : Receiving). r.jobs) c.receiver-receiver.ensures)
     (answer_leaves c.hear_other.new.self c.if-is_over.station c.is_over.result after) c.keep.ensures.file (search rules) (search rules)
 
 pub returns-in_err-reply-clause-broken : goal.returns-in_err-reply-clause-broken
@@ -32,7 +32,7 @@ returns-in_err-reply-clause-broken g c =
     (λ broken. GoesOnKeeping c.args.keeper.now c.keep.new.self c.args.station.now.receiver.jobs (kept_of c.args.station.now c.reply.new.self broken)
     (g.S.Store.files c.args.store.now) (g.S.Store.files c.keep.new.store)) c.from_residual.ensures.1
     (other_kept c.args.station.now c.hear_other.new.self heard.what heard.refused c.args.keeper.now c.keep.new.self c.jobs.result.now c.reply.new.self.receiver.jobs
-    (g.S.Store.files c.args.store.now) (g.S.Store.files c.keep.new.store) heard.state (c.jobs.ensures ∙ ap (λ (r : Receiving). r.jobs) c.receiver-2.ensures)
+    (g.S.Store.files c.args.store.now) (g.S.Store.files c.keep.new.store) heard.state (c.jobs.ensures ∙ ap (λ (r : Receiving). r.jobs) c.receiver-receiver.ensures)
     (refusal_leaves fault c.hear_other.new.self c.reply.new.self c.in_err-reply.ensures.kept) c.keep.ensures.file (search rules) (search rules))
 
 pub returns-clause-takes : goal.returns-clause-takes
@@ -43,7 +43,7 @@ returns-clause-takes g c is =
       | then-is_over w ↦ search rules
       | else-is_over+in_ok-reply w ↦ search rules
     ] in
-    let over = c.is_over.ensures ∙ ap (λ (r : Receiving). r.over) c.receiver-3.ensures in
+    let over = c.is_over.ensures ∙ ap (λ (r : Receiving). r.over) c.receiver.ensures in
     let passed : HeardAndReplied heard.what (g.L.Line.talk c.args.line.now, g.L.Line.transmissions c.args.line.now) (g.L.Line.talk c.if-is_over.line, g.L.Line.transmissions c.if-is_over.line) c.in-Ok.reply =
     elim c.if-is_over.branch [
       | then-is_over w ↦

@@ -16,9 +16,10 @@ use Rattle.std.proofs.lemmas.Result.{IfOk-weaker}
 use Rattle.rje_sockets.specs.declared.kept_file.KeptFile.{KeptFile}
 use Rattle.rje_sockets.specs.NamedFiles.{NamesOne}
 use Rattle.rje_sockets.proofs.Exchanged.{all_exchanged, exchange_fails}
+use Rattle.rje_sockets.proofs.Failing.{text_fails}
 use Rattle.rje_sockets.proofs.LeavingBoth.{file_stays, leaves_both, marks_as_many, names_stay}
-use Rattle.rje_sockets.proofs.NamedFiles.{err_of_both, left_of_both, output_of_none, told_names}
-use Rattle.rje_sockets.proofs.Received.{ends_well, err_unless_short, ok_unless_short}
+use Rattle.rje_sockets.proofs.NamedFiles.{err_of_both, left_of_both, output_of_none, text_names, told_names}
+use Rattle.rje_sockets.proofs.Received.{ends_well, err_unless_refused, ok_unless_refused}
 use Rattle.rje_sockets.proofs.socket_commands.exchange_command.exchange_files.Goals as goal
 
 pub returns-clause-status : goal.returns-clause-status
@@ -34,11 +35,11 @@ returns-clause-status g c =
     (is_idle (length c.args.station.sender.jobs) c.exchange_all-left.new.station.receiver.jobs) l)) (λ e. c.map-ending.result ≡ Err e) =
     subst (λ (b : Bool). MatchResult c.left_after.result (λ l. IsOkAnd c.map-ending.result (λ ending. ending ≡ ending_of_both (outcome_of c.exchange_all-left.new.station.sender) b l))
     (λ e. c.map-ending.result ≡ Err e)) idle (search rules) in
-    err_unless_short c.unless_short.result c.map-ending.result (λ fault. (jobs : List Job) → IsLeft c.args.marker.file.items jobs → IsFailing (status_of fault)) c.unless_short.ensures.ending
+    err_unless_refused c.unless_refused.result c.map-ending.result (λ fault. (jobs : List Job) → IsLeft c.args.marker.file.items jobs → IsFailing (status_of fault)) c.unless_refused.ensures.ending
     (exchange_fails c.map-ending.result c.left_after.result c.exchange_all-left.result c.finish-marked.result c.keep_rest-kept.result c.put_lines-printed.result (ending_of_both (outcome_of c.exchange_all-left.new.station.sender) (is_idle (length c.args.station.sender.jobs) c.exchange_all-left.new.station.receiver.jobs))
     c.args.marker c.exchange_all-left.new.marker
     (file_stays c.args.patience c.exchange_all-left.result was is c.args.station c.exchange_all-left.new.station held holding exchanges c.exchange_all-left.ensures.holds c.exchange_all-left.ensures.broken)
-    (search rules) told c.map-ending.ensures.variant c.exchange_all-left.ensures.status c.finish-marked.ensures.status c.keep_rest-kept.ensures.status (search rules)) (λ jobs left. inr (inl refl))
+    (search rules) told c.map-ending.ensures.variant c.exchange_all-left.ensures.status c.finish-marked.ensures.status c.keep_rest-kept.ensures.status (search rules)) (λ why jobs left. text_fails why)
 
 pub returns-clause-exchanged : goal.returns-clause-exchanged
 returns-clause-exchanged g c =
@@ -59,7 +60,7 @@ returns-clause-exchanged g c =
     let written = g.S.Store.files c.finish-marked.new.store in
     let sets = marks_as_many c.finish-marked.result marker.file.items _ station.sender.counted marker.name.now mid written c.finish-marked.ensures.marked (search rules) in
     rw (c.parts_in_step-in_step.ensures.talk, c.parts_in_step-in_step.ensures.none)
-    (ok_unless_short c.unless_short.result c.map-ending.result (λ ending. Exchanges ending c.args.patience c.args.station (c.args.marker, c.args.keeper) (was, g.S.Store.files c.args.store.now, g.O.Write.contents c.args.out.now) (is, g.S.Store.files c.keep_rest-kept.new.store, g.O.Write.contents c.put_lines-printed.new.out)) c.unless_short.ensures.ending
+    (ok_unless_refused c.unless_refused.result c.map-ending.result (λ ending. Exchanges ending c.args.patience c.args.station (c.args.marker, c.args.keeper) (was, g.S.Store.files c.args.store.now, g.O.Write.contents c.args.out.now) (is, g.S.Store.files c.keep_rest-kept.new.store, g.O.Write.contents c.put_lines-printed.new.out)) c.unless_refused.ensures.ending
     (ends_well c.map-ending.result c.left_after.result c.exchange_all-left.result (result_and c.finish-marked.result c.keep_rest-kept.result) c.put_lines-printed.result (ending_of_both (outcome_of station.sender) (is_idle (length c.args.station.sender.jobs) station.receiver.jobs))
     (λ ending. Exchanges ending c.args.patience c.args.station (c.args.marker, c.args.keeper) (was, g.S.Store.files c.args.store.now, g.O.Write.contents c.args.out.now) (is, g.S.Store.files c.keep_rest-kept.new.store, g.O.Write.contents c.put_lines-printed.new.out))
     (search rules) told c.map-ending.ensures.variant
@@ -105,9 +106,9 @@ returns-clause-names g c =
     let other = c.args.keeper.file.into.jobs.now in
     let Names : CommandFault → Type 0 = NamesOne (λ _. ⊥) (λ n. (n ≡ one) ⊎ (n ≡ other)) in
     let stay = names_stay c.args.patience c.exchange_all-left.result was is c.args.station c.exchange_all-left.new.station held holding exchanges c.exchange_all-left.ensures.holds c.exchange_all-left.ensures.broken in
-    err_unless_short c.unless_short.result c.map-ending.result Names c.unless_short.ensures.ending
+    err_unless_refused c.unless_refused.result c.map-ending.result Names c.unless_refused.ensures.ending
     (told_names c.map-ending.result c.left_after.result (ending_of_both (outcome_of c.exchange_all-left.new.station.sender) (is_idle (length c.args.station.sender.jobs) c.exchange_all-left.new.station.receiver.jobs)) Names c.exchange_all-left.result c.finish-marked.result c.keep_rest-kept.result
     c.put_lines-printed.result told c.left_after.ensures.first (search rules) (search rules) (search rules)
     (left_of_both c.exchange_all-left.result one other c.exchange_all-left.ensures.names) (err_of_both c.finish-marked.result c.exchange_all-left.new.marker.name.now one other (inl stay.0) c.finish-marked.ensures.names)
     (err_of_both c.keep_rest-kept.result c.exchange_all-left.new.keeper.file.into.jobs.now one other (inr (ap (λ (x : KeptFile). x.into.jobs.now) stay.1)) c.keep_rest-kept.ensures.names)
-    (output_of_none c.put_lines-printed.result (λ _. ⊥) (λ n. (n ≡ one) ⊎ (n ≡ other)) c.put_lines-printed.ensures.fault)) tt
+    (output_of_none c.put_lines-printed.result (λ _. ⊥) (λ n. (n ≡ one) ⊎ (n ≡ other)) c.put_lines-printed.ensures.fault)) (text_names (λ _. ⊥) (λ n. (n ≡ one) ⊎ (n ≡ other)))

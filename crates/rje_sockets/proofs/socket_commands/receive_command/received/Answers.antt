@@ -13,8 +13,9 @@ use Rattle.rje_sockets.specs.Inside.Keeping.{GoesOnKeeping}
 use Rattle.rje_sockets.specs.Inside.BreakingOff.{BreaksOff, of_broken_off}
 use Rattle.rje_sockets.specs.NamedFiles.{NamesWritten}
 use Rattle.rje_sockets.specs.OverLine.{LineTells}
-use Rattle.rje_sockets.proofs.NamedFiles.{output_of_none, received_names}
-use Rattle.rje_sockets.proofs.Received.{ends_well, err_unless_short, keeper_stays, ok_unless_short, made_at_end, nothing_kept, received_kept, receives}
+use Rattle.rje_sockets.proofs.NamedFiles.{output_of_none, received_names, text_names}
+use Rattle.rje_sockets.proofs.Failing.{text_fails}
+use Rattle.rje_sockets.proofs.Received.{ends_well, err_unless_refused, keeper_stays, ok_unless_refused, made_at_end, nothing_kept, received_kept, receives}
 use Rattle.rje_sockets.proofs.socket_commands.receive_command.received.Goals as goal
 
 pub returns-in_err-station-clause-kept : goal.returns-in_err-station-clause-kept
@@ -33,7 +34,7 @@ returns-clause-received g c front files opened same =
     let was : LineTells = (g.L.Line.talk c.args.line.now, g.L.Line.transmissions c.args.line.now) in
     let is : LineTells = (g.L.Line.talk c.receive_all-left.new.line, g.L.Line.transmissions c.receive_all-left.new.line) in
     let P : Ending → Type 0 = λ ending. Receives c.args.patience ending c.args.file.into (was, files, g.O.Write.contents c.args.out.now) (is, made, g.O.Write.contents c.put-printed.new.out) in
-    ok_unless_short c.unless_short.result c.map-ending.result P c.unless_short.ensures.ending
+    ok_unless_refused c.unless_refused.result c.map-ending.result P c.unless_refused.ensures.ending
     (ends_well c.map-ending.result c.left_after.result left written c.put-printed.result ending_of_left P c.left_after.ensures.left c.map-ending.ensures.cases c.map-ending.ensures.variant
     (receives c.args.patience g.W.Watch.saw_receiver left written c.put-printed.result was is c.args.watch.now c.receive_all-left.new.watch c.args.file.into files made (g.O.Write.contents c.args.out.now) (g.O.Write.contents c.put-printed.new.out) station
     (subst (λ (s : Receiving). IfOk left (λ l. Leaves c.args.patience g.W.Watch.saw_receiver l (s, was, c.args.watch.now) (station, is, c.receive_all-left.new.watch))) start c.receive_all-left.ensures.left)
@@ -49,7 +50,7 @@ pub returns-clause-status : goal.returns-clause-status
 returns-clause-status g c =
     let Fails : CommandFault → Type 0 = λ fault. IsFailing (status_of fault) in
     let status : IfErr c.map-ending.result Fails = search rules in
-    err_unless_short c.unless_short.result c.map-ending.result Fails c.unless_short.ensures.ending status (inr (inl refl))
+    err_unless_refused c.unless_refused.result c.map-ending.result Fails c.unless_refused.ensures.ending status text_fails
 
 pub returns-clause-names : goal.returns-clause-names
 returns-clause-names g c =
@@ -59,12 +60,12 @@ returns-clause-names g c =
     let stays = keeper_stays left c.in_ok-station.station c.receive_all-left.new.station (c.new-keeper.result, g.L.Line.transmissions c.args.line.now, g.S.Store.files c.args.store.now)
     (c.receive_all-left.new.keeper, g.L.Line.transmissions c.receive_all-left.new.line, g.S.Store.files c.receive_all-left.new.store) c.receive_all-left.ensures.kept c.receive_all-left.ensures.broken in
     let named : c.receive_all-left.new.keeper.file.into.jobs.now ≡ name = ap (λ (x : KeptFile). x.into.jobs.now) stays ∙ first in
-    err_unless_short c.unless_short.result c.map-ending.result (NamesWritten name) c.unless_short.ensures.ending
+    err_unless_refused c.unless_refused.result c.map-ending.result (NamesWritten name) c.unless_refused.ensures.ending
     (received_names c.map-ending.result c.left_after.result ending_of_left (NamesWritten name) left c.keep_rest-written.result c.put-printed.result c.map-ending.ensures.cases
     c.left_after.ensures.first c.left_after.ensures.second c.left_after.ensures.third c.left_after.ensures.none
     (subst (λ n. IfErr left (λ broken. NamesWritten n (of_broken_off broken))) first c.receive_all-left.ensures.names)
     (subst (λ n. IfErr c.keep_rest-written.result (NamesWritten n)) named c.keep_rest-written.ensures.names)
-    (output_of_none c.put-printed.result (λ _. ⊥) (λ named. named ≡ name) c.put-printed.ensures.fault)) tt
+    (output_of_none c.put-printed.result (λ _. ⊥) (λ named. named ≡ name) c.put-printed.ensures.fault)) (text_names (λ _. ⊥) (λ named. named ≡ name))
 
 pub returns-clause-kept : goal.returns-clause-kept
 returns-clause-kept g c front files opened same =

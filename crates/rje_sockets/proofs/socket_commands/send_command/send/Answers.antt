@@ -20,15 +20,15 @@ returns g c =
     let jobs = c.in_ok-jobs.field-0.jobs in
     let marker = c.in_ok-jobs.field-0.marker in
     let first : c.in_ok-station.station ≡ first_sending jobs = rw c.as_slice.ensures.slice at c.in_ok-station.ensures.ready in
-    let copy = marked_after marker.file.items marker.name.now 0 f read (g.S.Store.files c.begin.new.store) c.read_outgoing.ensures.same c.in_ok-begin.ensures.begun in
+    let copy = marked_after marker.file.items marker.name.now 0 f read (g.S.Store.files c.begin-begun.new.store) c.read_outgoing.ensures.same (rw c.in_ok-begun.was at c.begin-begun.ensures.begun) in
     let fails = left_fails c.transmit-ending.result marker.file.items jobs out.left c.transmit-ending.ensures.status in
     record {
       sent = over_connection c.transmit-ending.result (λ t u ending. SendsLeft ending c.args.order.jobs.now (t, f, g.O.Write.contents c.args.out.now) (u, made, g.O.Write.contents c.transmit-ending.new.out)) _ _ c.in-Ok.ensures.unused
-          (sends_outgoing _ c.transmit-ending.result (None, _) (None, _) _ _ c.args.order.jobs.now jobs marker c.in_ok-station.station c.transmit-ending.new.station f (g.S.Store.files c.begin.new.store) made
+          (sends_outgoing _ _ c.transmit-ending.result (None, _) (None, _) _ _ c.args.order.jobs.now jobs marker c.in_ok-station.station c.transmit-ending.new.station f (g.S.Store.files c.begin-begun.new.store) made
           (g.O.Write.contents c.args.out.now) (g.O.Write.contents c.transmit-ending.new.out) out copy first c.transmit-ending.ensures.took c.transmit-ending.ensures.ended
           c.transmit-ending.ensures.printed c.transmit-ending.ensures.marked);
       fault = send_fails c.transmit-ending.result (λ n. n ≡ c.args.order.jobs.now) c.args.order.jobs.now f fails (written_names c.transmit-ending.result marker.name.now c.args.order.jobs.now out.named c.transmit-ending.ensures.names);
-      marked = begun_counts _ c.args.order.jobs.now jobs marker c.in_ok-station.station f (g.S.Store.files c.begin.new.store) made out copy first c.transmit-ending.ensures.count;
+      marked = begun_counts _ c.args.order.jobs.now jobs marker c.in_ok-station.station f (g.S.Store.files c.begin-begun.new.store) made out copy first c.transmit-ending.ensures.count;
       files_kept = not_refused c.transmit-ending.result _ fails;
       silent = not_refused c.transmit-ending.result _ fails;
     }
@@ -47,12 +47,12 @@ returns-in-Err-clause-marked g c = search rules
 pub returns-in-Err-clause-fault : goal.returns-in-Err-clause-fault
 returns-in-Err-clause-fault g c = search rules
 
-pub returns-in_err-begin-clause-fault : goal.returns-in_err-begin-clause-fault
-returns-in_err-begin-clause-fault g c =
+pub returns-in_err-begun-clause-fault : goal.returns-in_err-begun-clause-fault
+returns-in_err-begun-clause-fault g c =
     let out = c.in_ok-jobs.ensures.outgoing in
-    let fault = c.in_err-begin.field-0.0 in
-    let is : c.from_residual-in_err-begin.result ≡ Err fault = search rules in
+    let fault = c.in_err-begun.field-0.0 in
+    let is : c.from_residual-in_err-begun.result ≡ Err fault = search rules in
     rw is (inl (
-      c.in_err-begin.ensures.status c.in_ok-jobs.field-0.jobs out.left,
-      names_more (λ _. ⊥) (λ n. n ≡ c.args.order.jobs.now) (λ n. n ≡ c.in_ok-jobs.field-0.marker.name.now) (λ n. n ≡ c.args.order.jobs.now) (λ n never. absurd never) (λ n e. e ∙ out.named) fault c.in_err-begin.ensures.names,
+      (rw c.in_err-begun.was at c.begin-begun.ensures.status) c.in_ok-jobs.field-0.jobs out.left,
+      names_more (λ _. ⊥) (λ n. n ≡ c.args.order.jobs.now) (λ n. n ≡ c.in_ok-jobs.field-0.marker.name.now) (λ n. n ≡ c.args.order.jobs.now) (λ n never. absurd never) (λ n e. e ∙ out.named) fault (rw c.in_err-begun.was at c.begin-begun.ensures.names),
     ))

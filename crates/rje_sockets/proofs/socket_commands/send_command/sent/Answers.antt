@@ -21,7 +21,7 @@ returns g c =
     let copy = marked_after marker.file.items marker.name.now 0 f read (g.S.Store.files c.begin.new.store) c.read_outgoing.ensures.same c.in_ok-begin.ensures.begun in
     let fails = left_fails c.transmit.result marker.file.items jobs out.left c.transmit.ensures.status in
     record {
-      sent = sends_outgoing _ c.transmit.result (g.L.Line.talk c.args.line.now, g.L.Line.transmissions c.args.line.now) (g.L.Line.talk c.transmit.new.line, g.L.Line.transmissions c.transmit.new.line) _ _ c.args.name.now jobs marker c.in_ok-station.station c.transmit.new.station f (g.S.Store.files c.begin.new.store) made
+      sent = sends_outgoing _ _ c.transmit.result (g.L.Line.talk c.args.line.now, g.L.Line.transmissions c.args.line.now) (g.L.Line.talk c.transmit.new.line, g.L.Line.transmissions c.transmit.new.line) _ _ c.args.name.now jobs marker c.in_ok-station.station c.transmit.new.station f (g.S.Store.files c.begin.new.store) made
           (g.O.Write.contents c.args.out.now) (g.O.Write.contents c.transmit.new.out) out copy first c.transmit.ensures.took c.transmit.ensures.ended
           c.transmit.ensures.printed c.transmit.ensures.marked;
       fault = send_fails c.transmit.result (λ n. n ≡ c.args.name.now) c.args.name.now f fails (written_names c.transmit.result marker.name.now c.args.name.now out.named c.transmit.ensures.names);

@@ -81,4 +81,10 @@ pub returns-clause-printed : goal.returns-clause-printed
 returns-clause-printed g c = search rules
 
 pub returns-clause-took : goal.returns-clause-took
-returns-clause-took g c = search rules
+returns-clause-took g c =
+    let took = rw c.in_ok-sent.was at c.send_all-sent.ensures.took in
+    record {
+      seen = c.send_all-sent.new.watch;
+      sends = rw (c.parts_in_step-in_step.ensures.talk, c.parts_in_step-in_step.ensures.none) took;
+      end = c.ended.ensures.saw;
+    }

@@ -1,4 +1,4 @@
-use Rattle.std.proofs.Common.{rules, ◌≡◌, refl}
+use Rattle.std.proofs.Common.{rules, ◌≡◌, refl, is_some}
 use Rattle.bsc_link.specs.Receiver.{receiver_news}
 use Rattle.rje_station.specs.Receiving.{sound_taken, jobs_after}
 use Rattle.rje_station.proofs.Joining.{jobs_same}
@@ -8,9 +8,9 @@ pub returns : goal.returns
 returns c =
     let a = c.self.inside in
     let h = c.args.heard.now in
-    let refused = c.refuses-refused.result in
+    let refused = is_some c.join_heard-refusal.result in
     let same = jobs_same h refused a.core c.args.wish a.jobs in
-    let joined : c.refuses-refused.new.jobs ≡ jobs_after h (receiver_news a.core (sound_taken h refused) c.args.wish).accepted a.jobs = search rules in
+    let joined : c.join_heard-refusal.new.jobs ≡ jobs_after h (receiver_news a.core (sound_taken h refused) c.args.wish).accepted a.jobs = search rules in
     record {
       what = h;
       refused = refused;
