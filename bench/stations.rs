@@ -17,7 +17,7 @@ fn byte_at(record: u32, column: u32) -> u8 {
 
 fn main() {
     let table = table();
-    for count in [10_000u32, 100_000] {
+    for count in [10_000u32, 40_000, 160_000] {
         let job: Vec<Vec<u8>> = (0..count).map(|i| (0..80).map(|j| byte_at(i, j)).collect()).collect();
         let start = Instant::now();
         let mut records = Vec::new();
