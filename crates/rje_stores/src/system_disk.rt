@@ -18,6 +18,11 @@ impl<'a, R: Files<File = File>> SystemDisk<'a, R> {
     pub fn new(rt: &'a R) -> Self {
         SystemDisk { rt }
     }
+
+    /// The runtime that reaches it.
+    pub fn runtime(&self) -> &'a R {
+        self.rt
+    }
 }
 
 impl<'a, R: Files<File = File>> Disk for SystemDisk<'a, R> {
