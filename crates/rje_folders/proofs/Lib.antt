@@ -1,0 +1,4 @@
+pub mod Linked
+pub mod Taken
+pub mod Moved
+pub mod Kept

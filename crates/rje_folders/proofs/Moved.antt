@@ -1,0 +1,71 @@
+-- How a file is moved, and how it gets a second name: call after call.
+use Rattle.std.proofs.Common.{◌≡◌, ℕ, inl, inr, List, Option, Bool, true, false, if◌then◌else◌, refl, ◌∙◌, ap}
+use Rattle.std.specs.Prelude.{bytes_eq}
+use Rattle.rje_stores.specs.Disk.{Asked, Done, Link, standing, has_synced_name}
+use Rattle.rje_stores.specs.Replacing.{Adds}
+use Rattle.rje_stores.specs.Inside.Filling.{AddsSync}
+use Rattle.rje_stores.proofs.Replacing.{added_twice, added_weaker}
+use Rattle.rje_folders.specs.declared.file_names.FileNames.{FileNames}
+use Rattle.rje_folders.specs.FileNames.{IsNameOf}
+use Rattle.rje_folders.specs.Moving.{IsMoved, IsSecond, MayAdd, MayDrop, MayLink, MayMove}
+use Rattle.rje_folders.specs.Inside.{HasLinked, HasTaken, KeepsFiles}
+use Rattle.rje_folders.proofs.Linked.{linked_stands}
+use Rattle.rje_folders.proofs.Taken.{sync_dropped, sync_kept, sync_keeps_standing, taken_gone, taken_kept, taken_standing}
+
+-- what is asked to move a file: a link, and the old name is taken away
+pub link_moves : (are_one : List Asked → List ℕ → List ℕ → Type 0) (from : List ℕ) (names : FileNames) (a b : List Asked) → Adds (MayLink from names) a b → Adds (MayMove are_one from names) a b
+link_moves are_one from names a b adds = added_weaker (MayLink from names) (MayMove are_one from names) (λ call before may. inl may) a b adds
+
+pub drop_moves : (are_one : List Asked → List ℕ → List ℕ → Type 0) (from to : List ℕ) (names : FileNames) (a b : List Asked) → IsNameOf names to → Adds (MayDrop are_one to from) a b → Adds (MayMove are_one from names) a b
+drop_moves are_one from to names a b named adds = added_weaker (MayDrop are_one to from) (MayMove are_one from names) (λ call before may. inr (to, named, may)) a b adds
+
+pub sync_moves : (are_one : List Asked → List ℕ → List ℕ → Type 0) (from to : List ℕ) (names : FileNames) (a b : List Asked) → IsNameOf names to → AddsSync to a b → Adds (MayMove are_one from names) a b
+sync_moves are_one from to names a b named sync = drop_moves are_one from to names a b named (sync_kept are_one to from a b sync)
+
+pub link_sync_moves : (are_one : List Asked → List ℕ → List ℕ → Type 0) (from to : List ℕ) (names : FileNames) (a b c : List Asked) → IsNameOf names to → Adds (MayLink from names) a b → AddsSync to b c → Adds (MayMove are_one from names) a c
+link_sync_moves are_one from to names a b c named adds sync =
+    added_twice (MayMove are_one from names) a b c (link_moves are_one from names a b adds) (sync_moves are_one from to names b c named sync)
+
+pub all_moves : (are_one : List Asked → List ℕ → List ℕ → Type 0) (from to : List ℕ) (names : FileNames) (a b c d : List Asked) → IsNameOf names to → Adds (MayLink from names) a b → AddsSync to b c → Adds (MayDrop are_one to from) c d
+    → Adds (MayMove are_one from names) a d
+all_moves are_one from to names a b c d named adds sync drops =
+    added_twice (MayMove are_one from names) a c d (link_sync_moves are_one from to names a b c named adds sync) (drop_moves are_one from to names c d named drops)
+
+-- what is asked to give a file a second name: a link, and that name is taken away
+pub link_adds : (are_one : List Asked → List ℕ → List ℕ → Type 0) (name : List ℕ) (names : FileNames) (a b : List Asked) → Adds (MayLink name names) a b → Adds (MayAdd are_one name names) a b
+link_adds are_one name names a b adds = added_weaker (MayLink name names) (MayAdd are_one name names) (λ call before may. inl may) a b adds
+
+pub drop_adds : (are_one : List Asked → List ℕ → List ℕ → Type 0) (name second : List ℕ) (names : FileNames) (a b : List Asked) → IsNameOf names second → Adds (MayDrop are_one name second) a b → Adds (MayAdd are_one name names) a b
+drop_adds are_one name second names a b named adds = added_weaker (MayDrop are_one name second) (MayAdd are_one name names) (λ call before may. inr (second, named, may)) a b adds
+
+pub sync_adds : (are_one : List Asked → List ℕ → List ℕ → Type 0) (name second : List ℕ) (names : FileNames) (a b : List Asked) → IsNameOf names second → AddsSync second a b → Adds (MayAdd are_one name names) a b
+sync_adds are_one name second names a b named sync = drop_adds are_one name second names a b named (sync_dropped are_one name second a b sync)
+
+pub link_sync_adds : (are_one : List Asked → List ℕ → List ℕ → Type 0) (name second : List ℕ) (names : FileNames) (a b c : List Asked) → IsNameOf names second → Adds (MayLink name names) a b → AddsSync second b c → Adds (MayAdd are_one name names) a c
+link_sync_adds are_one name second names a b c named adds sync =
+    added_twice (MayAdd are_one name names) a b c (link_adds are_one name names a b adds) (sync_adds are_one name second names b c named sync)
+
+pub all_adds : (are_one : List Asked → List ℕ → List ℕ → Type 0) (name second : List ℕ) (names : FileNames) (a b c d : List Asked) → IsNameOf names second → Adds (MayLink name names) a b → AddsSync second b c → Adds (MayDrop are_one name second) c d
+    → Adds (MayAdd are_one name names) a d
+all_adds are_one name second names a b c d named adds sync drops =
+    added_twice (MayAdd are_one name names) a c d (link_sync_adds are_one name second names a b c named adds sync) (drop_adds are_one name second names c d named drops)
+
+-- a file that was moved
+pub moved_is : (from to : List ℕ) (a b c d : List Asked) → HasLinked from to a b → AddsSync to b c → has_synced_name to c ≡ true → HasTaken to from c d → IsMoved from to a d
+moved_is from to a b c d linked sync synced taken = (
+  taken_standing to from c d taken ∙ sync_keeps_standing to to b c sync ∙ linked_stands from to a b linked,
+  taken_kept to from c d taken synced,
+  taken_gone to from c d taken,
+)
+
+either_way : (b : Bool) (x : Option ℕ) → (if b then x else x) ≡ x
+either_way true x = refl
+either_way false x = refl
+
+-- a file that has a second name
+pub second_is : (name second : List ℕ) (a b c : List Asked) → HasLinked name second a b → AddsSync second b c → has_synced_name second c ≡ true → IsSecond name second a c
+second_is name second a b c (between, made, keeps, free) sync synced = (
+  sync_keeps_standing second second b c sync ∙ linked_stands name second a b (between, made, keeps, free),
+  sync_keeps_standing second name b c sync ∙ ap (standing name) made ∙ either_way (bytes_eq name second) (standing name between) ∙ keeps.stands name,
+  synced,
+)

@@ -1,0 +1,60 @@
+-- Calls that take a name away from a file.
+use Rattle.std.proofs.Common.{◌≡◌, ◌≢◌, ℕ, inl, inr, List, [], ◌∷◌, None, Bool, true, false, if◌then◌else◌, refl, sym, ◌∙◌, ap, subst}
+use Rattle.std.specs.Prelude.{bytes_eq}
+use Rattle.std.proofs.lemmas.Slice.Eq.{bytes_eq-Decides}
+use Rattle.std.proofs.lemmas.Bool.{false_from_ne_true}
+use Rattle.rje_stores.specs.Disk.{Asked, Call, Done, Refused, Failed, Remove, SyncFolder, call_of, standing, has_synced_name}
+use Rattle.rje_stores.specs.Replacing.{Adds}
+use Rattle.rje_stores.specs.Inside.Filling.{AddsSync}
+use Rattle.rje_stores.proofs.Replacing.{same_name, synced_keeps, whatever_came}
+use Rattle.rje_folders.specs.Moving.{IsGone, MayDrop}
+use Rattle.rje_folders.specs.Inside.{HasTaken}
+
+-- names that differ
+pub other_name : (name other : List ℕ) → name ≢ other → bytes_eq name other ≡ false
+other_name name other differ = false_from_ne_true (bytes_eq name other) (λ h. differ ((bytes_eq-Decides name other).0 h))
+
+-- names that differ, as a test says
+pub differs : (name other : List ℕ) → bytes_eq name other ≡ false → name ≢ other
+differs name other tested same = let also : bytes_eq name other ≡ true = (bytes_eq-Decides name other).1 same in cc
+
+-- putting names on disk leaves no name that is on disk
+chosen : (b x : Bool) → x ≡ true → (if b then true else x) ≡ true
+chosen true x h = refl
+chosen false x h = h
+
+sync_leaves : (path name : List ℕ) (before : List Asked) (call : Call) → call ≡ SyncFolder path → has_synced_name name before ≡ true
+    → (has_synced_name name (Done call ∷ before) ≡ true) × (has_synced_name name (Refused call ∷ before) ≡ true) × (has_synced_name name (Failed call ∷ before) ≡ true)
+sync_leaves path name before call is h =
+    let Leaves : Call → Type 0 = λ c. (has_synced_name name (Done c ∷ before) ≡ true) × (has_synced_name name (Refused c ∷ before) ≡ true) × (has_synced_name name (Failed c ∷ before) ≡ true) in
+    subst Leaves (sym is) (chosen (bytes_eq name path) (has_synced_name name before) h, chosen (bytes_eq name path) (has_synced_name name before) h, h)
+
+pub sync_keeps_names : (path name : List ℕ) (a b : List Asked) → AddsSync path a b → has_synced_name name a ≡ true → has_synced_name name b ≡ true
+sync_keeps_names path name a b (asked, made, call) h =
+    let parts : (has_synced_name name (Done (call_of asked) ∷ a) ≡ true) × (has_synced_name name (Refused (call_of asked) ∷ a) ≡ true) × (has_synced_name name (Failed (call_of asked) ∷ a) ≡ true) = sync_leaves path name a (call_of asked) call h in
+    ap (has_synced_name name) made ∙ whatever_came (λ x. has_synced_name name (x ∷ a) ≡ true) asked parts.0 parts.1 parts.2
+
+-- and what stands under each name
+pub sync_keeps_standing : (path name : List ℕ) (a b : List Asked) → AddsSync path a b → standing name b ≡ standing name a
+sync_keeps_standing path name a b (asked, made, call) = ap (standing name) made ∙ (synced_keeps path name 0 asked a call).0
+
+-- the folders of both names may be put on disk
+pub sync_kept : (are_one : List Asked → List ℕ → List ℕ → Type 0) (kept name : List ℕ) (a b : List Asked) → AddsSync kept a b → Adds (MayDrop are_one kept name) a b
+sync_kept are_one kept name a b (asked, made, call) = (asked ∷ [], made, (inl call, tt))
+
+pub sync_dropped : (are_one : List Asked → List ℕ → List ℕ → Type 0) (kept name : List ℕ) (a b : List Asked) → AddsSync name a b → Adds (MayDrop are_one kept name) a b
+sync_dropped are_one kept name a b (asked, made, call) = (asked ∷ [], made, (inr (inl call), tt))
+
+-- a name that was taken away is gone; the other one is on disk as it was
+pub taken_gone : (kept name : List ℕ) (a b : List Asked) → HasTaken kept name a b → IsGone name b
+taken_gone kept name a b (differ, sync, synced) =
+    (sync_keeps_standing name name (Done (Remove name) ∷ a) b sync ∙ rw (same_name name) refl, synced)
+
+pub taken_kept : (kept name : List ℕ) (a b : List Asked) → HasTaken kept name a b → has_synced_name kept a ≡ true → has_synced_name kept b ≡ true
+taken_kept kept name a b (differ, sync, synced) h =
+    sync_keeps_names name kept (Done (Remove name) ∷ a) b sync (rw (other_name kept name differ) h)
+
+-- what stands under the other one is what stood there
+pub taken_standing : (kept name : List ℕ) (a b : List Asked) → HasTaken kept name a b → standing kept b ≡ standing kept a
+taken_standing kept name a b (differ, sync, synced) =
+    sync_keeps_standing name kept (Done (Remove name) ∷ a) b sync ∙ rw (other_name kept name differ) refl

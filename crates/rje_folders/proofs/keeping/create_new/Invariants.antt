@@ -1,0 +1,6 @@
+use Rattle.rje_stores.specs.Replacing.{Adds}
+use Rattle.rje_folders.specs.Inside.{MayCreate}
+use Rattle.rje_folders.proofs.keeping.create_new.Given as goal
+
+abbrev pub invariant-loop-number : goal.invariant-loop-number
+invariant-loop-number g l = g.D.Disk.discloses → Adds (MayCreate l.folder) (g.D.Disk.asked l.fn.disk) (g.D.Disk.asked l.disk)

@@ -1,0 +1,4 @@
+pub mod FileNames
+pub mod Moving
+pub mod Keeping
+pub mod Inside

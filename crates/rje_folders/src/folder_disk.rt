@@ -1,0 +1,56 @@
+//! A disk with folders.
+ghost use Rattle.std.specs.Prelude.{◌≡◌, ℕ, List, true, IfOk};
+ghost use Rattle.rje_stores.specs.Disk.{Asked};
+
+use rje_stores::{Disk, SystemDisk};
+use std::alloc::Global;
+use std::fs::{self, File};
+use std::io::{self, ErrorKind};
+use std::rt::Files;
+
+/// A disk with folders. Each call may fail at any time.
+pub trait FolderDisk: Disk {
+    /// After these calls, the disk said that two names are of one file.
+    ghost are_one: { List Asked → List ℕ → List ℕ → Type 0 };
+
+    /// Whether two names are of one file. Not found where nothing stands under one of them.
+    fn is_one_file(&self, one: &str, other: &str) -> io::Result<bool>
+        ensures { IfOk result (λ is_one. is_one ≡ true
+            → are_one (Self.asked self.now) one.now other.now) };
+
+    /// The names in a folder, in no order, but for those that are no text.
+    fn names_in(&self, alloc: Global, folder: &str) -> io::Result<Vec<String>>;
+
+    /// Makes a folder, where there is none of this name.
+    fn make_folder(&mut self, path: &str) -> io::Result<()>
+        ensures { Self.discloses → Self.asked self.new ≡ Self.asked self.old };
+}
+
+impl<'a, R: Files<File = File> + Alloc + Clone + Drop> FolderDisk for SystemDisk<'a, R> {
+    ghost are_one = { λ _ _ _. Unit {0} };
+
+    fn is_one_file(&self, one: &str, other: &str) -> io::Result<bool> {
+        let found = self.status(one)?;
+        let also = self.status(other)?;
+        Ok(found.device == also.device && found.inode == also.inode)
+    }
+
+    fn names_in(&self, alloc: Global, folder: &str) -> io::Result<Vec<String>> {
+        let mut names = Vec::new(alloc);
+        for entry in fs::read_dir(self.runtime(), folder)? {
+            match entry {
+                Ok(entry) => names.push(String::from_str(alloc, entry.file_name())?)?,
+                Err(error) if error.kind() == ErrorKind::InvalidFilename => {}
+                Err(error) => return Err(error),
+            }
+        }
+        Ok(names)
+    }
+
+    fn make_folder(&mut self, path: &str) -> io::Result<()> {
+        match fs::create_dir(self.runtime(), path) {
+            Err(error) if error.kind() == ErrorKind::AlreadyExists => Ok(()),
+            made => made,
+        }
+    }
+}

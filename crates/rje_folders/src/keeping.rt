@@ -1,0 +1,114 @@
+//! How bytes become a new file, which is never in the place of another.
+ghost use Rattle.std.specs.Prelude.{◌≡◌, ℕ, List, [], IfOk, OnOk, string_bytes};
+ghost use Rattle.rje_stores.specs.Disk.{bytes_of};
+ghost use Rattle.rje_stores.specs.Replacing.{Adds, IsOnDisk};
+ghost use Rattle.rje_stores.specs.Inside.Filling.{Fills};
+ghost use Rattle.rje_folders.specs.FileNames.{IsNameOf};
+ghost use Rattle.rje_folders.specs.Keeping.{IsTemporary, MayKeep};
+ghost use Rattle.rje_folders.specs.Inside.{IsKept, IsNewIn, MayCreate, MayWrite};
+
+use crate::file_names::FileNames;
+use crate::linking::{link_free, sync_names};
+use rje_stores::Disk;
+use std::alloc::Global;
+use std::io::{self, ErrorKind};
+
+/// How many names are tried for a new file.
+const MAX_NAMES: u32 = 1000;
+
+/// A new file under a name that a reader of its folder leaves alone.
+#[derive(Drop)]
+struct NewFile<F: Drop> {
+    file: F,
+    path: String,
+}
+
+/// Makes these bytes a new file of a folder, under the first of these names that no file has: once it is on disk, and then its name is put there
+/// too. The name. Where that fails, there is no such file, if it can be taken away again.
+pub fn keep<D: Disk>(
+    disk: &mut D,
+    alloc: Global,
+    folder: &str,
+    names: FileNames<'_>,
+    bytes: &[u8],
+) -> io::Result<String>
+    ensures asks { D.discloses → Adds (MayKeep folder.now names.entry bytes.now)
+        (D.asked disk.old) (D.asked disk.new) }
+    ensures on_disk { D.discloses → IfOk result (λ name.
+        IsOnDisk (string_bytes name) bytes.now (D.asked disk.new)) }
+    ensures named { IfOk result (λ name. IsNameOf names.entry (string_bytes name)) }
+{
+    let new = create_new(disk, alloc, folder)?;
+    let kept = keep_new(disk, alloc, &new, names, bytes);
+    let _ = disk.remove(new.path.as_str());
+    kept
+}
+
+/// A new file of a folder, empty.
+fn create_new<D: Disk>(
+    disk: &mut D,
+    alloc: Global,
+    folder: &str,
+) -> io::Result<NewFile<D::File>>
+    ensures asks { D.discloses
+        → Adds (MayCreate folder.now) (D.asked disk.old) (D.asked disk.new) }
+    ensures new { D.discloses → IfOk result (λ new. IsNewIn folder.now (D.opened new.file)
+        (string_bytes new.path) (D.asked disk.new)) }
+{
+    for number in 0..MAX_NAMES {
+        let path = temporary_name(alloc, folder, number)?;
+        match disk.create(path.as_str()) {
+            Ok(file) => return Ok(NewFile { file, path }),
+            Err(error) if error.kind() == ErrorKind::AlreadyExists => {}
+            Err(error) => return Err(error),
+        }
+    }
+    Err(io::Error::from(ErrorKind::AlreadyExists))
+}
+
+/// A name of a folder that its readers leave alone.
+fn temporary_name(alloc: Global, folder: &str, number: u32) -> io::Result<String>
+    ensures { IfOk result (λ name. IsTemporary folder.now (string_bytes name)) }
+{
+    Ok(format!(in alloc; "{folder}/.rje-{number}.part")?)
+}
+
+/// Writes the bytes into a new file, has it on disk, and gives it the first of these names that no file has, on disk too.
+fn keep_new<D: Disk>(
+    disk: &mut D,
+    alloc: Global,
+    new: &NewFile<D::File>,
+    names: FileNames<'_>,
+    bytes: &[u8],
+) -> io::Result<String>
+    ensures asks { D.discloses → (folder : List ℕ)
+        → IsNewIn folder (D.opened new.now.file) (string_bytes new.now.path) (D.asked disk.old)
+        → Adds (MayKeep folder names.entry bytes.now) (D.asked disk.old) (D.asked disk.new) }
+    ensures kept { D.discloses → (folder : List ℕ)
+        → IsNewIn folder (D.opened new.now.file) (string_bytes new.now.path) (D.asked disk.old)
+        → IfOk result (λ name. IsKept (string_bytes new.now.path) (string_bytes name) bytes.now
+        (D.asked disk.new)) }
+    ensures named { IfOk result (λ name. IsNameOf names.entry (string_bytes name)) }
+{
+    fill_new(disk, &new.file, bytes)?;
+    let kept = link_free(disk, alloc, new.path.as_str(), names)?;
+    match sync_names(disk, &kept.folder) {
+        Ok(()) => Ok(kept.path),
+        Err(error) => {
+            let _ = disk.remove(kept.path.as_str());
+            Err(error)
+        }
+    }
+}
+
+/// Writes the bytes into an empty file, and has it on disk.
+fn fill_new<D: Disk>(disk: &mut D, file: &D::File, bytes: &[u8]) -> io::Result<()>
+    ensures asks { D.discloses
+        → bytes_of (D.opened file.now).number (D.asked disk.old) ≡ Some []
+        → Adds (MayWrite (D.opened file.now)) (D.asked disk.old) (D.asked disk.new) }
+    ensures filled { D.discloses → OnOk result
+        (Fills (D.opened file.now).number bytes.now (D.asked disk.old) (D.asked disk.new)) }
+{
+    disk.fill(file, bytes)?;
+    disk.sync(file)
+}

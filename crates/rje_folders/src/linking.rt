@@ -1,0 +1,65 @@
+//! How a file gets a second name.
+ghost use Rattle.std.specs.Prelude.{◌≡◌, true, IfOk, OnOk, string_bytes};
+ghost use Rattle.rje_stores.specs.Disk.{has_synced_name};
+ghost use Rattle.rje_stores.specs.Replacing.{Adds};
+ghost use Rattle.rje_stores.specs.Inside.Filling.{AddsSync};
+ghost use Rattle.rje_folders.specs.FileNames.{IsNameOf};
+ghost use Rattle.rje_folders.specs.Moving.{MayLink};
+ghost use Rattle.rje_folders.specs.Inside.{HasLinked};
+
+use crate::file_names::FileNames;
+use rje_stores::Disk;
+use std::alloc::Global;
+use std::io::{self, ErrorKind};
+
+/// How many names are tried for a file.
+const MAX_NAMES: u32 = 1000;
+
+/// A name that a file has got, whose folder is open.
+#[derive(Drop)]
+pub(crate) struct SecondName<F: Drop> {
+    pub(crate) path: String,
+    pub(crate) folder: F,
+}
+
+/// Gives the file of a name another one: the first of these that no file has.
+pub(crate) fn link_free<D: Disk>(
+    disk: &mut D,
+    alloc: Global,
+    from: &str,
+    names: FileNames<'_>,
+) -> io::Result<SecondName<D::Folder>>
+    ensures asks { D.discloses
+        → Adds (MayLink from.now names.entry) (D.asked disk.old) (D.asked disk.new) }
+    ensures linked { D.discloses → IfOk result (λ second. HasLinked from.now
+        (string_bytes second.path) (D.asked disk.old) (D.asked disk.new)) }
+    ensures folder { D.discloses → IfOk result (λ second.
+        D.folder_of second.folder ≡ string_bytes second.path) }
+    ensures named { IfOk result (λ second. IsNameOf names.entry (string_bytes second.path)) }
+{
+    for number in 0..MAX_NAMES {
+        let path = names.name(alloc, number + 1)?;
+        // Opened before the file gets the name, since one in a folder that can't be opened is not known to be on disk.
+        let folder = disk.open_folder(path.as_str())?;
+        match disk.link(from, path.as_str()) {
+            Ok(()) => return Ok(SecondName { path, folder }),
+            Err(error) if error.kind() == ErrorKind::AlreadyExists => {}
+            Err(error) => return Err(error),
+        }
+    }
+    Err(io::Error::from(ErrorKind::AlreadyExists))
+}
+
+/// Puts the names in a folder on disk.
+pub(crate) fn sync_names<D: Disk>(disk: &mut D, folder: &D::Folder) -> io::Result<()>
+    ensures asks { D.discloses
+        → AddsSync (D.folder_of folder.now) (D.asked disk.old) (D.asked disk.new) }
+    ensures synced { D.discloses
+        → OnOk result (has_synced_name (D.folder_of folder.now) (D.asked disk.new) ≡ true) }
+{
+    match disk.sync_folder(folder) {
+        // Some file systems keep no names to be put on disk.
+        Err(error) if error.kind() == ErrorKind::InvalidInput => Ok(()),
+        synced => synced,
+    }
+}
