@@ -6,8 +6,6 @@ use Rattle.rje_stores.specs.Disk.{Asked, Call, Opened, Done, Refused, Failed, Cr
 use Rattle.rje_stores.specs.Replacing.{Adds, Each, IsOnDisk, IsWhole}
 use Rattle.rje_stores.specs.Inside.Filling.{AddsSync, Fills, MayFill}
 use Rattle.rje_stores.proofs.Replacing.{added_call, added_twice, added_weaker, call_came, filled_keeps, new_bytes, new_name, whatever_came, whole_synced}
-use Rattle.rje_folders.specs.declared.file_names.FileNames.{FileNames}
-use Rattle.rje_folders.specs.FileNames.{IsNameOf}
 use Rattle.rje_folders.specs.Keeping.{IsTemporary, MayKeep}
 use Rattle.rje_folders.specs.Moving.{MayLink}
 use Rattle.rje_folders.specs.Inside.{HasLinked, IsKept, IsNewIn, KeepsFiles, MayCreate, MayWrite}
@@ -30,9 +28,9 @@ file_temporary : (folder : List ℕ) (file : Opened) (name : List ℕ) (after : 
 file_temporary folder file name after (before, made, is, temporary) = subst (IsTemporary folder) (sym (ap (λ (f : Opened). f.name) is)) temporary
 
 -- what is asked to make it
-pub create_keeps : (folder bytes : List ℕ) (names : FileNames) (a b : List Asked) → Adds (MayCreate folder) a b → Adds (MayKeep folder names bytes) a b
-create_keeps folder bytes names a b adds =
-    added_weaker (MayCreate folder) (MayKeep folder names bytes) (λ call before (name, temporary, e). subst (λ c. MayKeep folder names bytes c before) (sym e) temporary) a b adds
+pub create_keeps : (folder bytes : List ℕ) (IsNew : List ℕ → Type 0) (a b : List Asked) → Adds (MayCreate folder) a b → Adds (MayKeep folder IsNew bytes) a b
+create_keeps folder bytes IsNew a b adds =
+    added_weaker (MayCreate folder) (MayKeep folder IsNew bytes) (λ call before (name, temporary, e). subst (λ c. MayKeep folder IsNew bytes c before) (sym e) temporary) a b adds
 
 -- what is asked to write it
 pub write_fills : (file : Opened) (a b : List Asked) → Adds (MayWrite file) a b → Adds (MayFill file) a b
@@ -41,11 +39,11 @@ write_fills file a b adds = added_weaker (MayWrite file) (MayFill file) (write_m
   write_may file call before (inl (bytes, e, empty)) = inr (inl (bytes, e))
   write_may file call before (inr e) = inr (inr (inl e))
 
-pub write_keeps : (folder bytes : List ℕ) (names : FileNames) (file : Opened) (name : List ℕ) (a b : List Asked) → IsNewIn folder file name a → Adds (MayWrite file) a b → Adds (MayKeep folder names bytes) a b
-write_keeps folder bytes names file name a b new adds = added_weaker (MayWrite file) (MayKeep folder names bytes) (write_may folder bytes names file (file_temporary folder file name a new)) a b adds where
-  write_may : (folder bytes : List ℕ) (names : FileNames) (file : Opened) → IsTemporary folder file.name → (call : Call) (before : List Asked) → MayWrite file call before → MayKeep folder names bytes call before
-  write_may folder bytes names file temporary call before (inl (written, e, empty)) = subst (λ c. MayKeep folder names bytes c before) (sym e) (temporary, empty)
-  write_may folder bytes names file temporary call before (inr e) = subst (λ c. MayKeep folder names bytes c before) (sym e) tt
+pub write_keeps : (folder bytes : List ℕ) (IsNew : List ℕ → Type 0) (file : Opened) (name : List ℕ) (a b : List Asked) → IsNewIn folder file name a → Adds (MayWrite file) a b → Adds (MayKeep folder IsNew bytes) a b
+write_keeps folder bytes IsNew file name a b new adds = added_weaker (MayWrite file) (MayKeep folder IsNew bytes) (write_may folder bytes IsNew file (file_temporary folder file name a new)) a b adds where
+  write_may : (folder bytes : List ℕ) (IsNew : List ℕ → Type 0) (file : Opened) → IsTemporary folder file.name → (call : Call) (before : List Asked) → MayWrite file call before → MayKeep folder IsNew bytes call before
+  write_may folder bytes IsNew file temporary call before (inl (written, e, empty)) = subst (λ c. MayKeep folder IsNew bytes c before) (sym e) (temporary, empty)
+  write_may folder bytes IsNew file temporary call before (inr e) = subst (λ c. MayKeep folder IsNew bytes c before) (sym e) tt
 
 -- once it is written it is whole under its name
 pub written_whole : (folder : List ℕ) (file : Opened) (name bytes : List ℕ) (a b : List Asked) → IsNewIn folder file name a → Adds (MayWrite file) a b → Fills file.number bytes a b → IsWhole name bytes b
@@ -58,30 +56,30 @@ either_way : (b : Bool) (x : Option ℕ) → (if b then x else x) ≡ x
 either_way true x = refl
 either_way false x = refl
 
-link_whole : (from bytes : List ℕ) (names : FileNames) (call : Call) (before : List Asked) → MayLink from names call before → IsWhole from bytes before
+link_whole : (from bytes : List ℕ) (IsNew : List ℕ → Type 0) (call : Call) (before : List Asked) → MayLink from IsNew call before → IsWhole from bytes before
     → IsWhole from bytes (Done call ∷ before) × IsWhole from bytes (Refused call ∷ before) × IsWhole from bytes (Failed call ∷ before)
-link_whole from bytes names call before (name, named, e) (number, stands, has, is) =
+link_whole from bytes IsNew call before (name, named, e) (number, stands, has, is) =
     let Stays : Call → Type 0 = λ c. IsWhole from bytes (Done c ∷ before) × IsWhole from bytes (Refused c ∷ before) × IsWhole from bytes (Failed c ∷ before) in
     subst Stays (sym e) ((number, either_way (bytes_eq from name) (standing from before) ∙ stands, has, is), (number, stands, has, is), (number, stands, has, is))
 
-links_whole : (from bytes : List ℕ) (names : FileNames) (calls before : List Asked) → Each (MayLink from names) calls before → IsWhole from bytes before → IsWhole from bytes (calls ++ before)
-links_whole from bytes names [] before each whole = whole
-links_whole from bytes names (asked ∷ calls) before (one, each) whole =
+links_whole : (from bytes : List ℕ) (IsNew : List ℕ → Type 0) (calls before : List Asked) → Each (MayLink from IsNew) calls before → IsWhole from bytes before → IsWhole from bytes (calls ++ before)
+links_whole from bytes IsNew [] before each whole = whole
+links_whole from bytes IsNew (asked ∷ calls) before (one, each) whole =
     let all = calls ++ before in
     let parts : IsWhole from bytes (Done (call_of asked) ∷ all) × IsWhole from bytes (Refused (call_of asked) ∷ all) × IsWhole from bytes (Failed (call_of asked) ∷ all)
-    = link_whole from bytes names (call_of asked) all one (links_whole from bytes names calls before each whole) in
+    = link_whole from bytes IsNew (call_of asked) all one (links_whole from bytes IsNew calls before each whole) in
     whatever_came (λ x. IsWhole from bytes (x ∷ all)) asked parts.0 parts.1 parts.2
 
 -- so each of them may be asked
-links_keep : (folder from bytes : List ℕ) (names : FileNames) (calls before : List Asked) → IsTemporary folder from → Each (MayLink from names) calls before → IsWhole from bytes before → Each (MayKeep folder names bytes) calls before
-links_keep folder from bytes names [] before temporary each whole = tt
-links_keep folder from bytes names (asked ∷ calls) before temporary ((name, named, e), each) whole = (
-  subst (λ c. MayKeep folder names bytes c (calls ++ before)) (sym e) (temporary, named, links_whole from bytes names calls before each whole),
-  links_keep folder from bytes names calls before temporary each whole,
+links_keep : (folder from bytes : List ℕ) (IsNew : List ℕ → Type 0) (calls before : List Asked) → IsTemporary folder from → Each (MayLink from IsNew) calls before → IsWhole from bytes before → Each (MayKeep folder IsNew bytes) calls before
+links_keep folder from bytes IsNew [] before temporary each whole = tt
+links_keep folder from bytes IsNew (asked ∷ calls) before temporary ((name, named, e), each) whole = (
+  subst (λ c. MayKeep folder IsNew bytes c (calls ++ before)) (sym e) (temporary, named, links_whole from bytes IsNew calls before each whole),
+  links_keep folder from bytes IsNew calls before temporary each whole,
 )
 
-pub linked_keep : (folder from bytes : List ℕ) (names : FileNames) (a b : List Asked) → IsTemporary folder from → Adds (MayLink from names) a b → IsWhole from bytes a → Adds (MayKeep folder names bytes) a b
-linked_keep folder from bytes names a b temporary (calls, e, each) whole = (calls, e, links_keep folder from bytes names calls a temporary each whole)
+pub linked_keep : (folder from bytes : List ℕ) (IsNew : List ℕ → Type 0) (a b : List Asked) → IsTemporary folder from → Adds (MayLink from IsNew) a b → IsWhole from bytes a → Adds (MayKeep folder IsNew bytes) a b
+linked_keep folder from bytes IsNew a b temporary (calls, e, each) whole = (calls, e, links_keep folder from bytes IsNew calls a temporary each whole)
 
 -- the file is whole under the name that it has got, which is another one
 pub linked_whole : (from to bytes : List ℕ) (a b : List Asked) → HasLinked from to a b → IsWhole from bytes a → IsWhole to bytes b
@@ -99,8 +97,8 @@ linked_other from to bytes a b (between, made, keeps, free) (number, stands, has
     cc
 
 -- the name is put on disk, or taken away again
-pub sync_keep : (folder name bytes : List ℕ) (names : FileNames) (a b : List Asked) → IsNameOf names name → AddsSync name a b → Adds (MayKeep folder names bytes) a b
-sync_keep folder name bytes names a b named (asked, made, call) = (asked ∷ [], made, (subst (λ c. MayKeep folder names bytes c a) (sym call) named, tt))
+pub sync_keep : (folder name bytes : List ℕ) (IsNew : List ℕ → Type 0) (a b : List Asked) → IsNew name → AddsSync name a b → Adds (MayKeep folder IsNew bytes) a b
+sync_keep folder name bytes IsNew a b named (asked, made, call) = (asked ∷ [], made, (subst (λ c. MayKeep folder IsNew bytes c a) (sym call) named, tt))
 
 pub kept_is : (from to bytes : List ℕ) (a b c : List Asked) → HasLinked from to a b → IsWhole from bytes a → AddsSync to b c → has_synced_name to c ≡ true → IsKept from to bytes c
 kept_is from to bytes a b c linked whole sync synced =
@@ -121,22 +119,22 @@ removed_on_disk result temporary name bytes a b made kept =
     subst (λ (l : List Asked). IsOnDisk name bytes l) (sym made) (whatever_came (λ x. IsOnDisk name bytes (x ∷ a)) (came_to result (Remove temporary)) parts.0 parts.1 parts.2)
 
 -- a new file is written, and gets its name: what is asked for it, and what it is then
-pub link_kept : (folder : List ℕ) (file : Opened) (from bytes : List ℕ) (names : FileNames) (a b c : List Asked) → IsNewIn folder file from a → Adds (MayWrite file) a b → Fills file.number bytes a b → Adds (MayLink from names) b c
-    → Adds (MayKeep folder names bytes) a c
-link_kept folder file from bytes names a b c new writes fills links =
-    added_twice (MayKeep folder names bytes) a b c (write_keeps folder bytes names file from a b new writes)
-    (linked_keep folder from bytes names b c (new_temporary folder file from a new) links (written_whole folder file from bytes a b new writes fills))
+pub link_kept : (folder : List ℕ) (file : Opened) (from bytes : List ℕ) (IsNew : List ℕ → Type 0) (a b c : List Asked) → IsNewIn folder file from a → Adds (MayWrite file) a b → Fills file.number bytes a b → Adds (MayLink from IsNew) b c
+    → Adds (MayKeep folder IsNew bytes) a c
+link_kept folder file from bytes IsNew a b c new writes fills links =
+    added_twice (MayKeep folder IsNew bytes) a b c (write_keeps folder bytes IsNew file from a b new writes)
+    (linked_keep folder from bytes IsNew b c (new_temporary folder file from a new) links (written_whole folder file from bytes a b new writes fills))
 
-pub sync_kept : (folder : List ℕ) (file : Opened) (from to bytes : List ℕ) (names : FileNames) (a b c d : List Asked) → IsNewIn folder file from a → Adds (MayWrite file) a b → Fills file.number bytes a b → Adds (MayLink from names) b c
-    → IsNameOf names to → AddsSync to c d → Adds (MayKeep folder names bytes) a d
-sync_kept folder file from to bytes names a b c d new writes fills links named sync =
-    added_twice (MayKeep folder names bytes) a c d (link_kept folder file from bytes names a b c new writes fills links) (sync_keep folder to bytes names c d named sync)
+pub sync_kept : (folder : List ℕ) (file : Opened) (from to bytes : List ℕ) (IsNew : List ℕ → Type 0) (a b c d : List Asked) → IsNewIn folder file from a → Adds (MayWrite file) a b → Fills file.number bytes a b → Adds (MayLink from IsNew) b c
+    → IsNew to → AddsSync to c d → Adds (MayKeep folder IsNew bytes) a d
+sync_kept folder file from to bytes IsNew a b c d new writes fills links named sync =
+    added_twice (MayKeep folder IsNew bytes) a c d (link_kept folder file from bytes IsNew a b c new writes fills links) (sync_keep folder to bytes IsNew c d named sync)
 
 -- where the name can't be put on disk, it is taken away again
-pub unkept : {A : Type 0} (result : Result A Error) (folder : List ℕ) (file : Opened) (from to bytes : List ℕ) (names : FileNames) (a b c d e : List Asked) → IsNewIn folder file from a → Adds (MayWrite file) a b → Fills file.number bytes a b
-    → Adds (MayLink from names) b c → HasLinked from to b c → IsNameOf names to → AddsSync to c d → e ≡ came_to result (Remove to) ∷ d → Adds (MayKeep folder names bytes) a e
-unkept result folder file from to bytes names a b c d e new writes fills links linked named sync removed =
-    added_call (MayKeep folder names bytes) a d e result (Remove to) (sync_kept folder file from to bytes names a b c d new writes fills links named sync) removed
+pub unkept : {A : Type 0} (result : Result A Error) (folder : List ℕ) (file : Opened) (from to bytes : List ℕ) (IsNew : List ℕ → Type 0) (a b c d e : List Asked) → IsNewIn folder file from a → Adds (MayWrite file) a b → Fills file.number bytes a b
+    → Adds (MayLink from IsNew) b c → HasLinked from to b c → IsNew to → AddsSync to c d → e ≡ came_to result (Remove to) ∷ d → Adds (MayKeep folder IsNew bytes) a e
+unkept result folder file from to bytes IsNew a b c d e new writes fills links linked named sync removed =
+    added_call (MayKeep folder IsNew bytes) a d e result (Remove to) (sync_kept folder file from to bytes IsNew a b c d new writes fills links named sync) removed
     (inr (named, whole_synced to to bytes c d sync (linked_whole from to bytes b c linked (written_whole folder file from bytes a b new writes fills))))
 
 pub kept_on_disk : {A : Type 0} (kept : Result (String Global) Error) (result : Result A Error) (temporary bytes : List ℕ) (a b : List Asked) → b ≡ came_to result (Remove temporary) ∷ a

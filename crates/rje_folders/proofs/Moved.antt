@@ -5,50 +5,48 @@ use Rattle.rje_stores.specs.Disk.{Asked, Done, Link, standing, has_synced_name}
 use Rattle.rje_stores.specs.Replacing.{Adds}
 use Rattle.rje_stores.specs.Inside.Filling.{AddsSync}
 use Rattle.rje_stores.proofs.Replacing.{added_twice, added_weaker}
-use Rattle.rje_folders.specs.declared.file_names.FileNames.{FileNames}
-use Rattle.rje_folders.specs.FileNames.{IsNameOf}
 use Rattle.rje_folders.specs.Moving.{IsMoved, IsSecond, MayAdd, MayDrop, MayLink, MayMove}
 use Rattle.rje_folders.specs.Inside.{HasLinked, HasTaken, KeepsFiles}
 use Rattle.rje_folders.proofs.Linked.{linked_stands}
 use Rattle.rje_folders.proofs.Taken.{sync_dropped, sync_kept, sync_keeps_standing, taken_gone, taken_kept, taken_standing}
 
 -- what is asked to move a file: a link, and the old name is taken away
-pub link_moves : (are_one : List Asked → List ℕ → List ℕ → Type 0) (from : List ℕ) (names : FileNames) (a b : List Asked) → Adds (MayLink from names) a b → Adds (MayMove are_one from names) a b
-link_moves are_one from names a b adds = added_weaker (MayLink from names) (MayMove are_one from names) (λ call before may. inl may) a b adds
+pub link_moves : (are_one : List Asked → List ℕ → List ℕ → Type 0) (from : List ℕ) (IsNew : List ℕ → Type 0) (a b : List Asked) → Adds (MayLink from IsNew) a b → Adds (MayMove are_one from IsNew) a b
+link_moves are_one from IsNew a b adds = added_weaker (MayLink from IsNew) (MayMove are_one from IsNew) (λ call before may. inl may) a b adds
 
-pub drop_moves : (are_one : List Asked → List ℕ → List ℕ → Type 0) (from to : List ℕ) (names : FileNames) (a b : List Asked) → IsNameOf names to → Adds (MayDrop are_one to from) a b → Adds (MayMove are_one from names) a b
-drop_moves are_one from to names a b named adds = added_weaker (MayDrop are_one to from) (MayMove are_one from names) (λ call before may. inr (to, named, may)) a b adds
+pub drop_moves : (are_one : List Asked → List ℕ → List ℕ → Type 0) (from to : List ℕ) (IsNew : List ℕ → Type 0) (a b : List Asked) → IsNew to → Adds (MayDrop are_one to from) a b → Adds (MayMove are_one from IsNew) a b
+drop_moves are_one from to IsNew a b named adds = added_weaker (MayDrop are_one to from) (MayMove are_one from IsNew) (λ call before may. inr (to, named, may)) a b adds
 
-pub sync_moves : (are_one : List Asked → List ℕ → List ℕ → Type 0) (from to : List ℕ) (names : FileNames) (a b : List Asked) → IsNameOf names to → AddsSync to a b → Adds (MayMove are_one from names) a b
-sync_moves are_one from to names a b named sync = drop_moves are_one from to names a b named (sync_kept are_one to from a b sync)
+pub sync_moves : (are_one : List Asked → List ℕ → List ℕ → Type 0) (from to : List ℕ) (IsNew : List ℕ → Type 0) (a b : List Asked) → IsNew to → AddsSync to a b → Adds (MayMove are_one from IsNew) a b
+sync_moves are_one from to IsNew a b named sync = drop_moves are_one from to IsNew a b named (sync_kept are_one to from a b sync)
 
-pub link_sync_moves : (are_one : List Asked → List ℕ → List ℕ → Type 0) (from to : List ℕ) (names : FileNames) (a b c : List Asked) → IsNameOf names to → Adds (MayLink from names) a b → AddsSync to b c → Adds (MayMove are_one from names) a c
-link_sync_moves are_one from to names a b c named adds sync =
-    added_twice (MayMove are_one from names) a b c (link_moves are_one from names a b adds) (sync_moves are_one from to names b c named sync)
+pub link_sync_moves : (are_one : List Asked → List ℕ → List ℕ → Type 0) (from to : List ℕ) (IsNew : List ℕ → Type 0) (a b c : List Asked) → IsNew to → Adds (MayLink from IsNew) a b → AddsSync to b c → Adds (MayMove are_one from IsNew) a c
+link_sync_moves are_one from to IsNew a b c named adds sync =
+    added_twice (MayMove are_one from IsNew) a b c (link_moves are_one from IsNew a b adds) (sync_moves are_one from to IsNew b c named sync)
 
-pub all_moves : (are_one : List Asked → List ℕ → List ℕ → Type 0) (from to : List ℕ) (names : FileNames) (a b c d : List Asked) → IsNameOf names to → Adds (MayLink from names) a b → AddsSync to b c → Adds (MayDrop are_one to from) c d
-    → Adds (MayMove are_one from names) a d
-all_moves are_one from to names a b c d named adds sync drops =
-    added_twice (MayMove are_one from names) a c d (link_sync_moves are_one from to names a b c named adds sync) (drop_moves are_one from to names c d named drops)
+pub all_moves : (are_one : List Asked → List ℕ → List ℕ → Type 0) (from to : List ℕ) (IsNew : List ℕ → Type 0) (a b c d : List Asked) → IsNew to → Adds (MayLink from IsNew) a b → AddsSync to b c → Adds (MayDrop are_one to from) c d
+    → Adds (MayMove are_one from IsNew) a d
+all_moves are_one from to IsNew a b c d named adds sync drops =
+    added_twice (MayMove are_one from IsNew) a c d (link_sync_moves are_one from to IsNew a b c named adds sync) (drop_moves are_one from to IsNew c d named drops)
 
 -- what is asked to give a file a second name: a link, and that name is taken away
-pub link_adds : (are_one : List Asked → List ℕ → List ℕ → Type 0) (name : List ℕ) (names : FileNames) (a b : List Asked) → Adds (MayLink name names) a b → Adds (MayAdd are_one name names) a b
-link_adds are_one name names a b adds = added_weaker (MayLink name names) (MayAdd are_one name names) (λ call before may. inl may) a b adds
+pub link_adds : (are_one : List Asked → List ℕ → List ℕ → Type 0) (name : List ℕ) (IsNew : List ℕ → Type 0) (a b : List Asked) → Adds (MayLink name IsNew) a b → Adds (MayAdd are_one name IsNew) a b
+link_adds are_one name IsNew a b adds = added_weaker (MayLink name IsNew) (MayAdd are_one name IsNew) (λ call before may. inl may) a b adds
 
-pub drop_adds : (are_one : List Asked → List ℕ → List ℕ → Type 0) (name second : List ℕ) (names : FileNames) (a b : List Asked) → IsNameOf names second → Adds (MayDrop are_one name second) a b → Adds (MayAdd are_one name names) a b
-drop_adds are_one name second names a b named adds = added_weaker (MayDrop are_one name second) (MayAdd are_one name names) (λ call before may. inr (second, named, may)) a b adds
+pub drop_adds : (are_one : List Asked → List ℕ → List ℕ → Type 0) (name second : List ℕ) (IsNew : List ℕ → Type 0) (a b : List Asked) → IsNew second → Adds (MayDrop are_one name second) a b → Adds (MayAdd are_one name IsNew) a b
+drop_adds are_one name second IsNew a b named adds = added_weaker (MayDrop are_one name second) (MayAdd are_one name IsNew) (λ call before may. inr (second, named, may)) a b adds
 
-pub sync_adds : (are_one : List Asked → List ℕ → List ℕ → Type 0) (name second : List ℕ) (names : FileNames) (a b : List Asked) → IsNameOf names second → AddsSync second a b → Adds (MayAdd are_one name names) a b
-sync_adds are_one name second names a b named sync = drop_adds are_one name second names a b named (sync_dropped are_one name second a b sync)
+pub sync_adds : (are_one : List Asked → List ℕ → List ℕ → Type 0) (name second : List ℕ) (IsNew : List ℕ → Type 0) (a b : List Asked) → IsNew second → AddsSync second a b → Adds (MayAdd are_one name IsNew) a b
+sync_adds are_one name second IsNew a b named sync = drop_adds are_one name second IsNew a b named (sync_dropped are_one name second a b sync)
 
-pub link_sync_adds : (are_one : List Asked → List ℕ → List ℕ → Type 0) (name second : List ℕ) (names : FileNames) (a b c : List Asked) → IsNameOf names second → Adds (MayLink name names) a b → AddsSync second b c → Adds (MayAdd are_one name names) a c
-link_sync_adds are_one name second names a b c named adds sync =
-    added_twice (MayAdd are_one name names) a b c (link_adds are_one name names a b adds) (sync_adds are_one name second names b c named sync)
+pub link_sync_adds : (are_one : List Asked → List ℕ → List ℕ → Type 0) (name second : List ℕ) (IsNew : List ℕ → Type 0) (a b c : List Asked) → IsNew second → Adds (MayLink name IsNew) a b → AddsSync second b c → Adds (MayAdd are_one name IsNew) a c
+link_sync_adds are_one name second IsNew a b c named adds sync =
+    added_twice (MayAdd are_one name IsNew) a b c (link_adds are_one name IsNew a b adds) (sync_adds are_one name second IsNew b c named sync)
 
-pub all_adds : (are_one : List Asked → List ℕ → List ℕ → Type 0) (name second : List ℕ) (names : FileNames) (a b c d : List Asked) → IsNameOf names second → Adds (MayLink name names) a b → AddsSync second b c → Adds (MayDrop are_one name second) c d
-    → Adds (MayAdd are_one name names) a d
-all_adds are_one name second names a b c d named adds sync drops =
-    added_twice (MayAdd are_one name names) a c d (link_sync_adds are_one name second names a b c named adds sync) (drop_adds are_one name second names c d named drops)
+pub all_adds : (are_one : List Asked → List ℕ → List ℕ → Type 0) (name second : List ℕ) (IsNew : List ℕ → Type 0) (a b c d : List Asked) → IsNew second → Adds (MayLink name IsNew) a b → AddsSync second b c → Adds (MayDrop are_one name second) c d
+    → Adds (MayAdd are_one name IsNew) a d
+all_adds are_one name second IsNew a b c d named adds sync drops =
+    added_twice (MayAdd are_one name IsNew) a c d (link_sync_adds are_one name second IsNew a b c named adds sync) (drop_adds are_one name second IsNew c d named drops)
 
 -- a file that was moved
 pub moved_is : (from to : List ℕ) (a b c d : List Asked) → HasLinked from to a b → AddsSync to b c → has_synced_name to c ≡ true → HasTaken to from c d → IsMoved from to a d

@@ -3,7 +3,15 @@ use Rattle.std.specs.Prelude.{◌≡◌, ◌⊎◌, ℕ, List, ◌++◌, codes, 
 use Rattle.rje_folders.specs.declared.file_names.FileNames.{FileNames}
 use Rattle.rje_folders.specs.declared.file_names.FileNames.TheVariants.{Of, Numbered}
 
--- one of the names: the name itself, or it with a dot and a number; or two pieces with a number between them
+-- a name, or the name with a dot and a number at its end
+abbrev pub IsNumbered : (name path : List ℕ) → Type 0
+IsNumbered name path = (path ≡ name) ⊎ ((number : ℕ) × (path ≡ name ++ (codes "." ++ decimal number)))
+
+-- two pieces with a dash and a number between them
+abbrev pub IsBetween : (stem ending path : List ℕ) → Type 0
+IsBetween stem ending path = (number : ℕ) × (path ≡ stem ++ (codes "-" ++ (decimal number ++ ending)))
+
+-- one of the names that a file may get
 abbrev pub IsNameOf : FileNames → List ℕ → Type 0
-IsNameOf (Of name) path = (path ≡ name.now) ⊎ ((number : ℕ) × (path ≡ name.now ++ (codes "." ++ decimal number)))
-IsNameOf (Numbered stem ending) path = (number : ℕ) × (path ≡ stem.now ++ (codes "-" ++ (decimal number ++ ending.now)))
+IsNameOf (Of name) path = IsNumbered name.now path
+IsNameOf (Numbered stem ending) path = IsBetween stem.now ending.now path

@@ -2,8 +2,6 @@
 use Rattle.std.specs.Prelude.{◌≡◌, ◌⊎◌, ℕ, List, [], ◌++◌, Some, ⊤, codes, decimal}
 use Rattle.rje_stores.specs.Disk.{Asked, Call, Create, Fill, Sync, Link, Remove, SyncFolder, bytes_of}
 use Rattle.rje_stores.specs.Replacing.{IsWhole}
-use Rattle.rje_folders.specs.declared.file_names.FileNames.{FileNames}
-use Rattle.rje_folders.specs.FileNames.{IsNameOf}
 
 -- the name of a new file of a folder as long as it is written; it begins with a dot, so that whoever reads the folder leaves it alone
 abbrev pub IsTemporary : (folder name : List ℕ) → Type 0
@@ -12,11 +10,11 @@ IsTemporary folder name = (number : ℕ) × (name ≡ folder ++ (codes "/.rje-" 
 -- What may be asked, after these calls, to make these bytes a new file of a folder, under one of some names. A file is made under a name that is
 -- left alone, and is written while it is empty; it gets one of the names, which no file has, once it has just the bytes and is on disk; and no
 -- name is taken away but the one that is left alone, and one of the names that this file has. Nothing is renamed.
-abbrev pub MayKeep : (folder : List ℕ) → FileNames → (bytes : List ℕ) → Call → List Asked → Type 0
-MayKeep folder names bytes (Create name) before = IsTemporary folder name
-MayKeep folder names bytes (Fill file _) before = IsTemporary folder file.name × (bytes_of file.number before ≡ Some [])
-MayKeep folder names bytes (Sync _) before = ⊤
-MayKeep folder names bytes (Link from to) before = IsTemporary folder from × IsNameOf names to × IsWhole from bytes before
-MayKeep folder names bytes (SyncFolder name) before = IsNameOf names name
-MayKeep folder names bytes (Remove name) before = IsTemporary folder name ⊎ (IsNameOf names name × IsWhole name bytes before)
-MayKeep folder names bytes _ before = ⊥
+abbrev pub MayKeep : (folder : List ℕ) → (IsNew : List ℕ → Type 0) → (bytes : List ℕ) → Call → List Asked → Type 0
+MayKeep folder IsNew bytes (Create name) before = IsTemporary folder name
+MayKeep folder IsNew bytes (Fill file _) before = IsTemporary folder file.name × (bytes_of file.number before ≡ Some [])
+MayKeep folder IsNew bytes (Sync _) before = ⊤
+MayKeep folder IsNew bytes (Link from to) before = IsTemporary folder from × IsNew to × IsWhole from bytes before
+MayKeep folder IsNew bytes (SyncFolder name) before = IsNew name
+MayKeep folder IsNew bytes (Remove name) before = IsTemporary folder name ⊎ (IsNew name × IsWhole name bytes before)
+MayKeep folder IsNew bytes _ before = ⊥

@@ -1,17 +1,15 @@
 -- How a file gets another name, and loses the one that it had, so that it has one on disk at each moment.
 use Rattle.std.specs.Prelude.{◌≡◌, ◌≢◌, ◌⊎◌, ℕ, List, ◌∷◌, None, true}
 use Rattle.rje_stores.specs.Disk.{Asked, Call, Done, Link, Remove, SyncFolder, standing, has_synced_name}
-use Rattle.rje_folders.specs.declared.file_names.FileNames.{FileNames}
-use Rattle.rje_folders.specs.FileNames.{IsNameOf}
 
 -- A name can be taken away, and its file isn't lost: the disk has just said that it is the file of another name too, and that name is on disk.
 -- The disk says it by a relation of its own.
 abbrev pub IsSpare : (List Asked → List ℕ → List ℕ → Type 0) → (kept name : List ℕ) → List Asked → Type 0
 IsSpare are_one kept name before = (kept ≢ name) × are_one before kept name × (has_synced_name kept before ≡ true)
 
--- what may be asked to give the file of a name another one
-abbrev pub MayLink : (from : List ℕ) → FileNames → Call → List Asked → Type 0
-MayLink from names call before = (name : List ℕ) × IsNameOf names name × (call ≡ Link from name)
+-- what may be asked to give the file of a name another one, of some names
+abbrev pub MayLink : (from : List ℕ) → (IsNew : List ℕ → Type 0) → Call → List Asked → Type 0
+MayLink from IsNew call before = (name : List ℕ) × IsNew name × (call ≡ Link from name)
 
 -- what may be asked to take a name away, of which the file has another one: to put the other one on disk, to take the name away once it can be
 -- spared, and to have that on disk too
@@ -20,13 +18,13 @@ MayDrop are_one kept name call before = (call ≡ SyncFolder kept) ⊎ (call ≡
 
 -- What may be asked to move a file: to give it one of some names, which no file has, and then to take away the one that it had. So nothing is
 -- renamed, no file is written, and no name is touched but these.
-abbrev pub MayMove : (List Asked → List ℕ → List ℕ → Type 0) → (from : List ℕ) → FileNames → Call → List Asked → Type 0
-MayMove are_one from names call before = MayLink from names call before ⊎ ((name : List ℕ) × IsNameOf names name × MayDrop are_one name from call before)
+abbrev pub MayMove : (List Asked → List ℕ → List ℕ → Type 0) → (from : List ℕ) → (IsNew : List ℕ → Type 0) → Call → List Asked → Type 0
+MayMove are_one from IsNew call before = MayLink from IsNew call before ⊎ ((name : List ℕ) × IsNew name × MayDrop are_one name from call before)
 
 -- What may be asked to give a file a second name: to give it one of some names, which no file has, to put that on disk, and, where that can't be,
 -- to take it away again.
-abbrev pub MayAdd : (List Asked → List ℕ → List ℕ → Type 0) → (name : List ℕ) → FileNames → Call → List Asked → Type 0
-MayAdd are_one name names call before = MayLink name names call before ⊎ ((second : List ℕ) × IsNameOf names second × MayDrop are_one name second call before)
+abbrev pub MayAdd : (List Asked → List ℕ → List ℕ → Type 0) → (name : List ℕ) → (IsNew : List ℕ → Type 0) → Call → List Asked → Type 0
+MayAdd are_one name IsNew call before = MayLink name IsNew call before ⊎ ((second : List ℕ) × IsNew second × MayDrop are_one name second call before)
 
 -- a name stands for the file that another one stood for, which stands for it still, and it is on disk
 abbrev pub IsSecond : (name second : List ℕ) → List Asked → List Asked → Type 0

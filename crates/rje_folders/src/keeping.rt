@@ -32,7 +32,7 @@ pub fn keep<D: Disk>(
     names: FileNames<'_>,
     bytes: &[u8],
 ) -> io::Result<String>
-    ensures asks { D.discloses → Adds (MayKeep folder.now names.entry bytes.now)
+    ensures asks { D.discloses → Adds (MayKeep folder.now (IsNameOf names.entry) bytes.now)
         (D.asked disk.old) (D.asked disk.new) }
     ensures on_disk { D.discloses → IfOk result (λ name.
         IsOnDisk (string_bytes name) bytes.now (D.asked disk.new)) }
@@ -83,7 +83,7 @@ fn keep_new<D: Disk>(
 ) -> io::Result<String>
     ensures asks { D.discloses → (folder : List ℕ)
         → IsNewIn folder (D.opened new.now.file) (string_bytes new.now.path) (D.asked disk.old)
-        → Adds (MayKeep folder names.entry bytes.now) (D.asked disk.old) (D.asked disk.new) }
+        → Adds (MayKeep folder (IsNameOf names.entry) bytes.now) (D.asked disk.old) (D.asked disk.new) }
     ensures kept { D.discloses → (folder : List ℕ)
         → IsNewIn folder (D.opened new.now.file) (string_bytes new.now.path) (D.asked disk.old)
         → IfOk result (λ name. IsKept (string_bytes new.now.path) (string_bytes name) bytes.now

@@ -30,7 +30,7 @@ pub(crate) fn link_free<D: Disk>(
     names: FileNames<'_>,
 ) -> io::Result<SecondName<D::Folder>>
     ensures asks { D.discloses
-        → Adds (MayLink from.now names.entry) (D.asked disk.old) (D.asked disk.new) }
+        → Adds (MayLink from.now (IsNameOf names.entry)) (D.asked disk.old) (D.asked disk.new) }
     ensures linked { D.discloses → IfOk result (λ second. HasLinked from.now
         (string_bytes second.path) (D.asked disk.old) (D.asked disk.new)) }
     ensures folder { D.discloses → IfOk result (λ second.

@@ -3,19 +3,20 @@ use Rattle.std.specs.Prelude.{string_bytes}
 use Rattle.rje_stores.specs.Disk.{Remove}
 use Rattle.rje_stores.proofs.Replacing.{added_call, added_twice}
 use Rattle.rje_folders.specs.Keeping.{MayKeep}
+use Rattle.rje_folders.specs.FileNames.{IsNameOf}
 use Rattle.rje_folders.proofs.Kept.{create_keeps, kept_on_disk, new_temporary}
 use Rattle.rje_folders.proofs.keeping.keep.Goals as goal
 
 pub returns-in_err-new-clause-asks : goal.returns-in_err-new-clause-asks
-returns-in_err-new-clause-asks g c = λ told. create_keeps c.args.folder.now c.args.bytes.now c.args.names _ _ (c.create_new.ensures.asks told)
+returns-in_err-new-clause-asks g c = λ told. create_keeps c.args.folder.now c.args.bytes.now (IsNameOf c.args.names) _ _ (c.create_new.ensures.asks told)
 
 pub returns-clause-asks : goal.returns-clause-asks
 returns-clause-asks g c = λ told.
     let folder = c.args.folder.now in
-    let may = MayKeep folder c.args.names c.args.bytes.now in
+    let may = MayKeep folder (IsNameOf c.args.names) c.args.bytes.now in
     let new = c.in_ok-new.ensures.new told in
     added_call may _ _ _ c.remove.result (Remove (string_bytes c.in_ok-new.new.path))
-    (added_twice may _ _ _ (create_keeps folder c.args.bytes.now c.args.names _ _ (c.create_new.ensures.asks told)) (c.keep_new-kept.ensures.asks told folder new))
+    (added_twice may _ _ _ (create_keeps folder c.args.bytes.now (IsNameOf c.args.names) _ _ (c.create_new.ensures.asks told)) (c.keep_new-kept.ensures.asks told folder new))
     (rw c.as_str.ensures.value at (c.remove.ensures told)) (inl (new_temporary folder _ _ _ new))
 
 pub returns-clause-on_disk : goal.returns-clause-on_disk

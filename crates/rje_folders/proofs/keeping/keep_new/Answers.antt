@@ -1,18 +1,19 @@
 use Rattle.std.proofs.Common.{sym}
 use Rattle.std.specs.Prelude.{string_bytes}
+use Rattle.rje_folders.specs.FileNames.{IsNameOf}
 use Rattle.rje_folders.proofs.Kept.{kept_is, link_kept, new_is_empty, sync_kept, unkept, write_keeps, written_whole}
 use Rattle.rje_folders.proofs.keeping.keep_new.Goals as goal
 
 pub returns-in_err-fill_new-clause-asks : goal.returns-in_err-fill_new-clause-asks
 returns-in_err-fill_new-clause-asks g c = λ told folder new.
     let file = g.D.Disk.opened c.args.new.now.file in
-    write_keeps folder c.args.bytes.now c.args.names file _ _ _ new (c.fill_new.ensures.asks told (new_is_empty folder file _ _ new))
+    write_keeps folder c.args.bytes.now (IsNameOf c.args.names) file _ _ _ new (c.fill_new.ensures.asks told (new_is_empty folder file _ _ new))
 
 pub returns-in_err-kept-clause-asks : goal.returns-in_err-kept-clause-asks
 returns-in_err-kept-clause-asks g c = λ told folder new.
     let file = g.D.Disk.opened c.args.new.now.file in
     let from = string_bytes c.args.new.now.path in
-    link_kept folder file from c.args.bytes.now c.args.names _ _ _ new (c.fill_new.ensures.asks told (new_is_empty folder file _ _ new)) (c.in_ok-fill_new.ensures.filled told)
+    link_kept folder file from c.args.bytes.now (IsNameOf c.args.names) _ _ _ new (c.fill_new.ensures.asks told (new_is_empty folder file _ _ new)) (c.in_ok-fill_new.ensures.filled told)
     (rw c.as_str.ensures.value at (c.link_free.ensures.asks told))
 
 pub returns-in-Ok-clause-asks : goal.returns-in-Ok-clause-asks
@@ -20,7 +21,7 @@ returns-in-Ok-clause-asks g c = λ told folder new.
     let file = g.D.Disk.opened c.args.new.now.file in
     let from = string_bytes c.args.new.now.path in
     let to = string_bytes c.in_ok-kept.kept.path in
-    sync_kept folder file from to c.args.bytes.now c.args.names _ _ _ _ new (c.fill_new.ensures.asks told (new_is_empty folder file _ _ new)) (c.in_ok-fill_new.ensures.filled told)
+    sync_kept folder file from to c.args.bytes.now (IsNameOf c.args.names) _ _ _ _ new (c.fill_new.ensures.asks told (new_is_empty folder file _ _ new)) (c.in_ok-fill_new.ensures.filled told)
     (rw c.as_str.ensures.value at (c.link_free.ensures.asks told)) c.in_ok-kept.ensures.named (rw (c.in_ok-kept.ensures.folder told) at (c.sync_names.ensures.asks told))
 
 pub returns-in-Ok-clause-kept : goal.returns-in-Ok-clause-kept
@@ -37,6 +38,6 @@ returns-in-Err-clause-asks g c = λ told folder new.
     let file = g.D.Disk.opened c.args.new.now.file in
     let from = string_bytes c.args.new.now.path in
     let to = string_bytes c.in_ok-kept.kept.path in
-    unkept c.remove.result folder file from to c.args.bytes.now c.args.names _ _ _ _ _ new (c.fill_new.ensures.asks told (new_is_empty folder file _ _ new)) (c.in_ok-fill_new.ensures.filled told)
+    unkept c.remove.result folder file from to c.args.bytes.now (IsNameOf c.args.names) _ _ _ _ _ new (c.fill_new.ensures.asks told (new_is_empty folder file _ _ new)) (c.in_ok-fill_new.ensures.filled told)
     (rw c.as_str.ensures.value at (c.link_free.ensures.asks told)) (rw c.as_str.ensures.value at (c.in_ok-kept.ensures.linked told)) c.in_ok-kept.ensures.named
     (rw (c.in_ok-kept.ensures.folder told) at (c.sync_names.ensures.asks told)) (rw c.as_str-in-Err.ensures.value at (c.remove.ensures told))
