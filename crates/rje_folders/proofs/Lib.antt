@@ -2,3 +2,4 @@ pub mod Linked
 pub mod Taken
 pub mod Moved
 pub mod Kept
+pub mod First

@@ -1,8 +1,11 @@
 -- What private functions cite; no promise rests on it.
-use Rattle.std.specs.Prelude.{◌≡◌, ◌≢◌, ◌⊎◌, ℕ, List, [], ◌∷◌, length, Some, None, true}
+use Rattle.std.specs.Prelude.{◌≡◌, ◌≢◌, ◌⊎◌, ℕ, List, [], ◌∷◌, length, Option, Some, None, Bool, true, String, string_bytes}
 use Rattle.rje_stores.specs.Disk.{Asked, Call, Opened, Done, Create, Fill, Sync, Link, Remove, standing, bytes_of, is_synced, has_synced_name}
 use Rattle.rje_stores.specs.Replacing.{IsOnDisk}
 use Rattle.rje_stores.specs.Inside.Filling.{AddsSync}
+use Rattle.std.specs.Cmp.Lexicographic.{slice_cmp}
+use Rattle.std.specs.Ordering.{is_lt, nat_cmp}
+use Rattle.std.specs.declared.alloc.Global.{Global}
 use Rattle.rje_folders.specs.Keeping.{IsTemporary}
 
 -- each name stands for what it stood for, and each file is as it was
@@ -34,3 +37,8 @@ MayWrite file call before = ((bytes : List ℕ) × (call ≡ Fill file bytes) ×
 -- a new file has these bytes under a name that isn't the one that it was made under, all on disk
 abbrev pub IsKept : (temporary name bytes : List ℕ) → List Asked → Type 0
 IsKept temporary name bytes after = (name ≢ temporary) × IsOnDisk name bytes after
+
+-- a name comes before the first one so far, where there is one
+abbrev pub is_before : List ℕ → Option (String Global) → Bool
+is_before name None = true
+is_before name (Some first) = is_lt (slice_cmp nat_cmp name (string_bytes first))

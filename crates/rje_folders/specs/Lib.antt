@@ -1,4 +1,5 @@
 pub mod FileNames
 pub mod Moving
 pub mod Keeping
+pub mod ReadyFile
 pub mod Inside
