@@ -3,3 +3,4 @@ pub mod Taken
 pub mod Moved
 pub mod Kept
 pub mod First
+pub mod Settled

@@ -1,0 +1,38 @@
+-- What becomes of the file of a job while the job may have arrived, and after that: at each moment it has a name on disk that says so.
+use Rattle.std.specs.Prelude.{◌≡◌, ◌⊎◌, ℕ, List, ◌++◌, codes}
+use Rattle.rje_day.specs.declared.disposition.Disposition.{Disposition}
+use Rattle.rje_stores.specs.Disk.{Asked, Call, OpenLock}
+use Rattle.rje_folders.specs.declared.folder.Folder.{Folder}
+use Rattle.rje_folders.specs.FileNames.{IsNumbered}
+use Rattle.rje_folders.specs.Folder.{path_in}
+use Rattle.rje_folders.specs.Moving.{MayAdd, MayDrop, MayMove}
+
+-- what may be asked before the last block of a job is said: to give its file, in out/, a second name, in doubt/
+abbrev pub MayPromise : (List Asked → List ℕ → List ℕ → Type 0) → (station name : List ℕ) → Call → List Asked → Type 0
+MayPromise are_one station name call before = MayAdd are_one (path_in station Folder.Out name) (IsNumbered (path_in station Folder.Doubt name)) call before
+
+-- What may be asked once it is known what becomes of the job. Where it was counted, to move its file from doubt/ to sent/, and to take the name in
+-- out/ away once the one in sent/ is on disk. Where it is in doubt, to take the name in out/ away once the one in doubt/ is on disk. Where it lies
+-- ready still, to take the name in doubt/ away once the one in out/ is.
+abbrev pub MaySettle : (List Asked → List ℕ → List ℕ → Type 0) → (station name doubt : List ℕ) → Disposition → Call → List Asked → Type 0
+MaySettle are_one station name doubt Disposition.Sent call before = MayMove are_one doubt (IsNumbered (path_in station Folder.Sent name)) call before
+    ⊎ ((sent : List ℕ) × IsNumbered (path_in station Folder.Sent name) sent × MayDrop are_one sent (path_in station Folder.Out name) call before)
+MaySettle are_one station name doubt Disposition.InDoubt call before = MayDrop are_one doubt (path_in station Folder.Out name) call before
+MaySettle are_one station name doubt Disposition.Ready call before = MayDrop are_one (path_in station Folder.Out name) doubt call before
+
+-- a path is one that a file of this name gets in sent/, doubt/ or refused/
+abbrev pub IsKeptElsewhere : (station name path : List ℕ) → Type 0
+IsKeptElsewhere station name path = IsNumbered (path_in station Folder.Sent name) path ⊎ IsNumbered (path_in station Folder.Doubt name) path ⊎ IsNumbered (path_in station Folder.Refused name) path
+
+-- What may be asked to bring to its end what was begun: to take the name in out/ away from a file that has one in sent/, doubt/ or refused/ too, once
+-- that is on disk.
+abbrev pub MayTidy : (List Asked → List ℕ → List ℕ → Type 0) → (station : List ℕ) → Call → List Asked → Type 0
+MayTidy are_one station call before = (name kept : List ℕ) × IsKeptElsewhere station name kept × MayDrop are_one kept (path_in station Folder.Out name) call before
+
+-- the path of the file that a station locks
+abbrev pub lock_path : (station : List ℕ) → List ℕ
+lock_path station = station ++ codes "/lock"
+
+-- what may be asked to have the folder of a station: to open the file that is locked, and to tidy up
+abbrev pub MayOpen : (List Asked → List ℕ → List ℕ → Type 0) → (station : List ℕ) → Call → List Asked → Type 0
+MayOpen are_one station call before = (call ≡ OpenLock (lock_path station)) ⊎ MayTidy are_one station call before

@@ -1,0 +1,47 @@
+//! Why a station's folder can't be used.
+
+use crate::folder::Folder;
+use std::alloc::AllocError;
+use std::io::{self, ErrorKind};
+use thiserror::Error;
+
+/// Why a station's folder can't be used.
+#[derive(Clone, Copy, Debug, PartialEq, Eq, Error)]
+pub enum FolderFault {
+    /// There is no memory for it.
+    #[error("out of memory")]
+    OutOfMemory,
+    /// Another station has it.
+    #[error("in use")]
+    InUse,
+    /// A folder of it, or the file in question there, can't be used, and why.
+    #[error("{0}: {1}")]
+    Failed(Folder, ErrorKind),
+    /// The station's own files can't be used, by which it is locked, held and drained, and why.
+    #[error("{0}")]
+    Own(ErrorKind),
+}
+
+impl FolderFault {
+    /// Why a folder, or a file in it, can't be used.
+    pub(crate) fn of(folder: Folder, error: &io::Error) -> FolderFault {
+        match error.kind() {
+            ErrorKind::OutOfMemory => FolderFault::OutOfMemory,
+            kind => FolderFault::Failed(folder, kind),
+        }
+    }
+
+    /// Why the station's own files can't be used.
+    pub(crate) fn own(error: &io::Error) -> FolderFault {
+        match error.kind() {
+            ErrorKind::OutOfMemory => FolderFault::OutOfMemory,
+            kind => FolderFault::Own(kind),
+        }
+    }
+}
+
+impl From<AllocError> for FolderFault {
+    fn from(_refused: AllocError) -> FolderFault {
+        FolderFault::OutOfMemory
+    }
+}

@@ -1,0 +1,117 @@
+//! How a station gets its folder, and what it sees there.
+ghost use Rattle.std.specs.Prelude.{◌≡◌, IfOk, string_bytes};
+ghost use Rattle.rje_stores.specs.Replacing.{Adds};
+ghost use Rattle.rje_folders.specs.Promising.{MayOpen, MayTidy, lock_path};
+
+use crate::folder::Folder;
+use crate::folder_disk::FolderDisk;
+use crate::folder_fault::FolderFault;
+use crate::tidying::tidy_name;
+use std::alloc::Global;
+use std::fs::TryLockError;
+use std::io::{self, ErrorKind};
+
+/// Makes those of the folders that aren't there.
+pub(crate) fn make_folders<D: FolderDisk>(
+    disk: &mut D,
+    alloc: Global,
+    station: &str,
+) -> Result<(), FolderFault>
+    ensures { D.discloses → D.asked disk.new ≡ D.asked disk.old }
+{
+    for folder in Folder::ALL {
+        let made = make_folder(disk, alloc, station, folder);
+        made.map_err(|error| FolderFault::of(folder, &error))?;
+    }
+    Ok(())
+}
+
+fn make_folder<D: FolderDisk>(
+    disk: &mut D,
+    alloc: Global,
+    station: &str,
+    folder: Folder,
+) -> io::Result<()>
+    ensures { D.discloses → D.asked disk.new ≡ D.asked disk.old }
+{
+    let path = format!(in alloc; "{station}/{}", folder.as_str())?;
+    disk.make_folder(path.as_str())
+}
+
+/// The file of the station's lock, locked. In use where another station has it.
+pub(crate) fn locked<D: FolderDisk>(
+    disk: &mut D,
+    alloc: Global,
+    station: &str,
+) -> Result<D::File, FolderFault>
+    ensures { D.discloses → Adds (MayOpen D.are_one station.now)
+        (D.asked disk.old) (D.asked disk.new) }
+{
+    let opened = open_lock(disk, alloc, station);
+    let file = opened.map_err(|error| FolderFault::own(&error))?;
+    match disk.try_lock(&file) {
+        Ok(()) => Ok(file),
+        Err(TryLockError::WouldBlock) => Err(FolderFault::InUse),
+        Err(TryLockError::Error(error)) => Err(FolderFault::own(&error)),
+    }
+}
+
+fn open_lock<D: FolderDisk>(disk: &mut D, alloc: Global, station: &str) -> io::Result<D::File>
+    ensures { D.discloses → Adds (MayOpen D.are_one station.now)
+        (D.asked disk.old) (D.asked disk.new) }
+{
+    let path = lock_path(alloc, station)?;
+    disk.open_or_create(path.as_str())
+}
+
+/// The path of the file that is locked.
+fn lock_path(alloc: Global, station: &str) -> io::Result<String>
+    ensures { IfOk result (λ path. string_bytes path ≡ lock_path station.now) }
+{
+    Ok(format!(in alloc; "{station}/lock")?)
+}
+
+/// Brings to its end what was begun in the folder when a station was killed.
+pub(crate) fn tidy_up<D: FolderDisk>(
+    disk: &mut D,
+    alloc: Global,
+    station: &str,
+) -> Result<(), FolderFault>
+    ensures { D.discloses → Adds (MayTidy D.are_one station.now)
+        (D.asked disk.old) (D.asked disk.new) }
+{
+    let names = names_in_out(disk, alloc, station)?;
+    for name in &names {
+        let tidied = tidy_name(disk, alloc, station, name.as_str());
+        tidied.map_err(|error| FolderFault::of(Folder::Out, &error))?;
+    }
+    Ok(())
+}
+
+/// The names in out/, in no order.
+pub(crate) fn names_in_out<D: FolderDisk>(
+    disk: &D,
+    alloc: Global,
+    station: &str,
+) -> Result<Vec<String>, FolderFault> {
+    let path = format!(in alloc; "{station}/{}", Folder::Out.as_str())?;
+    match disk.names_in(alloc, path.as_str()) {
+        Ok(names) => Ok(names),
+        Err(error) => Err(FolderFault::of(Folder::Out, &error)),
+    }
+}
+
+/// Whether one of the files is there by which the operator tells the station something.
+pub(crate) fn is_there<D: FolderDisk>(
+    disk: &D,
+    alloc: Global,
+    station: &str,
+    name: &str,
+) -> Result<bool, FolderFault> {
+    let path = format!(in alloc; "{station}/{name}")?;
+    match disk.status(path.as_str()) {
+        Ok(_) => Ok(true),
+        Err(error) if error.kind() == ErrorKind::NotFound => Ok(false),
+        Err(error) => Err(FolderFault::own(&error)),
+    }
+}

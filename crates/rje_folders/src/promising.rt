@@ -1,0 +1,106 @@
+//! What becomes of the file of a job while the job may have arrived, and after that.
+ghost use Rattle.std.specs.Prelude.{IfOk, string_bytes};
+ghost use Rattle.rje_stores.specs.Replacing.{Adds};
+ghost use Rattle.rje_folders.specs.FileNames.{IsNumbered};
+ghost use Rattle.rje_folders.specs.Folder.{path_in};
+ghost use Rattle.rje_folders.specs.Moving.{IsSecond};
+ghost use Rattle.rje_folders.specs.Promising.{MayPromise, MaySettle};
+
+use crate::file_names::FileNames;
+use crate::folder::Folder;
+use crate::folder_disk::FolderDisk;
+use crate::moving::{add_name, drop_name, move_file};
+use rje_day::Disposition;
+use std::alloc::Global;
+use std::io;
+
+/// Before the last block of a job is said: its file gets a second name, in doubt/, on disk. That name's path.
+pub(crate) fn promise<D: FolderDisk>(
+    disk: &mut D,
+    alloc: Global,
+    station: &str,
+    name: &str,
+) -> io::Result<String>
+    ensures asks { D.discloses → Adds (MayPromise D.are_one station.now name.now)
+        (D.asked disk.old) (D.asked disk.new) }
+    ensures second { D.discloses → IfOk result (λ doubt. IsSecond
+        (path_in station.now Folder.Out name.now) (string_bytes doubt)
+        (D.asked disk.old) (D.asked disk.new)) }
+    ensures named { IfOk result (λ doubt. IsNumbered
+        (path_in station.now Folder.Doubt name.now) (string_bytes doubt)) }
+{
+    let ready = Folder::Out.path(alloc, station, name)?;
+    let doubt = Folder::Doubt.path(alloc, station, name)?;
+    add_name(disk, alloc, ready.as_str(), FileNames::Of(doubt.as_str()))
+}
+
+/// Once it is known what becomes of a job that was promised: where it was counted, its file is moved from doubt/ to sent/, and the name in out/ is
+/// taken away; where it is in doubt, that name alone is; where it lies ready still, the one in doubt/.
+pub(crate) fn settle<D: FolderDisk>(
+    disk: &mut D,
+    alloc: Global,
+    station: &str,
+    name: &str,
+    doubt: &str,
+    disposition: Disposition,
+) -> io::Result<()>
+    ensures { D.discloses → Adds (MaySettle D.are_one station.now name.now doubt.now disposition)
+        (D.asked disk.old) (D.asked disk.new) }
+{
+    match disposition {
+        Disposition::Sent => put_in_sent(disk, alloc, station, name, doubt),
+        Disposition::InDoubt => leave_in_doubt(disk, alloc, station, name, doubt),
+        Disposition::Ready => take_back(disk, alloc, station, name, doubt),
+    }
+}
+
+/// The job was counted: its file is moved from doubt/ to sent/, and the name in out/ is taken away.
+fn put_in_sent<D: FolderDisk>(
+    disk: &mut D,
+    alloc: Global,
+    station: &str,
+    name: &str,
+    doubt: &str,
+) -> io::Result<()>
+    ensures { D.discloses → Adds
+        (MaySettle D.are_one station.now name.now doubt.now Disposition.Sent) (D.asked disk.old) (D.asked disk.new) }
+{
+    let ready = Folder::Out.path(alloc, station, name)?;
+    let sent = Folder::Sent.path(alloc, station, name)?;
+    let kept = move_file(disk, alloc, doubt, FileNames::Of(sent.as_str()))?;
+    drop_name(disk, kept.as_str(), ready.as_str())?;
+    Ok(())
+}
+
+/// The job may have arrived: the name in out/ is taken away.
+fn leave_in_doubt<D: FolderDisk>(
+    disk: &mut D,
+    alloc: Global,
+    station: &str,
+    name: &str,
+    doubt: &str,
+) -> io::Result<()>
+    ensures { D.discloses
+        → Adds (MaySettle D.are_one station.now name.now doubt.now Disposition.InDoubt)
+        (D.asked disk.old) (D.asked disk.new) }
+{
+    let ready = Folder::Out.path(alloc, station, name)?;
+    drop_name(disk, doubt, ready.as_str())?;
+    Ok(())
+}
+
+/// The job lies ready still: the name in doubt/ is taken away.
+fn take_back<D: FolderDisk>(
+    disk: &mut D,
+    alloc: Global,
+    station: &str,
+    name: &str,
+    doubt: &str,
+) -> io::Result<()>
+    ensures { D.discloses → Adds
+        (MaySettle D.are_one station.now name.now doubt.now Disposition.Ready) (D.asked disk.old) (D.asked disk.new) }
+{
+    let ready = Folder::Out.path(alloc, station, name)?;
+    drop_name(disk, ready.as_str(), doubt)?;
+    Ok(())
+}

@@ -1,0 +1,141 @@
+//! The folder of a station.
+ghost use Rattle.std.specs.Prelude.{◌≡◌, IfOk, string_bytes};
+ghost use Rattle.rje_stores.specs.Replacing.{Adds, IsOnDisk};
+ghost use Rattle.rje_folders.specs.FileNames.{IsBetween, IsNumbered};
+ghost use Rattle.rje_folders.specs.Folder.{path_in};
+ghost use Rattle.rje_folders.specs.Moving.{IsMoved, IsSecond, MayMove};
+ghost use Rattle.rje_folders.specs.Promising.{MayOpen, MayPromise, MaySettle};
+
+use crate::folder::Folder;
+use crate::folder_disk::FolderDisk;
+use crate::folder_fault::FolderFault;
+use crate::opening::{is_there, locked, make_folders, names_in_out, tidy_up};
+use crate::promising::{promise, settle};
+use crate::ready_file::first_ready;
+use crate::receiving::{keep_in, refuse};
+use rje_day::Disposition;
+use std::alloc::Global;
+
+/// The folder of a station, which has it for itself.
+#[derive(Drop)]
+pub struct StationFolder<D: FolderDisk + Drop> {
+    disk: D,
+    alloc: Global,
+    path: String,
+    // Locked as long as it is open.
+    lock: D::File,
+}
+
+impl<D: FolderDisk + Drop> StationFolder<D> {
+    /// Has the folder of this path for this station, with what was begun there brought to its end. In use where another station has it.
+    pub fn open(disk: D, alloc: Global, path: &str) -> Result<StationFolder<D>, FolderFault>
+        ensures { D.discloses → IfOk result (λ station.
+            Adds (MayOpen D.are_one path.now) (D.asked disk) (D.asked station.disk)) }
+    {
+        let mut disk = disk;
+        make_folders(&mut disk, alloc, path)?;
+        let lock = locked(&mut disk, alloc, path)?;
+        tidy_up(&mut disk, alloc, path)?;
+        Ok(StationFolder {
+            disk,
+            alloc,
+            path: String::from_str(alloc, path)?,
+            lock,
+        })
+    }
+
+    /// The first name in out/ that isn't left alone.
+    pub fn first_ready(&self) -> Result<Option<String>, FolderFault> {
+        let names = names_in_out(&self.disk, self.alloc, self.path.as_str())?;
+        Ok(first_ready(names))
+    }
+
+    /// Whether the operator holds back what lies ready: a file `hold` is there.
+    pub fn is_held(&self) -> Result<bool, FolderFault> {
+        is_there(&self.disk, self.alloc, self.path.as_str(), "hold")
+    }
+
+    /// Whether the operator drains the station: a file `drain` is there.
+    pub fn is_drained(&self) -> Result<bool, FolderFault> {
+        is_there(&self.disk, self.alloc, self.path.as_str(), "drain")
+    }
+
+    /// Before the last block of the job of this file in out/ is said: the file gets a second name, in doubt/, on disk. That name's path.
+    pub fn promise(&mut self, name: &str) -> Result<String, FolderFault>
+        ensures asks { D.discloses → Adds (MayPromise D.are_one (string_bytes self.old.path) name.now)
+            (D.asked self.old.disk) (D.asked self.new.disk) }
+        ensures second { D.discloses → IfOk result (λ doubt. IsSecond
+            (path_in (string_bytes self.old.path) Folder.Out name.now) (string_bytes doubt)
+            (D.asked self.old.disk) (D.asked self.new.disk)) }
+        ensures named { IfOk result (λ doubt. IsNumbered
+            (path_in (string_bytes self.old.path) Folder.Doubt name.now) (string_bytes doubt)) }
+        ensures path { self.new.path ≡ self.old.path }
+    {
+        promise(&mut self.disk, self.alloc, self.path.as_str(), name)
+            .map_err(|error| FolderFault::of(Folder::Doubt, &error))
+    }
+
+    /// Once it is known what becomes of a job that was promised, whose file has this name in out/ and this path in doubt/: it is in sent/, in doubt/ or
+    /// in out/ alone.
+    pub fn settle(
+        &mut self,
+        name: &str,
+        doubt: &str,
+        disposition: Disposition,
+    ) -> Result<(), FolderFault>
+        ensures asks { D.discloses → Adds
+            (MaySettle D.are_one (string_bytes self.old.path) name.now doubt.now disposition)
+            (D.asked self.old.disk) (D.asked self.new.disk) }
+        ensures path { self.new.path ≡ self.old.path }
+    {
+        settle(&mut self.disk, self.alloc, self.path.as_str(), name, doubt, disposition)
+            .map_err(|error| FolderFault::of(Folder::Sent, &error))
+    }
+
+    /// Puts a file of out/ that can't be sent into refused/. The path that it has there.
+    pub fn refuse(&mut self, name: &str) -> Result<String, FolderFault>
+        ensures asks { D.discloses → Adds (MayMove D.are_one
+            (path_in (string_bytes self.old.path) Folder.Out name.now)
+            (IsNumbered (path_in (string_bytes self.old.path) Folder.Refused name.now)))
+            (D.asked self.old.disk) (D.asked self.new.disk) }
+        ensures moved { D.discloses → IfOk result (λ refused. IsMoved
+            (path_in (string_bytes self.old.path) Folder.Out name.now) (string_bytes refused)
+            (D.asked self.old.disk) (D.asked self.new.disk)) }
+        ensures path { self.new.path ≡ self.old.path }
+    {
+        refuse(&mut self.disk, self.alloc, self.path.as_str(), name)
+            .map_err(|error| FolderFault::of(Folder::Refused, &error))
+    }
+
+    /// Makes these bytes a new file of a folder: STAMP-1, STAMP-2 or so on, with this ending. Its path. It is on disk then, and so is its name.
+    pub fn keep(
+        &mut self,
+        folder: Folder,
+        stamp: &str,
+        ending: &str,
+        bytes: &[u8],
+    ) -> Result<String, FolderFault>
+        ensures on_disk { D.discloses → IfOk result (λ path.
+            IsOnDisk (string_bytes path) bytes.now (D.asked self.new.disk)) }
+        ensures named { IfOk result (λ path. IsBetween
+            (path_in (string_bytes self.old.path) folder stamp.now) ending.now
+            (string_bytes path)) }
+        ensures path { self.new.path ≡ self.old.path }
+    {
+        keep_in(&mut self.disk, self.alloc, self.path.as_str(), folder, stamp, ending, bytes)
+            .map_err(|error| FolderFault::of(folder, &error))
+    }
+
+    /// Lets the folder go, and gives back the disk.
+    pub fn close(self) -> D
+        ensures { result ≡ self.disk }
+    {
+        let StationFolder {
+            disk,
+            alloc: _,
+            path: _,
+            lock: _,
+        } = self;
+        disk
+    }
+}

@@ -1,0 +1,99 @@
+//! How what was begun is brought to its end, where a station was killed.
+ghost use Rattle.std.specs.Prelude.{IfOk, IfSome, string_bytes};
+ghost use Rattle.rje_stores.specs.Replacing.{Adds};
+ghost use Rattle.rje_folders.specs.FileNames.{IsNumbered};
+ghost use Rattle.rje_folders.specs.Folder.{path_in};
+ghost use Rattle.rje_folders.specs.Promising.{IsKeptElsewhere, MayTidy};
+
+use crate::file_names::FileNames;
+use crate::folder::Folder;
+use crate::folder_disk::FolderDisk;
+use crate::moving::drop_name;
+use std::alloc::Global;
+use std::io::{self, ErrorKind};
+
+/// How many names of a file are looked for in a folder.
+const MAX_NAMES: u32 = 1000;
+
+/// Takes a name in out/ away, where its file has one in sent/, doubt/ or refused/ too: so a file that was counted, that may have arrived or that was
+/// refused doesn't lie ready.
+pub(crate) fn tidy_name<D: FolderDisk>(
+    disk: &mut D,
+    alloc: Global,
+    station: &str,
+    name: &str,
+) -> io::Result<()>
+    ensures { D.discloses → Adds (MayTidy D.are_one station.now)
+        (D.asked disk.old) (D.asked disk.new) }
+{
+    let ready = Folder::Out.path(alloc, station, name)?;
+    if disk.status(ready.as_str())?.links < 2 {
+        return Ok(());
+    }
+    match kept_name(disk, alloc, station, name, ready.as_str())? {
+        Some(kept) => {
+            drop_name(disk, kept.as_str(), ready.as_str())?;
+            Ok(())
+        }
+        None => Ok(()),
+    }
+}
+
+/// The path of the other name that the file of a name in out/ has.
+fn kept_name<D: FolderDisk>(
+    disk: &D,
+    alloc: Global,
+    station: &str,
+    name: &str,
+    ready: &str,
+) -> io::Result<Option<String>>
+    ensures { IfOk result (λ kept. IfSome kept (λ path.
+        IsKeptElsewhere station.now name.now (string_bytes path))) }
+{
+    if let Some(path) = second_in(disk, alloc, station, Folder::Sent, name, ready)? {
+        return Ok(Some(path));
+    }
+    if let Some(path) = second_in(disk, alloc, station, Folder::Doubt, name, ready)? {
+        return Ok(Some(path));
+    }
+    second_in(disk, alloc, station, Folder::Refused, name, ready)
+}
+
+/// That in one of the other folders.
+fn second_in<D: FolderDisk>(
+    disk: &D,
+    alloc: Global,
+    station: &str,
+    folder: Folder,
+    name: &str,
+    ready: &str,
+) -> io::Result<Option<String>>
+    ensures { IfOk result (λ second. IfSome second (λ path.
+        IsNumbered (path_in station.now folder name.now) (string_bytes path))) }
+{
+    let first = folder.path(alloc, station, name)?;
+    second_of(disk, alloc, ready, first.as_str())
+}
+
+/// That of the names NAME, NAME.2, NAME.3 and so on which is of this file.
+fn second_of<D: FolderDisk>(
+    disk: &D,
+    alloc: Global,
+    ready: &str,
+    first: &str,
+) -> io::Result<Option<String>>
+    ensures { IfOk result (λ second. IfSome second (λ path.
+        IsNumbered first.now (string_bytes path))) }
+{
+    let names = FileNames::Of(first);
+    for number in 0..MAX_NAMES {
+        let path = names.name(alloc, number + 1)?;
+        match disk.is_one_file(path.as_str(), ready) {
+            Ok(true) => return Ok(Some(path)),
+            Ok(false) => {}
+            Err(error) if error.kind() == ErrorKind::NotFound => {}
+            Err(error) => return Err(error),
+        }
+    }
+    Ok(None)
+}

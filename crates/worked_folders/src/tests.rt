@@ -1,0 +1,2 @@
+mod folder_disk;
+mod stations;
