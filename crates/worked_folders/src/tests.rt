@@ -1,2 +1,4 @@
-mod folder_disk;
+//! What no clause says of a station's folder: under which names a file is found, whichever call fails.
+mod failing_disk;
+mod names;
 mod stations;

@@ -1,0 +1,324 @@
+//! A disk of the tests' own, in memory, that fails at one of its calls.
+ghost use Rattle.std.specs.Prelude.{[]};
+
+use rje_folders::FolderDisk;
+use rje_stores::{Disk, FileKind, FileStatus};
+use std::alloc::Global;
+use std::fs::{Permissions, TryLockError};
+use std::io::{self, ErrorKind, Read};
+use std::os::unix::fs::PermissionsExt;
+
+/// Names with the numbers of their files. Of calls that change something, the one of a number fails, and is done or not.
+#[derive(Drop)]
+pub(super) struct FailingDisk {
+    alloc: Global,
+    names: Vec<Name>,
+    files: u64,
+    calls: usize,
+    fails_at: usize,
+    is_done: bool,
+}
+
+/// A name of a file.
+#[derive(Drop)]
+struct Name {
+    path: String,
+    file: u64,
+}
+
+/// An open file.
+#[derive(Drop)]
+pub(super) struct OpenFile {
+    file: u64,
+}
+
+impl FailingDisk {
+    /// A disk with no files, whose call of this number fails, done or not; none does at 0.
+    pub(super) fn new(alloc: Global, fails_at: usize, is_done: bool) -> FailingDisk {
+        FailingDisk {
+            alloc,
+            names: Vec::new(alloc),
+            files: 0,
+            calls: 0,
+            fails_at,
+            is_done,
+        }
+    }
+
+    /// The same disk, none of whose calls fails any more.
+    pub(super) fn mended(self) -> FailingDisk {
+        let FailingDisk {
+            alloc,
+            names,
+            files,
+            calls,
+            fails_at: _,
+            is_done,
+        } = self;
+        FailingDisk {
+            alloc,
+            names,
+            files,
+            calls,
+            fails_at: 0,
+            is_done,
+        }
+    }
+
+    /// A new file under a name.
+    pub(super) fn put(&mut self, path: &str) -> io::Result<u64> {
+        self.files = self.files.saturating_add(1);
+        let file = self.files;
+        self.give(path, file)?;
+        Ok(file)
+    }
+
+    /// The number of the file under a name.
+    pub(super) fn file_of(&self, path: &str) -> Option<u64> {
+        for name in &self.names {
+            if name.path.as_str() == path {
+                return Some(name.file);
+            }
+        }
+        None
+    }
+
+    /// How many names there are.
+    pub(super) fn count(&self) -> usize {
+        self.names.len()
+    }
+
+    fn give(&mut self, path: &str, file: u64) -> io::Result<()> {
+        let path = String::from_str(self.alloc, path)?;
+        self.names.push(Name { path, file })?;
+        Ok(())
+    }
+
+    /// Counts a call. Whether it is to be done.
+    fn begins(&mut self) -> bool {
+        self.calls = self.calls.saturating_add(1);
+        self.calls != self.fails_at || self.is_done
+    }
+
+    /// How the call ends that was counted last.
+    fn ended(&self) -> io::Result<()> {
+        if self.calls == self.fails_at {
+            return Err(io::Error::from(ErrorKind::StorageFull));
+        }
+        Ok(())
+    }
+
+    fn found(&self, path: &str) -> io::Result<u64> {
+        self.file_of(path)
+            .ok_or(io::Error::from(ErrorKind::NotFound))
+    }
+
+    fn place_of(&self, path: &str) -> Option<usize> {
+        for (place, name) in self.names.iter().enumerate() {
+            if name.path.as_str() == path {
+                return Some(place);
+            }
+        }
+        None
+    }
+
+    fn links_of(&self, file: u64) -> u64 {
+        let mut links: u64 = 0;
+        for name in &self.names {
+            if name.file == file {
+                links = links.saturating_add(1);
+            }
+        }
+        links
+    }
+
+    fn status_of_file(&self, file: u64) -> FileStatus {
+        FileStatus {
+            kind: FileKind::Regular,
+            mode: Permissions::from_mode(0o640),
+            len: 0,
+            device: 1,
+            inode: file,
+            links: self.links_of(file),
+        }
+    }
+}
+
+impl Read for OpenFile {
+    fn read(&mut self, _buf: &mut [u8]) -> io::Result<usize> {
+        Ok(0)
+    }
+}
+
+impl Disk for FailingDisk {
+    type File = OpenFile;
+
+    type Folder = ();
+
+    ghost discloses = { ⊥ };
+
+    ghost asked = { λ _. [] };
+
+    ghost opened = { λ _. record { name = []; number = 0 } };
+
+    ghost folder_of = { λ _. [] };
+
+    ghost leads = { λ _ _. Unit {0} };
+
+    ghost is_device = { λ _ _. Unit {0} };
+
+    fn status(&self, name: &str) -> io::Result<FileStatus> {
+        let file = self.found(name)?;
+        Ok(self.status_of_file(file))
+    }
+
+    fn status_of(&self, file: &OpenFile) -> io::Result<FileStatus> {
+        Ok(self.status_of_file(file.file))
+    }
+
+    fn is_link(&self, _name: &str) -> io::Result<bool> {
+        Ok(false)
+    }
+
+    fn whole_path(&self, alloc: Global, name: &str) -> io::Result<String> {
+        Ok(String::from_str(alloc, name)?)
+    }
+
+    fn open_to_read(&self, name: &str) -> io::Result<OpenFile> {
+        Ok(OpenFile {
+            file: self.found(name)?,
+        })
+    }
+
+    fn open_to_lock(&self, name: &str) -> io::Result<OpenFile> {
+        self.open_to_read(name)
+    }
+
+    fn try_to_write(&self, _name: &str) -> io::Result<()> {
+        Ok(())
+    }
+
+    fn create(&mut self, name: &str) -> io::Result<OpenFile> {
+        if self.file_of(name).is_some() {
+            return Err(io::Error::from(ErrorKind::AlreadyExists));
+        }
+        if self.begins() {
+            self.put(name)?;
+        }
+        self.ended()?;
+        self.open_to_read(name)
+    }
+
+    fn open_to_copy(&mut self, name: &str) -> io::Result<OpenFile> {
+        self.open_to_read(name)
+    }
+
+    fn open_to_write(&mut self, name: &str) -> io::Result<OpenFile> {
+        self.open_to_read(name)
+    }
+
+    fn open_or_create(&mut self, name: &str) -> io::Result<OpenFile> {
+        if self.file_of(name).is_none() {
+            self.put(name)?;
+        }
+        self.open_to_read(name)
+    }
+
+    fn try_lock(&self, _file: &OpenFile) -> Result<(), TryLockError> {
+        Ok(())
+    }
+
+    fn set_mode(&mut self, _file: &OpenFile, _mode: Permissions) -> io::Result<()> {
+        Ok(())
+    }
+
+    fn fill(&mut self, _file: &OpenFile, _bytes: &[u8]) -> io::Result<()> {
+        self.begins();
+        self.ended()
+    }
+
+    fn go_on(
+        &mut self,
+        _file: &OpenFile,
+        _from: &OpenFile,
+        _place: u64,
+        _bytes: &[u8],
+    ) -> io::Result<()> {
+        Err(io::Error::from(ErrorKind::Unsupported))
+    }
+
+    fn write_at(&mut self, _file: &OpenFile, _place: u64, _bytes: &[u8]) -> io::Result<()> {
+        Err(io::Error::from(ErrorKind::Unsupported))
+    }
+
+    fn sync(&mut self, _file: &OpenFile) -> io::Result<()> {
+        self.begins();
+        self.ended()
+    }
+
+    fn sync_bytes(&mut self, _file: &OpenFile) -> io::Result<()> {
+        Err(io::Error::from(ErrorKind::Unsupported))
+    }
+
+    fn rename(&mut self, _from: &str, _to: &str) -> io::Result<()> {
+        Err(io::Error::from(ErrorKind::Unsupported))
+    }
+
+    fn link(&mut self, from: &str, to: &str) -> io::Result<()> {
+        let file = self.found(from)?;
+        if self.file_of(to).is_some() {
+            return Err(io::Error::from(ErrorKind::AlreadyExists));
+        }
+        if self.begins() {
+            self.give(to, file)?;
+        }
+        self.ended()
+    }
+
+    fn remove(&mut self, name: &str) -> io::Result<()> {
+        let Some(place) = self.place_of(name) else {
+            return Err(io::Error::from(ErrorKind::NotFound));
+        };
+        if self.begins() && place < self.names.len() {
+            self.names.swap_remove(place);
+        }
+        self.ended()
+    }
+
+    fn open_folder(&self, _path: &str) -> io::Result<()> {
+        Ok(())
+    }
+
+    fn sync_folder(&mut self, _folder: &()) -> io::Result<()> {
+        self.begins();
+        self.ended()
+    }
+
+    fn write_device(&mut self, _name: &str, _bytes: &[u8]) -> io::Result<()> {
+        Err(io::Error::from(ErrorKind::Unsupported))
+    }
+}
+
+impl FolderDisk for FailingDisk {
+    ghost are_one = { λ _ _ _. Unit {0} };
+
+    fn is_one_file(&self, one: &str, other: &str) -> io::Result<bool> {
+        Ok(self.found(one)? == self.found(other)?)
+    }
+
+    fn names_in(&self, alloc: Global, folder: &str) -> io::Result<Vec<String>> {
+        let mut names = Vec::new(alloc);
+        for name in &self.names {
+            if let Some((of, own)) = name.path.as_str().rsplit_once('/') {
+                if of == folder {
+                    names.push(String::from_str(alloc, own)?)?;
+                }
+            }
+        }
+        Ok(names)
+    }
+
+    fn make_folder(&mut self, _path: &str) -> io::Result<()> {
+        Ok(())
+    }
+}

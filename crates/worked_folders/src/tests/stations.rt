@@ -1,0 +1,186 @@
+//! A station's folder on a disk that fails at each of its calls in turn.
+use super::failing_disk::FailingDisk;
+use rje_day::Disposition;
+use rje_folders::{Folder, FolderFault, StationFolder};
+use std::alloc::Global;
+use std::io;
+use std::process::Abort;
+use std::test::Fail;
+
+/// More calls than the station makes for one file.
+const MAX_CALLS: usize = 16;
+
+/// Under which names a file is found.
+#[derive(Clone, Copy, Debug, PartialEq, Eq)]
+struct Found {
+    out: bool,
+    doubt: bool,
+    sent: bool,
+}
+
+/// Where the file of this number is found.
+fn find_file(disk: &FailingDisk, file: u64) -> Found {
+    Found {
+        out: disk.file_of("s/out/A.deck") == Some(file),
+        doubt: disk.file_of("s/doubt/A.deck") == Some(file),
+        sent: disk.file_of("s/sent/A.deck") == Some(file),
+    }
+}
+
+/// A disk with one file in out/.
+fn disk_with_a_file(alloc: Global, fails_at: usize, is_done: bool) -> io::Result<FailingDisk> {
+    let mut disk = FailingDisk::new(alloc, fails_at, is_done);
+    disk.put("s/out/A.deck")?;
+    Ok(disk)
+}
+
+/// The folder of the station on this disk.
+fn opened(rt: &impl Abort, alloc: Global, disk: FailingDisk) -> StationFolder<FailingDisk> {
+    StationFolder::open(disk, alloc, "s").expect(rt, "a folder")
+}
+
+/// What the folder comes to when a station has it anew, and none of its calls fails.
+fn tidied(rt: &impl Abort, alloc: Global, disk: FailingDisk) -> FailingDisk {
+    opened(rt, alloc, disk.mended()).close()
+}
+
+/// Promises the one file, and settles it so.
+fn promised_and_settled(
+    station: &mut StationFolder<FailingDisk>,
+    disposition: Disposition,
+) -> Result<(), FolderFault> {
+    let doubt = station.promise("A.deck")?;
+    station.settle("A.deck", doubt.as_str(), disposition)
+}
+
+/// Whichever call fails, the file has a name, and at a new begin it doesn't both lie ready and stand elsewhere. Where none failed, it is found
+/// there.
+fn whichever_call_fails(
+    rt: &(impl Abort + AllocGlobal),
+    disposition: Disposition,
+    at_the_end: Found,
+) -> Result<(), Fail> {
+    let alloc = rt.alloc();
+    for fails_at in 0..MAX_CALLS {
+        for is_done in [false, true] {
+            let mut station = opened(rt, alloc, disk_with_a_file(alloc, fails_at, is_done)?);
+            let settled = promised_and_settled(&mut station, disposition);
+            let disk = station.close();
+            let left = find_file(&disk, 1);
+            assert!(rt; left.out || left.doubt || left.sent);
+            let then = find_file(&tidied(rt, alloc, disk), 1);
+            assert!(rt; then.out || then.doubt || then.sent);
+            assert!(rt; !then.out || !then.doubt && !then.sent);
+            assert!(rt; settled.is_err() || left == at_the_end);
+        }
+    }
+    Ok(())
+}
+
+#[test]
+fn a_job_that_was_counted_is_sent(rt: HostRuntime) -> Result<(), Fail> {
+    let at_the_end = Found {
+        out: false,
+        doubt: false,
+        sent: true,
+    };
+    whichever_call_fails(&rt, Disposition::Sent, at_the_end)
+}
+
+#[test]
+fn a_job_that_may_have_arrived_is_in_doubt(rt: HostRuntime) -> Result<(), Fail> {
+    let at_the_end = Found {
+        out: false,
+        doubt: true,
+        sent: false,
+    };
+    whichever_call_fails(&rt, Disposition::InDoubt, at_the_end)
+}
+
+#[test]
+fn a_job_that_was_not_accepted_lies_ready(rt: HostRuntime) -> Result<(), Fail> {
+    let at_the_end = Found {
+        out: true,
+        doubt: false,
+        sent: false,
+    };
+    whichever_call_fails(&rt, Disposition::Ready, at_the_end)
+}
+
+#[test]
+fn a_job_that_was_counted_never_lies_ready_again(rt: HostRuntime) -> Result<(), Fail> {
+    let alloc = rt.alloc();
+    // The calls of a promise are the first two.
+    for fails_at in 3..MAX_CALLS {
+        for is_done in [false, true] {
+            let mut station = opened(&rt, alloc, disk_with_a_file(alloc, fails_at, is_done)?);
+            let _ = promised_and_settled(&mut station, Disposition::Sent);
+            let then = find_file(&tidied(&rt, alloc, station.close()), 1);
+            assert!(rt; !then.out && (then.doubt || then.sent));
+        }
+    }
+    Ok(())
+}
+
+#[test]
+fn a_name_that_is_taken_is_left(rt: HostRuntime) -> Result<(), Fail> {
+    let alloc = rt.alloc();
+    let mut disk = disk_with_a_file(alloc, 0, false)?;
+    let other = disk.put("s/sent/A.deck")?;
+    let mut station = opened(&rt, alloc, disk);
+    assert!(rt; promised_and_settled(&mut station, Disposition::Sent).is_ok());
+    let disk = station.close();
+    assert!(rt; disk.file_of("s/sent/A.deck") == Some(other));
+    assert!(rt; disk.file_of("s/sent/A.deck.2") == Some(1));
+    assert!(rt; disk.file_of("s/out/A.deck").is_none());
+    Ok(())
+}
+
+#[test]
+fn a_file_that_took_the_name_of_a_job_stays(rt: HostRuntime) -> Result<(), Fail> {
+    let alloc = rt.alloc();
+    let mut station = opened(&rt, alloc, disk_with_a_file(alloc, 0, false)?);
+    let doubt = station.promise("A.deck").expect(&rt, "a second name");
+    let mut disk = station.close();
+    assert!(rt; rje_stores::Disk::remove(&mut disk, "s/out/A.deck").is_ok());
+    let other = disk.put("s/out/A.deck")?;
+    let mut station = opened(&rt, alloc, disk);
+    let settled = station.settle("A.deck", doubt.as_str(), Disposition::Sent);
+    assert!(rt; settled.is_ok());
+    let disk = station.close();
+    assert!(rt; disk.file_of("s/out/A.deck") == Some(other));
+    assert!(rt; disk.file_of("s/sent/A.deck") == Some(1));
+    Ok(())
+}
+
+#[test]
+fn what_came_gets_a_name_of_its_own(rt: HostRuntime) -> Result<(), Fail> {
+    let alloc = rt.alloc();
+    for fails_at in 0..MAX_CALLS {
+        for is_done in [false, true] {
+            let mut disk = FailingDisk::new(alloc, fails_at, is_done);
+            let first = disk.put("s/in/T-1.job")?;
+            let mut station = opened(&rt, alloc, disk);
+            let kept = station.keep(Folder::In, "T", ".job", b"1 job");
+            let disk = station.close();
+            assert!(rt; disk.file_of("s/in/T-1.job") == Some(first));
+            assert!(rt; kept.is_err() || disk.file_of("s/in/T-2.job").is_some());
+            assert!(rt; disk.file_of("s/in/T-3.job").is_none());
+        }
+    }
+    Ok(())
+}
+
+#[test]
+fn what_cannot_be_sent_is_refused(rt: HostRuntime) -> Result<(), Fail> {
+    let alloc = rt.alloc();
+    let mut station = opened(&rt, alloc, disk_with_a_file(alloc, 0, false)?);
+    let refused = station.refuse("A.deck").expect(&rt, "a path");
+    assert!(rt; refused.as_str() == "s/refused/A.deck");
+    let ready = station.first_ready().expect(&rt, "names");
+    assert!(rt; ready.is_none());
+    let disk = station.close();
+    assert!(rt; disk.file_of("s/refused/A.deck") == Some(1));
+    assert!(rt; disk.count() == 2);
+    Ok(())
+}
