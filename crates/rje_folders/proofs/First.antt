@@ -8,7 +8,7 @@ use Rattle.std.specs.declared.cmp.Ordering.TheVariants.{Less, Equal, Greater}
 use Rattle.std.proofs.lemmas.Cmp.{tied_itself, upto}
 use Rattle.std.proofs.lemmas.List.Elements.{Contains-append_cases, Contains-append_left, Contains-append_right}
 use Rattle.rje_folders.specs.ReadyFile.{IsFirstReady, IsNotAfter, is_left_alone}
-use Rattle.rje_folders.specs.Inside.{is_before}
+use Rattle.rje_folders.specs.Inside.Calls.{is_before}
 
 -- the only name of a list of one
 only : (name other : String Global) → Contains (name ∷ []) other → name ≡ other

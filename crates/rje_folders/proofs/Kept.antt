@@ -8,7 +8,7 @@ use Rattle.rje_stores.specs.Inside.Filling.{AddsSync, Fills, MayFill}
 use Rattle.rje_stores.proofs.Replacing.{added_call, added_twice, added_weaker, call_came, filled_keeps, new_bytes, new_name, whatever_came, whole_synced}
 use Rattle.rje_folders.specs.Keeping.{IsTemporary, MayKeep}
 use Rattle.rje_folders.specs.Moving.{MayLink}
-use Rattle.rje_folders.specs.Inside.{HasLinked, IsKept, IsNewIn, KeepsFiles, MayCreate, MayWrite}
+use Rattle.rje_folders.specs.Inside.Calls.{HasLinked, IsKept, IsNewIn, KeepsFiles, MayCreate, MayWrite}
 use Rattle.rje_folders.proofs.Linked.{linked_stands}
 use Rattle.rje_folders.proofs.Taken.{other_name}
 

@@ -5,7 +5,7 @@ use Rattle.std.specs.declared.io.Error.{Error}
 use Rattle.std.specs.declared.io.ErrorKind.{ErrorKind}
 use Rattle.rje_stores.specs.Disk.{Asked, Call, Done, Refused, Failed, Link, came_to, failed_by, standing}
 use Rattle.rje_stores.proofs.Replacing.{same_name}
-use Rattle.rje_folders.specs.Inside.{HasLinked, KeepsFiles}
+use Rattle.rje_folders.specs.Inside.Calls.{HasLinked, KeepsFiles}
 
 -- nothing was asked
 pub keeps_none : (a : List Asked) → KeepsFiles a a

@@ -6,7 +6,7 @@ use Rattle.rje_stores.specs.Replacing.{Adds}
 use Rattle.rje_stores.specs.Inside.Filling.{AddsSync}
 use Rattle.rje_stores.proofs.Replacing.{added_twice, added_weaker}
 use Rattle.rje_folders.specs.Moving.{IsMoved, IsSecond, MayAdd, MayDrop, MayLink, MayMove}
-use Rattle.rje_folders.specs.Inside.{HasLinked, HasTaken, KeepsFiles}
+use Rattle.rje_folders.specs.Inside.Calls.{HasLinked, HasTaken, KeepsFiles}
 use Rattle.rje_folders.proofs.Linked.{linked_stands}
 use Rattle.rje_folders.proofs.Taken.{sync_dropped, sync_kept, sync_keeps_standing, taken_gone, taken_kept, taken_standing}
 

@@ -8,7 +8,7 @@ use Rattle.rje_stores.specs.Replacing.{Adds}
 use Rattle.rje_stores.specs.Inside.Filling.{AddsSync}
 use Rattle.rje_stores.proofs.Replacing.{same_name, synced_keeps, whatever_came}
 use Rattle.rje_folders.specs.Moving.{IsGone, MayDrop}
-use Rattle.rje_folders.specs.Inside.{HasTaken}
+use Rattle.rje_folders.specs.Inside.Calls.{HasTaken}
 
 -- names that differ
 pub other_name : (name other : List ℕ) → name ≢ other → bytes_eq name other ≡ false

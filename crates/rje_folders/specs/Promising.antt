@@ -25,9 +25,10 @@ abbrev pub IsKeptElsewhere : (station name path : List ℕ) → Type 0
 IsKeptElsewhere station name path = IsNumbered (path_in station Folder.Sent name) path ⊎ IsNumbered (path_in station Folder.Doubt name) path ⊎ IsNumbered (path_in station Folder.Refused name) path
 
 -- What may be asked to bring to its end what was begun: to take the name in out/ away from a file that has one in sent/, doubt/ or refused/ too, once
--- that is on disk.
+-- that is on disk; and the name in doubt/ from a file that has one in sent/ too.
 abbrev pub MayTidy : (List Asked → List ℕ → List ℕ → Type 0) → (station : List ℕ) → Call → List Asked → Type 0
-MayTidy are_one station call before = (name kept : List ℕ) × IsKeptElsewhere station name kept × MayDrop are_one kept (path_in station Folder.Out name) call before
+MayTidy are_one station call before = ((name kept : List ℕ) × IsKeptElsewhere station name kept × MayDrop are_one kept (path_in station Folder.Out name) call before)
+    ⊎ ((name kept : List ℕ) × IsNumbered (path_in station Folder.Sent name) kept × MayDrop are_one kept (path_in station Folder.Doubt name) call before)
 
 -- the path of the file that a station locks
 abbrev pub lock_path : (station : List ℕ) → List ℕ

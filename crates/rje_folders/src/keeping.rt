@@ -5,7 +5,7 @@ ghost use Rattle.rje_stores.specs.Replacing.{Adds, IsOnDisk};
 ghost use Rattle.rje_stores.specs.Inside.Filling.{Fills};
 ghost use Rattle.rje_folders.specs.FileNames.{IsNameOf};
 ghost use Rattle.rje_folders.specs.Keeping.{IsTemporary, MayKeep};
-ghost use Rattle.rje_folders.specs.Inside.{IsKept, IsNewIn, MayCreate, MayWrite};
+ghost use Rattle.rje_folders.specs.Inside.Calls.{IsKept, IsNewIn, MayCreate, MayWrite};
 
 use crate::file_names::FileNames;
 use crate::linking::{link_free, sync_names};

@@ -5,7 +5,7 @@ ghost use Rattle.rje_stores.specs.Replacing.{Adds};
 ghost use Rattle.rje_stores.specs.Inside.Filling.{AddsSync};
 ghost use Rattle.rje_folders.specs.FileNames.{IsNameOf};
 ghost use Rattle.rje_folders.specs.Moving.{MayLink};
-ghost use Rattle.rje_folders.specs.Inside.{HasLinked};
+ghost use Rattle.rje_folders.specs.Inside.Calls.{HasLinked};
 
 use crate::file_names::FileNames;
 use rje_stores::Disk;

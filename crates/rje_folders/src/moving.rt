@@ -4,7 +4,7 @@ ghost use Rattle.rje_stores.specs.Disk.{has_synced_name};
 ghost use Rattle.rje_stores.specs.Replacing.{Adds};
 ghost use Rattle.rje_folders.specs.FileNames.{IsNameOf};
 ghost use Rattle.rje_folders.specs.Moving.{IsGone, IsMoved, IsSecond, MayAdd, MayDrop, MayMove};
-ghost use Rattle.rje_folders.specs.Inside.{HasTaken};
+ghost use Rattle.rje_folders.specs.Inside.Calls.{HasTaken};
 
 use crate::file_names::FileNames;
 use crate::folder_disk::FolderDisk;

@@ -6,7 +6,7 @@ ghost use Rattle.rje_folders.specs.Promising.{MayOpen, MayTidy, lock_path};
 use crate::folder::Folder;
 use crate::folder_disk::FolderDisk;
 use crate::folder_fault::FolderFault;
-use crate::tidying::tidy_name;
+use crate::tidying::{tidy_doubt, tidy_ready};
 use std::alloc::Global;
 use std::fs::TryLockError;
 use std::io::{self, ErrorKind};
@@ -80,24 +80,51 @@ pub(crate) fn tidy_up<D: FolderDisk>(
     ensures { D.discloses → Adds (MayTidy D.are_one station.now)
         (D.asked disk.old) (D.asked disk.new) }
 {
-    let names = names_in_out(disk, alloc, station)?;
+    tidy_out(disk, alloc, station)?;
+    tidy_doubts(disk, alloc, station)
+}
+
+/// The same of the names in out/.
+fn tidy_out<D: FolderDisk>(disk: &mut D, alloc: Global, station: &str) -> Result<(), FolderFault>
+    ensures { D.discloses → Adds (MayTidy D.are_one station.now)
+        (D.asked disk.old) (D.asked disk.new) }
+{
+    let names = names_of(disk, alloc, station, Folder::Out)?;
     for name in &names {
-        let tidied = tidy_name(disk, alloc, station, name.as_str());
+        let tidied = tidy_ready(disk, alloc, station, name.as_str());
         tidied.map_err(|error| FolderFault::of(Folder::Out, &error))?;
     }
     Ok(())
 }
 
-/// The names in out/, in no order.
-pub(crate) fn names_in_out<D: FolderDisk>(
+/// The same of the names in doubt/.
+fn tidy_doubts<D: FolderDisk>(
+    disk: &mut D,
+    alloc: Global,
+    station: &str,
+) -> Result<(), FolderFault>
+    ensures { D.discloses → Adds (MayTidy D.are_one station.now)
+        (D.asked disk.old) (D.asked disk.new) }
+{
+    let names = names_of(disk, alloc, station, Folder::Doubt)?;
+    for name in &names {
+        let tidied = tidy_doubt(disk, alloc, station, name.as_str());
+        tidied.map_err(|error| FolderFault::of(Folder::Doubt, &error))?;
+    }
+    Ok(())
+}
+
+/// The names in a folder of the station, in no order.
+pub(crate) fn names_of<D: FolderDisk>(
     disk: &D,
     alloc: Global,
     station: &str,
+    folder: Folder,
 ) -> Result<Vec<String>, FolderFault> {
-    let path = format!(in alloc; "{station}/{}", Folder::Out.as_str())?;
+    let path = format!(in alloc; "{station}/{}", folder.as_str())?;
     match disk.names_in(alloc, path.as_str()) {
         Ok(names) => Ok(names),
-        Err(error) => Err(FolderFault::of(Folder::Out, &error)),
+        Err(error) => Err(FolderFault::of(folder, &error)),
     }
 }
 

@@ -1,7 +1,7 @@
 //! Which files lie ready, and what they are, by their names.
 ghost use Rattle.std.specs.Prelude.{◌≡◌};
 ghost use Rattle.rje_folders.specs.ReadyFile.{IsFirstReady, file_of_name, is_left_alone as left_alone};
-ghost use Rattle.rje_folders.specs.Inside.{is_before};
+ghost use Rattle.rje_folders.specs.Inside.Calls.{is_before};
 ghost use Rattle.rje_folders.specs.declared.ready_file.ReadyFile.TheVariants.{Deck};
 
 use rje_text::{Mode, Select};

@@ -9,7 +9,7 @@ ghost use Rattle.rje_folders.specs.Promising.{MayOpen, MayPromise, MaySettle};
 use crate::folder::Folder;
 use crate::folder_disk::FolderDisk;
 use crate::folder_fault::FolderFault;
-use crate::opening::{is_there, locked, make_folders, names_in_out, tidy_up};
+use crate::opening::{is_there, locked, make_folders, names_of, tidy_up};
 use crate::promising::{promise, settle};
 use crate::ready_file::first_ready;
 use crate::receiving::{keep_in, refuse};
@@ -46,7 +46,7 @@ impl<D: FolderDisk + Drop> StationFolder<D> {
 
     /// The first name in out/ that isn't left alone.
     pub fn first_ready(&self) -> Result<Option<String>, FolderFault> {
-        let names = names_in_out(&self.disk, self.alloc, self.path.as_str())?;
+        let names = names_of(&self.disk, self.alloc, self.path.as_str(), Folder::Out)?;
         Ok(first_ready(names))
     }
 

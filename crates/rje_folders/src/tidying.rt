@@ -17,7 +17,7 @@ const MAX_NAMES: u32 = 1000;
 
 /// Takes a name in out/ away, where its file has one in sent/, doubt/ or refused/ too: so a file that was counted, that may have arrived or that was
 /// refused doesn't lie ready.
-pub(crate) fn tidy_name<D: FolderDisk>(
+pub(crate) fn tidy_ready<D: FolderDisk>(
     disk: &mut D,
     alloc: Global,
     station: &str,
@@ -33,6 +33,29 @@ pub(crate) fn tidy_name<D: FolderDisk>(
     match kept_name(disk, alloc, station, name, ready.as_str())? {
         Some(kept) => {
             drop_name(disk, kept.as_str(), ready.as_str())?;
+            Ok(())
+        }
+        None => Ok(()),
+    }
+}
+
+/// Takes a name in doubt/ away, where its file has one in sent/ too: so a file that was counted isn't in doubt.
+pub(crate) fn tidy_doubt<D: FolderDisk>(
+    disk: &mut D,
+    alloc: Global,
+    station: &str,
+    name: &str,
+) -> io::Result<()>
+    ensures { D.discloses → Adds (MayTidy D.are_one station.now)
+        (D.asked disk.old) (D.asked disk.new) }
+{
+    let doubt = Folder::Doubt.path(alloc, station, name)?;
+    if disk.status(doubt.as_str())?.links < 2 {
+        return Ok(());
+    }
+    match second_in(disk, alloc, station, Folder::Sent, name, doubt.as_str())? {
+        Some(kept) => {
+            drop_name(disk, kept.as_str(), doubt.as_str())?;
             Ok(())
         }
         None => Ok(()),

@@ -2,7 +2,7 @@ use Rattle.std.proofs.Common.{refl, subst, sym}
 use Rattle.rje_stores.specs.Disk.{Create}
 use Rattle.rje_stores.proofs.Replacing.{added_call}
 use Rattle.rje_folders.specs.Keeping.{IsTemporary}
-use Rattle.rje_folders.specs.Inside.{MayCreate}
+use Rattle.rje_folders.specs.Inside.Calls.{MayCreate}
 use Rattle.rje_folders.proofs.keeping.create_new.Goals as goal
 
 pub returns-in-Ok-clause-asks : goal.returns-in-Ok-clause-asks

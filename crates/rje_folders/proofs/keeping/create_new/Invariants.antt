@@ -1,5 +1,5 @@
 use Rattle.rje_stores.specs.Replacing.{Adds}
-use Rattle.rje_folders.specs.Inside.{MayCreate}
+use Rattle.rje_folders.specs.Inside.Calls.{MayCreate}
 use Rattle.rje_folders.proofs.keeping.create_new.Given as goal
 
 abbrev pub invariant-loop-number : goal.invariant-loop-number

@@ -1,7 +1,7 @@
 use Rattle.std.proofs.Common.{inl, inr, refl}
 use Rattle.rje_stores.specs.Disk.{Fill, Sync}
 use Rattle.rje_stores.proofs.Replacing.{added_call, added_none}
-use Rattle.rje_folders.specs.Inside.{MayWrite}
+use Rattle.rje_folders.specs.Inside.Calls.{MayWrite}
 use Rattle.rje_folders.proofs.keeping.fill_new.Goals as goal
 
 pub returns-in_err-fill-clause-asks : goal.returns-in_err-fill-clause-asks

@@ -1,7 +1,7 @@
 use Rattle.rje_stores.specs.Replacing.{Adds}
 use Rattle.rje_folders.specs.FileNames.{IsNameOf}
 use Rattle.rje_folders.specs.Moving.{MayLink}
-use Rattle.rje_folders.specs.Inside.{KeepsFiles}
+use Rattle.rje_folders.specs.Inside.Calls.{KeepsFiles}
 use Rattle.rje_folders.proofs.linking.link_free.Given as goal
 
 abbrev pub invariant-loop-number : goal.invariant-loop-number

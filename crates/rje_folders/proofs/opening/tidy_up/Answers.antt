@@ -2,8 +2,5 @@ use Rattle.rje_stores.proofs.Replacing.{added_twice}
 use Rattle.rje_folders.specs.Promising.{MayTidy}
 use Rattle.rje_folders.proofs.opening.tidy_up.Goals as goal
 
-pub returns-in_err-map_err : goal.returns-in_err-map_err
-returns-in_err-map_err g c = λ told. added_twice (MayTidy g.D.FolderDisk.are_one c.args.station.now) _ _ _ (c.loop-name.invariant told) (c.tidy_name-tidied.ensures told)
-
-pub loop-name-preserved : goal.loop-name-preserved
-loop-name-preserved g c = λ told. added_twice (MayTidy g.D.FolderDisk.are_one c.args.station.now) _ _ _ (c.loop-name.invariant told) (c.tidy_name-tidied.ensures told)
+pub returns : goal.returns
+returns g c = λ told. added_twice (MayTidy g.D.FolderDisk.are_one c.args.station.now) _ _ _ (c.tidy_out.ensures told) (c.tidy_doubts.ensures told)

@@ -1,7 +1,7 @@
 use Rattle.std.proofs.Common.{◌≡◌, inl, inr, true, false, rules}
 use Rattle.std.specs.Prelude.{string_bytes}
 use Rattle.rje_folders.specs.ReadyFile.{is_left_alone}
-use Rattle.rje_folders.specs.Inside.{is_before}
+use Rattle.rje_folders.specs.Inside.Calls.{is_before}
 use Rattle.rje_folders.proofs.First.{passed, taken}
 use Rattle.rje_folders.proofs.ready_file.first_ready.Goals as goal
 use Rattle.rje_folders.proofs.ready_file.first_ready.Goals.{else-not-is_left_alone-via-then-not-is_left_alone+else-comes_before, else-not-is_left_alone-via-else-not-is_left_alone}

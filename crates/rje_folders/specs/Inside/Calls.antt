@@ -1,0 +1,44 @@
+-- What is asked step by step, and what names come to.
+use Rattle.std.specs.Prelude.{◌≡◌, ◌≢◌, ◌⊎◌, ℕ, List, [], ◌∷◌, length, Option, Some, None, Bool, true, String, string_bytes}
+use Rattle.rje_stores.specs.Disk.{Asked, Call, Opened, Done, Create, Fill, Sync, Link, Remove, standing, bytes_of, is_synced, has_synced_name}
+use Rattle.rje_stores.specs.Replacing.{IsOnDisk}
+use Rattle.rje_stores.specs.Inside.Filling.{AddsSync}
+use Rattle.std.specs.Cmp.Lexicographic.{slice_cmp}
+use Rattle.std.specs.Ordering.{is_lt, nat_cmp}
+use Rattle.std.specs.declared.alloc.Global.{Global}
+use Rattle.rje_folders.specs.Keeping.{IsTemporary}
+
+-- each name stands for what it stood for, and each file is as it was
+pub record KeepsFiles (before after : List Asked) : Type 0 where
+  pub stands : (name : List ℕ) → standing name after ≡ standing name before
+  pub has : (number : ℕ) → bytes_of number after ≡ bytes_of number before
+  pub is : (number : ℕ) → is_synced number after ≡ is_synced number before
+
+-- the last call gave the file of one name another, which no file had, and those before it left all files as they were
+abbrev pub HasLinked : (from to : List ℕ) → List Asked → List Asked → Type 0
+HasLinked from to before after = (between : List Asked) × (after ≡ Done (Link from to) ∷ between) × KeepsFiles before between × (standing to between ≡ None)
+
+-- the last calls took a name away, and put that on disk; the name isn't the one that is kept
+abbrev pub HasTaken : (kept name : List ℕ) → List Asked → List Asked → Type 0
+HasTaken kept name before after = (kept ≢ name) × AddsSync name (Done (Remove name) ∷ before) after × (has_synced_name name after ≡ true)
+
+-- what may be asked to make a new file of a folder
+abbrev pub MayCreate : (folder : List ℕ) → Call → List Asked → Type 0
+MayCreate folder call before = (name : List ℕ) × IsTemporary folder name × (call ≡ Create name)
+
+-- the last of these calls made this file, new and empty, under a name of the folder that is left alone
+abbrev pub IsNewIn : (folder : List ℕ) → Opened → (name : List ℕ) → List Asked → Type 0
+IsNewIn folder file name after = (before : List Asked) × (after ≡ Done (Create name) ∷ before) × (file ≡ record { name = name; number = length before }) × IsTemporary folder name
+
+-- what may be asked to write an empty file
+abbrev pub MayWrite : Opened → Call → List Asked → Type 0
+MayWrite file call before = ((bytes : List ℕ) × (call ≡ Fill file bytes) × (bytes_of file.number before ≡ Some [])) ⊎ (call ≡ Sync file)
+
+-- a new file has these bytes under a name that isn't the one that it was made under, all on disk
+abbrev pub IsKept : (temporary name bytes : List ℕ) → List Asked → Type 0
+IsKept temporary name bytes after = (name ≢ temporary) × IsOnDisk name bytes after
+
+-- a name comes before the first one so far, where there is one
+abbrev pub is_before : List ℕ → Option (String Global) → Bool
+is_before name None = true
+is_before name (Some first) = is_lt (slice_cmp nat_cmp name (string_bytes first))
