@@ -1,5 +1,5 @@
 -- The first name of several, one name after another.
-use Rattle.std.proofs.Common.{◌≡◌, ◌⊎◌, ℕ, zero, suc, ◌<◌, inl, inr, List, [], ◌∷◌, ◌++◌, length, Option, Some, None, Bool, true, false, Global, refl, sym, ◌∙◌, ap, subst, arith}
+use Rattle.std.proofs.Common.{◌≡◌, ◌⊎◌, ℕ, zero, suc, inl, inr, List, [], ◌∷◌, ◌++◌, Option, Some, None, true, false, Global, refl, sym, ◌∙◌, ap, subst, arith}
 use Rattle.std.specs.Prelude.{Contains, String, string_bytes}
 use Rattle.std.specs.Cmp.Lexicographic.{slice_cmp, nat_list_cmp_total}
 use Rattle.std.specs.Ordering.{is_gt, is_lt, nat_cmp, ordering_reverse}
@@ -51,16 +51,16 @@ taken names first name so_far ready before = (
 pub passed : (names : List (String Global)) (first : Option (String Global)) (name : String Global) → IsFirstReady names first → (is_left_alone (string_bytes name) ≡ true) ⊎ (is_before (string_bytes name) first ≡ false)
     → IsFirstReady (names ++ name ∷ []) first
 passed names None name so_far (inl alone) = λ other among. elim (Contains-append_cases names (name ∷ []) other among) [
-    inl before ↦ so_far other before
+  | inl before ↦ so_far other before
   | inr last ↦ subst (λ (x : String Global). is_left_alone (string_bytes x) ≡ true) (only name other last) alone
-  ]
+]
 passed names None name so_far (inr before) = cc
 passed names (Some first) name so_far why = (
   Contains-append_left names (name ∷ []) first so_far.0,
   so_far.1,
   λ other among free. elim (Contains-append_cases names (name ∷ []) other among) [
-    inl earlier ↦ so_far.2 other earlier free
-  | inr last ↦ later why other (only name other last) free
+    | inl earlier ↦ so_far.2 other earlier free
+    | inr last ↦ later why other (only name other last) free
   ],
 ) where
   later : (is_left_alone (string_bytes name) ≡ true) ⊎ (is_before (string_bytes name) (Some first) ≡ false) → (other : String Global) → name ≡ other → is_left_alone (string_bytes other) ≡ false → IsNotAfter (string_bytes first) (string_bytes other)

@@ -1,14 +1,14 @@
 -- How bytes become a new file: call after call.
-use Rattle.std.proofs.Common.{◌≡◌, ◌≢◌, ℕ, inl, inr, List, [], ◌∷◌, ◌++◌, length, Option, Some, None, Result, Ok, Err, IfOk, Bool, true, false, if◌then◌else◌, Global, refl, sym, ◌∙◌, ap, subst}
+use Rattle.std.proofs.Common.{◌≡◌, ◌≢◌, ℕ, inl, inr, List, [], ◌∷◌, ◌++◌, Option, Some, None, Result, Ok, Err, IfOk, Bool, true, false, if◌then◌else◌, Global, refl, sym, ◌∙◌, ap, subst}
 use Rattle.std.specs.Prelude.{bytes_eq, string_bytes, String}
 use Rattle.std.specs.declared.io.Error.{Error}
-use Rattle.rje_stores.specs.Disk.{Asked, Call, Opened, Done, Refused, Failed, Create, Fill, Sync, Link, Remove, SyncFolder, call_of, came_to, standing, bytes_of, is_synced, has_synced_name}
+use Rattle.rje_stores.specs.Disk.{Asked, Call, Opened, Done, Refused, Failed, Create, Remove, call_of, came_to, standing, bytes_of, is_synced, has_synced_name}
 use Rattle.rje_stores.specs.Replacing.{Adds, Each, IsOnDisk, IsWhole}
 use Rattle.rje_stores.specs.Inside.Filling.{AddsSync, Fills, MayFill}
 use Rattle.rje_stores.proofs.Replacing.{added_call, added_twice, added_weaker, call_came, filled_keeps, new_bytes, new_name, whatever_came, whole_synced}
 use Rattle.rje_folders.specs.Keeping.{IsTemporary, MayKeep}
 use Rattle.rje_folders.specs.Moving.{MayLink}
-use Rattle.rje_folders.specs.Inside.Calls.{HasLinked, IsKept, IsNewIn, KeepsFiles, MayCreate, MayWrite}
+use Rattle.rje_folders.specs.Inside.Calls.{HasLinked, IsKept, IsNewIn, MayCreate, MayWrite}
 use Rattle.rje_folders.proofs.Linked.{linked_stands}
 use Rattle.rje_folders.proofs.Taken.{other_name}
 

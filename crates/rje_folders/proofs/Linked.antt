@@ -1,9 +1,9 @@
 -- Calls that give a file another name.
-use Rattle.std.proofs.Common.{◌≡◌, ℕ, List, ◌∷◌, Result, Ok, Err, refl, sym, ◌∙◌, ap, subst}
+use Rattle.std.proofs.Common.{◌≡◌, ℕ, List, ◌∷◌, Result, Err, refl, sym, ◌∙◌, ap, subst}
 use Rattle.std.specs.IoError.{error_kind}
 use Rattle.std.specs.declared.io.Error.{Error}
 use Rattle.std.specs.declared.io.ErrorKind.{ErrorKind}
-use Rattle.rje_stores.specs.Disk.{Asked, Call, Done, Refused, Failed, Link, came_to, failed_by, standing}
+use Rattle.rje_stores.specs.Disk.{Asked, Call, Refused, Failed, Link, came_to, failed_by, standing}
 use Rattle.rje_stores.proofs.Replacing.{same_name}
 use Rattle.rje_folders.specs.Inside.Calls.{HasLinked, KeepsFiles}
 

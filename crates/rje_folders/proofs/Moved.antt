@@ -1,12 +1,12 @@
 -- How a file is moved, and how it gets a second name: call after call.
 use Rattle.std.proofs.Common.{◌≡◌, ℕ, inl, inr, List, Option, Bool, true, false, if◌then◌else◌, refl, ◌∙◌, ap}
 use Rattle.std.specs.Prelude.{bytes_eq}
-use Rattle.rje_stores.specs.Disk.{Asked, Done, Link, standing, has_synced_name}
+use Rattle.rje_stores.specs.Disk.{Asked, standing, has_synced_name}
 use Rattle.rje_stores.specs.Replacing.{Adds}
 use Rattle.rje_stores.specs.Inside.Filling.{AddsSync}
 use Rattle.rje_stores.proofs.Replacing.{added_twice, added_weaker}
 use Rattle.rje_folders.specs.Moving.{IsMoved, IsSecond, MayAdd, MayDrop, MayLink, MayMove}
-use Rattle.rje_folders.specs.Inside.Calls.{HasLinked, HasTaken, KeepsFiles}
+use Rattle.rje_folders.specs.Inside.Calls.{HasLinked, HasTaken}
 use Rattle.rje_folders.proofs.Linked.{linked_stands}
 use Rattle.rje_folders.proofs.Taken.{sync_dropped, sync_kept, sync_keeps_standing, taken_gone, taken_kept, taken_standing}
 

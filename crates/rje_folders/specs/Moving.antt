@@ -1,6 +1,6 @@
 -- How a file gets another name, and loses the one that it had, so that it has one on disk at each moment.
-use Rattle.std.specs.Prelude.{◌≡◌, ◌≢◌, ◌⊎◌, ℕ, List, ◌∷◌, None, true}
-use Rattle.rje_stores.specs.Disk.{Asked, Call, Done, Link, Remove, SyncFolder, standing, has_synced_name}
+use Rattle.std.specs.Prelude.{◌≡◌, ◌≢◌, ◌⊎◌, ℕ, List, None, true}
+use Rattle.rje_stores.specs.Disk.{Asked, Call, Link, Remove, SyncFolder, standing, has_synced_name}
 
 -- A name can be taken away, and its file isn't lost: the disk has just said that it is the file of another name too, and that name is on disk.
 -- The disk says it by a relation of its own.

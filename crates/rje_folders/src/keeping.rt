@@ -45,11 +45,7 @@ pub fn keep<D: Disk>(
 }
 
 /// A new file of a folder, empty.
-fn create_new<D: Disk>(
-    disk: &mut D,
-    alloc: Global,
-    folder: &str,
-) -> io::Result<NewFile<D::File>>
+fn create_new<D: Disk>(disk: &mut D, alloc: Global, folder: &str) -> io::Result<NewFile<D::File>>
     ensures asks { D.discloses
         → Adds (MayCreate folder.now) (D.asked disk.old) (D.asked disk.new) }
     ensures new { D.discloses → IfOk result (λ new. IsNewIn folder.now (D.opened new.file)

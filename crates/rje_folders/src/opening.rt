@@ -98,11 +98,7 @@ fn tidy_out<D: FolderDisk>(disk: &mut D, alloc: Global, station: &str) -> Result
 }
 
 /// The same of the names in doubt/.
-fn tidy_doubts<D: FolderDisk>(
-    disk: &mut D,
-    alloc: Global,
-    station: &str,
-) -> Result<(), FolderFault>
+fn tidy_doubts<D: FolderDisk>(disk: &mut D, alloc: Global, station: &str) -> Result<(), FolderFault>
     ensures { D.discloses → Adds (MayTidy D.are_one station.now)
         (D.asked disk.old) (D.asked disk.new) }
 {

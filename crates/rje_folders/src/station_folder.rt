@@ -71,8 +71,9 @@ impl<D: FolderDisk + Drop> StationFolder<D> {
             (path_in (string_bytes self.old.path) Folder.Doubt name.now) (string_bytes doubt)) }
         ensures path { self.new.path ≡ self.old.path }
     {
-        promise(&mut self.disk, self.alloc, self.path.as_str(), name)
-            .map_err(|error| FolderFault::of(Folder::Doubt, &error))
+        promise(&mut self.disk, self.alloc, self.path.as_str(), name).map_err(
+            |error| FolderFault::of(Folder::Doubt, &error),
+        )
     }
 
     /// Once it is known what becomes of a job that was promised, whose file has this name in out/ and this path in doubt/: it is in sent/, in doubt/ or
@@ -88,8 +89,15 @@ impl<D: FolderDisk + Drop> StationFolder<D> {
             (D.asked self.old.disk) (D.asked self.new.disk) }
         ensures path { self.new.path ≡ self.old.path }
     {
-        settle(&mut self.disk, self.alloc, self.path.as_str(), name, doubt, disposition)
-            .map_err(|error| FolderFault::of(Folder::Sent, &error))
+        settle(
+            &mut self.disk,
+            self.alloc,
+            self.path.as_str(),
+            name,
+            doubt,
+            disposition,
+        )
+        .map_err(|error| FolderFault::of(Folder::Sent, &error))
     }
 
     /// Puts a file of out/ that can't be sent into refused/. The path that it has there.
@@ -103,8 +111,9 @@ impl<D: FolderDisk + Drop> StationFolder<D> {
             (D.asked self.old.disk) (D.asked self.new.disk)) }
         ensures path { self.new.path ≡ self.old.path }
     {
-        refuse(&mut self.disk, self.alloc, self.path.as_str(), name)
-            .map_err(|error| FolderFault::of(Folder::Refused, &error))
+        refuse(&mut self.disk, self.alloc, self.path.as_str(), name).map_err(
+            |error| FolderFault::of(Folder::Refused, &error),
+        )
     }
 
     /// Makes these bytes a new file of a folder: STAMP-1, STAMP-2 or so on, with this ending. Its path. It is on disk then, and so is its name.
@@ -122,8 +131,16 @@ impl<D: FolderDisk + Drop> StationFolder<D> {
             (string_bytes path)) }
         ensures path { self.new.path ≡ self.old.path }
     {
-        keep_in(&mut self.disk, self.alloc, self.path.as_str(), folder, stamp, ending, bytes)
-            .map_err(|error| FolderFault::of(folder, &error))
+        keep_in(
+            &mut self.disk,
+            self.alloc,
+            self.path.as_str(),
+            folder,
+            stamp,
+            ending,
+            bytes,
+        )
+        .map_err(|error| FolderFault::of(folder, &error))
     }
 
     /// Lets the folder go, and gives back the disk.

@@ -15,7 +15,14 @@ fn first_of(alloc: Global, names: &[&str]) -> io::Result<Option<String>> {
 
 #[test]
 fn the_least_name_in_the_order_of_bytes_is_first(rt: HostRuntime) -> Result<(), Fail> {
-    let names = ["b.deck", ".a.deck", "a.deck.part", "B.deck", "a.hold", "a.deck"];
+    let names = [
+        "b.deck",
+        ".a.deck",
+        "a.deck.part",
+        "B.deck",
+        "a.hold",
+        "a.deck",
+    ];
     let first = first_of(rt.alloc(), &names)?.expect(&rt, "a name");
     assert!(rt; first.as_str() == "B.deck");
     assert!(rt; first_of(rt.alloc(), &[".a", "b.part"])?.is_none());

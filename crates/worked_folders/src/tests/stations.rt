@@ -71,6 +71,7 @@ fn whichever_call_fails(
             let then = find_file(&tidied(rt, alloc, disk), 1);
             assert!(rt; then.out || then.doubt || then.sent);
             assert!(rt; !then.out || !then.doubt && !then.sent);
+            assert!(rt; !then.doubt || !then.sent);
             assert!(rt; settled.is_err() || left == at_the_end);
         }
     }

@@ -1,4 +1,4 @@
-use Rattle.std.proofs.Common.{inl, subst, sym}
+use Rattle.std.proofs.Common.{inl}
 use Rattle.std.specs.Prelude.{string_bytes}
 use Rattle.rje_stores.specs.Disk.{Remove}
 use Rattle.rje_stores.proofs.Replacing.{added_call, added_twice}

@@ -1,4 +1,3 @@
-use Rattle.std.proofs.Common.{sym}
 use Rattle.std.specs.Prelude.{string_bytes}
 use Rattle.rje_folders.specs.FileNames.{IsNameOf}
 use Rattle.rje_folders.proofs.Kept.{kept_is, link_kept, new_is_empty, sync_kept, unkept, write_keeps, written_whole}

@@ -1,4 +1,3 @@
-use Rattle.std.proofs.Common.{◌≡◌}
 use Rattle.rje_folders.specs.Moving.{MayDrop}
 use Rattle.rje_stores.proofs.Replacing.{added_twice}
 use Rattle.rje_folders.proofs.Taken.{sync_kept}

@@ -1,4 +1,3 @@
-use Rattle.std.proofs.Common.{sym}
 use Rattle.std.specs.Prelude.{string_bytes}
 use Rattle.rje_folders.specs.FileNames.{IsNameOf}
 use Rattle.rje_folders.proofs.Moved.{all_moves, link_moves, link_sync_moves}

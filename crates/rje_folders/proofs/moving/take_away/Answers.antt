@@ -1,8 +1,7 @@
-use Rattle.std.proofs.Common.{◌≡◌, ◌≢◌, inr, refl, true, rules}
+use Rattle.std.proofs.Common.{◌≢◌, inr, refl, rules}
 use Rattle.rje_stores.specs.Disk.{Remove}
-use Rattle.rje_stores.specs.Replacing.{Adds}
 use Rattle.rje_stores.proofs.Replacing.{added_call, added_none, added_twice}
-use Rattle.rje_folders.specs.Moving.{IsSpare, MayDrop}
+use Rattle.rje_folders.specs.Moving.{MayDrop}
 use Rattle.rje_folders.proofs.Taken.{sync_dropped}
 use Rattle.rje_folders.proofs.moving.take_away.Goals as goal
 

@@ -1,4 +1,4 @@
-use Rattle.std.proofs.Common.{inl, refl, ◌∙◌, ap}
+use Rattle.std.proofs.Common.{inl, ◌∙◌, ap}
 use Rattle.rje_stores.specs.Disk.{OpenLock}
 use Rattle.rje_stores.proofs.Replacing.{added_call, added_none}
 use Rattle.rje_folders.specs.Promising.{MayOpen}

@@ -1,9 +1,4 @@
-use Rattle.std.proofs.Common.{subst, sym, ◌∙◌, List, ℕ}
-use Rattle.rje_stores.specs.Replacing.{Adds}
-use Rattle.rje_folders.specs.FileNames.{IsNumbered}
-use Rattle.rje_folders.specs.declared.folder.Folder.{Folder}
-use Rattle.rje_folders.specs.Folder.{path_in}
-use Rattle.rje_folders.specs.Moving.{MayAdd}
+use Rattle.std.proofs.Common.{◌∙◌}
 use Rattle.rje_folders.proofs.promising.promise.Goals as goal
 
 pub returns-clause-asks : goal.returns-clause-asks

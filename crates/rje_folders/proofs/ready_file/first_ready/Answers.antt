@@ -14,10 +14,10 @@ loop-name-preserved-then-comes_before c =
 
 pub loop-name-preserved : goal.loop-name-preserved
 loop-name-preserved c = elim c.else-not-is_left_alone.branch [
-    else-not-is_left_alone-via-then-not-is_left_alone+else-comes_before w ↦
-        let before : is_before (string_bytes c.in-Some.name) c.loop-name.first ≡ false = search rules in
-        passed c.loop-name.yielded c.loop-name.first c.in-Some.name c.loop-name.invariant (inr before)
+  | else-not-is_left_alone-via-then-not-is_left_alone+else-comes_before w ↦
+      let before : is_before (string_bytes c.in-Some.name) c.loop-name.first ≡ false = search rules in
+      passed c.loop-name.yielded c.loop-name.first c.in-Some.name c.loop-name.invariant (inr before)
   | else-not-is_left_alone-via-else-not-is_left_alone w ↦
-        let alone : is_left_alone (string_bytes c.in-Some.name) ≡ true = search rules in
-        passed c.loop-name.yielded c.loop-name.first c.in-Some.name c.loop-name.invariant (inl alone)
-  ]
+      let alone : is_left_alone (string_bytes c.in-Some.name) ≡ true = search rules in
+      passed c.loop-name.yielded c.loop-name.first c.in-Some.name c.loop-name.invariant (inl alone)
+]

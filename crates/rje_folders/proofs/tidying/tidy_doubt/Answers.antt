@@ -1,5 +1,5 @@
 use Rattle.std.proofs.Common.{inr, ◌∙◌}
-use Rattle.std.specs.Prelude.{IfSome, string_bytes}
+use Rattle.std.specs.Prelude.{string_bytes}
 use Rattle.rje_stores.proofs.Replacing.{added_weaker}
 use Rattle.rje_folders.specs.declared.folder.Folder.{Folder}
 use Rattle.rje_folders.specs.FileNames.{IsNumbered}
