@@ -79,7 +79,8 @@ fn keep_new<D: Disk>(
 ) -> io::Result<String>
     ensures asks { D.discloses → (folder : List ℕ)
         → IsNewIn folder (D.opened new.now.file) (string_bytes new.now.path) (D.asked disk.old)
-        → Adds (MayKeep folder (IsNameOf names.entry) bytes.now) (D.asked disk.old) (D.asked disk.new) }
+        → Adds (MayKeep folder (IsNameOf names.entry) bytes.now)
+        (D.asked disk.old) (D.asked disk.new) }
     ensures kept { D.discloses → (folder : List ℕ)
         → IsNewIn folder (D.opened new.now.file) (string_bytes new.now.path) (D.asked disk.old)
         → IfOk result (λ name. IsKept (string_bytes new.now.path) (string_bytes name) bytes.now

@@ -21,7 +21,8 @@ pub fn move_file<D: FolderDisk>(
     names: FileNames<'_>,
 ) -> io::Result<String>
     ensures asks { D.discloses
-        → Adds (MayMove D.are_one from.now (IsNameOf names.entry)) (D.asked disk.old) (D.asked disk.new) }
+        → Adds (MayMove D.are_one from.now (IsNameOf names.entry))
+        (D.asked disk.old) (D.asked disk.new) }
     ensures moved { D.discloses → IfOk result (λ to. IsMoved from.now (string_bytes to)
         (D.asked disk.old) (D.asked disk.new)) }
     ensures named { IfOk result (λ to. IsNameOf names.entry (string_bytes to)) }
@@ -45,7 +46,8 @@ pub fn add_name<D: FolderDisk>(
     names: FileNames<'_>,
 ) -> io::Result<String>
     ensures asks { D.discloses
-        → Adds (MayAdd D.are_one name.now (IsNameOf names.entry)) (D.asked disk.old) (D.asked disk.new) }
+        → Adds (MayAdd D.are_one name.now (IsNameOf names.entry))
+        (D.asked disk.old) (D.asked disk.new) }
     ensures second { D.discloses → IfOk result (λ second. IsSecond name.now
         (string_bytes second) (D.asked disk.old) (D.asked disk.new)) }
     ensures named { IfOk result (λ second. IsNameOf names.entry (string_bytes second)) }

@@ -63,7 +63,8 @@ fn put_in_sent<D: FolderDisk>(
     doubt: &str,
 ) -> io::Result<()>
     ensures { D.discloses → Adds
-        (MaySettle D.are_one station.now name.now doubt.now Disposition.Sent) (D.asked disk.old) (D.asked disk.new) }
+        (MaySettle D.are_one station.now name.now doubt.now Disposition.Sent)
+        (D.asked disk.old) (D.asked disk.new) }
 {
     let ready = Folder::Out.path(alloc, station, name)?;
     let sent = Folder::Sent.path(alloc, station, name)?;
@@ -98,7 +99,8 @@ fn take_back<D: FolderDisk>(
     doubt: &str,
 ) -> io::Result<()>
     ensures { D.discloses → Adds
-        (MaySettle D.are_one station.now name.now doubt.now Disposition.Ready) (D.asked disk.old) (D.asked disk.new) }
+        (MaySettle D.are_one station.now name.now doubt.now Disposition.Ready)
+        (D.asked disk.old) (D.asked disk.new) }
 {
     let ready = Folder::Out.path(alloc, station, name)?;
     drop_name(disk, ready.as_str(), doubt)?;

@@ -62,8 +62,8 @@ impl<D: FolderDisk + Drop> StationFolder<D> {
 
     /// Before the last block of the job of this file in out/ is said: the file gets a second name, in doubt/, on disk. That name's path.
     pub fn promise(&mut self, name: &str) -> Result<String, FolderFault>
-        ensures asks { D.discloses → Adds (MayPromise D.are_one (string_bytes self.old.path) name.now)
-            (D.asked self.old.disk) (D.asked self.new.disk) }
+        ensures asks { D.discloses → Adds
+            (MayPromise D.are_one (string_bytes self.old.path) name.now) (D.asked self.old.disk) (D.asked self.new.disk) }
         ensures second { D.discloses → IfOk result (λ doubt. IsSecond
             (path_in (string_bytes self.old.path) Folder.Out name.now) (string_bytes doubt)
             (D.asked self.old.disk) (D.asked self.new.disk)) }
@@ -76,8 +76,8 @@ impl<D: FolderDisk + Drop> StationFolder<D> {
         )
     }
 
-    /// Once it is known what becomes of a job that was promised, whose file has this name in out/ and this path in doubt/: it is in sent/, in doubt/ or
-    /// in out/ alone.
+    /// Once it is known what becomes of a job that was promised, whose file has this name in out/ and this path in doubt/: it is in sent/, in
+    /// doubt/ or in out/ alone.
     pub fn settle(
         &mut self,
         name: &str,
@@ -97,7 +97,7 @@ impl<D: FolderDisk + Drop> StationFolder<D> {
             doubt,
             disposition,
         )
-        .map_err(|error| FolderFault::of(Folder::Sent, &error))
+        .map_err(|error| FolderFault::of(Folder::Doubt, &error))
     }
 
     /// Puts a file of out/ that can't be sent into refused/. The path that it has there.
