@@ -1,10 +1,10 @@
 -- Calls that take a name away from a file.
-use Rattle.std.proofs.Common.{◌≡◌, ◌≢◌, ℕ, inl, inr, List, [], ◌∷◌, Bool, true, false, if◌then◌else◌, refl, sym, ◌∙◌, ap, subst}
+use Rattle.std.proofs.Common.{◌≡◌, ◌≢◌, ℕ, inl, inr, List, [], ◌∷◌, ◌++◌, Bool, true, false, if◌then◌else◌, refl, sym, ◌∙◌, ap, subst}
 use Rattle.std.specs.Prelude.{bytes_eq}
 use Rattle.std.proofs.lemmas.Slice.Eq.{bytes_eq-Decides}
 use Rattle.std.proofs.lemmas.Bool.{false_from_ne_true}
 use Rattle.rje_stores.specs.Disk.{Asked, Call, Done, Refused, Failed, Remove, SyncFolder, call_of, standing, has_synced_name}
-use Rattle.rje_stores.specs.Replacing.{Adds}
+use Rattle.rje_stores.specs.Replacing.{Adds, Each}
 use Rattle.rje_stores.specs.Inside.Filling.{AddsSync}
 use Rattle.rje_stores.proofs.Replacing.{same_name, synced_keeps, whatever_came}
 use Rattle.rje_folders.specs.Moving.{IsGone, MayDrop}
@@ -58,3 +58,24 @@ taken_kept kept name a b (differ, sync, synced) h =
 pub taken_standing : (kept name : List ℕ) (a b : List Asked) → HasTaken kept name a b → standing kept b ≡ standing kept a
 taken_standing kept name a b (differ, sync, synced) =
     sync_keeps_standing name kept (Done (Remove name) ∷ a) b sync ∙ rw (other_name kept name differ) refl
+
+-- whatever is asked to take a name away leaves the other one on disk
+drop_leaves : (are_one : List Asked → List ℕ → List ℕ → Type 0) (kept name : List ℕ) (call : Call) (before : List Asked) → MayDrop are_one kept name call before → has_synced_name kept before ≡ true
+    → (has_synced_name kept (Done call ∷ before) ≡ true) × (has_synced_name kept (Refused call ∷ before) ≡ true) × (has_synced_name kept (Failed call ∷ before) ≡ true)
+drop_leaves are_one kept name call before (inl e) h = sync_leaves kept kept before call e h
+drop_leaves are_one kept name call before (inr (inl e)) h = sync_leaves name kept before call e h
+drop_leaves are_one kept name call before (inr (inr (e, (differ, one, synced)))) h =
+    let tested : bytes_eq kept name ≡ false = other_name kept name differ in
+    let Leaves : Call → Type 0 = λ c. (has_synced_name kept (Done c ∷ before) ≡ true) × (has_synced_name kept (Refused c ∷ before) ≡ true) × (has_synced_name kept (Failed c ∷ before) ≡ true) in
+    subst Leaves (sym e) (rw tested h, rw tested h, rw tested h)
+
+drops_leave : (are_one : List Asked → List ℕ → List ℕ → Type 0) (kept name : List ℕ) (calls before : List Asked) → Each (MayDrop are_one kept name) calls before → has_synced_name kept before ≡ true → has_synced_name kept (calls ++ before) ≡ true
+drops_leave are_one kept name [] before each h = h
+drops_leave are_one kept name (asked ∷ calls) before (one, each) h =
+    let all = calls ++ before in
+    let parts : (has_synced_name kept (Done (call_of asked) ∷ all) ≡ true) × (has_synced_name kept (Refused (call_of asked) ∷ all) ≡ true) × (has_synced_name kept (Failed (call_of asked) ∷ all) ≡ true)
+    = drop_leaves are_one kept name (call_of asked) all one (drops_leave are_one kept name calls before each h) in
+    whatever_came (λ x. has_synced_name kept (x ∷ all) ≡ true) asked parts.0 parts.1 parts.2
+
+pub drop_stays : (are_one : List Asked → List ℕ → List ℕ → Type 0) (kept name : List ℕ) (a b : List Asked) → Adds (MayDrop are_one kept name) a b → has_synced_name kept a ≡ true → has_synced_name kept b ≡ true
+drop_stays are_one kept name a b (calls, e, each) h = ap (has_synced_name kept) e ∙ drops_leave are_one kept name calls a each h

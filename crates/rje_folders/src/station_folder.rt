@@ -1,5 +1,6 @@
 //! The folder of a station.
-ghost use Rattle.std.specs.Prelude.{◌≡◌, IfOk, string_bytes};
+ghost use Rattle.std.specs.Prelude.{◌≡◌, true, IfOk, string_bytes};
+ghost use Rattle.rje_stores.specs.Disk.{has_synced_name};
 ghost use Rattle.rje_stores.specs.Replacing.{Adds, IsOnDisk};
 ghost use Rattle.rje_folders.specs.FileNames.{IsBetween, IsNumbered};
 ghost use Rattle.rje_folders.specs.Folder.{path_in};
@@ -63,7 +64,8 @@ impl<D: FolderDisk + Drop> StationFolder<D> {
     /// Before the last block of the job of this file in out/ is said: the file gets a second name, in doubt/, on disk. That name's path.
     pub fn promise(&mut self, name: &str) -> Result<String, FolderFault>
         ensures asks { D.discloses → Adds
-            (MayPromise D.are_one (string_bytes self.old.path) name.now) (D.asked self.old.disk) (D.asked self.new.disk) }
+            (MayPromise D.are_one (string_bytes self.old.path) name.now)
+            (D.asked self.old.disk) (D.asked self.new.disk) }
         ensures second { D.discloses → IfOk result (λ doubt. IsSecond
             (path_in (string_bytes self.old.path) Folder.Out name.now) (string_bytes doubt)
             (D.asked self.old.disk) (D.asked self.new.disk)) }
@@ -87,6 +89,9 @@ impl<D: FolderDisk + Drop> StationFolder<D> {
         ensures asks { D.discloses → Adds
             (MaySettle D.are_one (string_bytes self.old.path) name.now doubt.now disposition)
             (D.asked self.old.disk) (D.asked self.new.disk) }
+        ensures in_doubt { D.discloses → disposition ≡ Disposition.InDoubt
+            → has_synced_name doubt.now (D.asked self.old.disk) ≡ true
+            → has_synced_name doubt.now (D.asked self.new.disk) ≡ true }
         ensures path { self.new.path ≡ self.old.path }
     {
         settle(
