@@ -79,3 +79,26 @@ drops_leave are_one kept name (asked ∷ calls) before (one, each) h =
 
 pub drop_stays : (are_one : List Asked → List ℕ → List ℕ → Type 0) (kept name : List ℕ) (a b : List Asked) → Adds (MayDrop are_one kept name) a b → has_synced_name kept a ≡ true → has_synced_name kept b ≡ true
 drop_stays are_one kept name a b (calls, e, each) h = ap (has_synced_name kept) e ∙ drops_leave are_one kept name calls a each h
+
+-- nor does it change what stands under the other one
+drop_keeps : (are_one : List Asked → List ℕ → List ℕ → Type 0) (kept name : List ℕ) (call : Call) (before : List Asked) → MayDrop are_one kept name call before
+    → (standing kept (Done call ∷ before) ≡ standing kept before) × (standing kept (Refused call ∷ before) ≡ standing kept before) × (standing kept (Failed call ∷ before) ≡ standing kept before)
+drop_keeps are_one kept name call before may = first may where
+  Keeps : Call → Type 0
+  Keeps c = (standing kept (Done c ∷ before) ≡ standing kept before) × (standing kept (Refused c ∷ before) ≡ standing kept before) × (standing kept (Failed c ∷ before) ≡ standing kept before)
+
+  first : MayDrop are_one kept name call before → Keeps call
+  first (inl e) = subst Keeps (sym e) (refl, refl, refl)
+  first (inr (inl e)) = subst Keeps (sym e) (refl, refl, refl)
+  first (inr (inr (e, (differ, one, synced)))) = let tested : bytes_eq kept name ≡ false = other_name kept name differ in subst Keeps (sym e) (rw tested refl, rw tested refl, rw tested refl)
+
+drops_keep : (are_one : List Asked → List ℕ → List ℕ → Type 0) (kept name : List ℕ) (calls before : List Asked) → Each (MayDrop are_one kept name) calls before → standing kept (calls ++ before) ≡ standing kept before
+drops_keep are_one kept name [] before each = refl
+drops_keep are_one kept name (asked ∷ calls) before (one, each) =
+    let all = calls ++ before in
+    let parts : (standing kept (Done (call_of asked) ∷ all) ≡ standing kept all) × (standing kept (Refused (call_of asked) ∷ all) ≡ standing kept all) × (standing kept (Failed (call_of asked) ∷ all) ≡ standing kept all)
+    = drop_keeps are_one kept name (call_of asked) all one in
+    whatever_came (λ x. standing kept (x ∷ all) ≡ standing kept all) asked parts.0 parts.1 parts.2 ∙ drops_keep are_one kept name calls before each
+
+pub drop_standing : (are_one : List Asked → List ℕ → List ℕ → Type 0) (kept name : List ℕ) (a b : List Asked) → Adds (MayDrop are_one kept name) a b → standing kept b ≡ standing kept a
+drop_standing are_one kept name a b (calls, e, each) = ap (standing kept) e ∙ drops_keep are_one kept name calls a each

@@ -1,7 +1,7 @@
 -- What becomes of the file of a job while the job may have arrived, and after that: at each moment it has a name on disk that says so.
-use Rattle.std.specs.Prelude.{◌≡◌, ◌⊎◌, ℕ, List, ◌++◌, codes}
+use Rattle.std.specs.Prelude.{◌≡◌, ◌⊎◌, ℕ, List, ◌++◌, true, codes}
 use Rattle.rje_day.specs.declared.disposition.Disposition.{Disposition}
-use Rattle.rje_stores.specs.Disk.{Asked, Call, OpenLock}
+use Rattle.rje_stores.specs.Disk.{Asked, Call, OpenLock, standing, has_synced_name}
 use Rattle.rje_folders.specs.declared.folder.Folder.{Folder}
 use Rattle.rje_folders.specs.FileNames.{IsNumbered}
 use Rattle.rje_folders.specs.Folder.{path_in}
@@ -19,6 +19,10 @@ MaySettle are_one station name doubt Disposition.Sent call before = MayMove are_
     ⊎ ((sent : List ℕ) × IsNumbered (path_in station Folder.Sent name) sent × MayDrop are_one sent (path_in station Folder.Out name) call before)
 MaySettle are_one station name doubt Disposition.InDoubt call before = MayDrop are_one doubt (path_in station Folder.Out name) call before
 MaySettle are_one station name doubt Disposition.Ready call before = MayDrop are_one (path_in station Folder.Out name) doubt call before
+
+-- the file that stood under the name in doubt/ stands under one in sent/, on disk
+abbrev pub IsSent : (station name doubt : List ℕ) → List Asked → List Asked → Type 0
+IsSent station name doubt before after = (sent : List ℕ) × IsNumbered (path_in station Folder.Sent name) sent × (standing sent after ≡ standing doubt before) × (has_synced_name sent after ≡ true)
 
 -- a path is one that a file of this name gets in sent/, doubt/ or refused/
 abbrev pub IsKeptElsewhere : (station name path : List ℕ) → Type 0

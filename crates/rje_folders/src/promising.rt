@@ -1,10 +1,10 @@
 //! What becomes of the file of a job while the job may have arrived, and after that.
-ghost use Rattle.std.specs.Prelude.{IfOk, string_bytes};
+ghost use Rattle.std.specs.Prelude.{◌≡◌, IfOk, OnOk, string_bytes};
 ghost use Rattle.rje_stores.specs.Replacing.{Adds};
 ghost use Rattle.rje_folders.specs.FileNames.{IsNumbered};
 ghost use Rattle.rje_folders.specs.Folder.{path_in};
 ghost use Rattle.rje_folders.specs.Moving.{IsSecond};
-ghost use Rattle.rje_folders.specs.Promising.{MayPromise, MaySettle};
+ghost use Rattle.rje_folders.specs.Promising.{IsSent, MayPromise, MaySettle};
 
 use crate::file_names::FileNames;
 use crate::folder::Folder;
@@ -44,8 +44,11 @@ pub(crate) fn settle<D: FolderDisk>(
     doubt: &str,
     disposition: Disposition,
 ) -> io::Result<()>
-    ensures { D.discloses → Adds (MaySettle D.are_one station.now name.now doubt.now disposition)
+    ensures asks { D.discloses
+        → Adds (MaySettle D.are_one station.now name.now doubt.now disposition)
         (D.asked disk.old) (D.asked disk.new) }
+    ensures sent { D.discloses → disposition ≡ Disposition.Sent → OnOk result
+        (IsSent station.now name.now doubt.now (D.asked disk.old) (D.asked disk.new)) }
 {
     match disposition {
         Disposition::Sent => put_in_sent(disk, alloc, station, name, doubt),
@@ -62,9 +65,11 @@ fn put_in_sent<D: FolderDisk>(
     name: &str,
     doubt: &str,
 ) -> io::Result<()>
-    ensures { D.discloses → Adds
-        (MaySettle D.are_one station.now name.now doubt.now Disposition.Sent)
+    ensures asks { D.discloses
+        → Adds (MaySettle D.are_one station.now name.now doubt.now Disposition.Sent)
         (D.asked disk.old) (D.asked disk.new) }
+    ensures sent { D.discloses → OnOk result
+        (IsSent station.now name.now doubt.now (D.asked disk.old) (D.asked disk.new)) }
 {
     let ready = Folder::Out.path(alloc, station, name)?;
     let sent = Folder::Sent.path(alloc, station, name)?;

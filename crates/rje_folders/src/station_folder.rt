@@ -1,11 +1,11 @@
 //! The folder of a station.
-ghost use Rattle.std.specs.Prelude.{◌≡◌, true, IfOk, string_bytes};
+ghost use Rattle.std.specs.Prelude.{◌≡◌, true, IfOk, OnOk, string_bytes};
 ghost use Rattle.rje_stores.specs.Disk.{has_synced_name};
 ghost use Rattle.rje_stores.specs.Replacing.{Adds, IsOnDisk};
 ghost use Rattle.rje_folders.specs.FileNames.{IsBetween, IsNumbered};
 ghost use Rattle.rje_folders.specs.Folder.{path_in};
 ghost use Rattle.rje_folders.specs.Moving.{IsMoved, IsSecond, MayMove};
-ghost use Rattle.rje_folders.specs.Promising.{MayOpen, MayPromise, MaySettle};
+ghost use Rattle.rje_folders.specs.Promising.{IsSent, MayOpen, MayPromise, MaySettle};
 
 use crate::folder::Folder;
 use crate::folder_disk::FolderDisk;
@@ -89,6 +89,9 @@ impl<D: FolderDisk + Drop> StationFolder<D> {
         ensures asks { D.discloses → Adds
             (MaySettle D.are_one (string_bytes self.old.path) name.now doubt.now disposition)
             (D.asked self.old.disk) (D.asked self.new.disk) }
+        ensures sent { D.discloses → disposition ≡ Disposition.Sent → OnOk result
+            (IsSent (string_bytes self.old.path) name.now doubt.now
+            (D.asked self.old.disk) (D.asked self.new.disk)) }
         ensures in_doubt { D.discloses → disposition ≡ Disposition.InDoubt
             → has_synced_name doubt.now (D.asked self.old.disk) ≡ true
             → has_synced_name doubt.now (D.asked self.new.disk) ≡ true }
