@@ -1,0 +1,3 @@
+pub mod Places
+pub mod Passed
+pub mod Keeps

@@ -1,0 +1,6 @@
+pub mod Ledger
+pub mod Outstanding
+pub mod Keeping
+pub mod Stations
+pub mod Turns
+pub mod InHand

@@ -1,0 +1,12 @@
+//! The transmissions of a connection, one after another: each with new stations, over any line, and with the jobs of a spool.
+#![tactic(auto)]
+
+mod in_hand;
+mod keeping;
+mod leaving;
+mod outstanding;
+mod spool;
+
+pub use in_hand::InHand;
+pub use leaving::Leaving;
+pub use spool::Spool;
