@@ -4,3 +4,4 @@ pub mod Keeping
 pub mod Stations
 pub mod Turns
 pub mod InHand
+pub mod Account

@@ -1,5 +1,5 @@
 //! A transmission in hand, turn by turn.
-ghost use Rattle.std.specs.Prelude.{◌≡◌, ◌≢◌, ◌++◌, ◌||◌, ◌&&◌, ◌==◌, true, false, Option, zero, slice_get, IfOk, IfErr, OnOk, OnErr};
+ghost use Rattle.std.specs.Prelude.{◌≡◌, ◌≢◌, ◌++◌, ◌||◌, ◌&&◌, ◌==◌, true, false, List, Option, slice_get, IfOk, IfErr, IfSome, OnOk, OnErr};
 ghost use Rattle.bsc_link.specs.declared.reply.Reply.{Reply as Answer};
 ghost use Rattle.bsc_link.specs.declared.say.Say.{Say as Word};
 ghost use Rattle.bsc_link.specs.declared.say.Say.TheVariants as say;
@@ -7,19 +7,24 @@ ghost use Rattle.rje_station.specs.Station.{due_at, first_contending, HeardAnswe
 ghost use Rattle.rje_station.specs.StationFault.{IsNewCause};
 ghost use Rattle.rje_session.specs.Stations.{FailsInOwn, TakesOwn, TakesOthers};
 ghost use Rattle.rje_session.specs.Stations.{HeardAndReplied, SpokeAndHeard};
-ghost use Rattle.rje_session.specs.Keeping.{AreKept, keeping, kept_with};
-ghost use Rattle.rje_session.specs.Ledger.{MayArrive, MayBeEntered};
+ghost use Rattle.rje_session.specs.Account.{ended_of, ComesOf, IfLineFailed, IsAccounted, IsInStep, IsSettled, KeepsCut};
+ghost use Rattle.rje_session.specs.Keeping.{AreKept, cutting, keeping, kept_with};
+ghost use Rattle.rje_session.specs.Ledger.{Entry as Record, MayArrive, MayBeEntered};
 ghost use Rattle.rje_session.specs.Turns.{announcing, goes_out, is_of_block as speaks_of_block, settling, may_come_after, LeavesOwn, EntersLeavingOwn, LeavesOthers, EntersLeavingOthers};
 
-use crate::keeping::keep_next;
+use crate::keeping::{keep_cut, keep_next};
 use crate::outstanding::{counts_last, is_last};
+use crate::settling::settle_rest;
 use crate::{Leaving, Spool};
 use bsc_link::{Rank, Say, Sound, Wish};
-use rje_day::Disposition;
+use rje_day::{Disposition, Ended, Event};
 use rje_jobs::Job;
 use rje_station::{Arrival, Line, Station, StationFault};
 use std::alloc::Global;
 use std::marker::Model;
+
+/// After so many turns of a transmission in all it leaves the line.
+pub const MAX_TURNS: u32 = 1_000_000_000;
 
 /// A transmission in hand: its stations, which are new, and what is entered of their jobs.
 #[derive(Drop)]
@@ -155,6 +160,128 @@ impl<'a> InHand<'a> {
         Ok(arrival)
     }
 
+    /// Goes on with the transmission in hand until something comes of it that the day is told: the other end's transmission begins, which leaves
+    /// its own in hand, or either ends, or the connection is over. Then what is left of its jobs is settled, and a job that was cut is kept.
+    /// It leaves the other end's transmission after so many hearings in a row that brought nothing, and the line after a billion turns.
+    pub fn go_on<L: Line, S: Spool>(
+        &mut self,
+        line: &mut L,
+        patience: u32,
+        spool: &mut S,
+    ) -> Result<Event, S::Fault>
+        ensures accounted { S.discloses → IsInStep self.old (S.ledger spool.old)
+            → IfOk result (λ event. IsAccounted event self.new (S.ledger spool.new)) }
+        ensures comes { IfOk result (λ event. ComesOf event self.new) }
+        ensures cut { S.discloses → IfOk result (λ event.
+            KeepsCut event self.new (S.ledger spool.new)) }
+    {
+        let event = match self.take_turns(line, patience, spool) {
+            Ok(event) => event,
+            Err(Leaving::Line(_)) => Event::Disconnected,
+            Err(Leaving::Spool(fault)) => return Err(fault),
+        };
+        if event != Event::OtherBegan {
+            self.finish(spool)?;
+        }
+        Ok(event)
+    }
+
+    /// Takes turns until something comes of them.
+    fn take_turns<L: Line, S: Spool>(
+        &mut self,
+        line: &mut L,
+        patience: u32,
+        spool: &mut S,
+    ) -> Result<Event, Leaving<S::Fault>>
+        ensures in_step { S.discloses → IsInStep self.old (S.ledger spool.old)
+            → OnOk result (IsInStep self.new (S.ledger spool.new)) }
+        ensures comes { IfOk result (λ event. ComesOf event self.new) }
+        ensures left { S.discloses → IsInStep self.old (S.ledger spool.old)
+            → IfErr result (λ leaving.
+            IfLineFailed leaving (IsInStep self.new (S.ledger spool.new))) }
+    {
+        let was_receiving = self.station.is_receiving();
+        let at_once = self.station.rank() == Rank::Primary;
+        let mut has_listened = at_once;
+        let mut quiet: u32 = 0;
+        for _ in 0..MAX_TURNS {
+            if let Some(event) = self.came_of_it(was_receiving) {
+                return Ok(event);
+            }
+            if self.is_own_turn(has_listened) {
+                self.take_own_turn(line, spool)?;
+                has_listened = at_once;
+                continue;
+            }
+            let arrival = self.take_others_turn(line, spool)?;
+            has_listened = true;
+            quiet = quiet_after(quiet, arrival);
+            if was_receiving && quiet > 0 && quiet >= patience {
+                self.station.other_ended();
+                return Ok(Event::OtherEnded);
+            }
+        }
+        Ok(Event::Disconnected)
+    }
+
+    /// What came of the turns so far, if anything.
+    fn came_of_it(&self, was_receiving: bool) -> Option<Event>
+        ensures comes { IfSome result (λ event. ComesOf event self.now) }
+    {
+        match (was_receiving, self.station.is_receiving()) {
+            (true, true) => None,
+            (true, false) => Some(Event::OtherEnded),
+            (false, true) => Some(Event::OtherBegan),
+            (false, false) if self.station.due() == Say::Nothing => {
+                Some(Event::OwnEnded(self.ended()))
+            }
+            (false, false) => None,
+        }
+    }
+
+    /// Whether the station speaks next. One that has to listen before it bids does so as long as there is something to hear.
+    fn is_own_turn(&self, has_listened: bool) -> bool
+        ensures speaks { result ≡ true → due_at self.now.station ≢ say.Nothing }
+    {
+        match self.station.due() {
+            Say::Nothing => false,
+            Say::Bid => has_listened || self.station.receiver().is_over(),
+            _ => true,
+        }
+    }
+
+    /// How its own transmission ended.
+    fn ended(&self) -> Ended
+        ensures { result ≡ ended_of self.now }
+    {
+        let sender = self.station.sender();
+        let counted = sender.counted();
+        if counted >= sender.jobs().len() {
+            Ended::Done
+        } else if self.may_have_come {
+            Ended::InDoubt { counted }
+        } else {
+            Ended::Early { counted }
+        }
+    }
+
+    /// Settles what is left of its jobs, and keeps a job that was cut.
+    fn finish<S: Spool>(&self, spool: &mut S) -> Result<(), S::Fault>
+        ensures settled { S.discloses → IsInStep self.now (S.ledger spool.old)
+            → OnOk result (IsSettled self.now (S.ledger spool.new)) }
+        ensures cut { S.discloses → OnOk result ((past : List Record)
+            × (S.ledger spool.new ≡ cutting (slice_get self.now.station.receiver.jobs
+            self.now.kept) ++ past)) }
+    {
+        let sender = self.station.sender();
+        let counted = sender.counted();
+        let given = sender.jobs().len();
+        if counted < given {
+            settle_rest(self.ended(), counted, given, spool)?;
+        }
+        keep_cut(self.station.receiver().jobs(), self.kept, spool)
+    }
+
     /// Enters that a job may arrive, where its last block goes out next for the first time.
     fn announce<S: Spool>(&mut self, spool: &mut S) -> Result<(), S::Fault>
         ensures entered { S.discloses → OnOk result (S.ledger spool.new
@@ -227,4 +354,12 @@ fn is_of_block(say: Say) -> bool
     ensures { result ≡ speaks_of_block say }
 {
     matches!(say, Say::Block | Say::Again | Say::Ask)
+}
+
+/// How many quiet hearings in a row there are, with the last one.
+fn quiet_after(quiet: u32, arrival: Arrival) -> u32 {
+    match arrival.sound {
+        Sound::Quiet => quiet.saturating_add(1),
+        _ => 0,
+    }
 }

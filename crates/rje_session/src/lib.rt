@@ -5,8 +5,9 @@ mod in_hand;
 mod keeping;
 mod leaving;
 mod outstanding;
+mod settling;
 mod spool;
 
-pub use in_hand::InHand;
+pub use in_hand::{InHand, MAX_TURNS};
 pub use leaving::Leaving;
 pub use spool::Spool;
