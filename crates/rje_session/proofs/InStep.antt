@@ -25,9 +25,9 @@ use Rattle.rje_station.proofs.Due.{answered_of_due, spoken_of_due}
 use Rattle.rje_session.specs.declared.leaving.Leaving.{Leaving}
 use Rattle.rje_session.specs.Account.{IfLineFailed, IsInStep, IsSettled, SettlesRest, became, ended_of, may_arrive}
 use Rattle.rje_session.specs.Keeping.{cutting, keeping}
-use Rattle.rje_session.specs.Ledger.{Entry, Kept, MayArrive, Settled}
+use Rattle.rje_session.specs.Ledger.{Entry, Given, Kept, MayArrive, Settled}
 use Rattle.rje_session.specs.Stations.{FailsInOwn, TakesOthers, TakesOwn, after_answering_other, after_own_turn}
-use Rattle.rje_session.specs.Turns.{Carried, EntersLeavingOthers, LeavesOthers, announcing, goes_out, may_come_after, settling}
+use Rattle.rje_session.specs.Turns.{Carried, EntersLeavingOthers, EntersLeavingOwn, LeavesOthers, LeavesOwn, announcing, goes_out, may_come_after, settling}
 
 -- ---- A turn counts one job at most.
 
@@ -93,8 +93,8 @@ own_steps s s' said heard takes =
 pub own_in_step : (c c' : Carried) (before after : List Entry) → Steps c.station.sender c'.station.sender
     → after ≡ settling c.station.sender.counted c'.station.sender.counted ++ announcing c ++ before → c'.may_have_come ≡ may_come_after c c'.station → IsInStep c before → IsInStep c' after
 own_in_step c c' before after steps is may in_step = record {
-  sent = λ job. let sent = in_step.sent job in grind (arith, common_steps);
-  out = λ job from. let out = in_step.out job in grind (arith, common_steps);
+  sent = λ job within. let there : job < length c.station.sender.jobs = rw (sym steps.0) within in let sent = in_step.sent job there in grind (arith, common_steps);
+  out = λ job within from. let there : job < length c.station.sender.jobs = rw (sym steps.0) within in let out = in_step.out job there in grind (arith, common_steps);
 }
 
 -- ---- The other's turn, and faults.
@@ -164,8 +164,10 @@ kept_same (Some came) before job = came_same came.whole refl where
 pub others_in_step : (c c' : Carried) (next : Option Job) (before after : List Entry) → StaysSo c.station c'.station → c'.may_have_come ≡ c.may_have_come → after ≡ keeping next ++ before
     → IsInStep c before → IsInStep c' after
 others_in_step c c' next before after stays may is in_step = record {
-  sent = λ job. let sent = in_step.sent job in let same = kept_same next before job in grind (arith, common_steps);
-  out = λ job from. let out = in_step.out job in let same = kept_same next before job in grind (arith, common_steps);
+  sent = λ job within.
+      let there : job < length c.station.sender.jobs = rw (sym stays.0) within in let sent = in_step.sent job there in let same = kept_same next before job in grind (arith, common_steps);
+  out = λ job within from.
+      let there : job < length c.station.sender.jobs = rw (sym stays.0) within in let out = in_step.out job there in let same = kept_same next before job in grind (arith, common_steps);
 }
 
 -- where nothing is entered
@@ -176,8 +178,8 @@ still_in_step c c' ledger stays may in_step = others_in_step c c' None ledger le
 pub own_fault_in_step : (c c' : Carried) (before after : List Entry) → StaysSo c.station c'.station → c'.may_have_come ≡ (c.may_have_come || goes_out c) → after ≡ announcing c ++ before → IsInStep c before
     → IsInStep c' after
 own_fault_in_step c c' before after stays may is in_step = record {
-  sent = λ job. let sent = in_step.sent job in grind (arith, common_steps);
-  out = λ job from. let out = in_step.out job in grind (arith, common_steps);
+  sent = λ job within. let there : job < length c.station.sender.jobs = rw (sym stays.0) within in let sent = in_step.sent job there in grind (arith, common_steps);
+  out = λ job within from. let there : job < length c.station.sender.jobs = rw (sym stays.0) within in let out = in_step.out job there in grind (arith, common_steps);
 }
 
 others_left : {F : Type 0} (unsaid : Type 0) (c c' : Carried) (next : Option Job) (before after : List Entry) (leaving : Leaving F) → LeavesOthers unsaid c c' leaving → c'.may_have_come ≡ c.may_have_come
@@ -198,6 +200,18 @@ pub others_leave : {A F : Type 0} (unsaid : Type 0) (c c' : Carried) (next : Opt
     → c'.may_have_come ≡ c.may_have_come → IfErr r (EntersLeavingOthers unsaid next before after) → IsInStep c before → IfErr r (λ leaving. IfLineFailed leaving (IsInStep c' after))
 others_leave unsaid c c' next before after (Ok x) left may enters in_step = tt
 others_leave unsaid c c' next before after (Err leaving) left may enters in_step = others_left unsaid c c' next before after leaving left may enters in_step
+
+own_left : {F : Type 0} (unsaid : Type 0) (c c' : Carried) (before after : List Entry) (leaving : Leaving F) → LeavesOwn unsaid c c' leaving → EntersLeavingOwn c c' before after leaving → IsInStep c before
+    → IfLineFailed leaving (IsInStep c' after)
+own_left unsaid c c' before after (Leaving.Spool fault) left enters in_step = tt
+own_left unsaid c c' before after (Leaving.Line fault) left enters in_step =
+    own_fault_in_step c c' before after (own_fault_stays fault c.station c'.station left.0) left.1 enters in_step
+
+-- and so is its own
+pub own_leaves : {A F : Type 0} (unsaid : Type 0) (c c' : Carried) (before after : List Entry) (r : Result A (Leaving F)) → IfErr r (LeavesOwn unsaid c c') → IfErr r (EntersLeavingOwn c c' before after)
+    → IsInStep c before → IfErr r (λ leaving. IfLineFailed leaving (IsInStep c' after))
+own_leaves unsaid c c' before after (Ok x) left enters in_step = tt
+own_leaves unsaid c c' before after (Err leaving) left enters in_step = own_left unsaid c c' before after leaving left enters in_step
 
 -- what holds of an error holds where it is handed on
 pub fails_on : {A X F : Type 0} (r : Result A F) (e : F) (s : Result X F) (P : F → Type 0) → r ≡ Err e → IfErr r P → IsErrAnd s (λ x. x ≡ e) → IfErr s P
@@ -231,22 +245,38 @@ rest_as ended ended' first first' last last' before after a b c rest = rw (sym a
 pub settled_rest : (c : Carried) (before after : List Entry) → c.station.sender.counted < length c.station.sender.jobs
     → SettlesRest (ended_of c) c.station.sender.counted (length c.station.sender.jobs) before after → IsInStep c before → IsSettled c after
 settled_rest c before after some rest in_step = record {
-  all = λ job within. let sent = in_step.sent job in let now = rest.became_is job in grind (arith, common_steps);
-  ready = λ job is. let sent = in_step.sent job in let out = in_step.out job in let now = rest.became_is job in let same = rest.out job in grind (arith, common_steps);
-  doubt = λ job is. let sent = in_step.sent job in let out = in_step.out job in let now = rest.became_is job in let same = rest.out job in grind (arith, common_steps);
+  all = λ job within. let sent = in_step.sent job within in let now = rest.became_is job in grind (arith, common_steps);
+  ready = λ job within is. let sent = in_step.sent job within in let out = in_step.out job within in let now = rest.became_is job in let same = rest.out job in grind (arith, common_steps);
+  doubt = λ job within is. let sent = in_step.sent job within in let out = in_step.out job within in let now = rest.became_is job in let same = rest.out job in grind (arith, common_steps);
 }
 
 pub settled_none : (c : Carried) (ledger : List Entry) → length c.station.sender.jobs ≤ c.station.sender.counted → IsInStep c ledger → IsSettled c ledger
 settled_none c ledger none in_step = record {
-  all = λ job within. let sent = in_step.sent job in grind (arith, common_steps);
-  ready = λ job is. let sent = in_step.sent job in grind (arith, common_steps);
-  doubt = λ job is. let sent = in_step.sent job in grind (arith, common_steps);
+  all = λ job within. let sent = in_step.sent job within in grind (arith, common_steps);
+  ready = λ job within is. let sent = in_step.sent job within in grind (arith, common_steps);
+  doubt = λ job within is. let sent = in_step.sent job within in grind (arith, common_steps);
 }
 
 pub settled_on : (c : Carried) (next : Option Job) (before after : List Entry) → after ≡ cutting next ++ before → IsSettled c before → IsSettled c after
 settled_on c next before after is settled =
     subst (λ (l : List Entry). IsSettled c l) (sym is) (record {
       all = λ job within. (cut_same next before job).0 ∙ settled.all job within;
-      ready = λ job lies. (cut_same next before job).1 ∙ settled.ready job (sym (cut_same next before job).0 ∙ lies);
-      doubt = λ job lies. (cut_same next before job).1 ∙ settled.doubt job (sym (cut_same next before job).0 ∙ lies);
+      ready = λ job within lies. (cut_same next before job).1 ∙ settled.ready job within (sym (cut_same next before job).0 ∙ lies);
+      doubt = λ job within lies. (cut_same next before job).1 ∙ settled.doubt job within (sym (cut_same next before job).0 ∙ lies);
     })
+
+-- ---- At first.
+
+-- a transmission that begins is in step with a ledger in which it was just given its jobs
+pub first_in_step : (c : Carried) (jobs : List Job) (past : List Entry) → c.station.sender.counted ≡ 0 → c.may_have_come ≡ false → IsInStep c (Given jobs ∷ past)
+first_in_step c jobs past none not = record {
+  sent = λ job within. grind (arith, common_steps);
+  out = λ job within from. grind (arith, common_steps);
+}
+
+-- one with no jobs is so with any
+pub none_in_step : (c : Carried) (ledger : List Entry) → c.station.sender.jobs ≡ [] → IsInStep c ledger
+none_in_step c ledger none = record {
+  sent = λ job within. absurd (omega (arith, ap (λ (l : List Job). length l) none));
+  out = λ job within from. absurd (omega (arith, ap (λ (l : List Job). length l) none));
+}

@@ -2,3 +2,4 @@ pub mod Places
 pub mod Passed
 pub mod Keeps
 pub mod InStep
+pub mod DayOn

@@ -5,6 +5,7 @@ use Rattle.rje_day.specs.declared.ended.Ended.{Ended}
 use Rattle.rje_day.specs.declared.event.Event.{Event}
 use Rattle.rje_day.specs.Ended.{disposition_of}
 use Rattle.rje_jobs.specs.declared.job.Job.{Job}
+use Rattle.rje_station.specs.Station.{is_receiving}
 use Rattle.rje_session.specs.declared.leaving.Leaving.{Leaving}
 use Rattle.rje_session.specs.Keeping.{cutting}
 use Rattle.rje_session.specs.Ledger.{Entry, Given, Kept, KeptCut, MayArrive, Settled}
@@ -31,8 +32,8 @@ may_arrive (KeptCut came ∷ past) job = may_arrive past job
 -- The ledger stands so while a transmission is in hand: the jobs that are counted were sent; nothing became of the others; and of these the
 -- next one alone may have arrived, where that is noted.
 pub record IsInStep (c : Carried) (ledger : List Entry) : Type 0 where
-  pub sent : (job : ℕ) → became ledger job ≡ (if nat_lt job c.station.sender.counted then Some Disposition.Sent else None)
-  pub out : (job : ℕ) → c.station.sender.counted ≤ job → may_arrive ledger job ≡ (c.may_have_come && (c.station.sender.counted == job))
+  pub sent : (job : ℕ) → job < length c.station.sender.jobs → became ledger job ≡ (if nat_lt job c.station.sender.counted then Some Disposition.Sent else None)
+  pub out : (job : ℕ) → job < length c.station.sender.jobs → c.station.sender.counted ≤ job → may_arrive ledger job ≡ (c.may_have_come && (c.station.sender.counted == job))
 
 -- how its own transmission ended: in doubt where the next job may have arrived
 abbrev pub ended_of : Carried → Ended
@@ -44,8 +45,8 @@ ended_of c =
 -- have.
 pub record IsSettled (c : Carried) (ledger : List Entry) : Type 0 where
   pub all : (job : ℕ) → job < length c.station.sender.jobs → became ledger job ≡ Some (disposition_of (ended_of c) job)
-  pub ready : (job : ℕ) → became ledger job ≡ Some Disposition.Ready → may_arrive ledger job ≡ false
-  pub doubt : (job : ℕ) → became ledger job ≡ Some Disposition.InDoubt → may_arrive ledger job ≡ true
+  pub ready : (job : ℕ) → job < length c.station.sender.jobs → became ledger job ≡ Some Disposition.Ready → may_arrive ledger job ≡ false
+  pub doubt : (job : ℕ) → job < length c.station.sender.jobs → became ledger job ≡ Some Disposition.InDoubt → may_arrive ledger job ≡ true
 
 -- these of the jobs from the first on, up to the last, were settled, by how the transmission ended, and nothing else was
 pub record SettlesRest (ended : Ended) (first last : ℕ) (before after : List Entry) : Type 0 where
@@ -57,13 +58,14 @@ abbrev pub IsAccounted : Event → Carried → List Entry → Type 0
 IsAccounted Event.OtherBegan c ledger = IsInStep c ledger
 IsAccounted _ c ledger = IsSettled c ledger
 
--- an event that comes of a transmission in hand; one that ends it says how
-abbrev pub ComesOf : Event → Carried → Type 0
-ComesOf (Event.OwnEnded ended) c = ended ≡ ended_of c
-ComesOf Event.OtherBegan c = Unit {0}
-ComesOf Event.OtherEnded c = Unit {0}
-ComesOf Event.Disconnected c = Unit {0}
-ComesOf _ c = ⊥
+-- An event that comes of a transmission in hand. Its own ends as is told, and the other end's begins, only where the other end's isn't in hand;
+-- the other end's ends only where it is.
+abbrev pub ComesOf : (before after : Carried) → Event → Type 0
+ComesOf c c' (Event.OwnEnded ended) = (is_receiving c.station.contender.place ≡ false) × (ended ≡ ended_of c')
+ComesOf c c' Event.OtherBegan = (is_receiving c.station.contender.place ≡ false) × (is_receiving c'.station.contender.place ≡ true)
+ComesOf c c' Event.OtherEnded = is_receiving c.station.contender.place ≡ true
+ComesOf c c' Event.Disconnected = Unit {0}
+ComesOf c c' _ = ⊥
 
 -- where a line failed, the ledger is in step still; where the spool did, nothing is known of the entry it was about
 abbrev pub IfLineFailed : {F : Type 0} → Leaving F → Type 0 → Type 0

@@ -5,3 +5,4 @@ pub mod Stations
 pub mod Turns
 pub mod InHand
 pub mod Account
+pub mod Staying

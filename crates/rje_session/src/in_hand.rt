@@ -3,14 +3,14 @@ ghost use Rattle.std.specs.Prelude.{◌≡◌, ◌≢◌, ◌++◌, ◌||◌, �
 ghost use Rattle.bsc_link.specs.declared.reply.Reply.{Reply as Answer};
 ghost use Rattle.bsc_link.specs.declared.say.Say.{Say as Word};
 ghost use Rattle.bsc_link.specs.declared.say.Say.TheVariants as say;
-ghost use Rattle.rje_station.specs.Station.{due_at, first_contending, HeardAnswer, after_answer, after_own_refusal};
+ghost use Rattle.rje_station.specs.Station.{due_at, is_receiving, first_contending, HeardAnswer, after_answer, after_own_refusal};
 ghost use Rattle.rje_station.specs.StationFault.{IsNewCause};
 ghost use Rattle.rje_session.specs.Stations.{FailsInOwn, TakesOwn, TakesOthers};
 ghost use Rattle.rje_session.specs.Stations.{HeardAndReplied, SpokeAndHeard};
 ghost use Rattle.rje_session.specs.Account.{ended_of, ComesOf, IfLineFailed, IsAccounted, IsInStep, IsSettled, KeepsCut};
 ghost use Rattle.rje_session.specs.Keeping.{AreKept, cutting, keeping, kept_with};
 ghost use Rattle.rje_session.specs.Ledger.{Entry as Record, MayArrive, MayBeEntered};
-ghost use Rattle.rje_session.specs.Turns.{announcing, goes_out, is_of_block as speaks_of_block, settling, may_come_after, LeavesOwn, EntersLeavingOwn, LeavesOthers, EntersLeavingOthers};
+ghost use Rattle.rje_session.specs.Turns.{Carried as Held, announcing, goes_out, is_of_block as speaks_of_block, settling, may_come_after, LeavesOwn, EntersLeavingOwn, LeavesOthers, EntersLeavingOthers};
 
 use crate::keeping::{keep_cut, keep_next};
 use crate::outstanding::{counts_last, is_last};
@@ -171,7 +171,7 @@ impl<'a> InHand<'a> {
     ) -> Result<Event, S::Fault>
         ensures accounted { S.discloses → IsInStep self.old (S.ledger spool.old)
             → IfOk result (λ event. IsAccounted event self.new (S.ledger spool.new)) }
-        ensures comes { IfOk result (λ event. ComesOf event self.new) }
+        ensures comes { IfOk result (ComesOf self.old self.new) }
         ensures cut { S.discloses → IfOk result (λ event.
             KeepsCut event self.new (S.ledger spool.new)) }
     {
@@ -195,7 +195,7 @@ impl<'a> InHand<'a> {
     ) -> Result<Event, Leaving<S::Fault>>
         ensures in_step { S.discloses → IsInStep self.old (S.ledger spool.old)
             → OnOk result (IsInStep self.new (S.ledger spool.new)) }
-        ensures comes { IfOk result (λ event. ComesOf event self.new) }
+        ensures comes { IfOk result (ComesOf self.old self.new) }
         ensures left { S.discloses → IsInStep self.old (S.ledger spool.old)
             → IfErr result (λ leaving.
             IfLineFailed leaving (IsInStep self.new (S.ledger spool.new))) }
@@ -226,7 +226,9 @@ impl<'a> InHand<'a> {
 
     /// What came of the turns so far, if anything.
     fn came_of_it(&self, was_receiving: bool) -> Option<Event>
-        ensures comes { IfSome result (λ event. ComesOf event self.now) }
+        ensures comes { (before : Held)
+            → was_receiving ≡ is_receiving before.station.contender.place
+            → IfSome result (ComesOf before self.now) }
     {
         match (was_receiving, self.station.is_receiving()) {
             (true, true) => None,

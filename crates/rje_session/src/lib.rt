@@ -1,13 +1,21 @@
 //! The transmissions of a connection, one after another: each with new stations, over any line, and with the jobs of a spool.
 #![tactic(auto)]
 
+mod connection;
 mod in_hand;
 mod keeping;
 mod leaving;
 mod outstanding;
 mod settling;
 mod spool;
+mod stay_fault;
+mod steps;
+mod terms;
 
+pub use connection::{MAX_TRANSMISSIONS, stay};
 pub use in_hand::{InHand, MAX_TURNS};
 pub use leaving::Leaving;
 pub use spool::Spool;
+pub use stay_fault::StayFault;
+pub use steps::Steps;
+pub use terms::Terms;

@@ -1,7 +1,7 @@
 use Rattle.std.proofs.Common.{◌≡◌, rules, slice_get}
 use Rattle.rje_session.specs.Account.{IfLineFailed, IsInStep}
 use Rattle.rje_session.specs.Turns.{Carried}
-use Rattle.rje_session.proofs.InStep.{ended_stays, fails_on, others_in_step, others_leave, others_stay, own_in_step, own_steps, still_in_step}
+use Rattle.rje_session.proofs.InStep.{ended_stays, fails_on, others_in_step, others_leave, others_stay, own_in_step, own_leaves, own_steps, still_in_step}
 use Rattle.rje_session.proofs.in_hand.InHand.take_turns.Goals as goal
 
 pub loop-preserved-then-is_own_turn : goal.loop-preserved-then-is_own_turn
@@ -37,3 +37,11 @@ returns-in_err-arrival-clause-left g c shows in_step =
     c.take_others_turn.ensures.left c.take_others_turn.ensures.may_have_come (c.take_others_turn.ensures.left_entered shows) (c.loop.invariant shows in_step) in
     fails_on c.take_others_turn.result c.in_err-arrival.field-0.0 c.from_residual-in_err-arrival.result
     (λ leaving. IfLineFailed leaving (IsInStep c.take_others_turn.new.self (g.S.Spool.ledger c.take_others_turn.new.spool))) c.in_err-arrival.was left c.from_residual-in_err-arrival.ensures.1
+
+pub returns-in_err-take_own_turn-clause-left : goal.returns-in_err-take_own_turn-clause-left
+returns-in_err-take_own_turn-clause-left g c shows in_step =
+    let left =
+    own_leaves (c.take_own_turn.new.line ≡ c.loop.line) c.loop.self c.take_own_turn.new.self (g.S.Spool.ledger c.loop.spool) (g.S.Spool.ledger c.take_own_turn.new.spool) c.take_own_turn.result
+    c.take_own_turn.ensures.left (c.take_own_turn.ensures.left_entered shows) (c.loop.invariant shows in_step) in
+    fails_on c.take_own_turn.result c.in_err-take_own_turn.field-0.0 c.from_residual.result
+    (λ leaving. IfLineFailed leaving (IsInStep c.take_own_turn.new.self (g.S.Spool.ledger c.take_own_turn.new.spool))) c.in_err-take_own_turn.was left c.from_residual.ensures.1

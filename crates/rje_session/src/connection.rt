@@ -1,0 +1,194 @@
+//! Transmission after transmission on one connection.
+ghost use Rattle.std.specs.Prelude.{◌≡◌, ◌⊎◌, IfOk, OnOk};
+ghost use Rattle.rje_day.specs.declared.day_place.DayPlace.TheVariants.{Free};
+ghost use Rattle.rje_day.specs.declared.duty.Duty.TheVariants as duty;
+ghost use Rattle.rje_day.specs.Day.{duty_of};
+ghost use Rattle.rje_station.specs.Station.{is_receiving};
+ghost use Rattle.rje_day.specs.declared.event.Event.TheVariants.{Heard, OtherBegan, Quiet};
+ghost use Rattle.rje_session.specs.Staying.{AreInDoubt, GoesOnAsDay, is_of_connection as of_connection, place_in_hand};
+
+use crate::{InHand, Leaving, Spool, StayFault, Steps, Terms};
+use bsc_link::Sound;
+use rje_day::{Day, Disposition, Duty, Event, Seen};
+use rje_station::Line;
+use std::alloc::Global;
+
+/// After so many transmissions and hearings between them it leaves the line.
+pub const MAX_TRANSMISSIONS: u32 = 1_000_000_000;
+
+/// Stays on a connection: takes one transmission after another, each with new stations, as the day says what is next, until the connection is
+/// over. Where an answer came after this end said EOT, all jobs of its last transmission are in doubt, and the connection is left.
+pub fn stay<L: Steps, S: Spool>(
+    alloc: Global,
+    terms: Terms,
+    day: &mut Day,
+    line: &mut L,
+    spool: &mut S,
+) -> Result<(), StayFault<S::Fault>>
+    ensures day { GoesOnAsDay day.old day.new }
+{
+    let mut given = 0;
+    for _ in 0..MAX_TRANSMISSIONS {
+        let seen = spool.seen();
+        let duty = day.next(seen);
+        if !is_of_connection(duty) {
+            return Ok(());
+        }
+        if !line.is_in_step() {
+            day.note(Event::Disconnected);
+            return doubt(given, spool);
+        }
+        match duty {
+            Duty::Bid => given = bid(alloc, terms, day, seen, line, spool)?,
+            Duty::Hear => hear(alloc, terms, day, seen, line, spool)?,
+            _ => day.note(Event::Disconnected),
+        }
+    }
+    Ok(())
+}
+
+/// Whether there is a connection where this is next.
+fn is_of_connection(duty: Duty) -> bool
+    ensures { result ≡ of_connection duty }
+{
+    matches!(duty, Duty::Bid | Duty::Hear | Duty::GoOn | Duty::HangUp)
+}
+
+/// Takes a transmission of its own, of the jobs that the spool gives, and of the other end's where it gives way. How many jobs were given.
+fn bid<L: Line, S: Spool>(
+    alloc: Global,
+    terms: Terms,
+    day: &mut Day,
+    seen: Seen,
+    line: &mut L,
+    spool: &mut S,
+) -> Result<usize, StayFault<S::Fault>>
+    requires next { duty_of day.old seen ≡ duty.Bid }
+    requires free { day.old.place ≡ Free }
+    ensures day { GoesOnAsDay day.old day.new }
+{
+    let jobs = match spool.next(alloc) {
+        Ok(jobs) => jobs,
+        Err(fault) => {
+            day.note(Event::Disconnected);
+            return Err(StayFault::Spool(fault));
+        }
+    };
+    match InHand::new(alloc, terms.rank, jobs.as_slice()) {
+        Ok(mut held) => {
+            day.note(Event::OwnBegan);
+            carry(&mut held, terms.patience, day, seen, line, spool)?;
+            Ok(jobs.len())
+        }
+        Err(fault) => {
+            day.note(Event::Disconnected);
+            Err(StayFault::Station(fault))
+        }
+    }
+}
+
+/// Hears once, and takes the transmission of the other end's that begins then, if one does.
+fn hear<L: Line, S: Spool>(
+    alloc: Global,
+    terms: Terms,
+    day: &mut Day,
+    seen: Seen,
+    line: &mut L,
+    spool: &mut S,
+) -> Result<(), StayFault<S::Fault>>
+    requires next { duty_of day.old seen ≡ duty.Hear }
+    requires free { day.old.place ≡ Free }
+    ensures day { GoesOnAsDay day.old day.new }
+{
+    let mut held = match InHand::new(alloc, terms.rank, &[]) {
+        Ok(held) => held,
+        Err(fault) => {
+            day.note(Event::Disconnected);
+            return Err(StayFault::Station(fault));
+        }
+    };
+    match held.take_others_turn(line, spool) {
+        Ok(_) if held.station().is_receiving() => {
+            day.note(Event::OtherBegan);
+            carry(&mut held, terms.patience, day, seen, line, spool)
+        }
+        Ok(arrival) => {
+            day.note(heard(arrival.sound));
+            Ok(())
+        }
+        Err(Leaving::Line(_)) => {
+            day.note(Event::Disconnected);
+            Ok(())
+        }
+        Err(Leaving::Spool(fault)) => {
+            day.note(Event::Disconnected);
+            Err(StayFault::Spool(fault))
+        }
+    }
+}
+
+/// Goes on with a transmission in hand to its end, and with the other end's where its own gives way.
+fn carry<'a, L: Line, S: Spool>(
+    held: &mut InHand<'a>,
+    patience: u32,
+    day: &mut Day,
+    seen: Seen,
+    line: &mut L,
+    spool: &mut S,
+) -> Result<(), StayFault<S::Fault>>
+    requires in_hand { day.old.place ≡ place_in_hand (is_receiving held.old.station.contender.place) }
+    ensures day { GoesOnAsDay day.old day.new }
+{
+    if go_on(held, patience, day, seen, line, spool)? == Event::OtherBegan {
+        go_on(held, patience, day, seen, line, spool)?;
+    }
+    Ok(())
+}
+
+/// Goes on with a transmission in hand, and notes what came of it.
+fn go_on<'a, L: Line, S: Spool>(
+    held: &mut InHand<'a>,
+    patience: u32,
+    day: &mut Day,
+    seen: Seen,
+    line: &mut L,
+    spool: &mut S,
+) -> Result<Event, StayFault<S::Fault>>
+    requires in_hand { day.old.place ≡ place_in_hand (is_receiving held.old.station.contender.place) }
+    ensures day { GoesOnAsDay day.old day.new }
+    ensures in_hand { IfOk result (λ event. event ≡ OtherBegan
+        → day.new.place ≡ place_in_hand (is_receiving held.new.station.contender.place)) }
+{
+    match held.go_on(line, patience, spool) {
+        Ok(event) => {
+            day.note(event);
+            Ok(event)
+        }
+        Err(fault) => {
+            day.note(Event::Disconnected);
+            Err(StayFault::Spool(fault))
+        }
+    }
+}
+
+/// What the day is told of a hearing between transmissions.
+fn heard(sound: Sound) -> Event
+    ensures { (result ≡ Quiet) ⊎ (result ≡ Heard) }
+{
+    match sound {
+        Sound::Quiet | Sound::Noise => Event::Quiet,
+        _ => Event::Heard,
+    }
+}
+
+/// All jobs of its last transmission are in doubt.
+fn doubt<S: Spool>(given: usize, spool: &mut S) -> Result<(), StayFault<S::Fault>>
+    ensures doubt { S.discloses → OnOk result (AreInDoubt given (S.ledger spool.new)) }
+{
+    for job in 0..given {
+        if let Err(fault) = spool.settle(job, Disposition::InDoubt) {
+            return Err(StayFault::Spool(fault));
+        }
+    }
+    Ok(())
+}
