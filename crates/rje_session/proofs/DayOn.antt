@@ -1,10 +1,9 @@
 -- A day goes on, moment after moment.
 use Rattle.std.proofs.lemmas.Grind.{common_steps}
-use Rattle.std.proofs.Common.{◌≡◌, ◌⊎◌, inl, inr, arith, true, false, Bool, List, [], ◌∷◌, ◌++◌, append_assoc, refl, ap, sym, ◌∙◌, subst}
+use Rattle.std.proofs.Common.{◌≡◌, ◌⊎◌, inl, inr, arith, true, false, Bool, [], ◌∷◌, ◌++◌, append_assoc, refl, ap, sym, ◌∙◌, subst}
 use Rattle.rje_day.specs.declared.day_place.DayPlace.{DayPlace}
 use Rattle.rje_day.specs.declared.event.Event.{Event}
 use Rattle.rje_day.specs.declared.seen.Seen.{Seen}
-use Rattle.rje_day.specs.declared.settings.Settings.{Settings}
 use Rattle.rje_day.specs.Day.{DayState, after, can_come, duty_of, is_connected}
 use Rattle.rje_day.specs.History.{History, IsDay, can_follow, kept_after}
 use Rattle.rje_day.specs.declared.duty.Duty.{Duty}

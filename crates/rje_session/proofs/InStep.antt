@@ -1,5 +1,5 @@
 -- The ledger stays in step with a transmission in hand, turn by turn.
-use Rattle.std.proofs.Common.{◌≡◌, ◌≢◌, ◌⊎◌, inl, inr, ℕ, ◌+◌, ◌≤◌, ◌<◌, ◌==◌, Bool, true, false, not, ◌&&◌, ◌||◌, List, [], ◌∷◌, ◌++◌, length, slice_get, Option, Some, None, Result, Ok, Err, IfErr, OnOk, nat_lt, nat_le, if◌then◌else◌, refl, ap, sym, ◌∙◌, subst, arith}
+use Rattle.std.proofs.Common.{◌≡◌, ◌≢◌, ◌⊎◌, inl, inr, ℕ, ◌+◌, ◌≤◌, ◌<◌, Bool, true, false, not, ◌||◌, List, [], ◌∷◌, ◌++◌, length, Option, Some, None, Result, Ok, Err, IfErr, OnOk, refl, ap, sym, ◌∙◌, subst, arith}
 use Rattle.std.proofs.lemmas.Grind.{common_steps}
 use Rattle.std.specs.Result.{IsErrAnd}
 use Rattle.bsc_codes.specs.declared.block.Block.{Block}
@@ -12,7 +12,6 @@ use Rattle.bsc_link.specs.declared.say.Say.{Say}
 use Rattle.bsc_link.specs.declared.sound.Sound.{Sound}
 use Rattle.bsc_link.specs.declared.wish.Wish.{Wish}
 use Rattle.bsc_link.specs.Sender.{counts_block, line_for}
-use Rattle.rje_day.specs.declared.disposition.Disposition.{Disposition}
 use Rattle.rje_day.specs.declared.ended.Ended.{Ended}
 use Rattle.rje_jobs.specs.declared.job.Job.{Job}
 use Rattle.rje_station.specs.declared.arrival.Arrival.{Arrival}
@@ -25,7 +24,7 @@ use Rattle.rje_station.proofs.Due.{answered_of_due, spoken_of_due}
 use Rattle.rje_session.specs.declared.leaving.Leaving.{Leaving}
 use Rattle.rje_session.specs.Account.{IfLineFailed, IsInStep, IsSettled, SettlesRest, became, ended_of, may_arrive}
 use Rattle.rje_session.specs.Keeping.{cutting, keeping}
-use Rattle.rje_session.specs.Ledger.{Entry, Given, Kept, MayArrive, Settled}
+use Rattle.rje_session.specs.Ledger.{Entry, Given}
 use Rattle.rje_session.specs.Stations.{FailsInOwn, TakesOthers, TakesOwn, after_answering_other, after_own_turn}
 use Rattle.rje_session.specs.Turns.{Carried, EntersLeavingOthers, EntersLeavingOwn, LeavesOthers, LeavesOwn, announcing, goes_out, may_come_after, settling}
 

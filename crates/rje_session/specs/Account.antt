@@ -1,10 +1,9 @@
 -- What the ledger tells of the jobs of a transmission in hand: looked back over since the transmission began (own profile).
-use Rattle.std.specs.Prelude.{◌≡◌, ◌⊎◌, ℕ, ◌≤◌, ◌<◌, ◌==◌, Bool, true, false, ◌&&◌, List, [], ◌∷◌, ◌++◌, length, take, Option, Some, None, nat_lt, nat_le, slice_get, if◌then◌else◌}
+use Rattle.std.specs.Prelude.{◌≡◌, ℕ, ◌≤◌, ◌<◌, ◌==◌, Bool, true, false, ◌&&◌, List, [], ◌∷◌, ◌++◌, length, Option, Some, None, nat_lt, nat_le, slice_get, if◌then◌else◌}
 use Rattle.rje_day.specs.declared.disposition.Disposition.{Disposition}
 use Rattle.rje_day.specs.declared.ended.Ended.{Ended}
 use Rattle.rje_day.specs.declared.event.Event.{Event}
 use Rattle.rje_day.specs.Ended.{disposition_of}
-use Rattle.rje_jobs.specs.declared.job.Job.{Job}
 use Rattle.rje_station.specs.Station.{is_receiving}
 use Rattle.rje_session.specs.declared.leaving.Leaving.{Leaving}
 use Rattle.rje_session.specs.Keeping.{cutting}

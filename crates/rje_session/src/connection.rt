@@ -7,7 +7,8 @@ ghost use Rattle.rje_station.specs.Station.{is_receiving};
 ghost use Rattle.rje_day.specs.declared.event.Event.TheVariants.{Heard, OtherBegan, Quiet};
 ghost use Rattle.rje_session.specs.Staying.{AreInDoubt, GoesOnAsDay, is_of_connection as of_connection, place_in_hand};
 
-use crate::{InHand, Leaving, Spool, StayFault, Steps, Terms};
+use crate::leaving::Leaving;
+use crate::{InHand, Spool, StayFault, Steps, Terms};
 use bsc_link::Sound;
 use rje_day::{Day, Disposition, Duty, Event, Seen};
 use rje_station::Line;

@@ -12,10 +12,11 @@ ghost use Rattle.rje_session.specs.Keeping.{AreKept, cutting, keeping, kept_with
 ghost use Rattle.rje_session.specs.Ledger.{Entry as Record, MayArrive, MayBeEntered};
 ghost use Rattle.rje_session.specs.Turns.{Carried as Held, announcing, goes_out, is_of_block as speaks_of_block, settling, may_come_after, LeavesOwn, EntersLeavingOwn, LeavesOthers, EntersLeavingOthers};
 
+use crate::Spool;
 use crate::keeping::{keep_cut, keep_next};
+use crate::leaving::Leaving;
 use crate::outstanding::{counts_last, is_last};
 use crate::settling::settle_rest;
-use crate::{Leaving, Spool};
 use bsc_link::{Rank, Say, Sound, Wish};
 use rje_day::{Disposition, Ended, Event};
 use rje_jobs::Job;
@@ -78,7 +79,7 @@ impl<'a> InHand<'a> {
 
     /// Its own turn: it says what is due, and but for EOT it listens. Before the last block of a job goes out it is entered that the job may
     /// arrive, and once that is counted, that it was sent. What was heard; quiet after EOT.
-    pub fn take_own_turn<L: Line, S: Spool>(
+    pub(crate) fn take_own_turn<L: Line, S: Spool>(
         &mut self,
         line: &mut L,
         spool: &mut S,
@@ -115,7 +116,7 @@ impl<'a> InHand<'a> {
 
     /// The other's turn: the station listens, keeps the job that came whole, and then replies where a reply is due. Where the job can't be
     /// kept it doesn't reply. What came.
-    pub fn take_others_turn<L: Line, S: Spool>(
+    pub(crate) fn take_others_turn<L: Line, S: Spool>(
         &mut self,
         line: &mut L,
         spool: &mut S,

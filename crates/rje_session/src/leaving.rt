@@ -6,7 +6,7 @@ use rje_station::StationFault;
 
 /// Why a connection is left while a transmission is in hand.
 #[derive(Debug, Drop)]
-pub enum Leaving<F> {
+pub(crate) enum Leaving<F> {
     /// The line failed or babbled, or the transmission was over before.
     Line(StationFault),
     /// The spool failed. Nothing was said after that.

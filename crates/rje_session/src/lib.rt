@@ -14,7 +14,6 @@ mod terms;
 
 pub use connection::{MAX_TRANSMISSIONS, stay};
 pub use in_hand::{InHand, MAX_TURNS};
-pub use leaving::Leaving;
 pub use spool::Spool;
 pub use stay_fault::StayFault;
 pub use steps::Steps;

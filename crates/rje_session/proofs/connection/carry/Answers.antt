@@ -1,4 +1,3 @@
-use Rattle.std.proofs.Common.{rules}
 use Rattle.rje_session.proofs.DayOn.{day_then}
 use Rattle.rje_session.proofs.connection.carry.Goals.{then-eq+in_ok-go_on-2, else-eq}
 use Rattle.rje_session.proofs.connection.carry.Goals as goal

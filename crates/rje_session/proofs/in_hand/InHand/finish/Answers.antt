@@ -1,4 +1,4 @@
-use Rattle.std.proofs.Common.{◌≡◌, ◌∙◌, ◌++◌, ap, arith, length, List, rules, slice_get, sym, ℕ}
+use Rattle.std.proofs.Common.{◌≡◌, ◌∙◌, ◌++◌, ap, arith, length, List, rules, slice_get, ℕ}
 use Rattle.rje_session.specs.Account.{IsSettled, SettlesRest, ended_of}
 use Rattle.rje_session.specs.Keeping.{cutting}
 use Rattle.rje_jobs.specs.declared.job.Job.{Job}
