@@ -32,12 +32,14 @@ pub fn stay<L: Steps, S: Spool>(
     for _ in 0..MAX_TRANSMISSIONS {
         let seen = spool.seen();
         let duty = day.next(seen);
+        if !line.is_in_step() {
+            if is_of_connection(duty) {
+                day.note(Event::Disconnected);
+            }
+            return doubt(given, spool);
+        }
         if !is_of_connection(duty) {
             return Ok(());
-        }
-        if !line.is_in_step() {
-            day.note(Event::Disconnected);
-            return doubt(given, spool);
         }
         match duty {
             Duty::Bid => given = bid(alloc, terms, day, seen, line, spool)?,
