@@ -1,0 +1,222 @@
+//! Whole connections.
+
+use super::book::{Book, Note};
+use super::script::Script;
+use bsc_link::Rank;
+use rje_day::{Day, Disposition, Event, Settings};
+use rje_jobs::{Job, job_of_deck};
+use rje_session::{Terms, stay};
+use rje_text::{Mode, Select};
+use std::alloc::{AllocError, AllocGlobal, Global};
+use std::process::Abort;
+
+const ENQ: [u8; 4] = [0x32, 0x32, 0x2D, 0xFF];
+
+const ACK0: [u8; 5] = [0x32, 0x32, 0x10, 0x70, 0xFF];
+
+const ACK1: [u8; 5] = [0x32, 0x32, 0x10, 0x61, 0xFF];
+
+/// The block of the record C1 that ends its job.
+const BLOCK: [u8; 9] = [0x32, 0x32, 0x02, 0xC1, 0x1E, 0x03, 0x18, 0x5D, 0xFF];
+
+const EOT: [u8; 4] = [0x32, 0x32, 0x37, 0xFF];
+
+/// The third bytes of a bid, a block, EOT and an acknowledgement.
+const SAID_BID: u8 = 0x2D;
+
+const SAID_BLOCK: u8 = 0x02;
+
+const SAID_END: u8 = 0x37;
+
+const SAID_ACK: u8 = 0x10;
+
+/// So many small jobs.
+fn decks(alloc: Global, count: usize) -> Result<Vec<Job>, AllocError> {
+    let mut jobs = Vec::new(alloc);
+    for _ in 0..count {
+        if let Ok(job) = job_of_deck(alloc, b"PAY 1\n", Select::Unset, Mode::Normal) {
+            jobs.push(job)?;
+        }
+    }
+    Ok(jobs)
+}
+
+/// A spool with so many jobs, that is drained after so many looks, and whose call of this number fails.
+fn book(rt: &(impl Abort + AllocGlobal), jobs: usize, looks: u32, failing: u32) -> Book {
+    let jobs = decks(rt.alloc(), jobs).expect(rt, "no memory");
+    Book::new(jobs, looks, failing)
+}
+
+/// Stays on a line until the station is drained. Whether the spool didn't fail.
+fn stays(rt: &(impl Abort + AllocGlobal), rank: Rank, line: &mut Script, spool: &mut Book) -> bool {
+    let terms = Terms { rank, patience: 3 };
+    let settings = Settings {
+        calls: false,
+        once: false,
+        patience: 40,
+    };
+    let mut day = Day::new(settings);
+    day.note(Event::Connected);
+    stay(rt.alloc(), terms, &mut day, line, spool).is_ok()
+}
+
+#[test]
+fn one_job_is_sent(rt: HostRuntime) {
+    let mut line = Script::new(&[&ACK0, &ACK1], 0);
+    let mut spool = book(&rt, 1, 2, 0);
+    assert!(rt; stays(&rt, Rank::Primary, &mut line, &mut spool));
+    assert!(rt;
+        spool.notes()
+            == [
+                Note::Given,
+                Note::MayArrive(0),
+                Note::Settled(0, Disposition::Sent)
+            ]
+            .as_slice()
+    );
+    assert!(rt; line.said() == [SAID_BID, SAID_BLOCK, SAID_END].as_slice());
+}
+
+#[test]
+fn one_job_is_received(rt: HostRuntime) {
+    let mut line = Script::new(&[&ENQ, &BLOCK, &EOT], 0);
+    let mut spool = book(&rt, 0, 2, 0);
+    assert!(rt; stays(&rt, Rank::Primary, &mut line, &mut spool));
+    assert!(rt; spool.notes() == [Note::Kept].as_slice());
+    assert!(rt; line.said() == [SAID_ACK, SAID_ACK].as_slice());
+}
+
+#[test]
+fn each_transmission_begins_with_new_stations(rt: HostRuntime) {
+    let mut line = Script::new(&[&ENQ, &BLOCK, &EOT, &ENQ, &BLOCK, &EOT], 0);
+    let mut spool = book(&rt, 0, 3, 0);
+    assert!(rt; stays(&rt, Rank::Secondary, &mut line, &mut spool));
+    assert!(rt; spool.notes() == [Note::Kept, Note::Kept].as_slice());
+    assert!(rt; line.said() == [SAID_ACK, SAID_ACK, SAID_ACK, SAID_ACK].as_slice());
+}
+
+#[test]
+fn a_secondary_gives_way(rt: HostRuntime) {
+    let mut line = Script::new(&[&ENQ, &BLOCK, &EOT], 0);
+    let mut spool = book(&rt, 1, 2, 0);
+    assert!(rt; stays(&rt, Rank::Secondary, &mut line, &mut spool));
+    assert!(rt;
+        spool.notes()
+            == [
+                Note::Given,
+                Note::Kept,
+                Note::Settled(0, Disposition::Ready)
+            ]
+            .as_slice()
+    );
+    assert!(rt; line.said() == [SAID_ACK, SAID_ACK].as_slice());
+}
+
+#[test]
+fn a_primary_stands_by_its_bid(rt: HostRuntime) {
+    let mut line = Script::new(&[&ENQ, &ACK0, &ACK1], 0);
+    let mut spool = book(&rt, 1, 2, 0);
+    assert!(rt; stays(&rt, Rank::Primary, &mut line, &mut spool));
+    assert!(rt;
+        spool.notes()
+            == [
+                Note::Given,
+                Note::MayArrive(0),
+                Note::Settled(0, Disposition::Sent)
+            ]
+            .as_slice()
+    );
+    assert!(rt; line.said() == [SAID_BID, SAID_BID, SAID_BLOCK, SAID_END].as_slice());
+}
+
+#[test]
+fn a_line_that_fails_before_the_last_block_leaves_the_job_ready(rt: HostRuntime) {
+    let mut line = Script::new(&[&ACK0, &ACK1], 1);
+    let mut spool = book(&rt, 1, 2, 0);
+    assert!(rt; stays(&rt, Rank::Primary, &mut line, &mut spool));
+    assert!(rt; spool.notes() == [Note::Given, Note::Settled(0, Disposition::Ready)].as_slice());
+}
+
+#[test]
+fn a_line_that_fails_with_the_last_block_out_leaves_the_job_in_doubt(rt: HostRuntime) {
+    let mut line = Script::new(&[&ACK0, &ACK1], 2);
+    let mut spool = book(&rt, 2, 2, 0);
+    assert!(rt; stays(&rt, Rank::Primary, &mut line, &mut spool));
+    assert!(rt;
+        spool.notes()
+            == [
+                Note::Given,
+                Note::MayArrive(0),
+                Note::Settled(0, Disposition::InDoubt),
+                Note::Settled(1, Disposition::Ready)
+            ]
+            .as_slice()
+    );
+}
+
+#[test]
+fn a_line_that_fails_once_a_job_is_counted_leaves_it_sent(rt: HostRuntime) {
+    let mut line = Script::new(&[&ACK0, &ACK1], 3);
+    let mut spool = book(&rt, 1, 2, 0);
+    assert!(rt; stays(&rt, Rank::Primary, &mut line, &mut spool));
+    assert!(rt;
+        spool.notes()
+            == [
+                Note::Given,
+                Note::MayArrive(0),
+                Note::Settled(0, Disposition::Sent)
+            ]
+            .as_slice()
+    );
+}
+
+#[test]
+fn nothing_is_said_where_the_spool_fails(rt: HostRuntime) {
+    let said = [SAID_BID, SAID_BLOCK];
+    for failing in 1..4 {
+        let mut line = Script::new(&[&ACK0, &ACK1], 0);
+        let mut spool = book(&rt, 1, 2, failing);
+        assert!(rt; !stays(&rt, Rank::Primary, &mut line, &mut spool));
+        let most = failing as usize - 1;
+        assert!(rt; spool.notes().len() == most);
+        assert!(rt; line.said() == &said[..most]);
+    }
+}
+
+#[test]
+fn nothing_is_acknowledged_that_is_not_kept(rt: HostRuntime) {
+    let mut line = Script::new(&[&ENQ, &BLOCK, &EOT], 0);
+    let mut spool = book(&rt, 0, 2, 1);
+    assert!(rt; !stays(&rt, Rank::Primary, &mut line, &mut spool));
+    assert!(rt; spool.notes().is_empty());
+    assert!(rt; line.said() == [SAID_ACK].as_slice());
+}
+
+#[test]
+fn what_is_held_is_not_bid_for(rt: HostRuntime) {
+    let mut line = Script::new(&[], 0);
+    let mut spool = book(&rt, 1, 2, 0);
+    spool.hold();
+    assert!(rt; stays(&rt, Rank::Primary, &mut line, &mut spool));
+    assert!(rt; spool.notes().is_empty());
+    assert!(rt; line.said().is_empty());
+}
+
+#[test]
+fn an_answer_after_eot_leaves_all_in_doubt(rt: HostRuntime) {
+    let mut line = Script::new(&[&ACK0, &ACK1], 0);
+    line.stray();
+    let mut spool = book(&rt, 1, 9, 0);
+    assert!(rt; stays(&rt, Rank::Primary, &mut line, &mut spool));
+    assert!(rt;
+        spool.notes()
+            == [
+                Note::Given,
+                Note::MayArrive(0),
+                Note::Settled(0, Disposition::Sent),
+                Note::Settled(0, Disposition::InDoubt)
+            ]
+            .as_slice()
+    );
+    assert!(rt; line.said() == [SAID_BID, SAID_BLOCK, SAID_END].as_slice());
+}

@@ -1,0 +1,99 @@
+//! A line of the tests' own.
+ghost use Rattle.std.specs.Prelude.{◌+◌, ◌-◌, ◌^◌, ◌<◌, ◌≤◌, min, Some, None, ⊤};
+
+use arrayvec::ArrayVec;
+use rje_session::Steps;
+use rje_station::{Came, Line, LineFault};
+
+/// What is heard, one piece in each hearing, and then nothing more; and what was said.
+#[derive(Drop)]
+pub(super) struct Script {
+    pieces: &'static [&'static [u8]],
+    place: usize,
+    /// The transmission of this number fails, from 1; none where it is 0.
+    failing: u64,
+    /// An answer comes as the other end hangs up, once there is nothing more to hear.
+    strays: bool,
+    hung_up: bool,
+    /// The third byte of each transmission, by which its kind is known.
+    said: ArrayVec<u8, 64>,
+    transmissions: u64,
+    failures: u64,
+    last_fault: Option<LineFault>,
+}
+
+impl Script {
+    pub(super) fn new(pieces: &'static [&'static [u8]], failing: u64) -> Script {
+        Script {
+            pieces,
+            place: 0,
+            failing,
+            strays: false,
+            hung_up: false,
+            said: ArrayVec::new(),
+            transmissions: 0,
+            failures: 0,
+            last_fault: None,
+        }
+    }
+
+    /// An answer comes as the other end hangs up, once there is nothing more to hear.
+    pub(super) fn stray(&mut self) {
+        self.strays = true;
+    }
+
+    /// The third byte of each transmission.
+    pub(super) fn said(&self) -> &[u8] {
+        self.said.as_slice()
+    }
+}
+
+impl Line for Script {
+    ghost failures = { λ line. line.failures };
+
+    ghost transmissions = { λ line. line.transmissions };
+
+    ghost last_fault = { λ line. line.last_fault };
+
+    ghost may_fail = { λ _ _ _. ⊤ };
+
+    ghost talk = { λ _. None };
+
+    fn transmit(&mut self, bytes: &[u8]) -> Result<(), LineFault> {
+        self.transmissions = self.transmissions.saturating_add(1);
+        if self.transmissions == self.failing {
+            self.failures = self.failures.saturating_add(1);
+            self.last_fault = Some(LineFault::Closed);
+            return Err(LineFault::Closed);
+        }
+        if bytes.len() > 2 {
+            let _ = self.said.try_push(bytes[2]);
+        }
+        Ok(())
+    }
+
+    fn listen(&mut self, piece: &mut [u8]) -> Result<Came, LineFault> {
+        if self.place >= self.pieces.len() && self.strays {
+            self.hung_up = true;
+            self.failures = self.failures.saturating_add(1);
+            self.last_fault = Some(LineFault::Closed);
+            return Err(LineFault::Closed);
+        }
+        if self.place >= self.pieces.len() {
+            return Ok(Came::Quiet);
+        }
+        let bytes = self.pieces[self.place];
+        self.place += 1;
+        if bytes.is_empty() || bytes.len() > piece.len() {
+            return Ok(Came::Quiet);
+        }
+        piece[..bytes.len()].copy_from_slice(bytes);
+        Ok(Came::Bytes(bytes.len()))
+    }
+}
+
+impl Steps for Script {
+    fn is_in_step(&mut self) -> bool {
+        !self.strays || !self.hung_up
+    }
+}
