@@ -2,3 +2,4 @@
 mod failing_disk;
 mod names;
 mod stations;
+mod system;
