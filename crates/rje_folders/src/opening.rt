@@ -6,7 +6,7 @@ ghost use Rattle.rje_folders.specs.Promising.{MayOpen, MayTidy, lock_path};
 use crate::folder::Folder;
 use crate::folder_disk::FolderDisk;
 use crate::folder_fault::FolderFault;
-use crate::tidying::{tidy_doubt, tidy_ready};
+use crate::tidying::{is_passed_over, tidy_doubt, tidy_ready};
 use std::alloc::Global;
 use std::fs::TryLockError;
 use std::io::{self, ErrorKind};
@@ -111,7 +111,7 @@ fn tidy_doubts<D: FolderDisk>(disk: &mut D, alloc: Global, station: &str) -> Res
 }
 
 /// The names in a folder of the station, in no order.
-pub(crate) fn names_of<D: FolderDisk>(
+fn names_of<D: FolderDisk>(
     disk: &D,
     alloc: Global,
     station: &str,
@@ -122,6 +122,22 @@ pub(crate) fn names_of<D: FolderDisk>(
         Ok(names) => Ok(names),
         Err(error) => Err(FolderFault::of(folder, &error)),
     }
+}
+
+/// The names in out/ that aren't passed over, in no order.
+pub(crate) fn names_ready<D: FolderDisk>(
+    disk: &D,
+    alloc: Global,
+    station: &str,
+) -> io::Result<Vec<String>> {
+    let path = format!(in alloc; "{station}/{}", Folder::Out.as_str())?;
+    let mut ready = Vec::new(alloc);
+    for name in disk.names_in(alloc, path.as_str())? {
+        if !is_passed_over(disk, alloc, station, name.as_str())? {
+            ready.push(name)?;
+        }
+    }
+    Ok(ready)
 }
 
 /// Whether one of the files is there by which the operator tells the station something.

@@ -10,7 +10,7 @@ ghost use Rattle.rje_folders.specs.Promising.{IsSent, MayOpen, MayPromise, MaySe
 use crate::folder::Folder;
 use crate::folder_disk::FolderDisk;
 use crate::folder_fault::FolderFault;
-use crate::opening::{is_there, locked, make_folders, names_of, tidy_up};
+use crate::opening::{is_there, locked, make_folders, names_ready, tidy_up};
 use crate::promising::{promise, settle};
 use crate::ready_file::first_ready;
 use crate::receiving::{keep_in, refuse};
@@ -45,10 +45,12 @@ impl<D: FolderDisk + Drop> StationFolder<D> {
         })
     }
 
-    /// The first name in out/ that isn't left alone.
+    /// The first name in out/ that isn't left alone, and whose file has none in sent/, doubt/ or refused/.
     pub fn first_ready(&self) -> Result<Option<String>, FolderFault> {
-        let names = names_of(&self.disk, self.alloc, self.path.as_str(), Folder::Out)?;
-        Ok(first_ready(names))
+        match names_ready(&self.disk, self.alloc, self.path.as_str()) {
+            Ok(names) => Ok(first_ready(names)),
+            Err(error) => Err(FolderFault::of(Folder::Out, &error)),
+        }
     }
 
     /// Whether the operator holds back what lies ready: a file `hold` is there.

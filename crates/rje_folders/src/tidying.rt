@@ -62,6 +62,22 @@ pub(crate) fn tidy_doubt<D: FolderDisk>(
     }
 }
 
+/// Whether a name in out/ is passed over: its file has one in sent/, doubt/ or refused/ too, or is there no more.
+pub(crate) fn is_passed_over<D: FolderDisk>(
+    disk: &D,
+    alloc: Global,
+    station: &str,
+    name: &str,
+) -> io::Result<bool> {
+    let ready = Folder::Out.path(alloc, station, name)?;
+    match disk.status(ready.as_str()) {
+        Ok(found) if found.links < 2 => Ok(false),
+        Ok(_) => Ok(kept_name(disk, alloc, station, name, ready.as_str())?.is_some()),
+        Err(error) if error.kind() == ErrorKind::NotFound => Ok(true),
+        Err(error) => Err(error),
+    }
+}
+
 /// The path of the other name that the file of a name in out/ has.
 fn kept_name<D: FolderDisk>(
     disk: &D,

@@ -155,6 +155,17 @@ fn a_file_that_took_the_name_of_a_job_stays(rt: HostRuntime) -> Result<(), Fail>
 }
 
 #[test]
+fn a_job_that_was_promised_does_not_lie_ready(rt: HostRuntime) -> Result<(), Fail> {
+    let alloc = rt.alloc();
+    let mut station = opened(&rt, alloc, disk_with_a_file(alloc, 0, false)?);
+    let ready = station.first_ready().expect(&rt, "names");
+    assert!(rt; ready.is_some_and(|name| name.as_str() == "A.deck"));
+    assert!(rt; station.promise("A.deck").is_ok());
+    assert!(rt; station.first_ready().expect(&rt, "names").is_none());
+    Ok(())
+}
+
+#[test]
 fn what_came_gets_a_name_of_its_own(rt: HostRuntime) -> Result<(), Fail> {
     let alloc = rt.alloc();
     for fails_at in 0..MAX_CALLS {
