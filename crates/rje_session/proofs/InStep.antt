@@ -1,6 +1,7 @@
 -- The ledger stays in step with a transmission in hand, turn by turn.
 use Rattle.std.proofs.Common.{◌≡◌, ◌≢◌, ◌⊎◌, inl, inr, ℕ, ◌+◌, ◌≤◌, ◌<◌, Bool, true, false, not, ◌||◌, List, [], ◌∷◌, ◌++◌, length, Option, Some, None, Result, Ok, Err, IfErr, OnOk, refl, ap, sym, ◌∙◌, subst, arith}
 use Rattle.std.proofs.lemmas.Grind.{common_steps}
+use Rattle.std.proofs.lemmas.Bool.{true≢false}
 use Rattle.std.specs.Result.{IsErrAnd}
 use Rattle.bsc_codes.specs.declared.block.Block.{Block}
 use Rattle.bsc_codes.specs.declared.block.Closing.{Closing}
@@ -13,6 +14,8 @@ use Rattle.bsc_link.specs.declared.sound.Sound.{Sound}
 use Rattle.bsc_link.specs.declared.wish.Wish.{Wish}
 use Rattle.bsc_link.specs.Sender.{counts_block, line_for}
 use Rattle.rje_day.specs.declared.ended.Ended.{Ended}
+use Rattle.rje_day.specs.declared.event.Event.{Event}
+use Rattle.rje_day.specs.Ended.{disposition_of}
 use Rattle.rje_jobs.specs.declared.job.Job.{Job}
 use Rattle.rje_station.specs.declared.arrival.Arrival.{Arrival}
 use Rattle.rje_station.specs.declared.station_fault.StationFault.{StationFault}
@@ -22,9 +25,10 @@ use Rattle.rje_station.specs.Sending.{Sending, after_hearing, counted_after, cou
 use Rattle.rje_station.specs.Station.{Contending, after_answer, after_other, after_other_ended, after_other_refusal, after_own_refusal, after_own_speaking, due_at, gives_way, lets_in}
 use Rattle.rje_station.proofs.Due.{answered_of_due, spoken_of_due}
 use Rattle.rje_session.specs.declared.leaving.Leaving.{Leaving}
-use Rattle.rje_session.specs.Account.{IfLineFailed, IsInStep, IsSettled, SettlesRest, became, ended_of, may_arrive}
+use Rattle.rje_session.specs.Account.{ComesOf, IfLineFailed, IsAccounted, IsInStep, IsSettled, SettlesRest, became, ended_of, may_arrive}
 use Rattle.rje_session.specs.Keeping.{cutting, keeping}
 use Rattle.rje_session.specs.Ledger.{Entry, Given}
+use Rattle.rje_session.specs.Staying.{AreSettled}
 use Rattle.rje_session.specs.Stations.{FailsInOwn, TakesOthers, TakesOwn, after_answering_other, after_own_turn}
 use Rattle.rje_session.specs.Turns.{Carried, EntersLeavingOthers, EntersLeavingOwn, LeavesOthers, LeavesOwn, announcing, goes_out, may_come_after, settling}
 
@@ -206,6 +210,31 @@ own_left unsaid c c' before after (Leaving.Spool fault) left enters in_step = tt
 own_left unsaid c c' before after (Leaving.Line fault) left enters in_step =
     own_fault_in_step c c' before after (own_fault_stays fault c.station c'.station left.0) left.1 enters in_step
 
+-- the jobs stay, where the line fails
+others_left_jobs : {F : Type 0} (unsaid : Type 0) (c c' : Carried) (leaving : Leaving F) → LeavesOthers unsaid c c' leaving → IfLineFailed leaving (c'.station.sender.jobs ≡ c.station.sender.jobs)
+others_left_jobs unsaid c c' (Leaving.Spool fault) left = tt
+others_left_jobs unsaid c c' (Leaving.Line fault) (inl is) = (refusal_stays fault c.station c'.station is).0
+others_left_jobs unsaid c c' (Leaving.Line fault) (inr (what, refused, may, is)) =
+    (stays_along c.station (after_other c.station what refused Wish.Go) c'.station (heard_stays c.station what refused) (refusal_stays fault (after_other c.station what refused Wish.Go) c'.station is)).0
+
+own_left_jobs : {F : Type 0} (unsaid : Type 0) (c c' : Carried) (leaving : Leaving F) → LeavesOwn unsaid c c' leaving → IfLineFailed leaving (c'.station.sender.jobs ≡ c.station.sender.jobs)
+own_left_jobs unsaid c c' (Leaving.Spool fault) left = tt
+own_left_jobs unsaid c c' (Leaving.Line fault) left = (own_fault_stays fault c.station c'.station left.0).0
+
+left_along : {F : Type 0} (leaving : Leaving F) (a b d : List Job) → a ≡ b → IfLineFailed leaving (d ≡ a) → IfLineFailed leaving (d ≡ b)
+left_along (Leaving.Spool fault) a b d e left = tt
+left_along (Leaving.Line fault) a b d e left = left ∙ e
+
+pub others_leave_jobs : {A F : Type 0} (unsaid : Type 0) (c c' : Carried) (jobs : List Job) (r : Result A (Leaving F)) → c.station.sender.jobs ≡ jobs → IfErr r (LeavesOthers unsaid c c')
+    → IfErr r (λ leaving. IfLineFailed leaving (c'.station.sender.jobs ≡ jobs))
+others_leave_jobs unsaid c c' jobs (Ok x) same left = tt
+others_leave_jobs unsaid c c' jobs (Err leaving) same left = left_along leaving c.station.sender.jobs jobs c'.station.sender.jobs same (others_left_jobs unsaid c c' leaving left)
+
+pub own_leaves_jobs : {A F : Type 0} (unsaid : Type 0) (c c' : Carried) (jobs : List Job) (r : Result A (Leaving F)) → c.station.sender.jobs ≡ jobs → IfErr r (LeavesOwn unsaid c c')
+    → IfErr r (λ leaving. IfLineFailed leaving (c'.station.sender.jobs ≡ jobs))
+own_leaves_jobs unsaid c c' jobs (Ok x) same left = tt
+own_leaves_jobs unsaid c c' jobs (Err leaving) same left = left_along leaving c.station.sender.jobs jobs c'.station.sender.jobs same (own_left_jobs unsaid c c' leaving left)
+
 -- and so is its own
 pub own_leaves : {A F : Type 0} (unsaid : Type 0) (c c' : Carried) (before after : List Entry) (r : Result A (Leaving F)) → IfErr r (LeavesOwn unsaid c c') → IfErr r (EntersLeavingOwn c c' before after)
     → IsInStep c before → IfErr r (λ leaving. IfLineFailed leaving (IsInStep c' after))
@@ -279,3 +308,31 @@ none_in_step c ledger none = record {
   sent = λ job within. absurd (omega (arith, ap (λ (l : List Job). length l) none));
   out = λ job within from. absurd (omega (arith, ap (λ (l : List Job). length l) none));
 }
+
+-- ---- At the end.
+
+pub settled_else : (event : Event) (c : Carried) (ledger : List Entry) → (event ≡ Event.OtherBegan → ⊥) → IsAccounted event c ledger → IsSettled c ledger
+settled_else Event.OtherBegan c ledger not accounted = absurd (not refl)
+settled_else Event.OtherEnded c ledger not accounted = accounted
+settled_else Event.Disconnected c ledger not accounted = accounted
+settled_else (Event.OwnEnded ended) c ledger not accounted = accounted
+settled_else Event.Connected c ledger not accounted = accounted
+settled_else Event.NoConnection c ledger not accounted = accounted
+settled_else Event.Quiet c ledger not accounted = accounted
+settled_else Event.Heard c ledger not accounted = accounted
+settled_else Event.OwnBegan c ledger not accounted = accounted
+
+-- the other end's transmission doesn't begin while it is in hand
+pub begins_once : (first second : Event) (c near c' : Carried) → first ≡ Event.OtherBegan → ComesOf c near first → ComesOf near c' second → second ≡ Event.OtherBegan → ⊥
+begins_once first second c near c' is comes then again =
+    let one : ComesOf c near Event.OtherBegan = subst (λ (e : Event). ComesOf c near e) is comes in
+    let two : ComesOf near c' Event.OtherBegan = subst (λ (e : Event). ComesOf near c' e) again then in
+    true≢false (sym one.1 ∙ two.0)
+
+pub still_begun : (event : Event) (c : Carried) (ledger : List Entry) → event ≡ Event.OtherBegan → IsAccounted event c ledger → IsInStep c ledger
+still_begun event c ledger is accounted = subst (λ (e : Event). IsAccounted e c ledger) is accounted
+
+-- each job that was given is settled
+pub given_settled : (c : Carried) (jobs : List Job) (ledger : List Entry) (given : ℕ) → c.station.sender.jobs ≡ jobs → given ≡ length jobs → IsSettled c ledger → AreSettled given ledger
+given_settled c jobs ledger given are long settled job within =
+    let there : job < length c.station.sender.jobs = rw are (rw (sym long) within) in (disposition_of (ended_of c) job, settled.all job there)

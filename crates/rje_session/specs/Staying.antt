@@ -29,3 +29,7 @@ is_of_connection Duty.Hear = true
 is_of_connection Duty.GoOn = true
 is_of_connection Duty.HangUp = true
 is_of_connection _ = false
+
+-- something became of each of the first jobs of a transmission, so many
+abbrev pub AreSettled : (given : ℕ) → List Entry → Type 0
+AreSettled given ledger = (job : ℕ) → job < given → (what : Disposition) × (became ledger job ≡ Some what)

@@ -5,7 +5,8 @@ ghost use Rattle.rje_day.specs.declared.duty.Duty.TheVariants as duty;
 ghost use Rattle.rje_day.specs.Day.{duty_of};
 ghost use Rattle.rje_station.specs.Station.{is_receiving};
 ghost use Rattle.rje_day.specs.declared.event.Event.TheVariants.{Heard, OtherBegan, Quiet};
-ghost use Rattle.rje_session.specs.Staying.{AreInDoubt, GoesOnAsDay, is_of_connection as of_connection, place_in_hand};
+ghost use Rattle.rje_session.specs.Account.{ComesOf, IsAccounted, IsInStep, IsSettled};
+ghost use Rattle.rje_session.specs.Staying.{AreInDoubt, AreSettled, GoesOnAsDay, is_of_connection as of_connection, place_in_hand};
 
 use crate::leaving::Leaving;
 use crate::{InHand, Spool, StayFault, Steps, Terms};
@@ -69,6 +70,7 @@ fn bid<L: Line, S: Spool>(
     requires next { duty_of day.old seen ≡ duty.Bid }
     requires free { day.old.place ≡ Free }
     ensures day { GoesOnAsDay day.old day.new }
+    ensures settled { S.discloses → IfOk result (λ given. AreSettled given (S.ledger spool.new)) }
 {
     let jobs = match spool.next(alloc) {
         Ok(jobs) => jobs,
@@ -141,6 +143,9 @@ fn carry<'a, L: Line, S: Spool>(
 ) -> Result<(), StayFault<S::Fault>>
     requires in_hand { day.old.place ≡ place_in_hand (is_receiving held.old.station.contender.place) }
     ensures day { GoesOnAsDay day.old day.new }
+    ensures settled { S.discloses → IsInStep held.old (S.ledger spool.old)
+        → OnOk result (IsSettled held.new (S.ledger spool.new)) }
+    ensures jobs { OnOk result (held.new.station.sender.jobs ≡ held.old.station.sender.jobs) }
 {
     if go_on(held, patience, day, seen, line, spool)? == Event::OtherBegan {
         go_on(held, patience, day, seen, line, spool)?;
@@ -161,6 +166,10 @@ fn go_on<'a, L: Line, S: Spool>(
     ensures day { GoesOnAsDay day.old day.new }
     ensures in_hand { IfOk result (λ event. event ≡ OtherBegan
         → day.new.place ≡ place_in_hand (is_receiving held.new.station.contender.place)) }
+    ensures accounted { S.discloses → IsInStep held.old (S.ledger spool.old)
+        → IfOk result (λ event. IsAccounted event held.new (S.ledger spool.new)) }
+    ensures comes { IfOk result (ComesOf held.old held.new) }
+    ensures jobs { OnOk result (held.new.station.sender.jobs ≡ held.old.station.sender.jobs) }
 {
     match held.go_on(line, patience, spool) {
         Ok(event) => {

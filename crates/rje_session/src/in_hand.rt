@@ -175,6 +175,8 @@ impl<'a> InHand<'a> {
         ensures comes { IfOk result (ComesOf self.old self.new) }
         ensures cut { S.discloses → IfOk result (λ event.
             KeepsCut event self.new (S.ledger spool.new)) }
+        ensures jobs { OnOk result (self.new.station.sender.jobs
+            ≡ self.old.station.sender.jobs) }
     {
         let event = match self.take_turns(line, patience, spool) {
             Ok(event) => event,
@@ -200,6 +202,10 @@ impl<'a> InHand<'a> {
         ensures left { S.discloses → IsInStep self.old (S.ledger spool.old)
             → IfErr result (λ leaving.
             IfLineFailed leaving (IsInStep self.new (S.ledger spool.new))) }
+        ensures jobs { OnOk result (self.new.station.sender.jobs
+            ≡ self.old.station.sender.jobs) }
+        ensures left_jobs { IfErr result (λ leaving. IfLineFailed leaving
+            (self.new.station.sender.jobs ≡ self.old.station.sender.jobs)) }
     {
         let was_receiving = self.station.is_receiving();
         let at_once = self.station.rank() == Rank::Primary;

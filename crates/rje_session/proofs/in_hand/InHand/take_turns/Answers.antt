@@ -1,29 +1,55 @@
-use Rattle.std.proofs.Common.{◌≡◌, rules, slice_get}
+use Rattle.std.proofs.Common.{◌≡◌, ◌∙◌, ap, rules, slice_get, sym}
+use Rattle.rje_station.specs.Station.{Contending}
 use Rattle.rje_session.specs.Account.{IfLineFailed, IsInStep}
 use Rattle.rje_session.specs.Turns.{Carried}
-use Rattle.rje_session.proofs.InStep.{ended_stays, fails_on, others_in_step, others_leave, others_stay, own_in_step, own_leaves, own_steps, still_in_step}
+use Rattle.rje_session.proofs.InStep.{ended_stays, fails_on, others_in_step, others_leave, others_leave_jobs, others_stay, own_in_step, own_leaves, own_leaves_jobs, own_steps, still_in_step}
 use Rattle.rje_session.proofs.in_hand.InHand.take_turns.Goals as goal
 
 pub loop-preserved-then-is_own_turn : goal.loop-preserved-then-is_own_turn
-loop-preserved-then-is_own_turn g c shows in_step =
+loop-preserved-then-is_own_turn g c =
     let takes = c.in_ok-take_own_turn.ensures.takes in
-    own_in_step c.loop.self c.take_own_turn.new.self (g.S.Spool.ledger c.loop.spool) (g.S.Spool.ledger c.take_own_turn.new.spool)
-    (own_steps c.loop.self.station c.take_own_turn.new.self.station takes.0 c.in_ok-take_own_turn.field-0 takes.1)
-    (c.in_ok-take_own_turn.ensures.entered shows) c.in_ok-take_own_turn.ensures.may_have_come (c.loop.invariant shows in_step)
+    let steps = own_steps c.loop.self.station c.take_own_turn.new.self.station takes.0 c.in_ok-take_own_turn.field-0 takes.1 in record {
+      step = λ shows in_step. own_in_step c.loop.self c.take_own_turn.new.self (g.S.Spool.ledger c.loop.spool) (g.S.Spool.ledger c.take_own_turn.new.spool) steps
+          (c.in_ok-take_own_turn.ensures.entered shows) c.in_ok-take_own_turn.ensures.may_have_come (c.loop.invariant.step shows in_step);
+      jobs = steps.0 ∙ c.loop.invariant.jobs;
+    }
 
 pub loop-preserved : goal.loop-preserved
-loop-preserved g c shows in_step =
+loop-preserved g c =
     let takes = c.in_ok-arrival.ensures.takes in
-    others_in_step c.loop.self c.take_others_turn.new.self (slice_get c.take_others_turn.new.self.station.receiver.jobs c.loop.self.kept) (g.S.Spool.ledger c.loop.spool)
-    (g.S.Spool.ledger c.take_others_turn.new.spool) (others_stay c.loop.self.station c.take_others_turn.new.self.station c.in_ok-arrival.arrival takes.0 takes.1) c.take_others_turn.ensures.may_have_come
-    (c.in_ok-arrival.ensures.entered shows) (c.loop.invariant shows in_step)
+    let stays = others_stay c.loop.self.station c.take_others_turn.new.self.station c.in_ok-arrival.arrival takes.0 takes.1 in record {
+      step = λ shows in_step. others_in_step c.loop.self c.take_others_turn.new.self (slice_get c.take_others_turn.new.self.station.receiver.jobs c.loop.self.kept) (g.S.Spool.ledger c.loop.spool)
+          (g.S.Spool.ledger c.take_others_turn.new.spool) stays c.take_others_turn.ensures.may_have_come (c.in_ok-arrival.ensures.entered shows) (c.loop.invariant.step shows in_step);
+      jobs = stays.0 ∙ c.loop.invariant.jobs;
+    }
+
+pub returns-then-quiet-patience-clause-jobs : goal.returns-then-quiet-patience-clause-jobs
+returns-then-quiet-patience-clause-jobs g c =
+    let takes = c.in_ok-arrival.ensures.takes in
+    let stays = others_stay c.loop.self.station c.take_others_turn.new.self.station c.in_ok-arrival.arrival takes.0 takes.1 in
+    let at : c.take_others_turn.new.self.station ≡ c.self-in-loop.inside.station = search rules in
+    (ended_stays c.self-in-loop.inside.station c.other_ended.new.self c.other_ended.ensures).0 ∙ ap (λ (x : Contending). x.sender.jobs) (sym at) ∙ stays.0 ∙ c.loop.invariant.jobs
+
+pub returns-in_err-arrival-clause-left_jobs : goal.returns-in_err-arrival-clause-left_jobs
+returns-in_err-arrival-clause-left_jobs g c =
+    let left = others_leave_jobs (g.L.Line.transmissions c.take_others_turn.new.line ≡ g.L.Line.transmissions c.loop.line) c.loop.self c.take_others_turn.new.self c.args.self.now.station.sender.jobs
+    c.take_others_turn.result c.loop.invariant.jobs c.take_others_turn.ensures.left in
+    fails_on c.take_others_turn.result c.in_err-arrival.field-0.0 c.from_residual-in_err-arrival.result
+    (λ leaving. IfLineFailed leaving (c.take_others_turn.new.self.station.sender.jobs ≡ c.args.self.now.station.sender.jobs)) c.in_err-arrival.was left c.from_residual-in_err-arrival.ensures.1
+
+pub returns-in_err-take_own_turn-clause-left_jobs : goal.returns-in_err-take_own_turn-clause-left_jobs
+returns-in_err-take_own_turn-clause-left_jobs g c =
+    let left = own_leaves_jobs (c.take_own_turn.new.line ≡ c.loop.line) c.loop.self c.take_own_turn.new.self c.args.self.now.station.sender.jobs
+    c.take_own_turn.result c.loop.invariant.jobs c.take_own_turn.ensures.left in
+    fails_on c.take_own_turn.result c.in_err-take_own_turn.field-0.0 c.from_residual.result
+    (λ leaving. IfLineFailed leaving (c.take_own_turn.new.self.station.sender.jobs ≡ c.args.self.now.station.sender.jobs)) c.in_err-take_own_turn.was left c.from_residual.ensures.1
 
 pub returns-then-quiet-patience-clause-in_step : goal.returns-then-quiet-patience-clause-in_step
 returns-then-quiet-patience-clause-in_step g c shows in_step =
     let takes = c.in_ok-arrival.ensures.takes in
     let on = others_in_step c.loop.self c.take_others_turn.new.self (slice_get c.take_others_turn.new.self.station.receiver.jobs c.loop.self.kept) (g.S.Spool.ledger c.loop.spool)
     (g.S.Spool.ledger c.take_others_turn.new.spool) (others_stay c.loop.self.station c.take_others_turn.new.self.station c.in_ok-arrival.arrival takes.0 takes.1) c.take_others_turn.ensures.may_have_come
-    (c.in_ok-arrival.ensures.entered shows) (c.loop.invariant shows in_step) in
+    (c.in_ok-arrival.ensures.entered shows) (c.loop.invariant.step shows in_step) in
     let at : c.take_others_turn.new.self.station ≡ c.self-in-loop.inside.station = search rules in
     let left : Carried = record { station = c.other_ended.new.self; may_have_come = c.self-in-loop.inside.may_have_come; kept = c.self-in-loop.inside.kept } in
     still_in_step c.take_others_turn.new.self left (g.S.Spool.ledger c.take_others_turn.new.spool)
@@ -34,7 +60,7 @@ returns-in_err-arrival-clause-left g c shows in_step =
     let left =
     others_leave (g.L.Line.transmissions c.take_others_turn.new.line ≡ g.L.Line.transmissions c.loop.line) c.loop.self c.take_others_turn.new.self
     (slice_get c.take_others_turn.new.self.station.receiver.jobs c.loop.self.kept) (g.S.Spool.ledger c.loop.spool) (g.S.Spool.ledger c.take_others_turn.new.spool) c.take_others_turn.result
-    c.take_others_turn.ensures.left c.take_others_turn.ensures.may_have_come (c.take_others_turn.ensures.left_entered shows) (c.loop.invariant shows in_step) in
+    c.take_others_turn.ensures.left c.take_others_turn.ensures.may_have_come (c.take_others_turn.ensures.left_entered shows) (c.loop.invariant.step shows in_step) in
     fails_on c.take_others_turn.result c.in_err-arrival.field-0.0 c.from_residual-in_err-arrival.result
     (λ leaving. IfLineFailed leaving (IsInStep c.take_others_turn.new.self (g.S.Spool.ledger c.take_others_turn.new.spool))) c.in_err-arrival.was left c.from_residual-in_err-arrival.ensures.1
 
@@ -42,6 +68,6 @@ pub returns-in_err-take_own_turn-clause-left : goal.returns-in_err-take_own_turn
 returns-in_err-take_own_turn-clause-left g c shows in_step =
     let left =
     own_leaves (c.take_own_turn.new.line ≡ c.loop.line) c.loop.self c.take_own_turn.new.self (g.S.Spool.ledger c.loop.spool) (g.S.Spool.ledger c.take_own_turn.new.spool) c.take_own_turn.result
-    c.take_own_turn.ensures.left (c.take_own_turn.ensures.left_entered shows) (c.loop.invariant shows in_step) in
+    c.take_own_turn.ensures.left (c.take_own_turn.ensures.left_entered shows) (c.loop.invariant.step shows in_step) in
     fails_on c.take_own_turn.result c.in_err-take_own_turn.field-0.0 c.from_residual.result
     (λ leaving. IfLineFailed leaving (IsInStep c.take_own_turn.new.self (g.S.Spool.ledger c.take_own_turn.new.spool))) c.in_err-take_own_turn.was left c.from_residual.ensures.1
