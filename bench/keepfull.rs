@@ -16,7 +16,7 @@ use std::io::{self, Read, Seek, SeekFrom, Write};
 use std::net::{TcpListener, TcpStream};
 use std::os::unix::fs::FileExt;
 use std::path::{Path, PathBuf};
-use texts::{check, heard, spell, table, unpack};
+use texts::{frame, heard, spell, table, unpack};
 
 const ACKNOWLEDGEMENTS: [&[u8]; 2] = [b"\x32\x32\x10\x70\xFF", b"\x32\x32\x10\x61\xFF"];
 const ENQ: &[u8] = b"\x32\x32\x2D\xFF";
@@ -122,12 +122,7 @@ impl End {
 
     /// Sends a block, and waits for the answer to it.
     fn send(&mut self, text: &[u8], closing: u8, number: usize) {
-        self.line.clear();
-        self.line.extend_from_slice(b"\x32\x32\x02");
-        self.line.extend_from_slice(text);
-        self.line.push(closing);
-        self.line.extend_from_slice(&check(&self.table, text, closing).to_le_bytes());
-        self.line.push(0xFF);
+        frame(&self.table, text, closing, &mut self.line);
         self.stream.write_all(&self.line).unwrap();
         self.expect(ACKNOWLEDGEMENTS[number % 2]);
     }

@@ -12,7 +12,7 @@ mod texts;
 use jobs::{fits, read_jobs};
 use std::io::{Read, Write};
 use std::net::{TcpListener, TcpStream};
-use texts::{check, heard, spell, table, unpack};
+use texts::{frame, heard, spell, table, unpack};
 
 fn pass(from: &mut TcpStream, to: &mut TcpStream, bytes: &[u8], got: &mut [u8]) -> usize {
     from.write_all(bytes).unwrap();
@@ -53,12 +53,7 @@ impl Ends {
 
     /// Sends a block, and puts the records that came after those that were there.
     fn send(&mut self, text: &[u8], closing: u8, records: &mut Vec<Vec<u8>>) {
-        self.line.clear();
-        self.line.extend_from_slice(b"\x32\x32\x02");
-        self.line.extend_from_slice(text);
-        self.line.push(closing);
-        self.line.extend_from_slice(&check(&self.table, text, closing).to_le_bytes());
-        self.line.push(0xFF);
+        frame(&self.table, text, closing, &mut self.line);
         let count = pass(&mut self.near, &mut self.far, &self.line, &mut self.heard);
         assert!(heard(&self.table, &self.heard[..count], &mut self.text) == Some(closing));
         unpack(&self.text, records).unwrap();

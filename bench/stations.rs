@@ -5,7 +5,7 @@
 mod texts;
 
 use std::time::Instant;
-use texts::{check, heard, spell, table, unpack};
+use texts::{frame, heard, spell, table, unpack};
 
 fn byte_at(record: u32, column: u32) -> u8 {
     if record.wrapping_add(column) % 7 == 0 {
@@ -25,12 +25,7 @@ fn main() {
         let mut turns = 2;
         let mut send = |text: &[u8], closing: u8| {
             turns += 1;
-            line.clear();
-            line.extend_from_slice(b"\x32\x32\x02");
-            line.extend_from_slice(text);
-            line.push(closing);
-            line.extend_from_slice(&check(&table, text, closing).to_le_bytes());
-            line.push(0xFF);
+            frame(&table, text, closing, &mut line);
             assert!(heard(&table, &line, &mut got) == Some(closing));
             unpack(&got, &mut records).unwrap();
         };

@@ -1,4 +1,4 @@
-// What the baselines share: the check by one table, a record spelled into a text, a block heard in bytes, its text unpacked.
+// What the baselines share: the check by one table, a record spelled into a text, a block framed, and heard in bytes, its text unpacked.
 pub fn table() -> [u16; 256] {
     let mut table = [0u16; 256];
     for (i, entry) in table.iter_mut().enumerate() {
@@ -40,6 +40,16 @@ pub fn spell(record: &[u8], out: &mut Vec<u8>) {
         }
     }
     out.push(0x1E);
+}
+
+/// The transmission of a block of normal text.
+pub fn frame(table: &[u16; 256], text: &[u8], closing: u8, line: &mut Vec<u8>) {
+    line.clear();
+    line.extend_from_slice(b"\x32\x32\x02");
+    line.extend_from_slice(text);
+    line.push(closing);
+    line.extend_from_slice(&check(table, text, closing).to_le_bytes());
+    line.push(0xFF);
 }
 
 fn is_text_byte(byte: u8) -> bool {
