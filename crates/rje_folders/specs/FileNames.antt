@@ -14,4 +14,4 @@ IsBetween stem ending path = (number : ℕ) × (path ≡ stem ++ (codes "-" ++ (
 -- one of the names that a file may get
 abbrev pub IsNameOf : FileNames → List ℕ → Type 0
 IsNameOf (Of name) path = IsNumbered name.now path
-IsNameOf (Numbered stem ending) path = IsBetween stem.now ending.now path
+IsNameOf (Numbered stem ending first) path = IsBetween stem.now ending.now path

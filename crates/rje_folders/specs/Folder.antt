@@ -1,5 +1,5 @@
 -- The folders of a station, and where their files are (own profile).
-use Rattle.std.specs.Prelude.{ℕ, List, ◌++◌, codes}
+use Rattle.std.specs.Prelude.{ℕ, List, ◌++◌, Bool, true, false, codes}
 use Rattle.rje_folders.specs.declared.folder.Folder.{Folder}
 
 -- the name of a folder
@@ -16,3 +16,14 @@ folder_name Folder.Cut = codes "cut"
 -- the path of a file of a folder of the station
 abbrev pub path_in : (station : List ℕ) → Folder → (name : List ℕ) → List ℕ
 path_in station folder name = station ++ (codes "/" ++ (folder_name folder ++ (codes "/" ++ name)))
+
+-- the path of a folder of the station
+abbrev pub path_of : (station : List ℕ) → Folder → List ℕ
+path_of station folder = station ++ (codes "/" ++ folder_name folder)
+
+-- a station makes new files in a folder: of what came, and of why a file can't be sent
+abbrev pub has_new_files : Folder → Bool
+has_new_files Folder.Out = false
+has_new_files Folder.Sent = false
+has_new_files Folder.Doubt = false
+has_new_files _ = true

@@ -20,9 +20,9 @@ MaySettle are_one station name doubt Disposition.Sent call before = MayMove are_
 MaySettle are_one station name doubt Disposition.InDoubt call before = MayDrop are_one doubt (path_in station Folder.Out name) call before
 MaySettle are_one station name doubt Disposition.Ready call before = MayDrop are_one (path_in station Folder.Out name) doubt call before
 
--- the file that stood under the name in doubt/ stands under one in sent/, on disk
-abbrev pub IsSent : (station name doubt : List ℕ) → List Asked → List Asked → Type 0
-IsSent station name doubt before after = (sent : List ℕ) × IsNumbered (path_in station Folder.Sent name) sent × (standing sent after ≡ standing doubt before) × (has_synced_name sent after ≡ true)
+-- the file that stood under the name in doubt/ stands under this one in sent/, on disk
+abbrev pub IsSent : (station name doubt sent : List ℕ) → List Asked → List Asked → Type 0
+IsSent station name doubt sent before after = IsNumbered (path_in station Folder.Sent name) sent × (standing sent after ≡ standing doubt before) × (has_synced_name sent after ≡ true)
 
 -- a path is one that a file of this name gets in sent/, doubt/ or refused/
 abbrev pub IsKeptElsewhere : (station name path : List ℕ) → Type 0

@@ -10,21 +10,42 @@ use std::io;
 pub enum FileNames<'a> {
     /// This one, and then it with .2, .3 and so on at its end.
     Of(&'a str),
-    /// Those with a number between these two pieces, as `STEM-1.job`, `STEM-2.job`.
-    Numbered(&'a str, &'a str),
+    /// Those with a number between two pieces, as `STEM-1.job`, `STEM-2.job`.
+    Numbered {
+        /// What is before the number and its dash.
+        stem: &'a str,
+        /// What is behind the number.
+        ending: &'a str,
+        /// The number of the first of them.
+        first: u32,
+    },
 }
 
 impl<'a> FileNames<'a> {
-    /// The name of this number, from 1.
+    /// The number of the first of them.
+    pub(crate) fn first(self) -> u32 {
+        match self {
+            FileNames::Of(_) => 1,
+            FileNames::Numbered {
+                stem: _,
+                ending: _,
+                first,
+            } => first,
+        }
+    }
+
+    /// The name of this number.
     pub(crate) fn name(self, alloc: Global, number: u32) -> io::Result<String>
         ensures { IfOk result (λ name. IsNameOf self.entry (string_bytes name)) }
     {
         match self {
             FileNames::Of(name) if number <= 1 => Ok(String::from_str(alloc, name)?),
             FileNames::Of(name) => Ok(format!(in alloc; "{name}.{number}")?),
-            FileNames::Numbered(stem, ending) => {
-                Ok(format!(in alloc; "{stem}-{number}{ending}")?)
-            }
+            FileNames::Numbered {
+                stem,
+                ending,
+                first: _,
+            } => { Ok(format!(in alloc; "{stem}-{number}{ending}")?) }
         }
     }
 }

@@ -1,6 +1,6 @@
 //! The folders of a station.
 ghost use Rattle.std.specs.Prelude.{◌≡◌, IfOk, string_bytes};
-ghost use Rattle.rje_folders.specs.Folder.{folder_name, path_in};
+ghost use Rattle.rje_folders.specs.Folder.{folder_name, has_new_files, path_in, path_of};
 
 use std::alloc::Global;
 use std::fmt::{self, Display, Formatter, Write};
@@ -54,6 +54,24 @@ impl Folder {
             Folder::Punch => "punch",
             Folder::Cut => "cut",
         }
+    }
+
+    /// Whether a station makes new files in it.
+    pub(crate) fn has_new_files(self) -> bool
+        ensures { result ≡ has_new_files self }
+    {
+        match self {
+            Folder::Refused | Folder::In | Folder::Print | Folder::Punch | Folder::Cut => true,
+            Folder::Out | Folder::Sent | Folder::Doubt => false,
+        }
+    }
+
+    /// The path of the folder, where the station's own has this path.
+    pub(crate) fn own_path(self, alloc: Global, station: &str) -> io::Result<String>
+        ensures { IfOk result (λ path. string_bytes path ≡ path_of station.now self) }
+    {
+        let folder = self.as_str();
+        Ok(format!(in alloc; "{station}/{folder}")?)
     }
 
     /// The path of a file in it, where the station's own folder has this path.

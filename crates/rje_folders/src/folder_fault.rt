@@ -17,6 +17,9 @@ pub enum FolderFault {
     /// A folder of it, or the file in question there, can't be used, and why.
     #[error("{0}: {1}")]
     Failed(Folder, ErrorKind),
+    /// A file there has more bytes than are read.
+    #[error("{0}: too large")]
+    TooLarge(Folder),
     /// The station's own files can't be used, by which it is locked, held and drained, and why.
     #[error("{0}")]
     Own(ErrorKind),

@@ -16,6 +16,15 @@ use std::io::{self, ErrorKind};
 /// How many names are tried for a new file.
 const MAX_NAMES: u32 = 1000;
 
+/// Where a new file is kept.
+#[derive(Drop)]
+pub struct Kept {
+    /// Its path.
+    pub path: String,
+    /// The number that comes after the one in its name.
+    pub next: u32,
+}
+
 /// A new file under a name that a reader of its folder leaves alone.
 #[derive(Drop)]
 struct NewFile<F: Drop> {
@@ -24,19 +33,19 @@ struct NewFile<F: Drop> {
 }
 
 /// Makes these bytes a new file of a folder, under the first of these names that no file has: once it is on disk, and then its name is put there
-/// too. The name. Where that fails, there is no such file, if it can be taken away again.
+/// too. Where it is. Where that fails, there is no such file, if it can be taken away again.
 pub fn keep<D: Disk>(
     disk: &mut D,
     alloc: Global,
     folder: &str,
     names: FileNames<'_>,
     bytes: &[u8],
-) -> io::Result<String>
+) -> io::Result<Kept>
     ensures asks { D.discloses → Adds (MayKeep folder.now (IsNameOf names.entry) bytes.now)
         (D.asked disk.old) (D.asked disk.new) }
-    ensures on_disk { D.discloses → IfOk result (λ name.
-        IsOnDisk (string_bytes name) bytes.now (D.asked disk.new)) }
-    ensures named { IfOk result (λ name. IsNameOf names.entry (string_bytes name)) }
+    ensures on_disk { D.discloses → IfOk result (λ kept.
+        IsOnDisk (string_bytes kept.path) bytes.now (D.asked disk.new)) }
+    ensures named { IfOk result (λ kept. IsNameOf names.entry (string_bytes kept.path)) }
 {
     let new = create_new(disk, alloc, folder)?;
     let kept = keep_new(disk, alloc, &new, names, bytes);
@@ -63,7 +72,7 @@ fn create_new<D: Disk>(disk: &mut D, alloc: Global, folder: &str) -> io::Result<
 }
 
 /// A name of a folder that its readers leave alone.
-fn temporary_name(alloc: Global, folder: &str, number: u32) -> io::Result<String>
+pub(crate) fn temporary_name(alloc: Global, folder: &str, number: u32) -> io::Result<String>
     ensures { IfOk result (λ name. IsTemporary folder.now (string_bytes name)) }
 {
     Ok(format!(in alloc; "{folder}/.rje-{number}.part")?)
@@ -76,21 +85,24 @@ fn keep_new<D: Disk>(
     new: &NewFile<D::File>,
     names: FileNames<'_>,
     bytes: &[u8],
-) -> io::Result<String>
+) -> io::Result<Kept>
     ensures asks { D.discloses → (folder : List ℕ)
         → IsNewIn folder (D.opened new.now.file) (string_bytes new.now.path) (D.asked disk.old)
         → Adds (MayKeep folder (IsNameOf names.entry) bytes.now)
         (D.asked disk.old) (D.asked disk.new) }
     ensures kept { D.discloses → (folder : List ℕ)
         → IsNewIn folder (D.opened new.now.file) (string_bytes new.now.path) (D.asked disk.old)
-        → IfOk result (λ name. IsKept (string_bytes new.now.path) (string_bytes name) bytes.now
-        (D.asked disk.new)) }
-    ensures named { IfOk result (λ name. IsNameOf names.entry (string_bytes name)) }
+        → IfOk result (λ kept. IsKept (string_bytes new.now.path) (string_bytes kept.path)
+        bytes.now (D.asked disk.new)) }
+    ensures named { IfOk result (λ kept. IsNameOf names.entry (string_bytes kept.path)) }
 {
     fill_new(disk, &new.file, bytes)?;
     let kept = link_free(disk, alloc, new.path.as_str(), names)?;
     match sync_names(disk, &kept.folder) {
-        Ok(()) => Ok(kept.path),
+        Ok(()) => Ok(Kept {
+            path: kept.path,
+            next: kept.next,
+        }),
         Err(error) => {
             let _ = disk.remove(kept.path.as_str());
             Err(error)

@@ -1,15 +1,18 @@
 //! The folders of a station that stays on the line: which file is what, by the folder that it stands in and by its name.
 #![tactic(auto)]
 
+mod clearing;
 mod file_names;
 mod folder;
 mod folder_disk;
 mod folder_fault;
 mod keeping;
 mod linking;
+mod marking;
 mod moving;
 mod opening;
 mod promising;
+mod reading;
 mod ready_file;
 mod receiving;
 mod station_folder;
@@ -19,7 +22,7 @@ pub use file_names::FileNames;
 pub use folder::Folder;
 pub use folder_disk::FolderDisk;
 pub use folder_fault::FolderFault;
-pub use keeping::keep;
+pub use keeping::{Kept, keep};
 pub use moving::{add_name, drop_name, move_file};
-pub use ready_file::{ReadyFile, first_ready, is_left_alone};
+pub use ready_file::{ReadyFile, is_left_alone, ready_names};
 pub use station_folder::StationFolder;

@@ -20,6 +20,8 @@ const MAX_NAMES: u32 = 1000;
 pub(crate) struct SecondName<F: Drop> {
     pub(crate) path: String,
     pub(crate) folder: F,
+    /// The number that comes after the one that it has.
+    pub(crate) next: u32,
 }
 
 /// Gives the file of a name another one: the first of these that no file has.
@@ -37,12 +39,19 @@ pub(crate) fn link_free<D: Disk>(
         D.folder_of second.folder ≡ string_bytes second.path) }
     ensures named { IfOk result (λ second. IsNameOf names.entry (string_bytes second.path)) }
 {
-    for number in 0..MAX_NAMES {
-        let path = names.name(alloc, number + 1)?;
+    let first = names.first();
+    for number in first..first.saturating_add(MAX_NAMES) {
+        let path = names.name(alloc, number)?;
         // Opened before the file gets the name, since one in a folder that can't be opened is not known to be on disk.
         let folder = disk.open_folder(path.as_str())?;
         match disk.link(from, path.as_str()) {
-            Ok(()) => return Ok(SecondName { path, folder }),
+            Ok(()) => {
+                return Ok(SecondName {
+                    path,
+                    folder,
+                    next: number + 1,
+                });
+            }
             Err(error) if error.kind() == ErrorKind::AlreadyExists => {}
             Err(error) => return Err(error),
         }

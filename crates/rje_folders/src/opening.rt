@@ -3,9 +3,11 @@ ghost use Rattle.std.specs.Prelude.{◌≡◌, IfOk, string_bytes};
 ghost use Rattle.rje_stores.specs.Replacing.{Adds};
 ghost use Rattle.rje_folders.specs.Promising.{MayOpen, MayTidy, lock_path};
 
+use crate::clearing::clear;
 use crate::folder::Folder;
 use crate::folder_disk::FolderDisk;
 use crate::folder_fault::FolderFault;
+use crate::ready_file::ready_names;
 use crate::tidying::{is_passed_over, tidy_doubt, tidy_ready};
 use std::alloc::Global;
 use std::fs::TryLockError;
@@ -34,7 +36,7 @@ fn make_folder<D: FolderDisk>(
 ) -> io::Result<()>
     ensures { D.discloses → D.asked disk.new ≡ D.asked disk.old }
 {
-    let path = format!(in alloc; "{station}/{}", folder.as_str())?;
+    let path = folder.own_path(alloc, station)?;
     disk.make_folder(path.as_str())
 }
 
@@ -69,6 +71,21 @@ fn lock_path(alloc: Global, station: &str) -> io::Result<String>
     ensures { IfOk result (λ path. string_bytes path ≡ lock_path station.now) }
 {
     Ok(format!(in alloc; "{station}/lock")?)
+}
+
+/// Takes the files away that a killed station was writing.
+pub(crate) fn clear_up<D: FolderDisk>(
+    disk: &mut D,
+    alloc: Global,
+    station: &str,
+) -> Result<(), FolderFault> {
+    for folder in Folder::ALL {
+        if folder.has_new_files() {
+            let cleared = clear(disk, alloc, station, folder);
+            cleared.map_err(|error| FolderFault::of(folder, &error))?;
+        }
+    }
+    Ok(())
 }
 
 /// Brings to its end what was begun in the folder when a station was killed.
@@ -124,20 +141,20 @@ fn names_of<D: FolderDisk>(
     }
 }
 
-/// The names in out/ that aren't passed over, in no order.
+/// The names in out/ of what lies ready, in the order of their bytes.
 pub(crate) fn names_ready<D: FolderDisk>(
     disk: &D,
     alloc: Global,
     station: &str,
 ) -> io::Result<Vec<String>> {
-    let path = format!(in alloc; "{station}/{}", Folder::Out.as_str())?;
+    let path = Folder::Out.own_path(alloc, station)?;
     let mut ready = Vec::new(alloc);
     for name in disk.names_in(alloc, path.as_str())? {
         if !is_passed_over(disk, alloc, station, name.as_str())? {
             ready.push(name)?;
         }
     }
-    Ok(ready)
+    Ok(ready_names(ready)?)
 }
 
 /// Whether one of the files is there by which the operator tells the station something.

@@ -3,7 +3,7 @@ ghost use Rattle.std.specs.Prelude.{◌≡◌, IfOk, OnOk, string_bytes};
 ghost use Rattle.rje_stores.specs.Replacing.{Adds};
 ghost use Rattle.rje_folders.specs.FileNames.{IsNumbered};
 ghost use Rattle.rje_folders.specs.Folder.{path_in};
-ghost use Rattle.rje_folders.specs.Moving.{IsSecond};
+ghost use Rattle.rje_folders.specs.Moving.{IsMoved, IsSecond, MayMove};
 ghost use Rattle.rje_folders.specs.Promising.{IsSent, MayPromise, MaySettle};
 
 use crate::file_names::FileNames;
@@ -35,7 +35,7 @@ pub(crate) fn promise<D: FolderDisk>(
 }
 
 /// Once it is known what becomes of a job that was promised: where it was counted, its file is moved from doubt/ to sent/, and the name in out/ is
-/// taken away; where it is in doubt, that name alone is; where it lies ready still, the one in doubt/.
+/// taken away; where it is in doubt, that name alone is; where it lies ready still, the one in doubt/. The path that the file has then.
 pub(crate) fn settle<D: FolderDisk>(
     disk: &mut D,
     alloc: Global,
@@ -43,12 +43,13 @@ pub(crate) fn settle<D: FolderDisk>(
     name: &str,
     doubt: &str,
     disposition: Disposition,
-) -> io::Result<()>
+) -> io::Result<String>
     ensures asks { D.discloses
         → Adds (MaySettle D.are_one station.now name.now doubt.now disposition)
         (D.asked disk.old) (D.asked disk.new) }
-    ensures sent { D.discloses → disposition ≡ Disposition.Sent → OnOk result
-        (IsSent station.now name.now doubt.now (D.asked disk.old) (D.asked disk.new)) }
+    ensures sent { D.discloses → disposition ≡ Disposition.Sent → IfOk result (λ path.
+        IsSent station.now name.now doubt.now (string_bytes path)
+        (D.asked disk.old) (D.asked disk.new)) }
 {
     match disposition {
         Disposition::Sent => put_in_sent(disk, alloc, station, name, doubt),
@@ -57,57 +58,83 @@ pub(crate) fn settle<D: FolderDisk>(
     }
 }
 
-/// The job was counted: its file is moved from doubt/ to sent/, and the name in out/ is taken away.
+/// The job was counted: its file is moved from doubt/ to sent/, and the name in out/ is taken away. Its path in sent/.
 fn put_in_sent<D: FolderDisk>(
     disk: &mut D,
     alloc: Global,
     station: &str,
     name: &str,
     doubt: &str,
-) -> io::Result<()>
+) -> io::Result<String>
     ensures asks { D.discloses
         → Adds (MaySettle D.are_one station.now name.now doubt.now Disposition.Sent)
         (D.asked disk.old) (D.asked disk.new) }
-    ensures sent { D.discloses → OnOk result
-        (IsSent station.now name.now doubt.now (D.asked disk.old) (D.asked disk.new)) }
+    ensures sent { D.discloses → IfOk result (λ path.
+        IsSent station.now name.now doubt.now (string_bytes path)
+        (D.asked disk.old) (D.asked disk.new)) }
 {
     let ready = Folder::Out.path(alloc, station, name)?;
     let sent = Folder::Sent.path(alloc, station, name)?;
     let kept = move_file(disk, alloc, doubt, FileNames::Of(sent.as_str()))?;
     drop_name(disk, kept.as_str(), ready.as_str())?;
-    Ok(())
+    Ok(kept)
 }
 
-/// The job may have arrived: the name in out/ is taken away.
+/// The job may have arrived: the name in out/ is taken away. The path in doubt/.
 fn leave_in_doubt<D: FolderDisk>(
     disk: &mut D,
     alloc: Global,
     station: &str,
     name: &str,
     doubt: &str,
-) -> io::Result<()>
+) -> io::Result<String>
     ensures { D.discloses
         → Adds (MaySettle D.are_one station.now name.now doubt.now Disposition.InDoubt)
         (D.asked disk.old) (D.asked disk.new) }
 {
     let ready = Folder::Out.path(alloc, station, name)?;
+    let kept = String::from_str(alloc, doubt)?;
     drop_name(disk, doubt, ready.as_str())?;
-    Ok(())
+    Ok(kept)
 }
 
-/// The job lies ready still: the name in doubt/ is taken away.
+/// The job lies ready still: the name in doubt/ is taken away. The path in out/, or the one in doubt/ where another file has the name in out/.
 fn take_back<D: FolderDisk>(
     disk: &mut D,
     alloc: Global,
     station: &str,
     name: &str,
     doubt: &str,
-) -> io::Result<()>
+) -> io::Result<String>
     ensures { D.discloses → Adds
         (MaySettle D.are_one station.now name.now doubt.now Disposition.Ready)
         (D.asked disk.old) (D.asked disk.new) }
 {
     let ready = Folder::Out.path(alloc, station, name)?;
-    drop_name(disk, ready.as_str(), doubt)?;
-    Ok(())
+    let kept = String::from_str(alloc, doubt)?;
+    if drop_name(disk, ready.as_str(), doubt)? {
+        Ok(ready)
+    } else {
+        Ok(kept)
+    }
+}
+
+/// What was counted may not have arrived after all: the file of a path in sent/ is moved to doubt/. Its path there.
+pub(crate) fn put_in_doubt<D: FolderDisk>(
+    disk: &mut D,
+    alloc: Global,
+    station: &str,
+    sent: &str,
+    name: &str,
+) -> io::Result<String>
+    ensures asks { D.discloses → Adds (MayMove D.are_one sent.now
+        (IsNumbered (path_in station.now Folder.Doubt name.now)))
+        (D.asked disk.old) (D.asked disk.new) }
+    ensures moved { D.discloses → IfOk result (λ doubt. IsMoved sent.now (string_bytes doubt)
+        (D.asked disk.old) (D.asked disk.new)) }
+    ensures named { IfOk result (λ doubt. IsNumbered
+        (path_in station.now Folder.Doubt name.now) (string_bytes doubt)) }
+{
+    let doubt = Folder::Doubt.path(alloc, station, name)?;
+    move_file(disk, alloc, sent, FileNames::Of(doubt.as_str()))
 }

@@ -5,6 +5,7 @@ ghost use Rattle.rje_folders.specs.Inside.Calls.{is_before};
 ghost use Rattle.rje_folders.specs.declared.ready_file.ReadyFile.TheVariants.{Deck};
 
 use rje_text::{Mode, Select};
+use std::alloc::AllocError;
 
 /// What a file that lies ready is.
 #[derive(Clone, Copy, Debug, PartialEq, Eq)]
@@ -56,25 +57,11 @@ pub fn is_left_alone(name: &str) -> bool
     name.starts_with(b".") || name.ends_with(b".part") || name.ends_with(b".hold")
 }
 
-/// The first of these names, in the order of their bytes, but for those that are left alone.
-pub fn first_ready(names: Vec<String>) -> Option<String>
-    ensures { IsFirstReady names.items result }
-{
-    let mut first: Option<String> = None;
-    for name in names {
-        if !is_left_alone(name.as_str()) && comes_before(name.as_str(), &first) {
-            first = Some(name);
-        }
-    }
-    first
-}
-
-/// Whether a name comes before the first one so far.
-fn comes_before(name: &str, first: &Option<String>) -> bool
-    ensures { result ≡ is_before name.now first.now }
-{
-    match first {
-        Some(first) => name < first.as_str(),
-        None => true,
-    }
+/// Those of these names that aren't left alone, in the order of their bytes, each once.
+pub fn ready_names(names: Vec<String>) -> Result<Vec<String>, AllocError> {
+    let mut names = names;
+    names.retain(|name| !is_left_alone(name.as_str()));
+    names.sort()?;
+    names.dedup();
+    Ok(names)
 }

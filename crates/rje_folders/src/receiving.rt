@@ -1,14 +1,14 @@
 //! How what came is kept, and what can't be sent is put aside.
 ghost use Rattle.std.specs.Prelude.{IfOk, string_bytes};
 ghost use Rattle.rje_stores.specs.Replacing.{Adds, IsOnDisk};
-ghost use Rattle.rje_folders.specs.FileNames.{IsBetween, IsNumbered};
+ghost use Rattle.rje_folders.specs.FileNames.{IsNumbered};
 ghost use Rattle.rje_folders.specs.Folder.{path_in};
 ghost use Rattle.rje_folders.specs.Moving.{IsMoved, MayMove};
 
 use crate::file_names::FileNames;
 use crate::folder::Folder;
 use crate::folder_disk::FolderDisk;
-use crate::keeping::keep;
+use crate::keeping::{Kept, keep};
 use crate::moving::move_file;
 use std::alloc::Global;
 use std::io;
@@ -33,24 +33,46 @@ pub(crate) fn refuse<D: FolderDisk>(
     move_file(disk, alloc, ready.as_str(), FileNames::Of(refused.as_str()))
 }
 
-/// Makes these bytes a new file of a folder. Its path.
+/// Makes these bytes a new file of a folder. Where it is.
 pub(crate) fn keep_in<D: FolderDisk>(
     disk: &mut D,
     alloc: Global,
     station: &str,
     folder: Folder,
     stamp: &str,
+    first: u32,
     ending: &str,
     bytes: &[u8],
-) -> io::Result<String>
-    ensures on_disk { D.discloses → IfOk result (λ path.
-        IsOnDisk (string_bytes path) bytes.now (D.asked disk.new)) }
-    ensures named { IfOk result (λ path. IsBetween
-        (path_in station.now folder stamp.now) ending.now (string_bytes path)) }
+) -> io::Result<Kept>
+    ensures on_disk { D.discloses → IfOk result (λ kept.
+        IsOnDisk (string_bytes kept.path) bytes.now (D.asked disk.new)) }
 {
-    let kind = folder.as_str();
-    let own = format!(in alloc; "{station}/{kind}")?;
+    let own = folder.own_path(alloc, station)?;
     let stem = folder.path(alloc, station, stamp)?;
-    let names = FileNames::Numbered(stem.as_str(), ending);
+    let names = FileNames::Numbered {
+        stem: stem.as_str(),
+        ending,
+        first,
+    };
     keep(disk, alloc, own.as_str(), names, bytes)
+}
+
+/// Says beside a file of refused/ why it is there. The path of the file that says it.
+pub(crate) fn explain<D: FolderDisk>(
+    disk: &mut D,
+    alloc: Global,
+    station: &str,
+    refused: &str,
+    why: &str,
+) -> io::Result<String> {
+    let own = Folder::Refused.own_path(alloc, station)?;
+    let name = format!(in alloc; "{refused}.why")?;
+    let kept = keep(
+        disk,
+        alloc,
+        own.as_str(),
+        FileNames::Of(name.as_str()),
+        why.as_bytes(),
+    )?;
+    Ok(kept.path)
 }

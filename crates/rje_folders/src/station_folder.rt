@@ -2,7 +2,7 @@
 ghost use Rattle.std.specs.Prelude.{◌≡◌, true, IfOk, OnOk, string_bytes};
 ghost use Rattle.rje_stores.specs.Disk.{has_synced_name};
 ghost use Rattle.rje_stores.specs.Replacing.{Adds, IsOnDisk};
-ghost use Rattle.rje_folders.specs.FileNames.{IsBetween, IsNumbered};
+ghost use Rattle.rje_folders.specs.FileNames.{IsNumbered};
 ghost use Rattle.rje_folders.specs.Folder.{path_in};
 ghost use Rattle.rje_folders.specs.Moving.{IsMoved, IsSecond, MayMove};
 ghost use Rattle.rje_folders.specs.Promising.{IsSent, MayOpen, MayPromise, MaySettle};
@@ -10,10 +10,12 @@ ghost use Rattle.rje_folders.specs.Promising.{IsSent, MayOpen, MayPromise, MaySe
 use crate::folder::Folder;
 use crate::folder_disk::FolderDisk;
 use crate::folder_fault::FolderFault;
-use crate::opening::{is_there, locked, make_folders, names_ready, tidy_up};
-use crate::promising::{promise, settle};
-use crate::ready_file::first_ready;
-use crate::receiving::{keep_in, refuse};
+use crate::keeping::Kept;
+use crate::marking::set_mark;
+use crate::opening::{clear_up, is_there, locked, make_folders, names_ready, tidy_up};
+use crate::promising::{promise, put_in_doubt, settle};
+use crate::reading::read_ready;
+use crate::receiving::{explain, keep_in, refuse};
 use rje_day::Disposition;
 use std::alloc::Global;
 
@@ -36,6 +38,7 @@ impl<D: FolderDisk + Drop> StationFolder<D> {
         let mut disk = disk;
         make_folders(&mut disk, alloc, path)?;
         let lock = locked(&mut disk, alloc, path)?;
+        clear_up(&mut disk, alloc, path)?;
         tidy_up(&mut disk, alloc, path)?;
         Ok(StationFolder {
             disk,
@@ -45,12 +48,18 @@ impl<D: FolderDisk + Drop> StationFolder<D> {
         })
     }
 
-    /// The first name in out/ that isn't left alone, and whose file has none in sent/, doubt/ or refused/.
-    pub fn first_ready(&self) -> Result<Option<String>, FolderFault> {
-        match names_ready(&self.disk, self.alloc, self.path.as_str()) {
-            Ok(names) => Ok(first_ready(names)),
-            Err(error) => Err(FolderFault::of(Folder::Out, &error)),
-        }
+    /// The names in out/ of what lies ready, in the order of their bytes: those that aren't left alone, and whose file has no name in sent/,
+    /// doubt/ or refused/.
+    pub fn names_ready(&self) -> Result<Vec<String>, FolderFault> {
+        names_ready(&self.disk, self.alloc, self.path.as_str()).map_err(|error| FolderFault::of(
+            Folder::Out,
+            &error,
+        ))
+    }
+
+    /// The bytes of a file in out/. Too large where it has more than `most`.
+    pub fn read(&self, name: &str, most: u64) -> Result<Vec<u8>, FolderFault> {
+        read_ready(&self.disk, self.alloc, self.path.as_str(), name, most)
     }
 
     /// Whether the operator holds back what lies ready: a file `hold` is there.
@@ -80,19 +89,28 @@ impl<D: FolderDisk + Drop> StationFolder<D> {
         )
     }
 
+    /// Once a job of a job file is counted that isn't the file's last: writes this byte at this place of the file of this path in doubt/. It is on
+    /// disk then. An invalid input where the file has no byte there.
+    pub fn mark(&mut self, doubt: &str, place: u64, mark: u8) -> Result<(), FolderFault> {
+        set_mark(&mut self.disk, doubt, place, mark).map_err(|error| FolderFault::of(
+            Folder::Doubt,
+            &error,
+        ))
+    }
+
     /// Once it is known what becomes of a job that was promised, whose file has this name in out/ and this path in doubt/: it is in sent/, in
-    /// doubt/ or in out/ alone.
+    /// doubt/ or in out/ alone. The path that it has there.
     pub fn settle(
         &mut self,
         name: &str,
         doubt: &str,
         disposition: Disposition,
-    ) -> Result<(), FolderFault>
+    ) -> Result<String, FolderFault>
         ensures asks { D.discloses → Adds
             (MaySettle D.are_one (string_bytes self.old.path) name.now doubt.now disposition)
             (D.asked self.old.disk) (D.asked self.new.disk) }
-        ensures sent { D.discloses → disposition ≡ Disposition.Sent → OnOk result
-            (IsSent (string_bytes self.old.path) name.now doubt.now
+        ensures sent { D.discloses → disposition ≡ Disposition.Sent → IfOk result (λ path.
+            IsSent (string_bytes self.old.path) name.now doubt.now (string_bytes path)
             (D.asked self.old.disk) (D.asked self.new.disk)) }
         ensures in_doubt { D.discloses → disposition ≡ Disposition.InDoubt
             → has_synced_name doubt.now (D.asked self.old.disk) ≡ true
@@ -108,6 +126,23 @@ impl<D: FolderDisk + Drop> StationFolder<D> {
             disposition,
         )
         .map_err(|error| FolderFault::of(Folder::Doubt, &error))
+    }
+
+    /// What was counted may not have arrived after all: the file of this path in sent/, whose name in out/ was this, is moved to doubt/. Its path
+    /// there.
+    pub fn doubt(&mut self, sent: &str, name: &str) -> Result<String, FolderFault>
+        ensures asks { D.discloses → Adds (MayMove D.are_one sent.now
+            (IsNumbered (path_in (string_bytes self.old.path) Folder.Doubt name.now)))
+            (D.asked self.old.disk) (D.asked self.new.disk) }
+        ensures moved { D.discloses → IfOk result (λ doubt. IsMoved sent.now (string_bytes doubt)
+            (D.asked self.old.disk) (D.asked self.new.disk)) }
+        ensures named { IfOk result (λ doubt. IsNumbered
+            (path_in (string_bytes self.old.path) Folder.Doubt name.now) (string_bytes doubt)) }
+        ensures path { self.new.path ≡ self.old.path }
+    {
+        put_in_doubt(&mut self.disk, self.alloc, self.path.as_str(), sent, name).map_err(
+            |error| FolderFault::of(Folder::Doubt, &error),
+        )
     }
 
     /// Puts a file of out/ that can't be sent into refused/. The path that it has there.
@@ -126,19 +161,25 @@ impl<D: FolderDisk + Drop> StationFolder<D> {
         )
     }
 
-    /// Makes these bytes a new file of a folder: STAMP-1, STAMP-2 or so on, with this ending. Its path. It is on disk then, and so is its name.
+    /// Says in a file beside a file of refused/, of this path, why it is refused: PATH.why. Its path. It is on disk then, and so is its name.
+    pub fn explain(&mut self, refused: &str, why: &str) -> Result<String, FolderFault> {
+        explain(&mut self.disk, self.alloc, self.path.as_str(), refused, why).map_err(
+            |error| FolderFault::of(Folder::Refused, &error),
+        )
+    }
+
+    /// Makes these bytes a new file of a folder: STAMP-N, from this number on the first that no file has, with this ending. Its path, and the number
+    /// that comes after the one it has. It is on disk then, and so is its name.
     pub fn keep(
         &mut self,
         folder: Folder,
         stamp: &str,
+        first: u32,
         ending: &str,
         bytes: &[u8],
-    ) -> Result<String, FolderFault>
-        ensures on_disk { D.discloses → IfOk result (λ path.
-            IsOnDisk (string_bytes path) bytes.now (D.asked self.new.disk)) }
-        ensures named { IfOk result (λ path. IsBetween
-            (path_in (string_bytes self.old.path) folder stamp.now) ending.now
-            (string_bytes path)) }
+    ) -> Result<Kept, FolderFault>
+        ensures on_disk { D.discloses → IfOk result (λ kept.
+            IsOnDisk (string_bytes kept.path) bytes.now (D.asked self.new.disk)) }
         ensures path { self.new.path ≡ self.old.path }
     {
         keep_in(
@@ -147,6 +188,7 @@ impl<D: FolderDisk + Drop> StationFolder<D> {
             self.path.as_str(),
             folder,
             stamp,
+            first,
             ending,
             bytes,
         )

@@ -212,6 +212,7 @@ impl<'a> InHand<'a> {
         let mut has_listened = at_once;
         let mut quiet: u32 = 0;
         for _ in 0..MAX_TURNS {
+            self.show(spool);
             if let Some(event) = self.came_of_it(was_receiving) {
                 return Ok(event);
             }
@@ -229,6 +230,13 @@ impl<'a> InHand<'a> {
             }
         }
         Ok(Event::Disconnected)
+    }
+
+    /// Lets the spool look on.
+    fn show<S: Spool>(&self, spool: &mut S)
+        ensures { S.discloses → S.ledger spool.new ≡ S.ledger spool.old }
+    {
+        spool.look_on(&self.station);
     }
 
     /// What came of the turns so far, if anything.

@@ -5,6 +5,7 @@ ghost use Rattle.rje_session.specs.Ledger.{Entry, Given, MayArrive, Settled, Kep
 
 use rje_day::{Disposition, Seen};
 use rje_jobs::Job;
+use rje_station::Station;
 use std::alloc::Global;
 
 /// Where a station's jobs come from and go to. What becomes of each is entered in its ledger. Each call may fail at any time, and what one
@@ -23,12 +24,16 @@ pub trait Spool {
     fn seen(&mut self) -> Seen
         ensures none { discloses → ledger self.new ≡ ledger self.old };
 
-    /// The jobs of the next transmission: those of the first file that lies ready.
+    /// The jobs of the next transmission: those of the first files that lie ready.
     fn next(&mut self, alloc: Global) -> Result<Vec<Job>, Self::Fault>
         ensures given { discloses → IfOk result (λ jobs.
             ledger self.new ≡ Given jobs.items ∷ ledger self.old) }
         ensures failed { discloses → OnErr result ((jobs : List Item)
             × MayBeEntered (Given jobs) (ledger self.old) (ledger self.new)) };
+
+    /// A turn of the transmission of this station is next: for whoever looks on.
+    fn look_on<'a>(&mut self, station: &Station<'a>)
+        ensures none { discloses → ledger self.new ≡ ledger self.old };
 
     /// The last block of this job goes out next: from now on it may have arrived. On disk when it returns.
     fn goes_out(&mut self, job: usize) -> Result<(), Self::Fault>

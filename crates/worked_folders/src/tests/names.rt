@@ -1,20 +1,20 @@
 //! Which file lies ready, and what it is.
-use rje_folders::{ReadyFile, first_ready, is_left_alone};
+use rje_folders::{ReadyFile, is_left_alone, ready_names};
 use std::alloc::Global;
 use std::io;
 use std::test::Fail;
 
-/// The first of these names that lies ready.
-fn first_of(alloc: Global, names: &[&str]) -> io::Result<Option<String>> {
+/// Those of these names that lie ready.
+fn ready_of(alloc: Global, names: &[&str]) -> io::Result<Vec<String>> {
     let mut all = Vec::new(alloc);
     for name in names {
         all.push(String::from_str(alloc, name)?)?;
     }
-    Ok(first_ready(all))
+    Ok(ready_names(all)?)
 }
 
 #[test]
-fn the_least_name_in_the_order_of_bytes_is_first(rt: HostRuntime) -> Result<(), Fail> {
+fn names_are_in_the_order_of_their_bytes(rt: HostRuntime) -> Result<(), Fail> {
     let names = [
         "b.deck",
         ".a.deck",
@@ -22,10 +22,18 @@ fn the_least_name_in_the_order_of_bytes_is_first(rt: HostRuntime) -> Result<(), 
         "B.deck",
         "a.hold",
         "a.deck",
+        "B.deck",
     ];
-    let first = first_of(rt.alloc(), &names)?.expect(&rt, "a name");
-    assert!(rt; first.as_str() == "B.deck");
-    assert!(rt; first_of(rt.alloc(), &[".a", "b.part"])?.is_none());
+    let ready = ready_of(rt.alloc(), &names)?;
+    assert!(rt; ready.len() == 3);
+    for (place, name) in ["B.deck", "a.deck", "b.deck"].iter().enumerate() {
+        assert!(rt;
+            ready
+                .get(place)
+                .is_some_and(|found| found.as_str() == *name)
+        );
+    }
+    assert!(rt; ready_of(rt.alloc(), &[".a", "b.part"])?.is_empty());
     Ok(())
 }
 

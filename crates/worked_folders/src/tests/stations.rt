@@ -48,7 +48,7 @@ fn tidied(rt: &impl Abort, alloc: Global, disk: FailingDisk) -> FailingDisk {
 fn promised_and_settled(
     station: &mut StationFolder<FailingDisk>,
     disposition: Disposition,
-) -> Result<(), FolderFault> {
+) -> Result<String, FolderFault> {
     let doubt = station.promise("A.deck")?;
     station.settle("A.deck", doubt.as_str(), disposition)
 }
@@ -158,10 +158,10 @@ fn a_file_that_took_the_name_of_a_job_stays(rt: HostRuntime) -> Result<(), Fail>
 fn a_job_that_was_promised_does_not_lie_ready(rt: HostRuntime) -> Result<(), Fail> {
     let alloc = rt.alloc();
     let mut station = opened(&rt, alloc, disk_with_a_file(alloc, 0, false)?);
-    let ready = station.first_ready().expect(&rt, "names");
-    assert!(rt; ready.is_some_and(|name| name.as_str() == "A.deck"));
+    let ready = station.names_ready().expect(&rt, "names");
+    assert!(rt; ready.len() == 1 && ready.first().is_some_and(|name| name.as_str() == "A.deck"));
     assert!(rt; station.promise("A.deck").is_ok());
-    assert!(rt; station.first_ready().expect(&rt, "names").is_none());
+    assert!(rt; station.names_ready().expect(&rt, "names").is_empty());
     Ok(())
 }
 
@@ -173,7 +173,7 @@ fn what_came_gets_a_name_of_its_own(rt: HostRuntime) -> Result<(), Fail> {
             let mut disk = FailingDisk::new(alloc, fails_at, is_done);
             let first = disk.put("s/in/T-1.job")?;
             let mut station = opened(&rt, alloc, disk);
-            let kept = station.keep(Folder::In, "T", ".job", b"1 job");
+            let kept = station.keep(Folder::In, "T", 1, ".job", b"1 job");
             let disk = station.close();
             assert!(rt; disk.file_of("s/in/T-1.job") == Some(first));
             assert!(rt; kept.is_err() || disk.file_of("s/in/T-2.job").is_some());
@@ -189,8 +189,7 @@ fn what_cannot_be_sent_is_refused(rt: HostRuntime) -> Result<(), Fail> {
     let mut station = opened(&rt, alloc, disk_with_a_file(alloc, 0, false)?);
     let refused = station.refuse("A.deck").expect(&rt, "a path");
     assert!(rt; refused.as_str() == "s/refused/A.deck");
-    let ready = station.first_ready().expect(&rt, "names");
-    assert!(rt; ready.is_none());
+    assert!(rt; station.names_ready().expect(&rt, "names").is_empty());
     let disk = station.close();
     assert!(rt; disk.file_of("s/refused/A.deck") == Some(1));
     assert!(rt; disk.count() == 2);

@@ -5,6 +5,7 @@ use arrayvec::ArrayVec;
 use rje_day::{Disposition, Seen};
 use rje_jobs::Job;
 use rje_session::Spool;
+use rje_station::Station;
 use std::alloc::Global;
 use std::mem;
 
@@ -90,6 +91,8 @@ impl Spool for Book {
         self.enter(Note::Given)?;
         Ok(mem::replace(&mut self.jobs, Vec::new(alloc)))
     }
+
+    fn look_on<'a>(&mut self, _station: &Station<'a>) {}
 
     fn goes_out(&mut self, job: usize) -> Result<(), Broken> {
         self.enter(Note::MayArrive(job))

@@ -1,0 +1,62 @@
+//! How a file is read.
+
+use crate::folder::Folder;
+use crate::folder_disk::FolderDisk;
+use crate::folder_fault::FolderFault;
+use std::alloc::Global;
+use std::io::{self, Read};
+
+/// How many bytes are read at once.
+const PIECE: usize = 65_536;
+
+/// The bytes of a file in out/. Too large where it has more than `most`.
+pub(crate) fn read_ready<D: FolderDisk>(
+    disk: &D,
+    alloc: Global,
+    station: &str,
+    name: &str,
+    most: u64,
+) -> Result<Vec<u8>, FolderFault> {
+    match open_ready(disk, alloc, station, name) {
+        Ok(file) => {
+            let mut file = file;
+            read_all(alloc, Folder::Out, &mut file, most)
+        }
+        Err(error) => Err(FolderFault::of(Folder::Out, &error)),
+    }
+}
+
+/// A file in out/, open to be read.
+fn open_ready<D: FolderDisk>(
+    disk: &D,
+    alloc: Global,
+    station: &str,
+    name: &str,
+) -> io::Result<D::File> {
+    let ready = Folder::Out.path(alloc, station, name)?;
+    disk.open_to_read(ready.as_str())
+}
+
+/// All bytes of an open file of a folder. Too large where it has more than `most`.
+fn read_all<I: Read>(
+    alloc: Global,
+    folder: Folder,
+    input: &mut I,
+    most: u64,
+) -> Result<Vec<u8>, FolderFault> {
+    let mut bytes = Vec::new(alloc);
+    let mut piece = [0u8; PIECE];
+    loop {
+        let count = match input.read(&mut piece) {
+            Ok(count) => count,
+            Err(error) => return Err(FolderFault::of(folder, &error)),
+        };
+        if count == 0 {
+            return Ok(bytes);
+        }
+        if most - (bytes.len() as u64) < count as u64 {
+            return Err(FolderFault::TooLarge(folder));
+        }
+        bytes.extend_from_slice(&piece[..count])?;
+    }
+}
