@@ -9,9 +9,13 @@ abbrev pub rank_at : Meeting → Rank
 rank_at (Calls address) = Rank.Primary
 rank_at (Listens address callers) = Rank.Secondary
 
--- the rank that the options for the two ranks choose: that of the meeting where neither is given, and none where both are
+-- the rank that the options for the two ranks choose: the usual one where neither is given, and none where both are
+abbrev pub rank_of : (usual : Rank) → (primary secondary : Bool) → Option Rank
+rank_of usual true false = Some Rank.Primary
+rank_of usual false true = Some Rank.Secondary
+rank_of usual false false = Some usual
+rank_of usual true true = None
+
+-- the rank that these options choose for an end that meets the other so
 abbrev pub rank_chosen : Meeting → (primary secondary : Bool) → Option Rank
-rank_chosen place true false = Some Rank.Primary
-rank_chosen place false true = Some Rank.Secondary
-rank_chosen place false false = Some (rank_at place)
-rank_chosen place true true = None
+rank_chosen place = rank_of (rank_at place)

@@ -3,3 +3,4 @@ pub mod Choice
 pub mod Connection
 pub mod Device
 pub mod Existing
+pub mod Station

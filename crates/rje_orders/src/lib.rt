@@ -6,6 +6,7 @@ mod choice;
 mod connection;
 mod device;
 mod order;
+mod station;
 
 pub use callers::Callers;
 pub use choice::{Choice, Devices};
@@ -15,3 +16,4 @@ pub use order::{
     CardsOrder, Destination, ExchangeOrder, Existing, FileOrder, LoopOrder, MonitorOrder, Order,
     PrintOrder, ReceiveOrder, STANDARD_INPUT, SendOrder, ShowOrder, SocketOrder, TryOrder,
 };
+pub use station::{Partner, StationOrder};

@@ -5,6 +5,7 @@ ghost use Rattle.rje_orders.specs.Existing.{existing_chosen};
 use crate::choice::Choice;
 use crate::connection::Connection;
 use crate::device::Device;
+use crate::station::StationOrder;
 use bsc_link::Rank;
 use rje_files::JobName;
 use rje_jobs::Form;
@@ -19,6 +20,8 @@ pub enum Order<'a> {
     Files(FileOrder<'a>),
     /// A command over sockets.
     Sockets(SocketOrder<'a>),
+    /// A station that stays on the line.
+    Station(StationOrder<'a>),
 }
 
 /// A command over files.
