@@ -1,6 +1,7 @@
 pub mod Linked
 pub mod Taken
 pub mod Moved
-pub mod Kept
-pub mod First
+pub mod NewFile
+pub mod Ready
+pub mod Marked
 pub mod Settled

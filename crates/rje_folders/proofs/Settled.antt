@@ -23,9 +23,8 @@ drop_settles are_one station name doubt sent a b c moves named drops = added_twi
 
 -- the file is in sent/ then
 pub sent_is : (are_one : List Asked → List ℕ → List ℕ → Type 0) (station name doubt sent : List ℕ) (a b c : List Asked) → IsMoved doubt sent a b → IsNumbered (path_in station Folder.Sent name) sent → Adds (MayDrop are_one sent (path_in station Folder.Out name)) b c
-    → IsSent station name doubt a c
+    → IsSent station name doubt sent a c
 sent_is are_one station name doubt sent a b c moved named drops = (
-  sent,
   named,
   drop_standing are_one sent (path_in station Folder.Out name) b c drops ∙ moved.0,
   drop_stays are_one sent (path_in station Folder.Out name) b c drops moved.1,

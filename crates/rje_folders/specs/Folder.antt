@@ -27,3 +27,7 @@ has_new_files Folder.Out = false
 has_new_files Folder.Sent = false
 has_new_files Folder.Doubt = false
 has_new_files _ = true
+
+-- the path of the file that says why another one is refused
+abbrev pub why_path : (refused : List ℕ) → List ℕ
+why_path refused = refused ++ codes ".why"

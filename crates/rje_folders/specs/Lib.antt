@@ -1,6 +1,8 @@
 pub mod FileNames
 pub mod Moving
 pub mod Keeping
+pub mod Reading
+pub mod Marking
 pub mod ReadyFile
 pub mod Folder
 pub mod Promising

@@ -1,10 +1,11 @@
 -- What becomes of the file of a job while the job may have arrived, and after that: at each moment it has a name on disk that says so.
 use Rattle.std.specs.Prelude.{◌≡◌, ◌⊎◌, ℕ, List, ◌++◌, true, codes}
 use Rattle.rje_day.specs.declared.disposition.Disposition.{Disposition}
-use Rattle.rje_stores.specs.Disk.{Asked, Call, OpenLock, standing, has_synced_name}
+use Rattle.rje_stores.specs.Disk.{Asked, Call, OpenLock, Remove, standing, has_synced_name}
 use Rattle.rje_folders.specs.declared.folder.Folder.{Folder}
 use Rattle.rje_folders.specs.FileNames.{IsNumbered}
-use Rattle.rje_folders.specs.Folder.{path_in}
+use Rattle.rje_folders.specs.Folder.{has_new_files, path_in, path_of}
+use Rattle.rje_folders.specs.Keeping.{IsTemporary}
 use Rattle.rje_folders.specs.Moving.{MayAdd, MayDrop, MayMove}
 
 -- what may be asked before the last block of a job is said: to give its file, in out/, a second name, in doubt/
@@ -34,10 +35,21 @@ abbrev pub MayTidy : (List Asked → List ℕ → List ℕ → Type 0) → (stat
 MayTidy are_one station call before = ((name kept : List ℕ) × IsKeptElsewhere station name kept × MayDrop are_one kept (path_in station Folder.Out name) call before)
     ⊎ ((name kept : List ℕ) × IsNumbered (path_in station Folder.Sent name) kept × MayDrop are_one kept (path_in station Folder.Doubt name) call before)
 
+-- The path that the file of a job has once that is done: one in sent/; the one in doubt/; or the one in out/, but the one in doubt/ still where another
+-- file has the name in out/.
+abbrev pub IsSettled : Disposition → (station name doubt path : List ℕ) → Type 0
+IsSettled Disposition.Sent station name doubt path = IsNumbered (path_in station Folder.Sent name) path
+IsSettled Disposition.InDoubt station name doubt path = path ≡ doubt
+IsSettled Disposition.Ready station name doubt path = (path ≡ path_in station Folder.Out name) ⊎ (path ≡ doubt)
+
 -- the path of the file that a station locks
 abbrev pub lock_path : (station : List ℕ) → List ℕ
 lock_path station = station ++ codes "/lock"
 
--- what may be asked to have the folder of a station: to open the file that is locked, and to tidy up
+-- what may be asked to clear a folder in which a station makes new files: to take a name away under which one was made that was not done
+abbrev pub MayClear : (station : List ℕ) → Call → List Asked → Type 0
+MayClear station call before = (folder : Folder) × (has_new_files folder ≡ true) × ((name : List ℕ) × IsTemporary (path_of station folder) name × (call ≡ Remove name))
+
+-- what may be asked to have the folder of a station: to open the file that is locked, to clear the folders, and to tidy up
 abbrev pub MayOpen : (List Asked → List ℕ → List ℕ → Type 0) → (station : List ℕ) → Call → List Asked → Type 0
-MayOpen are_one station call before = (call ≡ OpenLock (lock_path station)) ⊎ MayTidy are_one station call before
+MayOpen are_one station call before = (call ≡ OpenLock (lock_path station)) ⊎ MayClear station call before ⊎ MayTidy are_one station call before

@@ -1,8 +1,7 @@
 -- Which files lie ready, and what they are, by their names (own profile).
-use Rattle.std.specs.Prelude.{◌≡◌, ◌||◌, ℕ, List, Option, Some, None, Bool, true, false, Contains, String, codes, string_bytes, nat_eq, if◌then◌else◌}
-use Rattle.std.specs.List.{starts_with, ends_with}
-use Rattle.std.specs.Cmp.Lexicographic.{slice_cmp}
-use Rattle.std.specs.Ordering.{is_gt, nat_cmp}
+use Rattle.std.specs.Prelude.{◌≡◌, ◌||◌, ℕ, List, Option, Some, None, Bool, false, Contains, String, codes, string_bytes, string_cmp, nat_eq, if◌then◌else◌}
+use Rattle.std.specs.List.{Any, starts_with, ends_with}
+use Rattle.std.specs.List.Sorted.{IsStrictlySortedBy}
 use Rattle.std.specs.declared.alloc.Global.{Global}
 use Rattle.rje_text.specs.declared.mode.Mode.{Mode}
 use Rattle.rje_text.specs.declared.select.Select.{Select}
@@ -23,13 +22,11 @@ file_of_name name =
     else (if ends_with nat_eq name (codes ".transparent.deck") then Some (Deck Select.Punch Mode.Transparent)
     else (if ends_with nat_eq name (codes ".deck") then Some (Deck Select.Unset Mode.Normal) else None))))
 
--- a name doesn't come after another one, in the order of their bytes
-abbrev pub IsNotAfter : List ℕ → List ℕ → Type 0
-IsNotAfter name other = is_gt (slice_cmp nat_cmp name other) ≡ false
+-- Names none of which is left alone, each before those after it in the order of their bytes: so none is there twice.
+abbrev pub AreInOrder : List (String Global) → Type 0
+AreInOrder names = ((name : String Global) → Contains names name → is_left_alone (string_bytes name) ≡ false) × IsStrictlySortedBy string_cmp names
 
--- The first of some names that aren't left alone: it is one of them, and comes after none of the others. There is none just where all are left
--- alone.
-abbrev pub IsFirstReady : List (String Global) → Option (String Global) → Type 0
-IsFirstReady names None = (name : String Global) → Contains names name → is_left_alone (string_bytes name) ≡ true
-IsFirstReady names (Some first) = Contains names first × (is_left_alone (string_bytes first) ≡ false)
-    × ((name : String Global) → Contains names name → is_left_alone (string_bytes name) ≡ false → IsNotAfter (string_bytes first) (string_bytes name))
+-- Those of some names that aren't left alone, in order: each is one of them, and each of them that isn't left alone is there.
+abbrev pub AreReady : (names ready : List (String Global)) → Type 0
+AreReady names ready = AreInOrder ready × ((name : String Global) → Contains ready name → Contains names name)
+    × ((name : String Global) → Contains names name → is_left_alone (string_bytes name) ≡ false → Any (λ other. string_bytes other ≡ string_bytes name) ready)

@@ -1,4 +1,8 @@
 //! How a file is taken away that a killed station was writing.
+ghost use Rattle.std.specs.Prelude.{◌≡◌, ℕ, List, true};
+ghost use Rattle.rje_stores.specs.Replacing.{Adds};
+ghost use Rattle.rje_folders.specs.Folder.{has_new_files, path_of};
+ghost use Rattle.rje_folders.specs.Promising.{MayClear};
 
 use crate::folder::Folder;
 use crate::folder_disk::FolderDisk;
@@ -6,30 +10,35 @@ use crate::keeping::temporary_name;
 use std::alloc::Global;
 use std::io;
 
-/// Takes the files of a folder away that a killed station was writing.
+/// Takes the files of a folder away that a killed station was writing, where stations make new files there.
 pub(crate) fn clear<D: FolderDisk>(
     disk: &mut D,
     alloc: Global,
     station: &str,
     folder: Folder,
-) -> io::Result<()> {
+) -> io::Result<()>
+    ensures { D.discloses → Adds (MayClear station.now) (D.asked disk.old) (D.asked disk.new) }
+{
+    if !folder.has_new_files() {
+        return Ok(());
+    }
     let own = folder.own_path(alloc, station)?;
-    for name in disk.names_in(alloc, own.as_str())? {
-        if let Some(number) = temporary_number(name.as_str()) {
-            clear_one(disk, alloc, own.as_str(), name.as_str(), number)?;
-        }
+    let names = disk.names_in(alloc, own.as_str())?;
+    for name in &names {
+        clear_one(disk, alloc, own.as_str(), name.as_str())?;
     }
     Ok(())
 }
 
-/// Takes the file of a folder away that is made under the name of this number, where that is this name.
-fn clear_one<D: FolderDisk>(
-    disk: &mut D,
-    alloc: Global,
-    own: &str,
-    name: &str,
-    number: u32,
-) -> io::Result<()> {
+/// Takes the file of this name in a folder away, where it is one under which a new file is made.
+fn clear_one<D: FolderDisk>(disk: &mut D, alloc: Global, own: &str, name: &str) -> io::Result<()>
+    ensures { D.discloses → (station : List ℕ) → (folder : Folder)
+        → own.now ≡ path_of station folder → has_new_files folder ≡ true
+        → Adds (MayClear station) (D.asked disk.old) (D.asked disk.new) }
+{
+    let Some(number) = temporary_number(name) else {
+        return Ok(());
+    };
     let path = temporary_name(alloc, own, number)?;
     if path.as_str().ends_with(name) {
         disk.remove(path.as_str())

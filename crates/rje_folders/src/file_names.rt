@@ -1,6 +1,7 @@
 //! The names that a file may get.
-ghost use Rattle.std.specs.Prelude.{IfOk, string_bytes};
-ghost use Rattle.rje_folders.specs.FileNames.{IsNameOf};
+ghost use Rattle.std.specs.Prelude.{◌≡◌, ◌≤◌, ◌+◌, IfOk, string_bytes};
+ghost use Rattle.rje_folders.specs.FileNames.{IsNameBefore, IsNameOf};
+ghost use Rattle.rje_folders.specs.Inside.Calls.{first_number};
 
 use std::alloc::Global;
 use std::io;
@@ -23,7 +24,9 @@ pub enum FileNames<'a> {
 
 impl<'a> FileNames<'a> {
     /// The number of the first of them.
-    pub(crate) fn first(self) -> u32 {
+    pub(crate) fn first(self) -> u32
+        ensures { result ≡ first_number self.entry }
+    {
         match self {
             FileNames::Of(_) => 1,
             FileNames::Numbered {
@@ -36,7 +39,9 @@ impl<'a> FileNames<'a> {
 
     /// The name of this number.
     pub(crate) fn name(self, alloc: Global, number: u32) -> io::Result<String>
-        ensures { IfOk result (λ name. IsNameOf self.entry (string_bytes name)) }
+        ensures named { IfOk result (λ name. IsNameOf self.entry (string_bytes name)) }
+        ensures next { first_number self.entry ≤ number → IfOk result (λ name.
+            IsNameBefore self.entry (number + 1) (string_bytes name)) }
     {
         match self {
             FileNames::Of(name) if number <= 1 => Ok(String::from_str(alloc, name)?),

@@ -1,4 +1,6 @@
 //! Why a station's folder can't be used.
+ghost use Rattle.std.specs.Prelude.{◌≡◌, ◌≢◌};
+ghost use Rattle.rje_folders.specs.declared.folder_fault.FolderFault.TheVariants.{OutOfMemory, TooLarge};
 
 use crate::folder::Folder;
 use std::alloc::AllocError;
@@ -27,7 +29,9 @@ pub enum FolderFault {
 
 impl FolderFault {
     /// Why a folder, or a file in it, can't be used.
-    pub(crate) fn of(folder: Folder, error: &io::Error) -> FolderFault {
+    pub(crate) fn of(folder: Folder, error: &io::Error) -> FolderFault
+        ensures { (other : Folder) → result ≢ TooLarge other }
+    {
         match error.kind() {
             ErrorKind::OutOfMemory => FolderFault::OutOfMemory,
             kind => FolderFault::Failed(folder, kind),
@@ -44,6 +48,8 @@ impl FolderFault {
 }
 
 impl From<AllocError> for FolderFault {
+    ghost from_gives = { λ _ fault. fault ≡ OutOfMemory };
+
     fn from(_refused: AllocError) -> FolderFault {
         FolderFault::OutOfMemory
     }

@@ -3,7 +3,7 @@ ghost use Rattle.std.specs.Prelude.{◌≡◌, ℕ, List, [], IfOk, OnOk, string
 ghost use Rattle.rje_stores.specs.Disk.{bytes_of};
 ghost use Rattle.rje_stores.specs.Replacing.{Adds, IsOnDisk};
 ghost use Rattle.rje_stores.specs.Inside.Filling.{Fills};
-ghost use Rattle.rje_folders.specs.FileNames.{IsNameOf};
+ghost use Rattle.rje_folders.specs.FileNames.{IsNameBefore, IsNameOf};
 ghost use Rattle.rje_folders.specs.Keeping.{IsTemporary, MayKeep};
 ghost use Rattle.rje_folders.specs.Inside.Calls.{IsKept, IsNewIn, MayCreate, MayWrite};
 
@@ -46,6 +46,8 @@ pub fn keep<D: Disk>(
     ensures on_disk { D.discloses → IfOk result (λ kept.
         IsOnDisk (string_bytes kept.path) bytes.now (D.asked disk.new)) }
     ensures named { IfOk result (λ kept. IsNameOf names.entry (string_bytes kept.path)) }
+    ensures next { IfOk result (λ kept.
+        IsNameBefore names.entry kept.next (string_bytes kept.path)) }
 {
     let new = create_new(disk, alloc, folder)?;
     let kept = keep_new(disk, alloc, &new, names, bytes);
@@ -95,6 +97,8 @@ fn keep_new<D: Disk>(
         → IfOk result (λ kept. IsKept (string_bytes new.now.path) (string_bytes kept.path)
         bytes.now (D.asked disk.new)) }
     ensures named { IfOk result (λ kept. IsNameOf names.entry (string_bytes kept.path)) }
+    ensures next { IfOk result (λ kept.
+        IsNameBefore names.entry kept.next (string_bytes kept.path)) }
 {
     fill_new(disk, &new.file, bytes)?;
     let kept = link_free(disk, alloc, new.path.as_str(), names)?;

@@ -3,7 +3,7 @@ ghost use Rattle.std.specs.Prelude.{◌≡◌, true, IfOk, OnOk, string_bytes};
 ghost use Rattle.rje_stores.specs.Disk.{has_synced_name};
 ghost use Rattle.rje_stores.specs.Replacing.{Adds};
 ghost use Rattle.rje_stores.specs.Inside.Filling.{AddsSync};
-ghost use Rattle.rje_folders.specs.FileNames.{IsNameOf};
+ghost use Rattle.rje_folders.specs.FileNames.{IsNameBefore, IsNameOf};
 ghost use Rattle.rje_folders.specs.Moving.{MayLink};
 ghost use Rattle.rje_folders.specs.Inside.Calls.{HasLinked};
 
@@ -38,6 +38,8 @@ pub(crate) fn link_free<D: Disk>(
     ensures folder { D.discloses → IfOk result (λ second.
         D.folder_of second.folder ≡ string_bytes second.path) }
     ensures named { IfOk result (λ second. IsNameOf names.entry (string_bytes second.path)) }
+    ensures next { IfOk result (λ second.
+        IsNameBefore names.entry second.next (string_bytes second.path)) }
 {
     let first = names.first();
     for number in first..first.saturating_add(MAX_NAMES) {

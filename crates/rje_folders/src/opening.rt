@@ -1,7 +1,8 @@
 //! How a station gets its folder, and what it sees there.
 ghost use Rattle.std.specs.Prelude.{◌≡◌, IfOk, string_bytes};
 ghost use Rattle.rje_stores.specs.Replacing.{Adds};
-ghost use Rattle.rje_folders.specs.Promising.{MayOpen, MayTidy, lock_path};
+ghost use Rattle.rje_folders.specs.ReadyFile.{AreInOrder};
+ghost use Rattle.rje_folders.specs.Promising.{MayClear, MayOpen, MayTidy, lock_path};
 
 use crate::clearing::clear;
 use crate::folder::Folder;
@@ -78,12 +79,13 @@ pub(crate) fn clear_up<D: FolderDisk>(
     disk: &mut D,
     alloc: Global,
     station: &str,
-) -> Result<(), FolderFault> {
+) -> Result<(), FolderFault>
+    ensures { D.discloses → Adds (MayClear station.now)
+        (D.asked disk.old) (D.asked disk.new) }
+{
     for folder in Folder::ALL {
-        if folder.has_new_files() {
-            let cleared = clear(disk, alloc, station, folder);
-            cleared.map_err(|error| FolderFault::of(folder, &error))?;
-        }
+        let cleared = clear(disk, alloc, station, folder);
+        cleared.map_err(|error| FolderFault::of(folder, &error))?;
     }
     Ok(())
 }
@@ -146,7 +148,9 @@ pub(crate) fn names_ready<D: FolderDisk>(
     disk: &D,
     alloc: Global,
     station: &str,
-) -> io::Result<Vec<String>> {
+) -> io::Result<Vec<String>>
+    ensures { IfOk result (λ names. AreInOrder names.items) }
+{
     let path = Folder::Out.own_path(alloc, station)?;
     let mut ready = Vec::new(alloc);
     for name in disk.names_in(alloc, path.as_str())? {

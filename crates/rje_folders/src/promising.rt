@@ -1,10 +1,10 @@
 //! What becomes of the file of a job while the job may have arrived, and after that.
-ghost use Rattle.std.specs.Prelude.{◌≡◌, IfOk, OnOk, string_bytes};
+ghost use Rattle.std.specs.Prelude.{◌≡◌, ◌⊎◌, IfOk, string_bytes};
 ghost use Rattle.rje_stores.specs.Replacing.{Adds};
 ghost use Rattle.rje_folders.specs.FileNames.{IsNumbered};
 ghost use Rattle.rje_folders.specs.Folder.{path_in};
-ghost use Rattle.rje_folders.specs.Moving.{IsMoved, IsSecond, MayMove};
-ghost use Rattle.rje_folders.specs.Promising.{IsSent, MayPromise, MaySettle};
+ghost use Rattle.rje_folders.specs.Moving.{IsGone, IsMoved, IsSecond, MayMove};
+ghost use Rattle.rje_folders.specs.Promising.{IsSent, IsSettled, MayPromise, MaySettle};
 
 use crate::file_names::FileNames;
 use crate::folder::Folder;
@@ -50,6 +50,10 @@ pub(crate) fn settle<D: FolderDisk>(
     ensures sent { D.discloses → disposition ≡ Disposition.Sent → IfOk result (λ path.
         IsSent station.now name.now doubt.now (string_bytes path)
         (D.asked disk.old) (D.asked disk.new)) }
+    ensures ready { D.discloses → disposition ≡ Disposition.Ready → IfOk result (λ path.
+        (string_bytes path ≡ doubt.now) ⊎ IsGone doubt.now (D.asked disk.new)) }
+    ensures settled { IfOk result (λ path.
+        IsSettled disposition station.now name.now doubt.now (string_bytes path)) }
 {
     match disposition {
         Disposition::Sent => put_in_sent(disk, alloc, station, name, doubt),
@@ -72,6 +76,8 @@ fn put_in_sent<D: FolderDisk>(
     ensures sent { D.discloses → IfOk result (λ path.
         IsSent station.now name.now doubt.now (string_bytes path)
         (D.asked disk.old) (D.asked disk.new)) }
+    ensures settled { IfOk result (λ path.
+        IsSettled Disposition.Sent station.now name.now doubt.now (string_bytes path)) }
 {
     let ready = Folder::Out.path(alloc, station, name)?;
     let sent = Folder::Sent.path(alloc, station, name)?;
@@ -88,9 +94,10 @@ fn leave_in_doubt<D: FolderDisk>(
     name: &str,
     doubt: &str,
 ) -> io::Result<String>
-    ensures { D.discloses
+    ensures asks { D.discloses
         → Adds (MaySettle D.are_one station.now name.now doubt.now Disposition.InDoubt)
         (D.asked disk.old) (D.asked disk.new) }
+    ensures settled { IfOk result (λ path. string_bytes path ≡ doubt.now) }
 {
     let ready = Folder::Out.path(alloc, station, name)?;
     let kept = String::from_str(alloc, doubt)?;
@@ -106,9 +113,13 @@ fn take_back<D: FolderDisk>(
     name: &str,
     doubt: &str,
 ) -> io::Result<String>
-    ensures { D.discloses → Adds
+    ensures asks { D.discloses → Adds
         (MaySettle D.are_one station.now name.now doubt.now Disposition.Ready)
         (D.asked disk.old) (D.asked disk.new) }
+    ensures ready { D.discloses → IfOk result (λ path.
+        (string_bytes path ≡ doubt.now) ⊎ IsGone doubt.now (D.asked disk.new)) }
+    ensures settled { IfOk result (λ path.
+        IsSettled Disposition.Ready station.now name.now doubt.now (string_bytes path)) }
 {
     let ready = Folder::Out.path(alloc, station, name)?;
     let kept = String::from_str(alloc, doubt)?;
@@ -135,6 +146,6 @@ pub(crate) fn put_in_doubt<D: FolderDisk>(
     ensures named { IfOk result (λ doubt. IsNumbered
         (path_in station.now Folder.Doubt name.now) (string_bytes doubt)) }
 {
-    let doubt = Folder::Doubt.path(alloc, station, name)?;
-    move_file(disk, alloc, sent, FileNames::Of(doubt.as_str()))
+    let first = Folder::Doubt.path(alloc, station, name)?;
+    move_file(disk, alloc, sent, FileNames::Of(first.as_str()))
 }

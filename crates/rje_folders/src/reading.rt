@@ -1,4 +1,8 @@
 //! How a file is read.
+ghost use Rattle.std.specs.Prelude.{◌≡◌, ◌<◌, ◌≤◌, length, IfOk, IfSome, IsErrOf};
+ghost use Rattle.rje_folders.specs.Folder.{path_in};
+ghost use Rattle.rje_folders.specs.Reading.{IsLongerThan, IsReadOf};
+ghost use Rattle.rje_folders.specs.declared.folder_fault.FolderFault.TheVariants.{TooLarge};
 
 use crate::folder::Folder;
 use crate::folder_disk::FolderDisk;
@@ -16,7 +20,14 @@ pub(crate) fn read_ready<D: FolderDisk>(
     station: &str,
     name: &str,
     most: u64,
-) -> Result<Vec<u8>, FolderFault> {
+) -> Result<Vec<u8>, FolderFault>
+    ensures all { D.discloses → IfOk result (λ bytes. IsReadOf D.opened D.File.remaining
+        (path_in station.now Folder.Out name.now) bytes.items) }
+    ensures limit { IfOk result (λ bytes. length bytes.items ≤ most) }
+    ensures long { D.discloses → IsErrOf result (TooLarge Folder.Out)
+        → IsLongerThan D.opened D.File.remaining
+        (path_in station.now Folder.Out name.now) most }
+{
     match open_ready(disk, alloc, station, name) {
         Ok(file) => {
             let mut file = file;
@@ -32,7 +43,10 @@ fn open_ready<D: FolderDisk>(
     alloc: Global,
     station: &str,
     name: &str,
-) -> io::Result<D::File> {
+) -> io::Result<D::File>
+    ensures { D.discloses → IfOk result (λ file.
+        (D.opened file).name ≡ path_in station.now Folder.Out name.now) }
+{
     let ready = Folder::Out.path(alloc, station, name)?;
     disk.open_to_read(ready.as_str())
 }
@@ -43,7 +57,13 @@ fn read_all<I: Read>(
     folder: Folder,
     input: &mut I,
     most: u64,
-) -> Result<Vec<u8>, FolderFault> {
+) -> Result<Vec<u8>, FolderFault>
+    ensures all { IfOk result (λ bytes.
+        IfSome (I.remaining input.old) (λ rest. bytes.items ≡ rest)) }
+    ensures limit { IfOk result (λ bytes. length bytes.items ≤ most) }
+    ensures long { IsErrOf result (TooLarge folder) → IfSome (I.remaining input.old)
+        (λ rest. most < length rest) }
+{
     let mut bytes = Vec::new(alloc);
     let mut piece = [0u8; PIECE];
     loop {

@@ -1,7 +1,6 @@
 //! Which files lie ready, and what they are, by their names.
-ghost use Rattle.std.specs.Prelude.{◌≡◌};
-ghost use Rattle.rje_folders.specs.ReadyFile.{IsFirstReady, file_of_name, is_left_alone as left_alone};
-ghost use Rattle.rje_folders.specs.Inside.Calls.{is_before};
+ghost use Rattle.std.specs.Prelude.{◌≡◌, IfOk};
+ghost use Rattle.rje_folders.specs.ReadyFile.{AreReady, file_of_name, is_left_alone as left_alone};
 ghost use Rattle.rje_folders.specs.declared.ready_file.ReadyFile.TheVariants.{Deck};
 
 use rje_text::{Mode, Select};
@@ -58,7 +57,9 @@ pub fn is_left_alone(name: &str) -> bool
 }
 
 /// Those of these names that aren't left alone, in the order of their bytes, each once.
-pub fn ready_names(names: Vec<String>) -> Result<Vec<String>, AllocError> {
+pub fn ready_names(names: Vec<String>) -> Result<Vec<String>, AllocError>
+    ensures { IfOk result (λ ready. AreReady names.items ready.items) }
+{
     let mut names = names;
     names.retain(|name| !is_left_alone(name.as_str()));
     names.sort()?;

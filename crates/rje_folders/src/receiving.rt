@@ -1,8 +1,9 @@
 //! How what came is kept, and what can't be sent is put aside.
-ghost use Rattle.std.specs.Prelude.{IfOk, string_bytes};
+ghost use Rattle.std.specs.Prelude.{◌≡◌, IfOk, string_bytes};
 ghost use Rattle.rje_stores.specs.Replacing.{Adds, IsOnDisk};
-ghost use Rattle.rje_folders.specs.FileNames.{IsNumbered};
-ghost use Rattle.rje_folders.specs.Folder.{path_in};
+ghost use Rattle.rje_folders.specs.FileNames.{IsBetween, IsBetweenFrom, IsNumbered};
+ghost use Rattle.rje_folders.specs.Folder.{path_in, path_of, why_path};
+ghost use Rattle.rje_folders.specs.Keeping.{MayKeep};
 ghost use Rattle.rje_folders.specs.Moving.{IsMoved, MayMove};
 
 use crate::file_names::FileNames;
@@ -44,8 +45,14 @@ pub(crate) fn keep_in<D: FolderDisk>(
     ending: &str,
     bytes: &[u8],
 ) -> io::Result<Kept>
+    ensures asks { D.discloses → Adds (MayKeep (path_of station.now folder)
+        (IsBetween (path_in station.now folder stamp.now) ending.now) bytes.now)
+        (D.asked disk.old) (D.asked disk.new) }
     ensures on_disk { D.discloses → IfOk result (λ kept.
         IsOnDisk (string_bytes kept.path) bytes.now (D.asked disk.new)) }
+    ensures named { IfOk result (λ kept. IsBetweenFrom
+        (path_in station.now folder stamp.now) ending.now first kept.next
+        (string_bytes kept.path)) }
 {
     let own = folder.own_path(alloc, station)?;
     let stem = folder.path(alloc, station, stamp)?;
@@ -64,9 +71,17 @@ pub(crate) fn explain<D: FolderDisk>(
     station: &str,
     refused: &str,
     why: &str,
-) -> io::Result<String> {
+) -> io::Result<String>
+    ensures asks { D.discloses → Adds (MayKeep (path_of station.now Folder.Refused)
+        (IsNumbered (why_path refused.now)) why.now)
+        (D.asked disk.old) (D.asked disk.new) }
+    ensures on_disk { D.discloses → IfOk result (λ path.
+        IsOnDisk (string_bytes path) why.now (D.asked disk.new)) }
+    ensures named { IfOk result (λ path.
+        IsNumbered (why_path refused.now) (string_bytes path)) }
+{
     let own = Folder::Refused.own_path(alloc, station)?;
-    let name = format!(in alloc; "{refused}.why")?;
+    let name = why_path(alloc, refused)?;
     let kept = keep(
         disk,
         alloc,
@@ -75,4 +90,11 @@ pub(crate) fn explain<D: FolderDisk>(
         why.as_bytes(),
     )?;
     Ok(kept.path)
+}
+
+/// The path of the file that says why another one is refused.
+fn why_path(alloc: Global, refused: &str) -> io::Result<String>
+    ensures { IfOk result (λ path. string_bytes path ≡ why_path refused.now) }
+{
+    Ok(format!(in alloc; "{refused}.why")?)
 }

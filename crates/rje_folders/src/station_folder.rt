@@ -1,11 +1,16 @@
 //! The folder of a station.
-ghost use Rattle.std.specs.Prelude.{◌≡◌, true, IfOk, OnOk, string_bytes};
+ghost use Rattle.std.specs.Prelude.{◌≡◌, ◌⊎◌, ◌≤◌, length, true, IfOk, IsErrOf, OnOk, string_bytes};
 ghost use Rattle.rje_stores.specs.Disk.{has_synced_name};
 ghost use Rattle.rje_stores.specs.Replacing.{Adds, IsOnDisk};
-ghost use Rattle.rje_folders.specs.FileNames.{IsNumbered};
-ghost use Rattle.rje_folders.specs.Folder.{path_in};
-ghost use Rattle.rje_folders.specs.Moving.{IsMoved, IsSecond, MayMove};
-ghost use Rattle.rje_folders.specs.Promising.{IsSent, MayOpen, MayPromise, MaySettle};
+ghost use Rattle.rje_folders.specs.FileNames.{IsBetween, IsBetweenFrom, IsNumbered};
+ghost use Rattle.rje_folders.specs.Folder.{path_in, path_of, why_path};
+ghost use Rattle.rje_folders.specs.Keeping.{MayKeep};
+ghost use Rattle.rje_folders.specs.Marking.{IsMarked, MayMark};
+ghost use Rattle.rje_folders.specs.Moving.{IsGone, IsMoved, IsSecond, MayMove};
+ghost use Rattle.rje_folders.specs.Promising.{IsSent, IsSettled, MayOpen, MayPromise, MaySettle};
+ghost use Rattle.rje_folders.specs.Reading.{IsLongerThan, IsReadOf};
+ghost use Rattle.rje_folders.specs.ReadyFile.{AreInOrder};
+ghost use Rattle.rje_folders.specs.declared.folder_fault.FolderFault.TheVariants.{TooLarge};
 
 use crate::folder::Folder;
 use crate::folder_disk::FolderDisk;
@@ -50,7 +55,9 @@ impl<D: FolderDisk + Drop> StationFolder<D> {
 
     /// The names in out/ of what lies ready, in the order of their bytes: those that aren't left alone, and whose file has no name in sent/,
     /// doubt/ or refused/.
-    pub fn names_ready(&self) -> Result<Vec<String>, FolderFault> {
+    pub fn names_ready(&self) -> Result<Vec<String>, FolderFault>
+        ensures { IfOk result (λ names. AreInOrder names.items) }
+    {
         names_ready(&self.disk, self.alloc, self.path.as_str()).map_err(|error| FolderFault::of(
             Folder::Out,
             &error,
@@ -58,7 +65,14 @@ impl<D: FolderDisk + Drop> StationFolder<D> {
     }
 
     /// The bytes of a file in out/. Too large where it has more than `most`.
-    pub fn read(&self, name: &str, most: u64) -> Result<Vec<u8>, FolderFault> {
+    pub fn read(&self, name: &str, most: u64) -> Result<Vec<u8>, FolderFault>
+        ensures all { D.discloses → IfOk result (λ bytes. IsReadOf D.opened D.File.remaining
+            (path_in (string_bytes self.now.path) Folder.Out name.now) bytes.items) }
+        ensures limit { IfOk result (λ bytes. length bytes.items ≤ most) }
+        ensures long { D.discloses → IsErrOf result (TooLarge Folder.Out)
+            → IsLongerThan D.opened D.File.remaining
+            (path_in (string_bytes self.now.path) Folder.Out name.now) most }
+    {
         read_ready(&self.disk, self.alloc, self.path.as_str(), name, most)
     }
 
@@ -91,7 +105,15 @@ impl<D: FolderDisk + Drop> StationFolder<D> {
 
     /// Once a job of a job file is counted that isn't the file's last: writes this byte at this place of the file of this path in doubt/. It is on
     /// disk then. An invalid input where the file has no byte there.
-    pub fn mark(&mut self, doubt: &str, place: u64, mark: u8) -> Result<(), FolderFault> {
+    pub fn mark(&mut self, doubt: &str, place: u64, mark: u8) -> Result<(), FolderFault>
+        ensures asks { D.discloses → Adds (MayMark doubt.now place mark)
+            (D.asked self.old.disk) (D.asked self.new.disk) }
+        ensures marked { D.discloses → OnOk result (IsMarked doubt.now place mark
+            (D.asked self.old.disk) (D.asked self.new.disk)) }
+        ensures in_doubt { D.discloses → has_synced_name doubt.now (D.asked self.old.disk) ≡ true
+            → has_synced_name doubt.now (D.asked self.new.disk) ≡ true }
+        ensures path { self.new.path ≡ self.old.path }
+    {
         set_mark(&mut self.disk, doubt, place, mark).map_err(|error| FolderFault::of(
             Folder::Doubt,
             &error,
@@ -115,6 +137,10 @@ impl<D: FolderDisk + Drop> StationFolder<D> {
         ensures in_doubt { D.discloses → disposition ≡ Disposition.InDoubt
             → has_synced_name doubt.now (D.asked self.old.disk) ≡ true
             → has_synced_name doubt.now (D.asked self.new.disk) ≡ true }
+        ensures ready { D.discloses → disposition ≡ Disposition.Ready → IfOk result (λ path.
+            (string_bytes path ≡ doubt.now) ⊎ IsGone doubt.now (D.asked self.new.disk)) }
+        ensures settled { IfOk result (λ path. IsSettled disposition
+            (string_bytes self.old.path) name.now doubt.now (string_bytes path)) }
         ensures path { self.new.path ≡ self.old.path }
     {
         settle(
@@ -162,7 +188,17 @@ impl<D: FolderDisk + Drop> StationFolder<D> {
     }
 
     /// Says in a file beside a file of refused/, of this path, why it is refused: PATH.why. Its path. It is on disk then, and so is its name.
-    pub fn explain(&mut self, refused: &str, why: &str) -> Result<String, FolderFault> {
+    pub fn explain(&mut self, refused: &str, why: &str) -> Result<String, FolderFault>
+        ensures asks { D.discloses → Adds
+            (MayKeep (path_of (string_bytes self.old.path) Folder.Refused)
+            (IsNumbered (why_path refused.now)) why.now)
+            (D.asked self.old.disk) (D.asked self.new.disk) }
+        ensures on_disk { D.discloses → IfOk result (λ path.
+            IsOnDisk (string_bytes path) why.now (D.asked self.new.disk)) }
+        ensures named { IfOk result (λ path.
+            IsNumbered (why_path refused.now) (string_bytes path)) }
+        ensures path { self.new.path ≡ self.old.path }
+    {
         explain(&mut self.disk, self.alloc, self.path.as_str(), refused, why).map_err(
             |error| FolderFault::of(Folder::Refused, &error),
         )
@@ -178,8 +214,15 @@ impl<D: FolderDisk + Drop> StationFolder<D> {
         ending: &str,
         bytes: &[u8],
     ) -> Result<Kept, FolderFault>
+        ensures asks { D.discloses → Adds
+            (MayKeep (path_of (string_bytes self.old.path) folder)
+            (IsBetween (path_in (string_bytes self.old.path) folder stamp.now) ending.now)
+            bytes.now) (D.asked self.old.disk) (D.asked self.new.disk) }
         ensures on_disk { D.discloses → IfOk result (λ kept.
             IsOnDisk (string_bytes kept.path) bytes.now (D.asked self.new.disk)) }
+        ensures named { IfOk result (λ kept. IsBetweenFrom
+            (path_in (string_bytes self.old.path) folder stamp.now) ending.now first kept.next
+            (string_bytes kept.path)) }
         ensures path { self.new.path ≡ self.old.path }
     {
         keep_in(

@@ -1,11 +1,10 @@
 -- What is asked step by step, and what names come to.
-use Rattle.std.specs.Prelude.{◌≡◌, ◌≢◌, ◌⊎◌, ℕ, List, [], ◌∷◌, length, Option, Some, None, Bool, true, String, string_bytes}
+use Rattle.std.specs.Prelude.{◌≡◌, ◌≢◌, ◌⊎◌, ℕ, List, [], ◌∷◌, length, Some, None, true}
 use Rattle.rje_stores.specs.Disk.{Asked, Call, Opened, Done, Create, Fill, Sync, Link, Remove, standing, bytes_of, is_synced, has_synced_name}
 use Rattle.rje_stores.specs.Replacing.{IsOnDisk}
 use Rattle.rje_stores.specs.Inside.Filling.{AddsSync}
-use Rattle.std.specs.Cmp.Lexicographic.{slice_cmp}
-use Rattle.std.specs.Ordering.{is_lt, nat_cmp}
-use Rattle.std.specs.declared.alloc.Global.{Global}
+use Rattle.rje_folders.specs.declared.file_names.FileNames.{FileNames}
+use Rattle.rje_folders.specs.declared.file_names.FileNames.TheVariants.{Of, Numbered}
 use Rattle.rje_folders.specs.Keeping.{IsTemporary}
 
 -- each name stands for what it stood for, and each file is as it was
@@ -38,7 +37,7 @@ MayWrite file call before = ((bytes : List ℕ) × (call ≡ Fill file bytes) ×
 abbrev pub IsKept : (temporary name bytes : List ℕ) → List Asked → Type 0
 IsKept temporary name bytes after = (name ≢ temporary) × IsOnDisk name bytes after
 
--- a name comes before the first one so far, where there is one
-abbrev pub is_before : List ℕ → Option (String Global) → Bool
-is_before name None = true
-is_before name (Some first) = is_lt (slice_cmp nat_cmp name (string_bytes first))
+-- the number of the first name that a file may get
+abbrev pub first_number : FileNames → ℕ
+first_number (Of name) = 1
+first_number (Numbered stem ending first) = first

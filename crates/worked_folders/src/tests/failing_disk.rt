@@ -5,15 +5,16 @@ use rje_folders::FolderDisk;
 use rje_stores::{Disk, FileKind, FileStatus};
 use std::alloc::Global;
 use std::fs::{Permissions, TryLockError};
-use std::io::{self, ErrorKind, Read};
+use std::io::{self, Cursor, ErrorKind, Read};
 use std::os::unix::fs::PermissionsExt;
 
-/// Names with the numbers of their files. Of calls that change something, the one of a number fails, and is done or not.
+/// Names with the numbers of their files, and what these have. Of calls that change something, the one of a number fails, and is done or not.
 #[derive(Drop)]
 pub(super) struct FailingDisk {
     alloc: Global,
     names: Vec<Name>,
     files: u64,
+    contents: Vec<Content>,
     calls: usize,
     fails_at: usize,
     is_done: bool,
@@ -26,10 +27,18 @@ struct Name {
     file: u64,
 }
 
-/// An open file.
+/// The bytes of a file that isn't empty.
+#[derive(Drop)]
+struct Content {
+    file: u64,
+    bytes: Vec<u8>,
+}
+
+/// An open file, and what there is to be read of it.
 #[derive(Drop)]
 pub(super) struct OpenFile {
     file: u64,
+    bytes: Cursor<Vec<u8>>,
 }
 
 impl FailingDisk {
@@ -39,6 +48,7 @@ impl FailingDisk {
             alloc,
             names: Vec::new(alloc),
             files: 0,
+            contents: Vec::new(alloc),
             calls: 0,
             fails_at,
             is_done,
@@ -51,6 +61,7 @@ impl FailingDisk {
             alloc,
             names,
             files,
+            contents,
             calls,
             fails_at: _,
             is_done,
@@ -59,6 +70,7 @@ impl FailingDisk {
             alloc,
             names,
             files,
+            contents,
             calls,
             fails_at: 0,
             is_done,
@@ -71,6 +83,57 @@ impl FailingDisk {
         let file = self.files;
         self.give(path, file)?;
         Ok(file)
+    }
+
+    /// A new file with these bytes under a name.
+    pub(super) fn put_bytes(&mut self, path: &str, bytes: &[u8]) -> io::Result<u64> {
+        let file = self.put(path)?;
+        self.write(file, bytes)?;
+        Ok(file)
+    }
+
+    /// Whether a file of just these bytes stands under a name.
+    pub(super) fn has(&self, path: &str, bytes: &[u8]) -> bool {
+        match self.file_of(path) {
+            Some(file) => self.bytes_of(file) == bytes,
+            None => false,
+        }
+    }
+
+    fn bytes_of(&self, file: u64) -> &[u8] {
+        for content in &self.contents {
+            if content.file == file {
+                return content.bytes.as_slice();
+            }
+        }
+        &[]
+    }
+
+    /// Gives an empty file these bytes.
+    fn write(&mut self, file: u64, bytes: &[u8]) -> io::Result<()> {
+        let mut own = Vec::new(self.alloc);
+        own.extend_from_slice(bytes)?;
+        self.contents.push(Content { file, bytes: own })?;
+        Ok(())
+    }
+
+    /// Sets a byte of a file.
+    fn set(&mut self, file: u64, place: usize, byte: u8) {
+        for content in &mut self.contents {
+            if content.file == file && place < content.bytes.len() {
+                content.bytes[place] = byte;
+            }
+        }
+    }
+
+    fn opened(&self, path: &str) -> io::Result<OpenFile> {
+        let file = self.found(path)?;
+        let mut bytes = Vec::new(self.alloc);
+        bytes.extend_from_slice(self.bytes_of(file))?;
+        Ok(OpenFile {
+            file,
+            bytes: Cursor::new(bytes),
+        })
     }
 
     /// The number of the file under a name.
@@ -136,7 +199,7 @@ impl FailingDisk {
         FileStatus {
             kind: FileKind::Regular,
             mode: Permissions::from_mode(0o640),
-            len: 0,
+            len: self.bytes_of(file).len() as u64,
             device: 1,
             inode: file,
             links: self.links_of(file),
@@ -145,8 +208,8 @@ impl FailingDisk {
 }
 
 impl Read for OpenFile {
-    fn read(&mut self, _buf: &mut [u8]) -> io::Result<usize> {
-        Ok(0)
+    fn read(&mut self, buf: &mut [u8]) -> io::Result<usize> {
+        self.bytes.read(buf)
     }
 }
 
@@ -185,9 +248,7 @@ impl Disk for FailingDisk {
     }
 
     fn open_to_read(&self, name: &str) -> io::Result<OpenFile> {
-        Ok(OpenFile {
-            file: self.found(name)?,
-        })
+        self.opened(name)
     }
 
     fn open_to_lock(&self, name: &str) -> io::Result<OpenFile> {
@@ -232,8 +293,10 @@ impl Disk for FailingDisk {
         Ok(())
     }
 
-    fn fill(&mut self, _file: &OpenFile, _bytes: &[u8]) -> io::Result<()> {
-        self.begins();
+    fn fill(&mut self, file: &OpenFile, bytes: &[u8]) -> io::Result<()> {
+        if self.begins() {
+            self.write(file.file, bytes)?;
+        }
         self.ended()
     }
 
@@ -247,8 +310,13 @@ impl Disk for FailingDisk {
         Err(io::Error::from(ErrorKind::Unsupported))
     }
 
-    fn write_at(&mut self, _file: &OpenFile, _place: u64, _bytes: &[u8]) -> io::Result<()> {
-        Err(io::Error::from(ErrorKind::Unsupported))
+    fn write_at(&mut self, file: &OpenFile, place: u64, bytes: &[u8]) -> io::Result<()> {
+        if self.begins() {
+            for byte in bytes {
+                self.set(file.file, place as usize, *byte);
+            }
+        }
+        self.ended()
     }
 
     fn sync(&mut self, _file: &OpenFile) -> io::Result<()> {
@@ -257,7 +325,8 @@ impl Disk for FailingDisk {
     }
 
     fn sync_bytes(&mut self, _file: &OpenFile) -> io::Result<()> {
-        Err(io::Error::from(ErrorKind::Unsupported))
+        self.begins();
+        self.ended()
     }
 
     fn rename(&mut self, _from: &str, _to: &str) -> io::Result<()> {

@@ -68,11 +68,14 @@ fn whichever_call_fails(
             let disk = station.close();
             let left = find_file(&disk, 1);
             assert!(rt; left.out || left.doubt || left.sent);
+            assert!(rt; settled.is_err() || left == at_the_end);
+            if let Ok(path) = settled {
+                assert!(rt; disk.file_of(path.as_str()) == Some(1));
+            }
             let then = find_file(&tidied(rt, alloc, disk), 1);
             assert!(rt; then.out || then.doubt || then.sent);
             assert!(rt; !then.out || !then.doubt && !then.sent);
             assert!(rt; !then.doubt || !then.sent);
-            assert!(rt; settled.is_err() || left == at_the_end);
         }
     }
     Ok(())
@@ -171,13 +174,16 @@ fn what_came_gets_a_name_of_its_own(rt: HostRuntime) -> Result<(), Fail> {
     for fails_at in 0..MAX_CALLS {
         for is_done in [false, true] {
             let mut disk = FailingDisk::new(alloc, fails_at, is_done);
-            let first = disk.put("s/in/T-1.job")?;
+            let first = disk.put("s/in/T-7.job")?;
             let mut station = opened(&rt, alloc, disk);
-            let kept = station.keep(Folder::In, "T", 1, ".job", b"1 job");
+            let kept = station.keep(Folder::In, "T", 7, ".job", b"1 job");
             let disk = station.close();
-            assert!(rt; disk.file_of("s/in/T-1.job") == Some(first));
-            assert!(rt; kept.is_err() || disk.file_of("s/in/T-2.job").is_some());
-            assert!(rt; disk.file_of("s/in/T-3.job").is_none());
+            assert!(rt; disk.file_of("s/in/T-7.job") == Some(first));
+            assert!(rt; disk.file_of("s/in/T-9.job").is_none());
+            if let Ok(kept) = kept {
+                assert!(rt; kept.path.as_str() == "s/in/T-8.job" && kept.next == 9);
+                assert!(rt; disk.has("s/in/T-8.job", b"1 job"));
+            }
         }
     }
     Ok(())

@@ -2,9 +2,10 @@ use Rattle.std.proofs.Common.{inl}
 use Rattle.std.specs.Prelude.{string_bytes}
 use Rattle.rje_stores.specs.Disk.{Remove}
 use Rattle.rje_stores.proofs.Replacing.{added_call, added_twice}
+use Rattle.rje_folders.specs.declared.keeping.Kept.{Kept}
 use Rattle.rje_folders.specs.Keeping.{MayKeep}
 use Rattle.rje_folders.specs.FileNames.{IsNameOf}
-use Rattle.rje_folders.proofs.Kept.{create_keeps, kept_on_disk, new_temporary}
+use Rattle.rje_folders.proofs.NewFile.{create_keeps, kept_on_disk, new_temporary}
 use Rattle.rje_folders.proofs.keeping.keep.Goals as goal
 
 pub returns-in_err-new-clause-asks : goal.returns-in_err-new-clause-asks
@@ -23,4 +24,4 @@ pub returns-clause-on_disk : goal.returns-clause-on_disk
 returns-clause-on_disk g c = λ told.
     let folder = c.args.folder.now in
     let new = c.in_ok-new.ensures.new told in
-    kept_on_disk c.keep_new-kept.result c.remove.result (string_bytes c.in_ok-new.new.path) c.args.bytes.now _ _ (rw c.as_str.ensures.value at (c.remove.ensures told)) (c.keep_new-kept.ensures.kept told folder new)
+    kept_on_disk (λ (kept : Kept). string_bytes kept.path) c.keep_new-kept.result c.remove.result (string_bytes c.in_ok-new.new.path) c.args.bytes.now _ _ (rw c.as_str.ensures.value at (c.remove.ensures told)) (c.keep_new-kept.ensures.kept told folder new)

@@ -1,6 +1,6 @@
 use Rattle.std.specs.Prelude.{string_bytes}
 use Rattle.rje_folders.specs.FileNames.{IsNameOf}
-use Rattle.rje_folders.proofs.Kept.{kept_is, link_kept, new_is_empty, sync_kept, unkept, write_keeps, written_whole}
+use Rattle.rje_folders.proofs.NewFile.{kept_is, link_kept, new_is_empty, sync_kept, unkept, write_keeps, written_whole}
 use Rattle.rje_folders.proofs.keeping.keep_new.Goals as goal
 
 pub returns-in_err-fill_new-clause-asks : goal.returns-in_err-fill_new-clause-asks

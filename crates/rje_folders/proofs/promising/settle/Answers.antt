@@ -7,7 +7,7 @@ pub returns-in-Sent-clause-asks : goal.returns-in-Sent-clause-asks
 returns-in-Sent-clause-asks g c = λ told. subst (λ d. Adds (MaySettle g.D.FolderDisk.are_one c.args.station.now c.args.name.now c.args.doubt.now d) (g.D.Disk.asked c.args.disk.now) (g.D.Disk.asked c.put_in_sent.new.disk)) (sym c.in-Sent.is) (c.put_in_sent.ensures.asks told)
 
 pub returns-in-InDoubt-clause-asks : goal.returns-in-InDoubt-clause-asks
-returns-in-InDoubt-clause-asks g c = λ told. subst (λ d. Adds (MaySettle g.D.FolderDisk.are_one c.args.station.now c.args.name.now c.args.doubt.now d) (g.D.Disk.asked c.args.disk.now) (g.D.Disk.asked c.leave_in_doubt.new.disk)) (sym c.in-InDoubt.is) (c.leave_in_doubt.ensures told)
+returns-in-InDoubt-clause-asks g c = λ told. subst (λ d. Adds (MaySettle g.D.FolderDisk.are_one c.args.station.now c.args.name.now c.args.doubt.now d) (g.D.Disk.asked c.args.disk.now) (g.D.Disk.asked c.leave_in_doubt.new.disk)) (sym c.in-InDoubt.is) (c.leave_in_doubt.ensures.asks told)
 
 pub returns-in-Ready-clause-asks : goal.returns-in-Ready-clause-asks
-returns-in-Ready-clause-asks g c = λ told. subst (λ d. Adds (MaySettle g.D.FolderDisk.are_one c.args.station.now c.args.name.now c.args.doubt.now d) (g.D.Disk.asked c.args.disk.now) (g.D.Disk.asked c.take_back.new.disk)) (sym c.in-Ready.is) (c.take_back.ensures told)
+returns-in-Ready-clause-asks g c = λ told. subst (λ d. Adds (MaySettle g.D.FolderDisk.are_one c.args.station.now c.args.name.now c.args.doubt.now d) (g.D.Disk.asked c.args.disk.now) (g.D.Disk.asked c.take_back.new.disk)) (sym c.in-Ready.is) (c.take_back.ensures.asks told)

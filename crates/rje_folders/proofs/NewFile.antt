@@ -1,6 +1,6 @@
 -- How bytes become a new file: call after call.
-use Rattle.std.proofs.Common.{◌≡◌, ◌≢◌, ℕ, inl, inr, List, [], ◌∷◌, ◌++◌, Option, Some, None, Result, Ok, Err, IfOk, Bool, true, false, if◌then◌else◌, Global, refl, sym, ◌∙◌, ap, subst}
-use Rattle.std.specs.Prelude.{bytes_eq, string_bytes, String}
+use Rattle.std.proofs.Common.{◌≡◌, ◌≢◌, ℕ, inl, inr, List, [], ◌∷◌, ◌++◌, Option, Some, None, Result, Ok, Err, IfOk, Bool, true, false, if◌then◌else◌, refl, sym, ◌∙◌, ap, subst}
+use Rattle.std.specs.Prelude.{bytes_eq}
 use Rattle.std.specs.declared.io.Error.{Error}
 use Rattle.rje_stores.specs.Disk.{Asked, Call, Opened, Done, Refused, Failed, Create, Remove, call_of, came_to, standing, bytes_of, is_synced, has_synced_name}
 use Rattle.rje_stores.specs.Replacing.{Adds, Each, IsOnDisk, IsWhole}
@@ -137,7 +137,7 @@ unkept result folder file from to bytes IsNew a b c d e new writes fills links l
     added_call (MayKeep folder IsNew bytes) a d e result (Remove to) (sync_kept folder file from to bytes IsNew a b c d new writes fills links named sync) removed
     (inr (named, whole_synced to to bytes c d sync (linked_whole from to bytes b c linked (written_whole folder file from bytes a b new writes fills))))
 
-pub kept_on_disk : {A : Type 0} (kept : Result (String Global) Error) (result : Result A Error) (temporary bytes : List ℕ) (a b : List Asked) → b ≡ came_to result (Remove temporary) ∷ a
-    → IfOk kept (λ name. IsKept temporary (string_bytes name) bytes a) → IfOk kept (λ name. IsOnDisk (string_bytes name) bytes b)
-kept_on_disk (Ok name) result temporary bytes a b removed kept = removed_on_disk result temporary (string_bytes name) bytes a b removed kept
-kept_on_disk (Err _) result temporary bytes a b removed kept = tt
+pub kept_on_disk : {A K : Type 0} (path : K → List ℕ) (kept : Result K Error) (result : Result A Error) (temporary bytes : List ℕ) (a b : List Asked) → b ≡ came_to result (Remove temporary) ∷ a
+    → IfOk kept (λ k. IsKept temporary (path k) bytes a) → IfOk kept (λ k. IsOnDisk (path k) bytes b)
+kept_on_disk path (Ok k) result temporary bytes a b removed kept = removed_on_disk result temporary (path k) bytes a b removed kept
+kept_on_disk path (Err _) result temporary bytes a b removed kept = tt

@@ -1,0 +1,181 @@
+//! The files of a station's folder: how they are listed, read, marked, put in doubt and explained, and what a killed station left.
+use super::failing_disk::FailingDisk;
+use rje_folders::{Folder, FolderFault, StationFolder};
+use std::alloc::Global;
+use std::io::{self, ErrorKind};
+use std::process::Abort;
+use std::test::Fail;
+
+/// More calls than the station makes for one file.
+const MAX_CALLS: usize = 16;
+
+/// The folder of the station on this disk.
+fn opened(rt: &impl Abort, alloc: Global, disk: FailingDisk) -> StationFolder<FailingDisk> {
+    StationFolder::open(disk, alloc, "s").expect(rt, "a folder")
+}
+
+/// A disk with a file of these bytes under this name.
+fn disk_with(alloc: Global, fails_at: usize, is_done: bool, path: &str) -> io::Result<FailingDisk> {
+    let mut disk = FailingDisk::new(alloc, fails_at, is_done);
+    disk.put_bytes(path, b"12345")?;
+    Ok(disk)
+}
+
+#[test]
+fn names_lie_ready_in_their_order(rt: HostRuntime) -> Result<(), Fail> {
+    let alloc = rt.alloc();
+    let mut disk = FailingDisk::new(alloc, 0, false);
+    for path in [
+        "s/out/b.job",
+        "s/out/.a.job",
+        "s/out/a.deck.part",
+        "s/out/a.deck",
+    ] {
+        disk.put(path)?;
+    }
+    let ready = opened(&rt, alloc, disk).names_ready().expect(&rt, "names");
+    assert!(rt; ready.len() == 2);
+    assert!(rt; ready.first().is_some_and(|name| name.as_str() == "a.deck"));
+    assert!(rt; ready.last().is_some_and(|name| name.as_str() == "b.job"));
+    Ok(())
+}
+
+#[test]
+fn a_file_is_read_whole_or_not_at_all(rt: HostRuntime) -> Result<(), Fail> {
+    let alloc = rt.alloc();
+    let station = opened(&rt, alloc, disk_with(alloc, 0, false, "s/out/A.job")?);
+    let whole = station.read("A.job", 5).expect(&rt, "bytes");
+    assert!(rt; whole.as_slice() == b"12345".as_slice());
+    let more = station.read("A.job", 4).err();
+    assert!(rt; more == Some(FolderFault::TooLarge(Folder::Out)));
+    let missing = station.read("B.job", 5).err();
+    assert!(rt; missing == Some(FolderFault::Failed(Folder::Out, ErrorKind::NotFound)));
+    Ok(())
+}
+
+#[test]
+fn a_mark_is_written_where_the_file_is(rt: HostRuntime) -> Result<(), Fail> {
+    let alloc = rt.alloc();
+    for fails_at in 0..MAX_CALLS {
+        for is_done in [false, true] {
+            let disk = disk_with(alloc, fails_at, is_done, "s/doubt/A.job")?;
+            let mut station = opened(&rt, alloc, disk);
+            let marked = station.mark("s/doubt/A.job", 3, b'*');
+            let disk = station.close();
+            let has = disk.has("s/doubt/A.job", b"123*5");
+            assert!(rt; has || disk.has("s/doubt/A.job", b"12345"));
+            assert!(rt; has || marked.is_err());
+        }
+    }
+    Ok(())
+}
+
+#[test]
+fn a_mark_behind_the_end_is_refused(rt: HostRuntime) -> Result<(), Fail> {
+    let alloc = rt.alloc();
+    let mut station = opened(&rt, alloc, disk_with(alloc, 0, false, "s/doubt/A.job")?);
+    let refused = station.mark("s/doubt/A.job", 5, b'*').err();
+    assert!(rt; refused == Some(FolderFault::Failed(Folder::Doubt, ErrorKind::InvalidInput)));
+    assert!(rt; station.close().has("s/doubt/A.job", b"12345"));
+    Ok(())
+}
+
+#[test]
+fn what_was_counted_is_put_in_doubt(rt: HostRuntime) -> Result<(), Fail> {
+    let alloc = rt.alloc();
+    for fails_at in 0..MAX_CALLS {
+        for is_done in [false, true] {
+            let disk = disk_with(alloc, fails_at, is_done, "s/sent/A.deck.2")?;
+            let mut station = opened(&rt, alloc, disk);
+            let moved = station.doubt("s/sent/A.deck.2", "A.deck");
+            let disk = station.close();
+            let in_doubt = disk.file_of("s/doubt/A.deck") == Some(1);
+            let in_sent = disk.file_of("s/sent/A.deck.2") == Some(1);
+            assert!(rt; in_doubt || in_sent);
+            if let Ok(path) = moved {
+                assert!(rt; path.as_str() == "s/doubt/A.deck" && !in_sent);
+            }
+        }
+    }
+    Ok(())
+}
+
+#[test]
+fn a_file_says_why_another_is_refused(rt: HostRuntime) -> Result<(), Fail> {
+    let alloc = rt.alloc();
+    for fails_at in 0..MAX_CALLS {
+        for is_done in [false, true] {
+            let disk = disk_with(alloc, fails_at, is_done, "s/refused/A.job")?;
+            let mut station = opened(&rt, alloc, disk);
+            let said = station.explain("s/refused/A.job", "too long");
+            let disk = station.close();
+            assert!(rt; disk.has("s/refused/A.job", b"12345"));
+            if let Ok(path) = said {
+                assert!(rt; path.as_str() == "s/refused/A.job.why");
+                assert!(rt; disk.has("s/refused/A.job.why", b"too long"));
+            }
+        }
+    }
+    Ok(())
+}
+
+#[test]
+fn a_file_is_kept_under_the_next_number(rt: HostRuntime) -> Result<(), Fail> {
+    let alloc = rt.alloc();
+    let mut station = opened(&rt, alloc, FailingDisk::new(alloc, 0, false));
+    let first = station
+        .keep(Folder::Print, "T", 41, ".txt", b"1")
+        .expect(&rt, "a file");
+    assert!(rt; first.path.as_str() == "s/print/T-41.txt" && first.next == 42);
+    let second = station.keep(Folder::Print, "T", first.next, ".txt", b"2");
+    let second = second.expect(&rt, "a file");
+    assert!(rt; second.path.as_str() == "s/print/T-42.txt" && second.next == 43);
+    Ok(())
+}
+
+/// Names under which a killed station was writing.
+const LEFT: [&str; 5] = [
+    "s/in/.rje-0.part",
+    "s/print/.rje-12.part",
+    "s/punch/.rje-0.part",
+    "s/cut/.rje-0.part",
+    "s/refused/.rje-999.part",
+];
+
+/// Names under which no station writes.
+const OTHERS: [&str; 5] = [
+    "s/out/.rje-0.part",
+    "s/in/.rje-00.part",
+    "s/in/.rje-.part",
+    "s/in/T-1.job",
+    "s/in/a.part",
+];
+
+/// A disk with all of them.
+fn disk_left(alloc: Global, fails_at: usize, is_done: bool) -> io::Result<FailingDisk> {
+    let mut disk = FailingDisk::new(alloc, fails_at, is_done);
+    for path in LEFT {
+        disk.put(path)?;
+    }
+    for path in OTHERS {
+        disk.put(path)?;
+    }
+    Ok(disk)
+}
+
+#[test]
+fn what_a_killed_station_was_writing_is_taken_away(rt: HostRuntime) -> Result<(), Fail> {
+    let alloc = rt.alloc();
+    let disk = opened(&rt, alloc, disk_left(alloc, 0, false)?).close();
+    for path in LEFT {
+        assert!(rt; disk.file_of(path).is_none());
+    }
+    for path in OTHERS {
+        assert!(rt; disk.file_of(path).is_some());
+    }
+    for fails_at in 1..=LEFT.len() {
+        let refused = StationFolder::open(disk_left(alloc, fails_at, false)?, alloc, "s");
+        assert!(rt; refused.is_err());
+    }
+    Ok(())
+}
