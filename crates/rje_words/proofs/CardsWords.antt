@@ -10,7 +10,7 @@ use Rattle.rje_files.specs.Entry.{is_name_character}
 use Rattle.rje_orders.specs.declared.device.Device.{Device}
 use Rattle.rje_orders.specs.declared.device.Device.TheVariants.{Default, Printer, Punch, Transparent}
 use Rattle.rje_orders.specs.declared.order.Order.{Order}
-use Rattle.rje_orders.specs.declared.order.Order.TheVariants.{Files, Sockets}
+use Rattle.rje_orders.specs.declared.order.Order.TheVariants.{Files, Sockets, Station}
 use Rattle.rje_orders.specs.declared.order.FileOrder.TheVariants.{Cards}
 use Rattle.rje_words.specs.declared.words_fault.WordsFault.{WordsFault}
 use Rattle.rje_words.specs.declared.words_fault.WordsFault.TheVariants.{TwoDevices, BadName}
@@ -78,6 +78,7 @@ module _ (deck jobs : Text) (device : Device) (given : Option Text) (name : Text
     h.1.append ∙ ap (λ (v : Seen). v.4) e,
   )
   order_read rows e (Files _) h = absurd (apart _ _ h.0 refl)
+  order_read rows e (Station order) h = absurd (apart _ _ h.0 refl)
   order_read rows e (Sockets order) h = absurd (no_socket (codes "cards") rows order refl refl refl refl h)
 
   cards_told : (rows : List Row) → cards_in rows ≡ value → (fault : WordsFault) → IsCardsFaultOf rows fault → ⊥
@@ -89,7 +90,8 @@ module _ (deck jobs : Text) (device : Device) (given : Option Text) (name : Text
   none_told rows e fault (inl h) = cards_told rows e fault h.1
   none_told rows e fault (inr (inl h)) = apart _ _ h.0 refl
   none_told rows e fault (inr (inr (inl h))) = apart _ _ h.0 refl
-  none_told rows e fault (inr (inr (inr h))) = apart _ _ h.0 refl
+  none_told rows e fault (inr (inr (inr (inl h)))) = apart _ _ h.0 refl
+  none_told rows e fault (inr (inr (inr (inr h)))) = apart _ _ h.0 refl
 
   ask_all : IsPlain deck → IsPlain jobs → (all : List (List Part)) → AllByRecursion ArePlain all → map (summary deck jobs) all ≡ map (λ _. ([], [], value)) all
       → AllByRecursion (λ options. AskOnlyFor (codes "cards" ∷ deck ∷ jobs ∷ options) (IsCards deck jobs device name adds)) (map (flat_map part_words) all)

@@ -1,14 +1,14 @@
 -- What is found of a connection by the usual words of a command over one.
 use Rattle.std.proofs.Common.{List, ◌≡◌, Option, Some, None, Bool, false, codes, ap, ◌∙◌, subst}
 use Rattle.std.proofs.lemmas.Option.{none-some}
-use Rattle.std.specs.declared.net.socket_addr.SocketAddr.TheVariants.{V4, V6}
 use Rattle.clap.specs.Words.{Row, Text, first_of, one_of}
 use Rattle.rje_orders.specs.declared.connection.Connection.{Connection}
 use Rattle.rje_words.specs.declared.words_fault.WordsFault.{WordsFault}
 use Rattle.rje_words.specs.declared.words_fault.WordsFault.TheVariants.{BadAddress, BadCallers}
-use Rattle.rje_words.specs.Address.{IsAddressOf}
-use Rattle.rje_words.specs.Asking.{IsConnectionFault, IsConnectionOf, IsMeetingFault, IsMeetingOf, IsSomeAddress, IsTimeoutOf, is_on}
+use Rattle.rje_words.specs.Address.{IsSomeAddress}
+use Rattle.rje_words.specs.Asking.{IsConnectionFault, IsConnectionOf, IsMeetingFault, IsMeetingOf, IsTimeoutOf, is_on}
 use Rattle.rje_words.specs.Canonical.{IsUsual}
+use Rattle.rje_words.proofs.Hosts.{some_address}
 
 -- what is seen of the rows of a connection
 abbrev pub Linked : Type 0
@@ -41,10 +41,6 @@ module _ (to listen : Option Text) (rows : List Row) (e : link_in rows ≡ usual
 
   pub usual_fault : (fault : WordsFault) → IsConnectionFault rows fault → IsMeetingFault to listen None fault
   usual_fault fault h = subst (λ (v : Linked). IsMeetingFault v.0 v.1 v.2 fault) e h
-
-some_address : (text : Text) → IsSomeAddress text → IsAddressOf text None → ⊥
-some_address text (V4 address, is) none = none address is
-some_address text (V6 address, is) none = is
 
 -- an address is no fault of a meeting
 pub called_well : (text : Text) → IsSomeAddress text → (fault : WordsFault) → IsMeetingFault (Some text) None None fault → ⊥

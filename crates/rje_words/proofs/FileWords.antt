@@ -10,7 +10,7 @@ use Rattle.clap.specs.Words.{HasKind, Row, Text, fault_of, first_of, one_of, sub
 use Rattle.clap.proofs.OnLiterals.{clap_on_literals}
 use Rattle.clap.specs.declared.error.Error.{Error}
 use Rattle.rje_orders.specs.declared.order.Order.{Order}
-use Rattle.rje_orders.specs.declared.order.Order.TheVariants.{Files, Sockets}
+use Rattle.rje_orders.specs.declared.order.Order.TheVariants.{Files, Sockets, Station}
 use Rattle.rje_orders.specs.declared.order.FileOrder.{FileOrder}
 use Rattle.rje_orders.specs.declared.order.FileOrder.TheVariants.{Blocks, Cards, Show, Check, Print, Try, Monitor}
 use Rattle.rje_orders.specs.declared.order.SocketOrder.{SocketOrder}
@@ -262,6 +262,7 @@ no_file name rows (Monitor order) blocks cards show check print attempt monitor 
 blocks_read : (deck : Text) (rows : List Row) → deck_in rows ≡ deck → (order : Order) → IsOrderOf (codes "blocks") rows order → IsBlocks deck order
 blocks_read deck rows e (Files (Blocks named)) h = h.1 ∙ e
 blocks_read deck rows e (Files _) h = absurd (apart _ _ h.0 refl)
+blocks_read deck rows e (Station order) h = absurd (apart _ _ h.0 refl)
 blocks_read deck rows e (Sockets order) h = absurd (no_socket (codes "blocks") rows order refl refl refl refl h)
 
 show_read : (jobs : Text) (records : Bool) (rows : List Row) → show_in rows ≡ (jobs, None, records) → (order : Order) → IsOrderOf (codes "show") rows order
@@ -272,11 +273,13 @@ show_read jobs records rows e (Files (Show order)) h = (
   h.1.records ∙ ap (λ (v : Showing). v.2) e,
 )
 show_read jobs records rows e (Files _) h = absurd (apart _ _ h.0 refl)
+show_read jobs records rows e (Station order) h = absurd (apart _ _ h.0 refl)
 show_read jobs records rows e (Sockets order) h = absurd (no_socket (codes "show") rows order refl refl refl refl h)
 
 check_read : (jobs : Text) (rows : List Row) → jobs_in rows ≡ jobs → (order : Order) → IsOrderOf (codes "check") rows order → IsCheck jobs order
 check_read jobs rows e (Files (Check named)) h = h.1 ∙ e
 check_read jobs rows e (Files _) h = absurd (apart _ _ h.0 refl)
+check_read jobs rows e (Station order) h = absurd (apart _ _ h.0 refl)
 check_read jobs rows e (Sockets order) h = absurd (no_socket (codes "check") rows order refl refl refl refl h)
 
 print_read : (jobs : Text) (printer punch raw : Bool) (rows : List Row) → print_in rows ≡ (jobs, None, printer, punch, raw) → (order : Order)
@@ -290,67 +293,72 @@ print_read jobs printer punch raw rows e (Files (Print order)) h = (
   h.1.form ∙ ap (λ (v : Printing). form_chosen v.4) e,
 )
 print_read jobs printer punch raw rows e (Files _) h = absurd (apart _ _ h.0 refl)
+print_read jobs printer punch raw rows e (Station order) h = absurd (apart _ _ h.0 refl)
 print_read jobs printer punch raw rows e (Sockets order) h = absurd (no_socket (codes "print") rows order refl refl refl refl h)
 
 try_read : (jobs script : Text) (rows : List Row) → files_in rows ≡ record { jobs = jobs; script = script } → (order : Order) → IsOrderOf (codes "try") rows order
     → IsTry jobs script order
 try_read jobs script rows e (Files (Try order)) h = (h.1.jobs ∙ ap (λ f. f.jobs) e, h.1.script ∙ ap (λ f. f.script) e)
 try_read jobs script rows e (Files _) h = absurd (apart _ _ h.0 refl)
+try_read jobs script rows e (Station order) h = absurd (apart _ _ h.0 refl)
 try_read jobs script rows e (Sockets order) h = absurd (no_socket (codes "try") rows order refl refl refl refl h)
 
 monitor_read : (capture : Text) (hex : Bool) (rows : List Row) → monitor_in rows ≡ (capture, hex) → (order : Order) → IsOrderOf (codes "monitor") rows order
     → IsMonitor capture hex order
 monitor_read capture hex rows e (Files (Monitor order)) h = (h.1.capture ∙ ap (λ (v : Monitoring). v.0) e, h.1.hex ∙ ap (λ (v : Monitoring). v.1) e)
 monitor_read capture hex rows e (Files _) h = absurd (apart _ _ h.0 refl)
+monitor_read capture hex rows e (Station order) h = absurd (apart _ _ h.0 refl)
 monitor_read capture hex rows e (Sockets order) h = absurd (no_socket (codes "monitor") rows order refl refl refl refl h)
 
 -- only the values of these commands can be such that they can't be carried out
 no_fault : (name : Text) (rows : List Row) → bytes_eq name (codes "cards") ≡ false → bytes_eq name (codes "send") ≡ false
-    → bytes_eq name (codes "receive") ≡ false → bytes_eq name (codes "exchange") ≡ false → (fault : WordsFault) → IsFaultOf name rows fault → ⊥
-no_fault name rows cards send receive exchange fault (inl h) = apart _ _ h.0 cards
-no_fault name rows cards send receive exchange fault (inr (inl h)) = apart _ _ h.0 send
-no_fault name rows cards send receive exchange fault (inr (inr (inl h))) = apart _ _ h.0 receive
-no_fault name rows cards send receive exchange fault (inr (inr (inr h))) = apart _ _ h.0 exchange
+    → bytes_eq name (codes "receive") ≡ false → bytes_eq name (codes "exchange") ≡ false → bytes_eq name (codes "station") ≡ false
+    → (fault : WordsFault) → IsFaultOf name rows fault → ⊥
+no_fault name rows cards send receive exchange station fault (inl h) = apart _ _ h.0 cards
+no_fault name rows cards send receive exchange station fault (inr (inl h)) = apart _ _ h.0 send
+no_fault name rows cards send receive exchange station fault (inr (inr (inl h))) = apart _ _ h.0 receive
+no_fault name rows cards send receive exchange station fault (inr (inr (inr (inl h)))) = apart _ _ h.0 exchange
+no_fault name rows cards send receive exchange station fault (inr (inr (inr (inr h)))) = apart _ _ h.0 station
 
 module _ {V : Type 0} (view : List Row → V) (word : Text) (words : List Text) (name : Text) (value : V) (P : Order → Type 0) where
   ask_only : fault_of rje_app (word ∷ words) ≡ [] → seen view (subcommand_of rje_app (word ∷ words)) ≡ Some (name, value)
       → bytes_eq name (codes "cards") ≡ false → bytes_eq name (codes "send") ≡ false → bytes_eq name (codes "receive") ≡ false
-      → bytes_eq name (codes "exchange") ≡ false → ((rows : List Row) → view rows ≡ value → (order : Order) → IsOrderOf name rows order → P order) → AskOnlyFor (word ∷ words) P
-  ask_only none found cards send receive exchange reads = let taken : AreTaken view (word ∷ words) name value = record { faultless = none; found = found } in record {
+      → bytes_eq name (codes "exchange") ≡ false → bytes_eq name (codes "station") ≡ false → ((rows : List Row) → view rows ≡ value → (order : Order) → IsOrderOf name rows order → P order) → AskOnlyFor (word ∷ words) P
+  ask_only none found cards send receive exchange station reads = let taken : AreTaken view (word ∷ words) name value = record { faultless = none; found = found } in record {
     order = only_order view word words name value taken P reads;
-    fault = only_memory view word words name value taken (λ rows _. no_fault name rows cards send receive exchange);
+    fault = only_memory view word words name value taken (λ rows _. no_fault name rows cards send receive exchange station);
   }
 
 pub blocks_asked : BlocksAsked
 blocks_asked deck h = ask_only deck_in (codes "blocks") (deck ∷ []) (codes "blocks") deck (IsBlocks deck) (blocks_taken deck h) (blocks_found deck h)
-    refl refl refl refl (blocks_read deck)
+    refl refl refl refl refl (blocks_read deck)
 
 pub show_asked : ShowAsked
 show_asked jobs records h = ask_only show_in (codes "show") (jobs ∷ flag_words records (codes "--records")) (codes "show") (jobs, None, records)
-    (IsShow jobs records) (show_taken jobs (jobs_plain jobs h) records) (show_found jobs (jobs_plain jobs h) records) refl refl refl refl
+    (IsShow jobs records) (show_taken jobs (jobs_plain jobs h) records) (show_found jobs (jobs_plain jobs h) records) refl refl refl refl refl
     (show_read jobs records)
 
 pub check_asked : CheckAsked
 check_asked jobs h = ask_only jobs_in (codes "check") (jobs ∷ []) (codes "check") jobs (IsCheck jobs) (check_taken jobs h) (check_found jobs h)
-    refl refl refl refl (check_read jobs)
+    refl refl refl refl refl (check_read jobs)
 
 pub print_asked : PrintAsked
 print_asked jobs printer punch raw h = ask_only print_in (codes "print") (jobs ∷ print_words printer punch raw) (codes "print")
     (jobs, None, printer, punch, raw) (IsPrint jobs (devices_chosen printer punch) (form_chosen raw))
-    (print_taken jobs (jobs_plain jobs h) printer punch raw) (print_found jobs (jobs_plain jobs h) printer punch raw) refl refl refl refl
+    (print_taken jobs (jobs_plain jobs h) printer punch raw) (print_found jobs (jobs_plain jobs h) printer punch raw) refl refl refl refl refl
     (print_read jobs printer punch raw)
 
 pub try_asked : TryAsked
 try_asked jobs script h k = ask_only files_in (codes "try") (jobs ∷ script ∷ []) (codes "try") (record { jobs = jobs; script = script }) (IsTry jobs script)
-    (try_taken jobs script h k) (try_found jobs script h k) refl refl refl refl (try_read jobs script)
+    (try_taken jobs script h k) (try_found jobs script h k) refl refl refl refl refl (try_read jobs script)
 
 capture_asked : (capture : Text) (hex : Bool) → is_file capture ≡ true → AskOnlyFor (codes "monitor" ∷ capture ∷ flag_words hex (codes "--hex")) (IsMonitor capture hex)
 capture_asked capture hex h = ask_only monitor_in (codes "monitor") (capture ∷ flag_words hex (codes "--hex")) (codes "monitor") (capture, hex) (IsMonitor capture hex)
-    (monitor_taken capture (deck_plain capture h) hex) (monitor_found capture (deck_plain capture h) hex) refl refl refl refl (monitor_read capture hex)
+    (monitor_taken capture (deck_plain capture h) hex) (monitor_found capture (deck_plain capture h) hex) refl refl refl refl refl (monitor_read capture hex)
 
 input_asked : (hex : Bool) → AskOnlyFor (codes "monitor" ∷ flag_words hex (codes "--hex")) (IsMonitor (codes "-") hex)
 input_asked hex = ask_only monitor_in (codes "monitor") (flag_words hex (codes "--hex")) (codes "monitor") (codes "-", hex) (IsMonitor (codes "-") hex)
-    (input_taken hex) (input_found hex) refl refl refl refl (monitor_read (codes "-") hex)
+    (input_taken hex) (input_found hex) refl refl refl refl refl (monitor_read (codes "-") hex)
 
 pub monitor_asked : MonitorAsked
 monitor_asked = record { named = capture_asked; unnamed = input_asked }

@@ -14,7 +14,7 @@ use Rattle.clap.specs.declared.parser.ArgMatches.TheViews.{out-ArgMatches}
 use Rattle.rje_orders.specs.declared.order.Order.{Order}
 use Rattle.rje_words.specs.declared.words_fault.WordsFault.{WordsFault}
 use Rattle.rje_words.specs.declared.words_fault.WordsFault.TheVariants.{Refused}
-use Rattle.rje_words.specs.Asking.{AsksFor, IsFound, IsGivenNumber, IsOrderOf, IsNumberOf, IsFaultOf, IsMeetingFault, IsWordsFault}
+use Rattle.rje_words.specs.Asking.{AsksFor, IsFound, IsGivenNumber, IsOrderOf, IsNumberOf, IsFaultOf, IsMeetingFault, IsPartnerFault, IsWordsFault}
 use Rattle.rje_words.specs.CommandLine.{rje_app}
 
 -- WHAT IS READ OF A VALUE
@@ -110,14 +110,24 @@ no_meeting_refuses (Some to) None None error h = h
 no_meeting_refuses (Some to) None (Some from) error h = h
 no_meeting_refuses (Some to) (Some listen) from error h = h
 
+no_partner_refuses : (to listen from : Option Text) (error : Error) → IsPartnerFault to listen from (Refused error) → ⊥
+no_partner_refuses None None from error h = h
+no_partner_refuses None (Some listen) None error h = h
+no_partner_refuses None (Some listen) (Some from) error h = h
+no_partner_refuses (Some to) None None error h = h
+no_partner_refuses (Some to) None (Some from) error h = h
+no_partner_refuses (Some to) (Some listen) from error h = h
+
 -- what is found is never refused in the library's place
 never_refused : (name : Text) (rows : List Row) (error : Error) → IsFaultOf name rows (Refused error) → ⊥
 never_refused name rows error (inl h) = h.1
 never_refused name rows error (inr (inl h)) = no_meeting_refuses _ _ _ error h.1
 never_refused name rows error (inr (inr (inl (is, inl h)))) = no_meeting_refuses _ _ _ error h
 never_refused name rows error (inr (inr (inl (is, inr h)))) = h.2
-never_refused name rows error (inr (inr (inr (is, inl h)))) = no_meeting_refuses _ _ _ error h
-never_refused name rows error (inr (inr (inr (is, inr h)))) = h.2
+never_refused name rows error (inr (inr (inr (inl (is, inl h))))) = no_meeting_refuses _ _ _ error h
+never_refused name rows error (inr (inr (inr (inl (is, inr h))))) = h.2
+never_refused name rows error (inr (inr (inr (inr (is, inl h))))) = no_partner_refuses _ _ _ error h
+never_refused name rows error (inr (inr (inr (inr (is, inr h))))) = h.2
 
 none_refused : (met : Option (Text × List Row)) (error : Error) → IsSomeAnd met (λ m. IsFaultOf m.0 m.1 (Refused error)) → ⊥
 none_refused None error h = h

@@ -4,6 +4,7 @@ pub mod PlainWords
 pub mod FileWords
 pub mod CardsLevel
 pub mod CardsWords
+pub mod Hosts
 pub mod Connections
 pub mod ReceiveWords
 pub mod SendWords

@@ -1,18 +1,19 @@
 -- What clap makes of the usual words of `receive`, and what they ask for.
-use Rattle.std.proofs.Common.{List, [], ◌∷◌, ◌≡◌, Option, Some, None, Bool, true, false, refl, codes, ap, ◌∙◌, sym, subst, inl, inr}
+use Rattle.std.proofs.Common.{List, [], ◌∷◌, ◌≡◌, Option, Some, None, Bool, false, refl, codes, ap, ◌∙◌, sym, subst, inl, inr}
 use Rattle.std.proofs.lemmas.Option.{none-some, same_Some}
 use Rattle.clap.specs.Words.{Row, Text, fault_of, one_of, subcommand_of}
 use Rattle.clap.proofs.OnLiterals.{clap_on_literals}
 use Rattle.rje_orders.specs.declared.order.Existing.{Existing}
 use Rattle.rje_orders.specs.declared.order.Existing.TheVariants.{Replace, Refuse, Append}
 use Rattle.rje_orders.specs.declared.order.Order.{Order}
-use Rattle.rje_orders.specs.declared.order.Order.TheVariants.{Files, Sockets}
+use Rattle.rje_orders.specs.declared.order.Order.TheVariants.{Files, Sockets, Station}
 use Rattle.rje_orders.specs.declared.order.SocketOrder.TheVariants.{Receive}
 use Rattle.rje_words.specs.declared.words_fault.WordsFault.{WordsFault}
 use Rattle.rje_orders.specs.declared.connection.Meeting.{Meeting}
 use Rattle.rje_orders.specs.declared.connection.Meeting.TheVariants.{Calls, Listens}
 use Rattle.rje_words.specs.declared.words_fault.WordsFault.TheVariants.{NewAndAppend, WaitCalled}
-use Rattle.rje_words.specs.Asking.{IsFaultOf, IsOrderOf, IsPatienceOf, IsReceivingFault, IsSomeAddress, existing_in, is_on, waits_in, word_in}
+use Rattle.rje_words.specs.Address.{IsSomeAddress}
+use Rattle.rje_words.specs.Asking.{IsFaultOf, IsOrderOf, IsPatienceOf, IsReceivingFault, existing_in, is_on, waits_in, word_in}
 use Rattle.rje_words.specs.Canonical.{IsReceive, ReceiveAsked, existing_words}
 use Rattle.rje_words.specs.CommandLine.{rje_app}
 use Rattle.rje_words.proofs.PlainWords.{IsPlain, jobs_plain}
@@ -58,6 +59,7 @@ module _ (jobs address : Text) (existing : Existing) (rows : List Row) (e : rece
     subst (λ o. IsPatienceOf o order.patience) (ap (λ (v : Seen). v.3) e) h.1.patience,
   )
   order_read (Sockets _) h = absurd (apart _ _ h.0 refl)
+  order_read (Station order) h = absurd (apart _ _ h.0 refl)
   order_read (Files order) h = absurd (no_file (codes "receive") rows order refl refl refl refl refl refl refl h)
 
   both_told : (place : Meeting) (fault : WordsFault) → IsReceivingFault place rows fault → ⊥
@@ -71,7 +73,8 @@ module _ (jobs address : Text) (existing : Existing) (rows : List Row) (e : rece
   none_told some fault (inr (inr (inl (is, inl h)))) =
       awaited_well address some fault (usual_fault None (Some address) rows (ap (λ (v : Seen). v.1) e) fault h)
   none_told some fault (inr (inr (inl (is, inr h)))) = both_told h.0.place fault h.2
-  none_told some fault (inr (inr (inr h))) = apart _ _ h.0 refl
+  none_told some fault (inr (inr (inr (inl h)))) = apart _ _ h.0 refl
+  none_told some fault (inr (inr (inr (inr h)))) = apart _ _ h.0 refl
 
 pub receive_asked : ReceiveAsked
 receive_asked jobs address existing h k some =

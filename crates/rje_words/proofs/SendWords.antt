@@ -3,10 +3,11 @@ use Rattle.std.proofs.Common.{List, [], ◌∷◌, ◌≡◌, Some, None, refl, 
 use Rattle.clap.specs.Words.{Row, Text, fault_of, subcommand_of}
 use Rattle.clap.proofs.OnLiterals.{clap_on_literals}
 use Rattle.rje_orders.specs.declared.order.Order.{Order}
-use Rattle.rje_orders.specs.declared.order.Order.TheVariants.{Files, Sockets}
+use Rattle.rje_orders.specs.declared.order.Order.TheVariants.{Files, Sockets, Station}
 use Rattle.rje_orders.specs.declared.order.SocketOrder.TheVariants.{Send}
 use Rattle.rje_words.specs.declared.words_fault.WordsFault.{WordsFault}
-use Rattle.rje_words.specs.Asking.{IsFaultOf, IsOrderOf, IsSomeAddress, word_in}
+use Rattle.rje_words.specs.Address.{IsSomeAddress}
+use Rattle.rje_words.specs.Asking.{IsFaultOf, IsOrderOf, word_in}
 use Rattle.rje_words.specs.Canonical.{IsSend, SendAsked}
 use Rattle.rje_words.specs.CommandLine.{rje_app}
 use Rattle.rje_words.proofs.PlainWords.{IsPlain, jobs_plain}
@@ -39,13 +40,15 @@ module _ (jobs address : Text) (rows : List Row) (e : send_in rows ≡ value job
     usual_read (Some address) None rows (ap (λ (v : Seen). v.1) e) order.connection h.1.connection,
   )
   order_read (Sockets _) h = absurd (apart _ _ h.0 refl)
+  order_read (Station order) h = absurd (apart _ _ h.0 refl)
   order_read (Files order) h = absurd (no_file (codes "send") rows order refl refl refl refl refl refl refl h)
 
   none_told : IsSomeAddress address → (fault : WordsFault) → IsFaultOf (codes "send") rows fault → ⊥
   none_told some fault (inl h) = apart _ _ h.0 refl
   none_told some fault (inr (inl h)) = called_well address some fault (usual_fault (Some address) None rows (ap (λ (v : Seen). v.1) e) fault h.1)
   none_told some fault (inr (inr (inl h))) = apart _ _ h.0 refl
-  none_told some fault (inr (inr (inr h))) = apart _ _ h.0 refl
+  none_told some fault (inr (inr (inr (inl h)))) = apart _ _ h.0 refl
+  none_told some fault (inr (inr (inr (inr h)))) = apart _ _ h.0 refl
 
 pub send_asked : SendAsked
 send_asked jobs address h k some =

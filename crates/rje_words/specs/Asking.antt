@@ -1,7 +1,6 @@
 -- What words ask for (own profile): clap finds a command's name and its rows, and these are read.
-use Rattle.std.specs.Prelude.{◌≡◌, ◌≢◌, ◌<◌, ◌^◌, ◌⊎◌, ℕ, Bool, false, if◌then◌else◌, ⊤, List, [], ◌∷◌, Option, None, Some, codes, unwrap_or}
+use Rattle.std.specs.Prelude.{◌≡◌, ◌≢◌, ◌<◌, ◌^◌, ◌⊎◌, ℕ, Bool, true, false, is_none, if◌then◌else◌, ⊤, List, [], ◌∷◌, Option, None, Some, codes, unwrap_or}
 use Rattle.std.specs.Option.{IsSomeAnd, option_map_or}
-use Rattle.std.specs.declared.net.socket_addr.SocketAddr.{SocketAddr}
 use Rattle.std.specs.Str.{bytes_eq}
 use Rattle.std.specs.Str.Parse.{IsNumeral, digits_value, without_leading_plus}
 use Rattle.clap.specs.Words.{HasKind, Row, Text, fault_of, first_of, one_of, subcommand_of}
@@ -22,7 +21,7 @@ use Rattle.rje_orders.specs.declared.order.ExchangeOrder.{ExchangeOrder}
 use Rattle.rje_orders.specs.declared.order.Existing.{Existing}
 use Rattle.rje_orders.specs.declared.order.LoopOrder.{LoopOrder}
 use Rattle.rje_orders.specs.declared.order.Order.{Order}
-use Rattle.rje_orders.specs.declared.order.Order.TheVariants.{Files, Sockets}
+use Rattle.rje_orders.specs.declared.order.Order.TheVariants.{Files, Sockets, Station}
 use Rattle.rje_orders.specs.declared.order.MonitorOrder.{MonitorOrder}
 use Rattle.rje_orders.specs.declared.order.FileOrder.TheVariants.{Blocks, Cards, Show, Check, Print, Try, Monitor}
 use Rattle.rje_orders.specs.declared.order.SocketOrder.TheVariants.{Loop, Send, Receive, Exchange}
@@ -31,15 +30,19 @@ use Rattle.rje_orders.specs.declared.order.ReceiveOrder.{ReceiveOrder}
 use Rattle.rje_orders.specs.declared.order.SendOrder.{SendOrder}
 use Rattle.rje_orders.specs.declared.order.ShowOrder.{ShowOrder}
 use Rattle.rje_orders.specs.declared.order.TryOrder.{TryOrder}
+use Rattle.rje_orders.specs.declared.station.Partner.{Partner}
+use Rattle.rje_orders.specs.declared.station.Partner.TheVariants as ways
+use Rattle.rje_orders.specs.declared.station.StationOrder.{StationOrder}
 use Rattle.rje_words.specs.declared.words_fault.WordsFault.{WordsFault}
-use Rattle.rje_words.specs.declared.words_fault.WordsFault.TheVariants.{Refused, TwoDevices, BadName, BadAddress, NoMeeting, CallersCalled, BadCallers, WaitCalled, TwoRanks, NewAndAppend}
-use Rattle.rje_words.specs.Address.{IsAddressOf}
+use Rattle.rje_words.specs.declared.words_fault.WordsFault.TheVariants.{Refused, TwoDevices, BadName, BadAddress, NoMeeting, CallersCalled, BadCallers, BadHost, EveryListens, WaitCalled, TwoRanks, NewAndAppend}
+use Rattle.rje_words.specs.Address.{IsAddressOf, IsHostAddress, IsSomeAddress}
 use Rattle.rje_words.specs.CommandLine.{rje_app}
 use Rattle.rje_orders.specs.Callers.{AreAddresses}
 use Rattle.rje_orders.specs.Choice.{devices_chosen}
 use Rattle.rje_orders.specs.Connection.{rank_chosen}
 use Rattle.rje_orders.specs.Device.{chosen}
 use Rattle.rje_orders.specs.Existing.{existing_chosen}
+use Rattle.rje_orders.specs.Station.{station_rank}
 use Rattle.rje_words.specs.Orders.{IsBlocks}
 
 -- the word that was found for a value, and no character where none was
@@ -138,10 +141,6 @@ pub record IsLoopOrderOf (rows : List Row) (order : LoopOrder) : Type 0 where
 -- what was found for an address is this word, and not an address
 abbrev pub IsBadAddress : (found word : Text) → Type 0
 IsBadAddress found word = IsAddressOf found None × (word ≡ found)
-
--- the text is that of an address
-abbrev pub IsSomeAddress : Text → Type 0
-IsSomeAddress text = (address : SocketAddr) × IsAddressOf text (Some address)
 
 -- whose calls are taken, by the text that was found for them: anyone's where none was, and else those from its addresses
 abbrev pub IsCallersOf : Option Text → Callers → Type 0
@@ -248,6 +247,75 @@ abbrev pub IsExchangeFaultOf : List Row → WordsFault → Type 0
 IsExchangeFaultOf rows fault =
     IsConnectionFault rows fault ⊎ ((link : Connection) × IsConnectionOf rows link × IsChoiceFault link.place rows fault)
 
+-- what was found for where the other end is called is this word, and no host with a port
+abbrev pub IsBadHost : (found word : Text) → Type 0
+IsBadHost found word = ¬ (IsHostAddress found) × (word ≡ found)
+
+-- a station calls the other end at the host and port of the one option, or awaits the calls of these callers at the address of the other
+-- one, by the texts that were found: just one of the two was, and callers go with the second
+abbrev pub IsPartnerOf : (to listen from : Option Text) → Partner → Type 0
+IsPartnerOf (Some text) None None (ways.Calls host) = IsHostAddress text × (host.now ≡ text)
+IsPartnerOf None (Some text) from (ways.Listens address callers) = IsAddressOf text (Some address) × IsCallersOf from callers
+IsPartnerOf _ _ _ _ = ⊥
+
+-- both texts were found or none, or the one is no host with a port, or no address; or it is one, and callers were found where it calls, or
+-- bad ones
+abbrev pub IsPartnerFault : (to listen from : Option Text) → WordsFault → Type 0
+IsPartnerFault None None from NoMeeting = ⊤
+IsPartnerFault (Some to) (Some listen) from NoMeeting = ⊤
+IsPartnerFault (Some text) None from (BadHost word) = IsBadHost text word.now
+IsPartnerFault None (Some text) from (BadAddress word) = IsBadAddress text word.now
+IsPartnerFault (Some text) None (Some from) CallersCalled = IsHostAddress text
+IsPartnerFault None (Some text) from (BadCallers word) = IsSomeAddress text × IsBadCallers from word.now
+IsPartnerFault _ _ _ _ = ⊥
+
+-- this was found for how a station comes to its connections
+abbrev pub IsPartnerIn : List Row → Partner → Type 0
+IsPartnerIn rows = IsPartnerOf (first_of (codes "to") rows) (first_of (codes "listen") rows) (first_of (codes "from") rows)
+
+-- what was found is no way to come to them
+abbrev pub IsPartnerFaultIn : List Row → WordsFault → Type 0
+IsPartnerFaultIn rows = IsPartnerFault (first_of (codes "to") rows) (first_of (codes "listen") rows) (first_of (codes "from") rows)
+
+-- a station that calls may be given a time between its calls, and one that listens none
+abbrev pub every_goes : Partner → List Row → Bool
+every_goes (ways.Calls host) rows = true
+every_goes (ways.Listens address callers) rows = is_none (first_of (codes "every") rows)
+
+-- how long a station waits before its next call, in seconds, by the text that was found for it
+abbrev pub IsEveryOf : Option Text → ℕ → Type 0
+IsEveryOf = IsGivenNumber (2 ^ 32) 60
+
+-- the rank that the options choose for a station that comes to its connections so
+abbrev pub station_rank_in : Partner → List Row → Option Rank
+station_rank_in partner rows = station_rank partner (is_on (codes "primary") rows) (is_on (codes "secondary") rows)
+
+-- the order has the folder, the way to its connections, the time-out, the patience and the time between calls that were found, the rank that
+-- the options choose, a line adapter at the other end, an end after one connection, and nothing shown of how far it is, where these options
+-- were
+pub record IsStationOrderOf (rows : List Row) (order : StationOrder) : Type 0 where
+  pub folder : order.folder.now ≡ word_in (codes "FOLDER") rows
+  pub partner : IsPartnerIn rows order.partner
+  pub timeout : IsTimeoutOf (one_of (codes "timeout") rows) order.timeout
+  pub patience : IsPatienceOf (one_of (codes "patience") rows) order.patience
+  pub rank : station_rank_in order.partner rows ≡ Some order.rank
+  pub adapter : order.adapter ≡ is_on (codes "adapter") rows
+  pub goes : every_goes order.partner rows ≡ true
+  pub every : IsEveryOf (one_of (codes "every") rows) order.every
+  pub once : order.once ≡ is_on (codes "once") rows
+  pub quiet : order.quiet ≡ is_on (codes "quiet") rows
+
+-- a station that listens was given a time between calls; or not, but both options for a rank were given
+abbrev pub IsStandingFault : Partner → List Row → WordsFault → Type 0
+IsStandingFault partner rows EveryListens = every_goes partner rows ≡ false
+IsStandingFault partner rows TwoRanks = (every_goes partner rows ≡ true) × (station_rank_in partner rows ≡ None)
+IsStandingFault partner rows _ = ⊥
+
+-- what was found is no way to connections, or it is one and there is a fault in what else was chosen
+abbrev pub IsStationFaultOf : List Row → WordsFault → Type 0
+IsStationFaultOf rows fault =
+    IsPartnerFaultIn rows fault ⊎ ((partner : Partner) × IsPartnerIn rows partner × IsStandingFault partner rows fault)
+
 -- the order is that of the command of this name, with the values that were found
 abbrev pub IsOrderOf : Text → List Row → Order → Type 0
 IsOrderOf name rows (Files (Blocks deck)) = (name ≡ codes "blocks") × (deck.now ≡ word_in (codes "DECK") rows)
@@ -261,13 +329,15 @@ IsOrderOf name rows (Sockets (Loop order)) = (name ≡ codes "loop") × IsLoopOr
 IsOrderOf name rows (Sockets (Send order)) = (name ≡ codes "send") × IsSendOrderOf rows order
 IsOrderOf name rows (Sockets (Receive order)) = (name ≡ codes "receive") × IsReceiveOrderOf rows order
 IsOrderOf name rows (Sockets (Exchange order)) = (name ≡ codes "exchange") × IsExchangeOrderOf rows order
+IsOrderOf name rows (Station order) = (name ≡ codes "station") × IsStationOrderOf rows order
 
 -- the values that were found for the command of this name can't be carried out
 abbrev pub IsFaultOf : Text → List Row → WordsFault → Type 0
 IsFaultOf name rows fault =
     ((name ≡ codes "cards") × IsCardsFaultOf rows fault)
     ⊎ (((name ≡ codes "send") × IsConnectionFault rows fault)
-    ⊎ (((name ≡ codes "receive") × IsReceiveFaultOf rows fault) ⊎ ((name ≡ codes "exchange") × IsExchangeFaultOf rows fault)))
+    ⊎ (((name ≡ codes "receive") × IsReceiveFaultOf rows fault)
+    ⊎ (((name ≡ codes "exchange") × IsExchangeFaultOf rows fault) ⊎ ((name ≡ codes "station") × IsStationFaultOf rows fault))))
 
 -- the words are taken, and what is found of the command that they name is this
 abbrev pub IsFound : List Text → (Text → List Row → Type 0) → Type 0

@@ -10,7 +10,8 @@ use Rattle.rje_orders.specs.declared.order.Existing.{Existing}
 use Rattle.rje_orders.specs.declared.order.Order.TheVariants.{Sockets}
 use Rattle.rje_orders.specs.declared.order.SocketOrder.TheVariants.{Receive, Send}
 use Rattle.rje_orders.specs.Choice.{devices_chosen}
-use Rattle.rje_words.specs.Asking.{AsksFor, form_chosen, IsGivenName, IsMeetingOf, IsPatienceOf, IsSomeAddress, IsTimeoutOf, IsWordsFault}
+use Rattle.rje_words.specs.Asking.{AsksFor, form_chosen, IsGivenName, IsMeetingOf, IsPatienceOf, IsTimeoutOf, IsWordsFault}
+use Rattle.rje_words.specs.Address.{IsSomeAddress}
 use Rattle.rje_words.specs.CommandLine.{is_file, names_file}
 use Rattle.rje_words.specs.Orders.{IsBlocks, IsCards, IsShow, IsCheck, IsPrint, IsTry, IsMonitor}
 use Rattle.rje_words.specs.WordsFault.{IsWantOfMemory}

@@ -46,6 +46,10 @@ patience_rule = record (value_rule (codes "patience")) {
   defaults = codes "40" ∷ [];
 }
 
+-- the option for how long a station waits before its next call, in seconds
+abbrev pub every_rule : Rule
+every_rule = record (value_rule (codes "every")) { parser = Some (parser.Signed (pos 1) (pos 86400)) }
+
 -- the option to report each turn
 abbrev pub trace_rule : Rule
 trace_rule = flag_rule (codes "trace")
@@ -139,6 +143,16 @@ exchange_app =
     with_existing_rules (with_rank_rules (with_rule (with_connection_rules (with_rule (file_app (codes "exchange") (codes "SEND"))
     (file_rule (codes "RECEIVED")))) patience_rule))
 
+-- the options for how a station comes to its connections, and what it keeps to there
+abbrev pub with_partner_rules : App → App
+with_partner_rules app = with_rank_rules (with_rule (with_rule (with_rule (with_meeting_rules app) every_rule) timeout_rule) patience_rule)
+
+-- `station FOLDER`, with the options for its connections, for a line adapter, for one connection, and to show nothing of how far it is
+abbrev pub station_app : App
+station_app =
+    with_rule (with_rule (with_rule (with_partner_rules (file_app (codes "station") (codes "FOLDER"))) (flag_rule (codes "adapter")))
+    (flag_rule (codes "once"))) quiet_rule
+
 -- the commands over decks
 abbrev pub with_deck_apps : App → App
 with_deck_apps app = with_subcommand (with_subcommand app cards_app.top) blocks_app.top
@@ -152,7 +166,8 @@ with_file_apps app =
 -- the commands over connections
 abbrev pub with_line_apps : App → App
 with_line_apps app =
-    with_subcommand (with_subcommand (with_subcommand (with_subcommand app loop_app.top) send_app.top) receive_app.top) exchange_app.top
+    with_subcommand (with_subcommand (with_subcommand (with_subcommand (with_subcommand app loop_app.top) send_app.top) receive_app.top)
+    exchange_app.top) station_app.top
 
 -- the program with all its commands
 abbrev pub rje_app : App
@@ -172,7 +187,7 @@ is_file (c ∷ d ∷ rest) = not (c == 45)
 -- the names of the commands
 abbrev pub command_names : List Text
 command_names =
-    codes "cards" ∷ codes "blocks" ∷ codes "show" ∷ codes "check" ∷ codes "print" ∷ codes "try" ∷ codes "monitor" ∷ codes "loop" ∷ codes "send" ∷ codes "receive" ∷ codes "exchange" ∷ []
+    codes "cards" ∷ codes "blocks" ∷ codes "show" ∷ codes "check" ∷ codes "print" ∷ codes "try" ∷ codes "monitor" ∷ codes "loop" ∷ codes "send" ∷ codes "receive" ∷ codes "exchange" ∷ codes "station" ∷ []
 
 -- the text is one of these
 abbrev pub IsOneOf : Text → List Text → Type 0

@@ -21,6 +21,9 @@ pub enum WordsFault<'a> {
     /// Not an address. Two lines.
     #[error("{0}: not four numbers and a port\nrje: bad address")]
     BadAddress(&'a str),
+    /// Not where another end can be called. Two lines.
+    #[error("{0}: not a host and a port\nrje: bad address")]
+    BadHost(&'a str),
     /// Both of the options for an address, or none of them.
     #[error("choose --to or --listen")]
     NoMeeting,
@@ -33,6 +36,9 @@ pub enum WordsFault<'a> {
     /// It is to wait for a call that brings something, but it calls by itself.
     #[error("--wait goes with --listen")]
     WaitCalled,
+    /// It is to call at intervals, but it listens.
+    #[error("--every goes with --to")]
+    EveryListens,
     /// Both of the options for a rank.
     #[error("choose --primary or --secondary")]
     TwoRanks,

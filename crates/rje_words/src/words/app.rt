@@ -6,6 +6,7 @@ ghost use Rattle.rje_words.specs.CommandLine.{timeout_rule, patience_rule, trace
 ghost use Rattle.rje_words.specs.CommandLine.{try_app, loop_app, send_app, receive_app, exchange_app, rje_app};
 ghost use Rattle.rje_words.specs.CommandLine.{capture_rule, monitor_app, number_rule, print_app, show_app, with_choice_rules};
 ghost use Rattle.rje_words.specs.CommandLine.{with_connection_rules, with_device_rules, with_existing_rules, with_meeting_rules, with_rank_rules};
+ghost use Rattle.rje_words.specs.CommandLine.{every_rule, station_app, with_partner_rules};
 ghost use Rattle.rje_words.specs.CommandLine.{with_deck_apps, with_file_apps, with_line_apps};
 
 use clap::{Arg, ArgAction, Command, value_parser};
@@ -33,6 +34,9 @@ const DECK_HELP: &str = "A text file with a card a line; - is standard input";
 
 /// The help of the word of a job file that is read.
 const JOBS_HELP: &str = "A job file";
+
+/// The help of the option for the address that is called.
+const TO_HELP: &str = "Call the other end, which listens at 192.0.2.1:3780, say";
 
 /// The program's command line.
 pub fn program<'a>(alloc: Global) -> Result<Command<'a>, AllocError>
@@ -87,7 +91,8 @@ fn with_line_commands<'a>(alloc: Global, top: Command<'a>) -> Result<Command<'a>
     let top = with_command(top, loopback(alloc))?;
     let top = with_command(top, send(alloc))?;
     let top = with_command(top, receive(alloc))?;
-    with_command(top, exchange(alloc))
+    let top = with_command(top, exchange(alloc))?;
+    with_command(top, station(alloc))
 }
 
 fn show<'a>(alloc: Global) -> Result<Command<'a>, AllocError>
@@ -225,27 +230,54 @@ fn exchange<'a>(alloc: Global) -> Result<Command<'a>, AllocError>
     )
 }
 
+fn station<'a>(alloc: Global) -> Result<Command<'a>, AllocError>
+    ensures { IfOk result (IsApp station_app) }
+{
+    let command = Command::new(alloc, "station").about(
+        "Stay on the line: send what lies in a folder, and keep what comes",
+    );
+    let command = with_arg(command, file(alloc, "FOLDER", "The station's folder"))?;
+    let command = with_partner(alloc, command)?;
+    let command = with_arg(command, adapter(alloc))?;
+    let once = flag(alloc, "once", "End after one connection");
+    let command = with_arg(command, once)?;
+    with_arg(command, quiet(alloc))
+}
+
+/// The command with the options for how a station comes to its connections, and what it keeps to
+/// there.
+fn with_partner<'a>(alloc: Global, command: Command<'a>) -> Result<Command<'a>, AllocError>
+    ensures { (app : App) → IsApp app command.entry
+        → IfOk result (IsApp (with_partner_rules app)) }
+{
+    let to = "Call the other end, which listens at host.example:3780, say";
+    let command = with_meeting(alloc, command, to)?;
+    let command = with_arg(command, every(alloc))?;
+    let command = with_arg(command, timeout(alloc))?;
+    let command = with_arg(command, patience(alloc))?;
+    with_rank(alloc, command)
+}
+
 /// The command with the options for a connection.
 fn with_connection<'a>(alloc: Global, command: Command<'a>) -> Result<Command<'a>, AllocError>
     ensures { (app : App) → IsApp app command.entry → IfOk result (IsApp (with_connection_rules app)) }
 {
-    let command = with_meeting(alloc, command)?;
+    let command = with_meeting(alloc, command, TO_HELP)?;
     let command = with_arg(command, timeout(alloc))?;
-    let adapter = flag(
-        alloc,
-        "adapter",
-        "The other end is a line adapter, such as a 2703, that makes and takes SYN, pads and checks itself",
-    );
-    let command = with_arg(command, adapter)?;
+    let command = with_arg(command, adapter(alloc))?;
     let command = with_arg(command, trace(alloc))?;
     with_arg(command, quiet(alloc))
 }
 
-/// The command with the options for whom it calls, for where it listens, and for whose calls it takes.
-fn with_meeting<'a>(alloc: Global, command: Command<'a>) -> Result<Command<'a>, AllocError>
+/// The command with the options for whom it calls, which has this help, for where it listens, and for
+/// whose calls it takes.
+fn with_meeting<'a>(
+    alloc: Global,
+    command: Command<'a>,
+    to: &'a str,
+) -> Result<Command<'a>, AllocError>
     ensures { (app : App) → IsApp app command.entry → IfOk result (IsApp (with_meeting_rules app)) }
 {
-    let to = "Call the other end, which listens at 192.0.2.1:3780, say";
     let command = with_arg(command, value(alloc, "to", "ADDR", to))?;
     let listen = "Wait for the other end's call, at 0.0.0.0:3780, say";
     let command = with_arg(command, value(alloc, "listen", "ADDR", listen))?;
@@ -404,6 +436,27 @@ fn patience<'a>(alloc: Global) -> Arg<'a>
         .value_parser(value_parser!(u32).range(0..=1000000000))
         .default_value("40")
         .help("Leave after so many hearings in a row without a word, 0 to 1000000000; with 0 never")
+}
+
+fn every<'a>(alloc: Global) -> Arg<'a>
+    ensures { IsArg every_rule result }
+{
+    Arg::new(alloc, "every")
+        .long("every")
+        .value_name("SECONDS")
+        .action(ArgAction::Set)
+        .value_parser(value_parser!(u32).range(1..=86400))
+        .help("With --to: call again after so long, 1 to 86400 seconds; usual is 60")
+}
+
+fn adapter<'a>(alloc: Global) -> Arg<'a>
+    ensures { IsArg (flag_rule (codes "adapter")) result }
+{
+    flag(
+        alloc,
+        "adapter",
+        "The other end is a line adapter, such as a 2703, that makes and takes SYN, pads and checks itself",
+    )
 }
 
 fn trace<'a>(alloc: Global) -> Arg<'a>

@@ -6,6 +6,6 @@ pub returns : goal.returns
 returns c = λ app is.
     let meeting = c.in_ok-command.ensures app is in
     let timeout = c.in_ok-command-2.ensures _ timeout_rule meeting c.timeout.ensures in
-    let adapter = c.in_ok-command-3.ensures _ (flag_rule (codes "adapter")) timeout c.flag-adapter.ensures in
+    let adapter = c.in_ok-command-3.ensures _ (flag_rule (codes "adapter")) timeout c.adapter.ensures in
     let trace = c.in_ok-command-4.ensures _ trace_rule adapter c.trace.ensures in
     c.with_arg-4.ensures _ quiet_rule trace c.quiet.ensures
