@@ -6,8 +6,9 @@ use Rattle.clap.specs.declared.error.kind.ErrorKind.{ErrorKind}
 use Rattle.clap.specs.declared.error.kind.ErrorKind.TheVariants.{DisplayHelp, DisplayVersion, OutOfMemory}
 use Rattle.rje_orders.specs.declared.order.CardsOrder.{CardsOrder}
 use Rattle.rje_orders.specs.declared.order.FileOrder.{FileOrder}
-use Rattle.rje_orders.specs.declared.order.Order.TheVariants.{Files, Sockets}
+use Rattle.rje_orders.specs.declared.order.Order.TheVariants.{Files, Sockets, Station}
 use Rattle.rje_orders.specs.declared.order.SocketOrder.{SocketOrder}
+use Rattle.rje_orders.specs.declared.station.StationOrder.{StationOrder}
 use Rattle.rje_words.specs.declared.words_fault.WordsFault.{WordsFault}
 use Rattle.rje_words.specs.Asking.{AsksFor, IsWordsFault}
 use Rattle.rje_commands.specs.declared.command_fault.CommandFault.{CommandFault}
@@ -53,9 +54,13 @@ abbrev pub IsRefused : List (List ℕ) → Option FileMap → (input : Option (L
 IsRefused words files input =
     (order : FileOrder) × (fault : CommandFault) × AsksFor words (Files order) × IsFault order files input fault × (status_of fault ≡ 1)
 
--- there is a mistake in the words, or they ask for a command over sockets
+-- the words ask for a station
+abbrev pub AsksForStation : List (List ℕ) → Type 0
+AsksForStation words = (order : StationOrder) × AsksFor words (Station order)
+
+-- there is a mistake in the words, or they ask for a command over sockets, or they ask for a station
 abbrev pub AsksForNoFiles : List (List ℕ) → Type 0
-AsksForNoFiles words = AreMistaken words ⊎ ((order : SocketOrder) × AsksFor words (Sockets order))
+AsksForNoFiles words = AreMistaken words ⊎ (((order : SocketOrder) × AsksFor words (Sockets order)) ⊎ AsksForStation words)
 
 -- the exit statuses of a command over files
 abbrev pub IsStatus : ℕ → Type 0

@@ -9,13 +9,18 @@ use Rattle.rje_commands.specs.CommandFault.{IsFailing, status_of}
 use Rattle.rje_sockets.specs.declared.socket_commands.ending.Ending.{Ending}
 use Rattle.rje_sockets.specs.Ending.{ending_status}
 use Rattle.rje_sockets.specs.SocketCommand.{LeavesFiles, Refuses, Transmits}
-use Rattle.rje_program.specs.Command.{AreMistaken, AsksForHelp}
+use Rattle.rje_program.specs.Command.{AreMistaken, AsksForHelp, AsksForStation}
 use Rattle.rje_stores.specs.Store.{FileMap, Discloses, IsSame}
 
 -- the first word names a command over sockets
 abbrev pub NamesSockets : List (List ℕ) → Type 0
 NamesSockets [] = ⊥
 NamesSockets (word ∷ words) = (word ≡ codes "loop") ⊎ ((word ≡ codes "send") ⊎ ((word ≡ codes "receive") ⊎ (word ≡ codes "exchange")))
+
+-- the first word names a station
+abbrev pub NamesStation : List (List ℕ) → Type 0
+NamesStation [] = ⊥
+NamesStation (word ∷ words) = word ≡ codes "station"
 
 -- the words ask for a command over sockets, this is what it does, and this is the status of how it ended; or they ask for help or the version
 abbrev pub TransmitsAsAsked : (status : ℕ) → List (List ℕ) → (files made : Option FileMap) → (before after : Option (List ℕ)) → Type 0
@@ -28,9 +33,9 @@ abbrev pub RefusesAsAsked : List (List ℕ) → Option FileMap → Type 0
 RefusesAsAsked words files =
     (order : SocketOrder) × (fault : CommandFault) × AsksFor words (Sockets order) × Refuses order files fault × (status_of fault ≡ 1)
 
--- there is a mistake in the words, or they ask for a command over files
+-- there is a mistake in the words, or they ask for a command over files, or they ask for a station
 abbrev pub AsksForNoSockets : List (List ℕ) → Type 0
-AsksForNoSockets words = AreMistaken words ⊎ ((order : FileOrder) × AsksFor words (Files order))
+AsksForNoSockets words = AreMistaken words ⊎ (((order : FileOrder) × AsksFor words (Files order)) ⊎ AsksForStation words)
 
 -- the exit statuses of a command over sockets
 abbrev pub IsSocketStatus : ℕ → Type 0

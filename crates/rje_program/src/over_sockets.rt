@@ -5,7 +5,7 @@ ghost use Rattle.rje_words.specs.Asking.{AsksFor, IsWordsFault};
 ghost use Rattle.rje_commands.specs.CommandFault.{status_of};
 ghost use Rattle.rje_sockets.specs.SocketCommand.{IsSocketFault, LeavesFiles, Transmits};
 ghost use Rattle.rje_program.specs.SocketCommand.{AsksForNoSockets, IsSocketStatus, LeavesFilesAsAsked, NamesSockets, RefusesAsAsked};
-ghost use Rattle.rje_program.specs.SocketCommand.{TransmitsAsAsked};
+ghost use Rattle.rje_program.specs.SocketCommand.{NamesStation, TransmitsAsAsked};
 ghost use Rattle.rje_stores.specs.Store.{Discloses, IsSame};
 
 use crate::telling::{tell_of, tell_words};
@@ -26,6 +26,17 @@ pub fn is_for_sockets(words: &[&str]) -> bool
 {
     match words.first() {
         Some(word) => matches!(*word, "loop" | "send" | "receive" | "exchange"),
+        None => false,
+    }
+}
+
+/// Whether these words, which are those after the program's name, ask for a station that stays on the line: by the first of them.
+pub fn is_for_station(words: &[&str]) -> bool
+    ensures yes { result ≡ true → NamesStation (map (λ word. word.now) words.now) }
+    ensures no { result ≡ false → NamesStation (map (λ word. word.now) words.now) → ⊥ }
+{
+    match words.first() {
+        Some(word) => *word == "station",
         None => false,
     }
 }
@@ -84,6 +95,7 @@ pub fn socket_command_at<R: Net + Clock, S: Store, O: Write, E: Write>(
     let order = match parse(alloc, words) {
         Ok(Order::Sockets(order)) => order,
         Ok(Order::Files(_)) => return tell(&CommandFault::NoCommand, err),
+        Ok(Order::Station(_)) => return tell(&CommandFault::NoCommand, err),
         Err(fault) => return tell_words(&fault, out, err),
     };
     match carry_out(rt, alloc, order, store, out, err, is_terminal) {

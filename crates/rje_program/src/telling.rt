@@ -24,10 +24,12 @@ pub fn tell_words<O: Write, E: Write>(fault: &WordsFault, out: &mut O, err: &mut
         WordsFault::TwoDevices
         | WordsFault::BadName(_)
         | WordsFault::BadAddress(_)
+        | WordsFault::BadHost(_)
         | WordsFault::NoMeeting
         | WordsFault::CallersCalled
         | WordsFault::BadCallers(_)
         | WordsFault::WaitCalled
+        | WordsFault::EveryListens
         | WordsFault::TwoRanks
         | WordsFault::NewAndAppend => {
             let _ = writeln!(err, "rje: {fault}");
