@@ -1,7 +1,7 @@
 # Completions of rje for bash: source this file.
 _rje() {
     local word=${COMP_WORDS[COMP_CWORD]} before=${COMP_WORDS[COMP_CWORD - 1]} command=${COMP_WORDS[1]}
-    local commands='blocks cards show check print try monitor loop send receive exchange help' words=--help
+    local commands='blocks cards show check print try monitor loop send receive exchange station help' words=--help
     local connection='--to --listen --from --timeout --adapter --trace --quiet'
     case $command in
     show) words+=' --job --records' ;;
@@ -12,13 +12,14 @@ _rje() {
     send) words+=" $connection" ;;
     receive) words+=" $connection --patience --wait --new --append" ;;
     exchange) words+=" $connection --patience --primary --secondary --new --append" ;;
+    station) words+=' --to --listen --from --every --timeout --patience --primary --secondary --adapter --once --quiet' ;;
     esac
     COMPREPLY=()
     if [ "$COMP_CWORD" = 1 ]; then
         mapfile -t COMPREPLY < <(compgen -W "$commands --help --version" -- "$word")
     elif [ "$command" = help ]; then
         mapfile -t COMPREPLY < <(compgen -W "$commands" -- "$word")
-    elif [[ $before = --@(job|name|timeout|to|listen|from|patience) ]]; then
+    elif [[ $before = --@(job|name|timeout|to|listen|from|patience|every) ]]; then
         return
     elif [[ $word = -* ]]; then
         mapfile -t COMPREPLY < <(compgen -W "$words" -- "$word")
