@@ -36,7 +36,7 @@ pub fn is_for_station(words: &[&str]) -> bool
     ensures no { result ≡ false → NamesStation (map (λ word. word.now) words.now) → ⊥ }
 {
     match words.first() {
-        Some(word) => *word == "station",
+        Some(word) => matches!(*word, "station"),
         None => false,
     }
 }
@@ -94,8 +94,7 @@ pub fn socket_command_at<R: Net + Clock, S: Store, O: Write, E: Write>(
 {
     let order = match parse(alloc, words) {
         Ok(Order::Sockets(order)) => order,
-        Ok(Order::Files(_)) => return tell(&CommandFault::NoCommand, err),
-        Ok(Order::Station(_)) => return tell(&CommandFault::NoCommand, err),
+        Ok(Order::Files(_) | Order::Station(_)) => return tell(&CommandFault::NoCommand, err),
         Err(fault) => return tell_words(&fault, out, err),
     };
     match carry_out(rt, alloc, order, store, out, err, is_terminal) {
