@@ -7,12 +7,13 @@ ghost use Rattle.rje_words.specs.Asking.{AsksFor, IsWordsFault, IsOrderOf, IsFau
 ghost use Rattle.rje_words.specs.Asking.{IsLoopOrderOf, IsSendOrderOf, IsReceiveOrderOf, IsReceiveFaultOf, IsExchangeOrderOf, IsExchangeFaultOf};
 ghost use Rattle.rje_words.specs.Asking.{IsTimeoutOf, IsPatienceOf, IsBadName, IsGivenName, IsNumberOf, word_in, is_on, existing_in, rank_in, waits_in};
 ghost use Rattle.rje_words.specs.Asking.{IsMonitorOrderOf, IsPrintOrderOf, IsShowOrderOf};
-ghost use Rattle.rje_words.specs.Asking.{IsStationOrderOf, IsStationFaultOf, IsPartnerIn, IsPartnerFaultIn, IsEveryOf, every_goes, station_rank_in};
+ghost use Rattle.rje_words.specs.Asking.{IsStationOrderOf, IsStationFaultOf};
 ghost use Rattle.rje_words.specs.Asking.{IsBadCallers, IsCallersOf, IsConnectionOf, IsConnectionFault, IsMeetingIn};
 
 mod app;
+mod station;
 
-use crate::address::{address_of, is_host_address};
+use crate::address::address_of;
 use crate::words_fault::WordsFault;
 use app::program;
 use bsc_link::Rank;
@@ -21,9 +22,10 @@ use rje_files::{JobName, NO_NAME, name_of};
 use rje_jobs::Form;
 use rje_orders::{
     Callers, CardsOrder, Choice, Connection, Destination, Device, Devices, ExchangeOrder, Existing,
-    FileOrder, LoopOrder, Meeting, MonitorOrder, Order, Partner, PrintOrder, ReceiveOrder,
-    STANDARD_INPUT, SendOrder, ShowOrder, SocketOrder, StationOrder, TryOrder,
+    FileOrder, LoopOrder, Meeting, MonitorOrder, Order, PrintOrder, ReceiveOrder, STANDARD_INPUT,
+    SendOrder, ShowOrder, SocketOrder, TryOrder,
 };
+use station::station_order;
 use std::alloc::Global;
 
 /// What these words, which are those after the program's name, ask for. No words ask for the
@@ -238,72 +240,6 @@ fn rank_in(matches: &ArgMatches, place: Meeting) -> Option<Rank>
     place.rank_chosen(is_given(matches, "primary"), is_given(matches, "secondary"))
 }
 
-fn station_order<'a>(matches: &ArgMatches<'a>) -> Result<StationOrder<'a>, WordsFault<'a>>
-    ensures asked { IfOk result (IsStationOrderOf (rows_of (found_of matches.now))) }
-    ensures told { IfErr result (IsStationFaultOf (rows_of (found_of matches.now))) }
-{
-    let partner = partner_in(matches)?;
-    if !every_goes(matches, partner) {
-        return Err(WordsFault::EveryListens);
-    }
-    let Some(rank) = station_rank_in(matches, partner) else {
-        return Err(WordsFault::TwoRanks);
-    };
-    Ok(StationOrder {
-        folder: word(matches, "FOLDER"),
-        partner,
-        timeout: timeout_of(matches),
-        patience: patience_of(matches),
-        rank,
-        adapter: is_given(matches, "adapter"),
-        every: every_of(matches),
-        once: is_given(matches, "once"),
-        quiet: is_quiet(matches),
-    })
-}
-
-/// How a station comes to its connections, by one of two options. A third one, for whose calls are
-/// taken, goes with the second alone.
-fn partner_in<'a>(matches: &ArgMatches<'a>) -> Result<Partner<'a>, WordsFault<'a>>
-    ensures asked { IfOk result (IsPartnerIn (rows_of (found_of matches.now))) }
-    ensures told { IfErr result (IsPartnerFaultIn (rows_of (found_of matches.now))) }
-{
-    match (value_of(matches, "to"), value_of(matches, "listen")) {
-        (Some(to), None) => match (is_host_address(to), value_of(matches, "from")) {
-            (false, _) => Err(WordsFault::BadHost(to)),
-            (true, Some(_)) => Err(WordsFault::CallersCalled),
-            (true, None) => Ok(Partner::Calls(to)),
-        },
-        (None, Some(listen)) => match address_of(listen) {
-            None => Err(WordsFault::BadAddress(listen)),
-            Some(address) => match callers_in(matches) {
-                Ok(callers) => Ok(Partner::Listens(address, callers)),
-                Err(word) => Err(WordsFault::BadCallers(word)),
-            },
-        },
-        _ => Err(WordsFault::NoMeeting),
-    }
-}
-
-/// Whether a time between calls, where one was given, goes with how a station comes to its
-/// connections: one that listens has none.
-fn every_goes(matches: &ArgMatches, partner: Partner) -> bool
-    ensures { result ≡ every_goes partner.entry (rows_of (found_of matches.now)) }
-{
-    match partner {
-        Partner::Calls(_) => true,
-        Partner::Listens(..) => value_of(matches, "every").is_none(),
-    }
-}
-
-/// Which of the two ends of its connections a station is; None where both of the options for it were
-/// given.
-fn station_rank_in(matches: &ArgMatches, partner: Partner) -> Option<Rank>
-    ensures { result ≡ station_rank_in partner.entry (rows_of (found_of matches.now)) }
-{
-    partner.rank_chosen(is_given(matches, "primary"), is_given(matches, "secondary"))
-}
-
 /// What becomes of the jobs that the file which is received into holds already; None where both of
 /// the options for them were given.
 fn existing_in(matches: &ArgMatches) -> Option<Existing>
@@ -386,13 +322,6 @@ fn patience_of(matches: &ArgMatches) -> u32
     ensures { IsPatienceOf (one_of (codes "patience") (rows_of (found_of matches.now))) result }
 {
     matches.get_one::<u32>("patience").unwrap_or(40)
-}
-
-/// How long a station waits before its next call, in seconds: clap tests the range.
-fn every_of(matches: &ArgMatches) -> u32
-    ensures { IsEveryOf (one_of (codes "every") (rows_of (found_of matches.now))) result }
-{
-    matches.get_one::<u32>("every").unwrap_or(60)
 }
 
 /// Whether each turn is to be reported.

@@ -5,7 +5,7 @@ use Rattle.clap.specs.Words.{Text, found_of, one_text}
 use Rattle.clap.proofs.WalkLemmas.{one_text-rows}
 use Rattle.rje_words.specs.Asking.{IsEveryOf}
 use Rattle.rje_words.proofs.Found.{given_read}
-use Rattle.rje_words.proofs.words.every_of.Goals as goal
+use Rattle.rje_words.proofs.words.station.every_of.Goals as goal
 
 -- how a text is read as a number of 32 bits
 abbrev gives : Text → Result ℕ ParseIntError → Type 0
