@@ -8,3 +8,4 @@ pub mod Hosts
 pub mod Connections
 pub mod ReceiveWords
 pub mod SendWords
+pub mod StationWords

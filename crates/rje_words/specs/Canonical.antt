@@ -2,16 +2,18 @@
 use Rattle.std.specs.Prelude.{◌≡◌, Bool, true, false, List, [], ◌∷◌, ◌++◌, None, Some, Option, codes}
 use Rattle.std.specs.List.{AllByRecursion}
 use Rattle.clap.specs.Words.{Text}
+use Rattle.bsc_link.specs.declared.rank.Rank.{Rank}
 use Rattle.rje_orders.specs.declared.device.Device.{Device}
 use Rattle.rje_orders.specs.declared.order.Order.{Order}
 use Rattle.rje_words.specs.declared.words_fault.WordsFault.{WordsFault}
 use Rattle.rje_orders.specs.declared.connection.Connection.{Connection}
 use Rattle.rje_orders.specs.declared.order.Existing.{Existing}
-use Rattle.rje_orders.specs.declared.order.Order.TheVariants.{Sockets}
+use Rattle.rje_orders.specs.declared.order.Order.TheVariants.{Sockets, Station}
 use Rattle.rje_orders.specs.declared.order.SocketOrder.TheVariants.{Receive, Send}
+use Rattle.rje_orders.specs.declared.station.StationOrder.{StationOrder}
 use Rattle.rje_orders.specs.Choice.{devices_chosen}
-use Rattle.rje_words.specs.Asking.{AsksFor, form_chosen, IsGivenName, IsMeetingOf, IsPatienceOf, IsTimeoutOf, IsWordsFault}
-use Rattle.rje_words.specs.Address.{IsSomeAddress}
+use Rattle.rje_words.specs.Asking.{AsksFor, form_chosen, IsGivenName, IsMeetingOf, IsPartnerOf, IsPatienceOf, IsTimeoutOf, IsWordsFault}
+use Rattle.rje_words.specs.Address.{IsHostAddress, IsSomeAddress}
 use Rattle.rje_words.specs.CommandLine.{is_file, names_file}
 use Rattle.rje_words.specs.Orders.{IsBlocks, IsCards, IsShow, IsCheck, IsPrint, IsTry, IsMonitor}
 use Rattle.rje_words.specs.WordsFault.{IsWantOfMemory}
@@ -134,3 +136,27 @@ abbrev pub ReceiveAsked : Type 0
 ReceiveAsked =
     (jobs address : Text) (existing : Existing) → names_file jobs ≡ true → names_file address ≡ true → IsSomeAddress address
     → AskOnlyFor (codes "receive" ∷ jobs ∷ codes "--listen" ∷ address ∷ existing_words existing) (IsReceive jobs address existing)
+
+-- the station of the folder of this name calls this host, is the primary, and has all else as usual: 60 seconds between its calls, the usual time-out and
+-- patience, no line adapter, one connection after another, and how far it is is shown
+pub record IsUsualStation (named host : Text) (order : StationOrder) : Type 0 where
+  pub folder : order.folder.now ≡ named
+  pub partner : IsPartnerOf (Some host) None None order.partner
+  pub rank : order.rank ≡ Rank.Primary
+  pub every : order.every ≡ 60
+  pub timeout : IsTimeoutOf (Some (codes "3000")) order.timeout
+  pub patience : IsPatienceOf (Some (codes "40")) order.patience
+  pub adapter : order.adapter ≡ false
+  pub once : order.once ≡ false
+  pub quiet : order.quiet ≡ false
+
+-- the order is for that station
+abbrev pub IsStation : (folder host : Text) → Order → Type 0
+IsStation folder host (Station order) = IsUsualStation folder host order
+IsStation folder host _ = ⊥
+
+-- `station FOLDER --to HOST` asks for that station
+abbrev pub StationAsked : Type 0
+StationAsked =
+    (folder host : Text) → names_file folder ≡ true → names_file host ≡ true → IsHostAddress host
+    → AskOnlyFor (codes "station" ∷ folder ∷ codes "--to" ∷ host ∷ []) (IsStation folder host)

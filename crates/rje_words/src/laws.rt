@@ -1,6 +1,6 @@
 //! What words promise beyond the calls: laws of the definitions that `parse` cites.
 ghost use Rattle.rje_words.specs.Canonical.{BlocksAsked, ShowAsked, CheckAsked, PrintAsked};
-ghost use Rattle.rje_words.specs.Canonical.{TryAsked, MonitorAsked, CardsWithOptionsAsked, ReceiveAsked, SendAsked};
+ghost use Rattle.rje_words.specs.Canonical.{TryAsked, MonitorAsked, CardsWithOptionsAsked, ReceiveAsked, SendAsked, StationAsked};
 
 /// A command's name and the files that it takes, in their order, ask for this command over these
 /// files: they have no fault but out of memory. A file's word has no hyphen in front; a deck
@@ -18,4 +18,10 @@ pub fn words_ask_for_orders()
     ensures cards { CardsWithOptionsAsked }
     ensures receive { ReceiveAsked }
     ensures send { SendAsked }
+{}
+
+/// `station`, its folder and `--to` with the host that is called ask for just this station, with all else as usual: they have no fault but out
+/// of memory. The word of the folder, and that of the host, have no hyphen in front.
+pub fn words_ask_for_a_station()
+    ensures calling { StationAsked }
 {}
