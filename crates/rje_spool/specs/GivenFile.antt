@@ -1,0 +1,28 @@
+-- What becomes of a file of out/ whose jobs are in a transmission (own profile).
+use Rattle.std.specs.Prelude.{◌≡◌, ℕ, List, string_bytes, true}
+use Rattle.rje_stores.specs.Disk.{Asked, Call, has_synced_name}
+use Rattle.rje_folders.specs.declared.folder.Folder.{Folder}
+use Rattle.rje_folders.specs.Folder.{path_in}
+use Rattle.rje_folders.specs.Moving.{IsSecond}
+use Rattle.rje_folders.specs.Promising.{IsSent}
+use Rattle.rje_spool.specs.declared.given_file.Place.{Place}
+
+-- it has a name in doubt/, on disk, beside the one in out/
+abbrev pub IsPromised : (station name : List ℕ) → Place → (before after : List Asked) → Type 0
+IsPromised station name (Place.Promised doubt) before after = IsSecond (path_in station Folder.Out name) (string_bytes doubt) before after
+IsPromised station name _ before after = ⊥
+
+-- what may be asked of a file with a name in doubt/, by that name; of any other nothing is asked
+abbrev pub OfPromised : (May : List ℕ → Call → List Asked → Type 0) → Place → Call → List Asked → Type 0
+OfPromised May (Place.Promised doubt) call before = May (string_bytes doubt) call before
+OfPromised May _ call before = ⊥
+
+-- what stood under its name in doubt/ stands under one in sent/, on disk
+abbrev pub HasSent : (station name doubt : List ℕ) → Place → (before after : List Asked) → Type 0
+HasSent station name doubt (Place.Sent sent) before after = IsSent station name doubt (string_bytes sent) before after
+HasSent station name doubt _ before after = ⊥
+
+-- its name in doubt/, where it has one that is on disk, is on disk still
+abbrev pub StaysInDoubt : Place → (before after : List Asked) → Type 0
+StaysInDoubt (Place.Promised doubt) before after = has_synced_name (string_bytes doubt) before ≡ true → has_synced_name (string_bytes doubt) after ≡ true
+StaysInDoubt _ before after = Unit {0}

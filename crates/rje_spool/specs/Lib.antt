@@ -1,0 +1,3 @@
+pub mod Outgoing
+pub mod Paper
+pub mod GivenFile

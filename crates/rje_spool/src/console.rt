@@ -1,0 +1,90 @@
+//! Where a station's operator reads what happens.
+
+use crate::notice::Notice;
+use crate::stamps::Stamps;
+use rje_print::{ERASED, Progress, shown_progress};
+use std::alloc::Global;
+use std::io::Write;
+use std::time::{Clock, Duration, Instant};
+
+/// How many milliseconds a line of a terminal that is rewritten stands at least.
+const REST: u64 = 100;
+
+/// A station's console: each line goes to its operator and to its log, with the time in front. What can't be written is left out.
+#[derive(Drop)]
+pub struct Console<C, W, L> {
+    stamps: Stamps<C>,
+    alloc: Global,
+    out: W,
+    log: L,
+    // Whether how far a transmission is is shown in a line that is rewritten, on a terminal.
+    rewrites: bool,
+    // When that line was written that stands.
+    shown: Option<Instant>,
+}
+
+impl<C: Clock, W: Write, L: Write> Console<C, W, L> {
+    /// A console of this clock, whose lines go to `out` and to `log`. On a terminal it shows how far a transmission is in a line that it
+    /// rewrites.
+    pub fn new(clock: C, alloc: Global, out: W, log: L, rewrites: bool) -> Console<C, W, L> {
+        Console {
+            stamps: Stamps::new(clock, alloc),
+            alloc,
+            out,
+            log,
+            rewrites,
+            shown: None,
+        }
+    }
+
+    /// Its times.
+    pub fn stamps(&self) -> &Stamps<C> {
+        &self.stamps
+    }
+
+    /// Tells this in a line.
+    pub fn tell(&mut self, notice: Notice) {
+        self.erase();
+        let line = match self.stamps.time() {
+            Some(time) => format!(in self.alloc; "{time} {notice}\n"),
+            None => format!(in self.alloc; "{notice}\n"),
+        };
+        if let Ok(line) = line {
+            let _ = self.out.write_all(line.as_bytes());
+            let _ = self.log.write_all(line.as_bytes());
+        }
+    }
+
+    /// Shows how far a transmission is, on a terminal, some ten times a second at most.
+    pub fn show(&mut self, progress: &Progress) {
+        if !self.rewrites || !self.is_due() {
+            return;
+        }
+        if self
+            .out
+            .write_all(shown_progress(progress).as_slice())
+            .is_ok()
+        {
+            self.shown = Instant::now(self.stamps.clock()).ok();
+        }
+    }
+
+    /// Whether that line is to be written again.
+    fn is_due(&self) -> bool {
+        let Some(shown) = self.shown else {
+            return true;
+        };
+        match shown.elapsed(self.stamps.clock()) {
+            Ok(passed) => passed >= Duration::from_millis(REST),
+            Err(_) => false,
+        }
+    }
+
+    /// Takes that line away.
+    fn erase(&mut self) {
+        if self.shown.is_some() {
+            self.shown = None;
+            let _ = self.out.write_all(ERASED);
+        }
+    }
+}

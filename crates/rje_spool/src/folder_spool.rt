@@ -1,0 +1,368 @@
+//! The spool of a station's folder.
+ghost use Rattle.std.specs.Prelude.{[]};
+
+use crate::console::Console;
+use crate::given_file::{GivenFile, Place};
+use crate::notice::{JobLabel, Notice};
+use crate::outgoing::{Outgoing, outgoing_of};
+use crate::paper::{paper_of, received_file};
+use crate::refused_file::RefusedFile;
+use crate::spool_fault::SpoolFault;
+use crate::watching::Watching;
+use rje_day::{Disposition, Seen};
+use rje_folders::{Folder, FolderDisk, FolderFault, StationFolder};
+use rje_jobs::{DeckFault, FileFault, Job};
+use rje_session::Spool;
+use rje_station::Station;
+use rje_stores::MAX_INPUT;
+use rje_text::{Mode, Select};
+use std::alloc::Global;
+use std::io::Write;
+use std::time::Clock;
+
+/// A transmission that has so many jobs is given no more files.
+const MANY_JOBS: usize = 64;
+
+/// The same of so many bytes of files.
+const MANY_BYTES: usize = 1_048_576;
+
+/// The spool of a station's folder: what lies in out/ goes to sent/, doubt/ or refused/, and what comes goes to in/, print/, punch/ and cut/. The
+/// operator is told on a console.
+#[derive(Drop)]
+pub struct FolderSpool<D: FolderDisk + Drop, C, W, L> {
+    alloc: Global,
+    folder: StationFolder<D>,
+    console: Console<C, W, L>,
+    // The names that lie ready as far as is known, the last one first.
+    ready: Vec<String>,
+    // The names that were found to be of no use to the station, and can't be put aside.
+    passed: Vec<String>,
+    // The files of the transmission that was begun last.
+    given: Vec<GivenFile>,
+    // The time of what was kept last, and the number that comes next with it.
+    stamp: String,
+    number: u32,
+    watching: Watching,
+}
+
+impl<D: FolderDisk + Drop, C: Clock, W: Write, L: Write> FolderSpool<D, C, W, L> {
+    /// The spool of this folder, with this console.
+    pub fn new(
+        alloc: Global,
+        folder: StationFolder<D>,
+        console: Console<C, W, L>,
+    ) -> FolderSpool<D, C, W, L> {
+        FolderSpool {
+            alloc,
+            folder,
+            console,
+            ready: Vec::new(alloc),
+            passed: Vec::new(alloc),
+            given: Vec::new(alloc),
+            stamp: String::new(alloc),
+            number: 1,
+            watching: Watching::new(),
+        }
+    }
+
+    /// Tells the operator this.
+    pub fn tell(&mut self, notice: Notice) {
+        self.console.tell(notice);
+    }
+
+    /// All jobs of the last transmission are in doubt, those that were counted too: answers came out of step.
+    pub fn doubt_all(&mut self) -> Result<(), SpoolFault> {
+        let given: usize = match self.given.last() {
+            Some(file) => file.first.saturating_add(file.count),
+            None => 0,
+        };
+        for job in 0..given {
+            self.doubt(job)?;
+        }
+        Ok(())
+    }
+
+    /// Something lies ready. Where the list of names is used up, the folder is read anew.
+    fn has_ready(&mut self) -> bool {
+        if self.ready.is_empty() {
+            self.ready = self.names_anew();
+        }
+        !self.ready.is_empty()
+    }
+
+    /// The names that lie ready, the last one first, but for those that are passed over. None where the folder can't be read.
+    fn names_anew(&self) -> Vec<String> {
+        let Ok(mut names) = self.folder.names_ready() else {
+            return Vec::new(self.alloc);
+        };
+        names.retain(|name| !self.is_passed(name.as_str()));
+        names.reverse();
+        names
+    }
+
+    /// Whether a name was found to be of no use.
+    fn is_passed(&self, name: &str) -> bool {
+        self.passed.iter().any(|passed| passed.as_str() == name)
+    }
+
+    /// Takes the next files that lie ready for a transmission, and gives their jobs. A file that can't be sent is put aside.
+    fn take_files(&mut self) -> Result<Vec<Job>, SpoolFault> {
+        let mut jobs = Vec::new(self.alloc);
+        let mut bytes: usize = 0;
+        for _ in 0..MANY_JOBS {
+            if jobs.len() >= MANY_JOBS || bytes >= MANY_BYTES {
+                break;
+            }
+            let Some(name) = self.ready.pop() else {
+                break;
+            };
+            bytes = bytes.saturating_add(self.take_file(name, &mut jobs)?);
+        }
+        Ok(jobs)
+    }
+
+    /// Takes this file for a transmission that has these jobs, and adds its own. How many bytes it has.
+    fn take_file(&mut self, name: String, jobs: &mut Vec<Job>) -> Result<usize, SpoolFault> {
+        let file = match self.folder.read(name.as_str(), MAX_INPUT as u64) {
+            Ok(file) => file,
+            Err(FolderFault::OutOfMemory) => return Err(SpoolFault::OutOfMemory),
+            Err(FolderFault::TooLarge(_)) => {
+                self.refuse(name, RefusedFile::TooLong)?;
+                return Ok(0);
+            }
+            Err(fault) => {
+                self.pass_over(name, &fault)?;
+                return Ok(0);
+            }
+        };
+        match outgoing_of(self.alloc, name.as_str(), file.as_slice()) {
+            Ok(outgoing) => {
+                self.give(name, outgoing, jobs)?;
+                Ok(file.len())
+            }
+            Err(why) if is_want_of_memory(why) => Err(SpoolFault::OutOfMemory),
+            Err(why) => {
+                self.refuse(name, why)?;
+                Ok(0)
+            }
+        }
+    }
+
+    /// The jobs of this file are in the transmission.
+    fn give(
+        &mut self,
+        name: String,
+        outgoing: Outgoing,
+        jobs: &mut Vec<Job>,
+    ) -> Result<(), SpoolFault> {
+        let Outgoing { jobs: more, places } = outgoing;
+        let file = GivenFile {
+            name,
+            first: jobs.len(),
+            count: more.len(),
+            places,
+            place: Place::Ready,
+        };
+        push(&mut self.given, file)?;
+        for job in more.into_vec() {
+            push(jobs, job)?;
+        }
+        Ok(())
+    }
+
+    /// Puts a file aside that can't be sent.
+    fn refuse(&mut self, name: String, why: RefusedFile) -> Result<(), SpoolFault> {
+        match self.put_aside(name.as_str(), why) {
+            Ok(()) => {
+                self.console.tell(Notice::Refused(name.as_str(), why));
+                Ok(())
+            }
+            Err(fault) => self.pass_over(name, &fault),
+        }
+    }
+
+    fn put_aside(&mut self, name: &str, why: RefusedFile) -> Result<(), FolderFault> {
+        let path = self.folder.refuse(name)?;
+        match format!(in self.alloc; "{why}\n") {
+            Ok(text) => {
+                self.folder.explain(path.as_str(), text.as_str())?;
+                Ok(())
+            }
+            Err(_) => Err(FolderFault::OutOfMemory),
+        }
+    }
+
+    /// Leaves a file alone that is of no use, and can't be put aside.
+    fn pass_over(&mut self, name: String, why: &FolderFault) -> Result<(), SpoolFault> {
+        if let Ok(text) = format!(in self.alloc; "{name}: {why}") {
+            self.console.tell(Notice::Failed(text.as_str()));
+        }
+        push(&mut self.passed, name)
+    }
+
+    /// One of the jobs of a file may have arrived, or nobody knows: the file stands in doubt/.
+    fn doubt(&mut self, job: usize) -> Result<(), SpoolFault> {
+        let Some(file) = self.given.iter_mut().find(|file| file.has(job)) else {
+            return Ok(());
+        };
+        if file.is_doubted(&mut self.folder)? {
+            tell_doubt(file, &mut self.console);
+        }
+        Ok(())
+    }
+
+    /// A job was counted.
+    fn count(&mut self, job: usize) -> Result<(), SpoolFault> {
+        if let Some(file) = self.given.iter_mut().find(|file| file.has(job)) {
+            file.was_counted(job, &mut self.folder)?;
+            self.console.tell(Notice::Sent(file.name.as_str()));
+        }
+        Ok(())
+    }
+
+    /// A job lies ready still.
+    fn take_back(&mut self, job: usize) -> Result<(), SpoolFault> {
+        if let Some(file) = self.given.iter_mut().find(|file| file.has(job)) {
+            file.lies_ready(&mut self.folder)?;
+        }
+        Ok(())
+    }
+
+    /// The number of what is kept next, with its time.
+    fn number_anew(&mut self) -> Result<(), SpoolFault> {
+        let stamp = self.console.stamps().stamp()?;
+        if stamp.as_str() != self.stamp.as_str() {
+            self.stamp = stamp;
+            self.number = 1;
+        }
+        Ok(())
+    }
+
+    /// Keeps these bytes in a folder, under the time and the number that comes next.
+    fn keep_bytes(
+        &mut self,
+        folder: Folder,
+        ending: &str,
+        bytes: &[u8],
+    ) -> Result<String, SpoolFault> {
+        let kept = self
+            .folder
+            .keep(folder, self.stamp.as_str(), self.number, ending, bytes)?;
+        self.number = kept.next;
+        Ok(kept.path)
+    }
+
+    /// Keeps the paper of a job, beside the job itself.
+    fn keep_paper(&mut self, job: &Job) -> Result<(), SpoolFault> {
+        let Ok(paper) = paper_of(self.alloc, job) else {
+            return Err(SpoolFault::OutOfMemory);
+        };
+        let (folder, ending) = match (job.select, job.mode) {
+            (Select::Punch, Mode::Transparent) => (Folder::Punch, ".cards"),
+            (Select::Punch, Mode::Normal) => (Folder::Punch, ".deck"),
+            (Select::Unset | Select::Printer, _) => (Folder::Print, ".txt"),
+        };
+        let number = self.number.saturating_sub(1);
+        self.folder.keep(
+            folder,
+            self.stamp.as_str(),
+            number,
+            ending,
+            paper.as_slice(),
+        )?;
+        Ok(())
+    }
+}
+
+/// Tells that a file stands in doubt/.
+fn tell_doubt<C: Clock, W: Write, L: Write>(file: &GivenFile, console: &mut Console<C, W, L>) {
+    if let Some(path) = file.doubt_path() {
+        console.tell(Notice::Doubt(file.name.as_str(), path));
+    }
+}
+
+/// Adds an item.
+fn push<T: Drop>(items: &mut Vec<T>, item: T) -> Result<(), SpoolFault> {
+    match items.push(item) {
+        Ok(()) => Ok(()),
+        Err(_) => Err(SpoolFault::OutOfMemory),
+    }
+}
+
+/// Whether a file isn't sent for want of memory alone.
+fn is_want_of_memory(why: RefusedFile) -> bool {
+    matches!(
+        why,
+        RefusedFile::OutOfMemory
+            | RefusedFile::Deck(DeckFault::OutOfMemory)
+            | RefusedFile::File(FileFault::OutOfMemory)
+    )
+}
+
+impl<D: FolderDisk + Drop, C: Clock, W: Write, L: Write> Spool for FolderSpool<D, C, W, L> {
+    type Fault = SpoolFault;
+
+    ghost discloses = { ⊥ };
+
+    ghost ledger = { λ _. [] };
+
+    fn seen(&mut self) -> Seen {
+        // What can't be looked at is taken for held: nothing is sent then.
+        let held = self.folder.is_held().unwrap_or(true);
+        Seen {
+            ready: !held && self.has_ready(),
+            held,
+            drained: self.folder.is_drained().unwrap_or(false),
+            call_due: false,
+        }
+    }
+
+    fn next(&mut self, alloc: Global) -> Result<Vec<Job>, SpoolFault> {
+        self.given = Vec::new(alloc);
+        self.watching = Watching::new();
+        self.take_files()
+    }
+
+    fn look_on<'a>(&mut self, station: &Station<'a>) {
+        self.watching
+            .look_on(station, self.given.as_slice(), &mut self.console);
+    }
+
+    fn goes_out(&mut self, job: usize) -> Result<(), SpoolFault> {
+        if let Some(file) = self.given.iter_mut().find(|file| file.has(job)) {
+            file.goes_out(&mut self.folder)?;
+        }
+        Ok(())
+    }
+
+    fn settle(&mut self, job: usize, what: Disposition) -> Result<(), SpoolFault> {
+        match what {
+            Disposition::Sent => self.count(job),
+            Disposition::InDoubt => self.doubt(job),
+            Disposition::Ready => self.take_back(job),
+        }
+    }
+
+    fn keep(&mut self, job: &Job) -> Result<(), SpoolFault> {
+        self.number_anew()?;
+        let file = received_file(self.alloc, job)?;
+        let path = self.keep_bytes(Folder::In, ".job", file.as_slice())?;
+        self.console
+            .tell(Notice::Received(path.as_str(), JobLabel::of(job)));
+        if let Err(fault) = self.keep_paper(job) {
+            if let Ok(text) = format!(in self.alloc; "no paper of {path}: {fault}") {
+                self.console.tell(Notice::Failed(text.as_str()));
+            }
+        }
+        Ok(())
+    }
+
+    fn keep_cut(&mut self, job: &Job) -> Result<(), SpoolFault> {
+        self.number_anew()?;
+        let file = received_file(self.alloc, job)?;
+        let path = self.keep_bytes(Folder::Cut, ".job", file.as_slice())?;
+        self.console
+            .tell(Notice::Cut(path.as_str(), JobLabel::of(job)));
+        Ok(())
+    }
+}

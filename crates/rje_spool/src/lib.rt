@@ -1,0 +1,22 @@
+//! The spool of a station that stays on the line: the jobs of its folder, and what its operator is told.
+#![tactic(auto)]
+
+mod console;
+mod folder_spool;
+mod given_file;
+mod notice;
+mod outgoing;
+mod paper;
+mod refused_file;
+mod spool_fault;
+mod stamps;
+mod watching;
+
+pub use console::Console;
+pub use folder_spool::FolderSpool;
+pub use notice::{JobLabel, Notice};
+pub use outgoing::{Outgoing, outgoing_of};
+pub use paper::{paper_of, received_file};
+pub use refused_file::RefusedFile;
+pub use spool_fault::SpoolFault;
+pub use stamps::Stamps;

@@ -1,0 +1,164 @@
+//! What a station tells its operator.
+ghost use Rattle.std.specs.Prelude.{◌≡◌, length};
+
+use crate::refused_file::RefusedFile;
+use rje_jobs::Job;
+use rje_text::Select;
+use std::fmt::{self, Display, Formatter, Write};
+use std::io::ErrorKind;
+use std::net::SocketAddr;
+
+/// A job, as the operator knows it.
+#[derive(Clone, Copy, Debug, PartialEq, Eq)]
+pub struct JobLabel {
+    /// Its device.
+    pub select: Select,
+    /// How many records it has.
+    pub records: usize,
+}
+
+impl JobLabel {
+    /// The label of a job.
+    pub fn of(job: &Job) -> JobLabel
+        ensures select { result.select ≡ job.now.select }
+        ensures records { result.records ≡ length job.now.records }
+    {
+        JobLabel {
+            select: job.select,
+            records: job.records.len(),
+        }
+    }
+
+    /// Its device in a word, as `show` has it.
+    fn device(self) -> &'static str {
+        match self.select {
+            Select::Unset => "unset",
+            Select::Printer => "printer",
+            Select::Punch => "punch",
+        }
+    }
+}
+
+/// Something that a station tells its operator, one line each.
+#[derive(Clone, Copy, Debug)]
+pub enum Notice<'a> {
+    /// The station has its folder.
+    Began(&'a str),
+    /// Calls are awaited at this address.
+    Listening(SocketAddr),
+    /// The call of the other end at this address was taken.
+    CalledBy(SocketAddr),
+    /// A caller that isn't let in was hung up.
+    HungUpOn(SocketAddr),
+    /// The other end is called at this address.
+    Calling(&'a str),
+    /// It can't be called, and why.
+    NotConnected(ErrorKind),
+    /// It answered.
+    Connected,
+    /// The station bids.
+    Bid,
+    /// A job of this file is sent.
+    Sending(&'a str, JobLabel),
+    /// It was counted.
+    Sent(&'a str),
+    /// A job of this file may have arrived: the file is in doubt/, under this path.
+    Doubt(&'a str, &'a str),
+    /// This file can't be sent, and why.
+    Refused(&'a str, RefusedFile),
+    /// A job comes: its number in the transmission, from 1.
+    Receiving(usize),
+    /// It comes still: its number, and the records and blocks of the transmission so far.
+    ReceivingStill {
+        /// The number of the job.
+        job: usize,
+        /// The records.
+        records: usize,
+        /// The blocks.
+        blocks: usize,
+    },
+    /// A job came to its end, and is kept under this path.
+    Received(&'a str, JobLabel),
+    /// A job was cut when its transmission ended, and is kept so.
+    Cut(&'a str, JobLabel),
+    /// The connection failed, and why.
+    LineFailed(&'a str),
+    /// Answers came out of step.
+    OutOfStep,
+    /// The station hung up, or the connection is over.
+    HungUp,
+    /// Something of the station failed, and why.
+    Failed(&'a str),
+    /// The station ends.
+    Ended,
+}
+
+impl Display for Notice<'_> {
+    fn fmt<W: Write>(&self, f: &mut Formatter<W>) -> fmt::Result {
+        match self {
+            Notice::Began(folder) => write!(f, "station of {folder}"),
+            Notice::Listening(address) => write!(f, "listening {address}"),
+            Notice::CalledBy(address) => write!(f, "called by {address}"),
+            Notice::HungUpOn(address) => write!(f, "hung up on {address}"),
+            Notice::Calling(address) => write!(f, "calling {address}"),
+            Notice::NotConnected(kind) => write!(f, "can't connect: {kind}"),
+            Notice::Connected => f.write_str("connected"),
+            Notice::Bid => f.write_str("bid"),
+            Notice::Sending(name, label) => {
+                write!(
+                    f,
+                    "sending {name} {} {} cards",
+                    label.device(),
+                    label.records
+                )
+            }
+            Notice::Sent(name) => write!(f, "sent {name}"),
+            Notice::Doubt(name, path) => write!(
+                f,
+                "DOUBT {name} may have arrived: {}",
+                in_folder(path)
+            ),
+            Notice::Refused(name, why) => write!(f, "refused {name}: {why}"),
+            Notice::Receiving(job) => write!(f, "receiving job {job}"),
+            Notice::ReceivingStill {
+                job,
+                records,
+                blocks,
+            } => { write!(f, "receiving job {job}: {records} records, {blocks} blocks") }
+            Notice::Received(path, label) => {
+                write!(
+                    f,
+                    "received {} {} whole {} records",
+                    in_folder(path),
+                    label.device(),
+                    label.records
+                )
+            }
+            Notice::Cut(path, label) => {
+                write!(
+                    f,
+                    "received {} {} CUT {} records",
+                    in_folder(path),
+                    label.device(),
+                    label.records
+                )
+            }
+            Notice::LineFailed(cause) => write!(f, "line failed: {cause}"),
+            Notice::OutOfStep => f.write_str("line failed: answers out of step"),
+            Notice::HungUp => f.write_str("hung up"),
+            Notice::Failed(why) => write!(f, "{why}"),
+            Notice::Ended => f.write_str("ended"),
+        }
+    }
+}
+
+/// A path without the station's folder: its folder there, and its name.
+fn in_folder(path: &str) -> &str {
+    let Some((folder, _)) = path.rsplit_once('/') else {
+        return path;
+    };
+    match folder.rsplit_once('/') {
+        Some((station, _)) => path.get(station.len() + 1..).unwrap_or(path),
+        None => path,
+    }
+}

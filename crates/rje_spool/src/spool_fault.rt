@@ -1,0 +1,31 @@
+//! Why a spool fails.
+
+use rje_folders::FolderFault;
+use std::alloc::AllocError;
+use thiserror::Error;
+
+/// Why a spool fails.
+#[derive(Debug, Drop, PartialEq, Eq, Error)]
+pub enum SpoolFault {
+    /// There is no memory.
+    #[error("out of memory")]
+    OutOfMemory,
+    /// A folder of the station, or a file there, can't be used.
+    #[error("{0}")]
+    Folder(FolderFault),
+}
+
+impl From<FolderFault> for SpoolFault {
+    fn from(fault: FolderFault) -> SpoolFault {
+        match fault {
+            FolderFault::OutOfMemory => SpoolFault::OutOfMemory,
+            fault => SpoolFault::Folder(fault),
+        }
+    }
+}
+
+impl From<AllocError> for SpoolFault {
+    fn from(_refused: AllocError) -> SpoolFault {
+        SpoolFault::OutOfMemory
+    }
+}
