@@ -42,7 +42,8 @@ pub fn command<S: Store, I: Read, O: Write, E: Write>(
 {
     let order = match parse(alloc, words) {
         Ok(Order::Files(order)) => order,
-        Ok(Order::Sockets(_) | Order::Station(_)) => return tell(&CommandFault::NoCommand, err),
+        Ok(Order::Sockets(_)) => return tell(&CommandFault::NoCommand, err),
+        Ok(Order::Station(_)) => return tell(&CommandFault::NoCommand, err),
         Err(fault) => return tell_words(&fault, out, err),
     };
     match carry_out(alloc, order, store, input, out, err) {

@@ -28,10 +28,14 @@ mod sent_amount;
 mod sent_blocks;
 mod socket_commands;
 mod socket_line;
+mod steps;
 mod tally;
 mod tracer;
 mod watch;
 
+pub use adapter_stream::AdapterStream;
+pub use line_cause::LineCause;
+pub use observed_stream::ObservedStream;
 pub use over_sockets::carry_out;
 pub use socket_commands::{Ending, exchange_over, receive_over, send_over};
 pub use socket_line::SocketLine;

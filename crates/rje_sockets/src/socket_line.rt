@@ -120,6 +120,13 @@ impl<C: Clock, S: Read> SocketLine<ObservedStream<C, S>> {
 }
 
 impl<S> SocketLine<S> {
+    /// Whether an answer came after EOT was said, as far as was heard.
+    pub(crate) fn has_strayed(&self) -> bool
+        ensures { result ≡ self.now.answers.kept.strayed }
+    {
+        self.answers.strayed()
+    }
+
     /// Counts a failure.
     fn failed(&mut self, fault: LineFault) -> LineFault
         ensures still { self.new.stream ≡ self.old.stream }

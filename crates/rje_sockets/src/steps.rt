@@ -1,0 +1,15 @@
+//! Whether the answers on a connection are in step.
+ghost use Rattle.std.specs.Prelude.{◌≡◌, not};
+
+use crate::socket_line::SocketLine;
+use rje_session::Steps;
+use std::io::{Read, Write};
+
+impl<S: Read + Write> Steps for SocketLine<S> {
+    fn is_in_step(&mut self) -> bool
+        ensures step { result ≡ not self.old.answers.kept.strayed }
+        ensures same { self.new ≡ self.old }
+    {
+        !self.has_strayed()
+    }
+}
