@@ -2,8 +2,9 @@
 #![tactic(auto)]
 
 use rje_commands::CommandFault;
-use rje_program::{command, is_for_sockets, socket_command_at};
+use rje_program::{command, is_for_sockets, is_for_station, socket_command_at};
 use rje_stores::FileStore;
+use rje_workstation::station_command;
 use std::fs::File;
 use std::io::IsTerminal;
 use std::os::fd::AsRawFd;
@@ -26,6 +27,17 @@ fn run(rt: &HostRuntime) -> io::Result<u8> {
         let _ = eprintln!(rt;
             "rje: reads a deck from the terminal, up to Ctrl-D; rje --help tells the commands"
         );
+    }
+    if is_for_station(words.as_slice()) {
+        let _held = [held_number(rt), held_number(rt), held_number(rt)];
+        return Ok(station_command(
+            rt,
+            alloc,
+            words.as_slice(),
+            &mut rt.stdout(),
+            &mut rt.stderr(),
+            rt.stderr().is_terminal(),
+        ));
     }
     let mut store = FileStore::new(rt, alloc);
     let status = if is_for_sockets(words.as_slice()) {

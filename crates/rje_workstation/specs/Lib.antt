@@ -1,0 +1,2 @@
+pub mod Doorway
+pub mod Calling

@@ -1,0 +1,36 @@
+//! When a station calls again.
+
+use std::time::{Clock, Duration, Instant};
+
+/// When a station calls again: so many seconds after it did last, or after its last connection.
+#[derive(Drop)]
+pub(crate) struct CallTimes {
+    every: Duration,
+    last: Option<Instant>,
+}
+
+impl CallTimes {
+    /// It hasn't called yet.
+    pub(crate) fn new(every: u32) -> CallTimes {
+        CallTimes {
+            every: Duration::from_secs(u64::from(every)),
+            last: None,
+        }
+    }
+
+    /// Whether it is time to call. Where the clock can't be read it is.
+    pub(crate) fn is_due<C: Clock>(&self, clock: &C) -> bool {
+        let Some(last) = self.last else {
+            return true;
+        };
+        match last.elapsed(clock) {
+            Ok(passed) => passed >= self.every,
+            Err(_) => true,
+        }
+    }
+
+    /// It called now, or its connection is over now.
+    pub(crate) fn note<C: Clock>(&mut self, clock: &C) {
+        self.last = Instant::now(clock).ok();
+    }
+}

@@ -1,0 +1,148 @@
+//! One run of the program as a station.
+
+use crate::attending::attend;
+use crate::speaking::most_quiet;
+use rje_commands::{CommandFault, tell};
+use rje_day::{Day, Settings};
+use rje_folders::{FolderDisk, FolderFault, StationFolder};
+use rje_orders::{Order, Partner, StationOrder};
+use rje_program::tell_words;
+use rje_spool::{Console, FolderSpool, Notice};
+use rje_stores::SystemDisk;
+use rje_words::parse;
+use std::alloc::Global;
+use std::fs::{File, OpenOptions};
+use std::io::{self, Write};
+use std::net::{Net, OpenListener, SocketAddr, TcpListener};
+use std::rt::Files;
+use std::time::Clock;
+
+/// Runs the station that these words ask for, which are those after the program's name, and returns its exit status: 0 where it was drained, or
+/// its one connection is over (or it gave help), 2 where the words ask for no station, 3 where its folder can't be used, another station has
+/// it, or it can't listen, 5 where there was no memory. What happens goes to `err`, and to the log in the folder.
+pub fn station_command<R, O: Write, E: Write>(
+    rt: &R,
+    alloc: Global,
+    words: &[&str],
+    out: &mut O,
+    err: &mut E,
+    is_terminal: bool,
+) -> u8
+where
+    R: Net + Clock + Files<File = File> + Alloc + Clone + Drop,
+{
+    let order = match parse(alloc, words) {
+        Ok(Order::Station(order)) => order,
+        Ok(_) => return tell(&CommandFault::NoCommand, err),
+        Err(fault) => return tell_words(&fault, out, err),
+    };
+    match run(rt, alloc, &order, err, is_terminal) {
+        Ok(()) => 0,
+        Err(StationEnd::Folder(FolderFault::InUse)) => {
+            let _ = writeln!(err, "rje: {} is in use", order.folder);
+            3
+        }
+        Err(StationEnd::Folder(FolderFault::OutOfMemory)) => tell(&CommandFault::OutOfMemory, err),
+        Err(StationEnd::Folder(fault)) => {
+            let _ = writeln!(err, "rje: {}: {fault}", order.folder);
+            3
+        }
+        Err(StationEnd::Log(error)) => {
+            let _ = writeln!(err, "rje: {}/log: {error}", order.folder);
+            3
+        }
+        Err(StationEnd::Listener(address, error)) => {
+            let kind = error.kind();
+            let _ = writeln!(
+                err,
+                "rje: can't listen on {address}: {kind}\nrje: line failed"
+            );
+            3
+        }
+    }
+}
+
+/// Why a station ends that wasn't to.
+enum StationEnd {
+    /// Its folder can't be used.
+    Folder(FolderFault),
+    /// Its log can't be written.
+    Log(io::Error),
+    /// It can't listen at this address.
+    Listener(SocketAddr, io::Error),
+}
+
+/// Has the folder, and stays on the line.
+fn run<R, E: Write>(
+    rt: &R,
+    alloc: Global,
+    order: &StationOrder,
+    err: &mut E,
+    is_terminal: bool,
+) -> Result<(), StationEnd>
+where
+    R: Net + Clock + Files<File = File> + Alloc + Clone + Drop,
+{
+    let folder = StationFolder::open(SystemDisk::new(rt), alloc, order.folder);
+    let folder = folder.map_err(StationEnd::Folder)?;
+    let log = opened_log(rt, alloc, order.folder).map_err(StationEnd::Log)?;
+    let rewrites = is_terminal && !order.quiet;
+    let console = Console::new(rt, alloc, &mut *err, log, rewrites);
+    let mut spool = FolderSpool::new(alloc, folder, console);
+    spool.tell(Notice::Began(order.folder));
+    match order.partner {
+        Partner::Calls(_) => call_out(rt, alloc, order, &mut spool),
+        Partner::Listens(address, _) => {
+            let listened = listen(rt, alloc, order, address, &mut spool);
+            listened.map_err(|error| StationEnd::Listener(address, error))?;
+        }
+    }
+    spool.tell(Notice::Ended);
+    Ok(())
+}
+
+/// Its log, to which lines are added.
+fn opened_log<R: Files<File = File>>(rt: &R, alloc: Global, folder: &str) -> io::Result<File> {
+    let path = format!(in alloc; "{folder}/log")?;
+    OpenOptions::new()
+        .append(true)
+        .create(true)
+        .open(rt, path.as_str())
+}
+
+/// Calls, again and again.
+fn call_out<R: Net + Clock, D: FolderDisk + Drop, C: Clock, W: Write, L: Write>(
+    rt: &R,
+    alloc: Global,
+    order: &StationOrder,
+    spool: &mut FolderSpool<D, C, W, L>,
+) {
+    let mut day = Day::new(settings_of(order, true));
+    let nobody: Option<R::Listener> = None;
+    // Without a listener nothing of it fails.
+    let _ = attend(rt, alloc, order, &nobody, &mut day, spool);
+}
+
+/// Listens at this address, and attends to the calls.
+fn listen<R: Net + Clock, D: FolderDisk + Drop, C: Clock, W: Write, L: Write>(
+    rt: &R,
+    alloc: Global,
+    order: &StationOrder,
+    address: SocketAddr,
+    spool: &mut FolderSpool<D, C, W, L>,
+) -> io::Result<()> {
+    let listener = TcpListener::bind(rt, address)?;
+    listener.set_nonblocking(true)?;
+    spool.tell(Notice::Listening(listener.local_addr()?));
+    let mut day = Day::new(settings_of(order, false));
+    attend(rt, alloc, order, &Some(listener), &mut day, spool)
+}
+
+/// How the station spends its day.
+fn settings_of(order: &StationOrder, calls: bool) -> Settings {
+    Settings {
+        calls,
+        once: order.once,
+        patience: most_quiet(order.patience),
+    }
+}

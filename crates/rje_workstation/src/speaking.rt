@@ -1,0 +1,123 @@
+//! What a station does on a connection.
+ghost use Rattle.rje_session.specs.Staying.{GoesOnAsDay};
+ghost use Rattle.rje_workstation.specs.Calling.{SeeksConnection};
+
+use crate::paced_stream::PacedStream;
+use rje_day::{Day, Event, Seen};
+use rje_folders::FolderDisk;
+use rje_orders::StationOrder;
+use rje_session::{StayFault, Terms, stay};
+use rje_sockets::{AdapterStream, ObservedStream, SocketLine};
+use rje_spool::{FolderSpool, Notice, SpoolFault};
+use std::alloc::Global;
+use std::fmt::Display;
+use std::io::{self, Write};
+use std::net::Net;
+use std::time::Clock;
+
+/// A line of a station that stays on it.
+type StationLine<'r, R> = SocketLine<
+    ObservedStream<&'r R, AdapterStream<PacedStream<&'r R, <R as Net>::Stream>>>,
+>;
+
+/// Stays on this connection until it is over, and tells why that is.
+pub(crate) fn speak<R: Net + Clock, D: FolderDisk + Drop, C: Clock, W: Write, L: Write>(
+    rt: &R,
+    alloc: Global,
+    order: &StationOrder,
+    stream: R::Stream,
+    day: &mut Day,
+    seen: Seen,
+    spool: &mut FolderSpool<D, C, W, L>,
+)
+    requires seeks { SeeksConnection day.old seen }
+    ensures day { GoesOnAsDay day.old day.new }
+{
+    day.note(Event::Connected);
+    match line_over(rt, order, stream) {
+        Ok(line) => speak_over(alloc, order, line, day, spool),
+        Err(error) => {
+            day.note(Event::Disconnected);
+            tell_failed(alloc, &error, spool);
+        }
+    }
+}
+
+/// A line over this stream.
+fn line_over<'r, R: Net + Clock>(
+    rt: &'r R,
+    order: &StationOrder,
+    stream: R::Stream,
+) -> io::Result<StationLine<'r, R>> {
+    let stream = AdapterStream::new(PacedStream::new(rt, stream), order.adapter);
+    SocketLine::new(
+        ObservedStream::new(Some(rt), stream),
+        order.timeout,
+        order.rank,
+    )
+}
+
+/// Stays on this line until the connection is over.
+fn speak_over<'r, R: Net + Clock, D: FolderDisk + Drop, C: Clock, W: Write, L: Write>(
+    alloc: Global,
+    order: &StationOrder,
+    mut line: StationLine<'r, R>,
+    day: &mut Day,
+    spool: &mut FolderSpool<D, C, W, L>,
+)
+    ensures day { GoesOnAsDay day.old day.new }
+{
+    let terms = Terms {
+        rank: order.rank,
+        patience: most_quiet(order.patience),
+    };
+    let stayed = stay(alloc, terms, day, &mut line, spool);
+    // Nothing changes by that where the connection was over before.
+    day.note(Event::Disconnected);
+    let cause = line.cause();
+    if !line.ends_in_step() {
+        spool.tell(Notice::OutOfStep);
+        if let Err(fault) = spool.doubt_all() {
+            tell_fault(alloc, StayFault::Spool(fault), spool);
+        }
+    }
+    match (stayed, cause) {
+        (Err(fault), _) => tell_fault(alloc, fault, spool),
+        (Ok(()), Some(cause)) => tell_failed(alloc, &cause, spool),
+        (Ok(()), None) => spool.tell(Notice::HungUp),
+    }
+}
+
+/// Tells why a connection was left that wasn't over.
+fn tell_fault<D: FolderDisk + Drop, C: Clock, W: Write, L: Write>(
+    alloc: Global,
+    fault: StayFault<SpoolFault>,
+    spool: &mut FolderSpool<D, C, W, L>,
+) {
+    let text = match fault {
+        StayFault::Station(fault) => format!(in alloc; "{fault}"),
+        StayFault::Spool(fault) => format!(in alloc; "{fault}"),
+    };
+    if let Ok(text) = text {
+        spool.tell(Notice::Failed(text.as_str()));
+    }
+}
+
+/// Tells why the line failed.
+fn tell_failed<F: Display, D: FolderDisk + Drop, C: Clock, W: Write, L: Write>(
+    alloc: Global,
+    cause: &F,
+    spool: &mut FolderSpool<D, C, W, L>,
+) {
+    if let Ok(text) = format!(in alloc; "{cause}") {
+        spool.tell(Notice::LineFailed(text.as_str()));
+    }
+}
+
+/// So many hearings in a row are without a word at most, where so much patience is asked for: with 0 any number.
+pub(crate) fn most_quiet(patience: u32) -> u32 {
+    match patience {
+        0 => u32::MAX,
+        patience => patience,
+    }
+}
