@@ -23,8 +23,8 @@ from adapter import ACK0, ACK1, ENQ, EOT, NAK, RULES, RVI, TTD, WACK, as_read, w
 from guest import Event, block, disables, enables, leaves, read, receives, runs, sends, wrote  # noqa: E402
 import guest  # noqa: E402
 from hercules import RUNNING  # noqa: E402
-from holding import Call, Hears, HungUp, Speaker, Talk, faults_of  # noqa: E402
-from texts import CUT, PRINTER, PUNCH, TRANSPARENT, WHOLE, Job, cards, normal  # noqa: E402
+from holding import Call, Hears, HungUp, Speaker, Stays, Talk, faults_of  # noqa: E402
+from texts import CUT, DEFAULT, PRINTER, PUNCH, TRANSPARENT, WHOLE, Job, cards, normal  # noqa: E402
 
 # How long a message takes on its way where both bid at once, and how long a READ waits by itself where nothing is to come, in seconds.
 AT_ONCE, WAY, READ_WAITS = 16, 0.8, 1.5
@@ -393,6 +393,18 @@ def cut_exchange():
     return Talk("exchange: the host hangs up in the middle", [call], steps, events)
 
 
+def station_of_a_host():
+    """A station signs on and sends two jobs, and three listings come, each in a transmission of its own, all on one connection."""
+    words = ["station", "station", "--adapter", "--once", *SECOND, "--to", "%TO"]
+    lines = {"000.deck": ["/*SIGNON       REMOTE5"], "001.deck": ["//ONE JOB", "A"], "002.punch.deck": ["//TWO JOB", "B", "C"]}
+    up = [cards(text, PUNCH if ".punch." in name else DEFAULT) for name, text in lines.items()]
+    listings = [cards([f"LISTING {number}", "X" * 60], PRINTER) for number in (1, 2, 3)]
+    steps = [enables(), receives(), *(sends(*entries(it)) for it in listings), disables()]
+    events = [CALLED, *said_to(*up), *(event for it in listings for event in said_by(it)), DISABLED]
+    decks = {name: "".join(f"{line}\n" for line in text) for name, text in lines.items()}
+    return Talk("station: signs on, sends two jobs, and three listings come", [Stays(words, decks, listings)], steps, events)
+
+
 def contention():
     """Both bid at once: what each says is on its way while the other speaks."""
     yield Talk(
@@ -430,7 +442,7 @@ def all_talks():
     for group in (decks_sent, answers_given, called_to_send, leased_lines, listings_received, things_given, exchanges, contention, rules):
         yield from group()
     for talk in (
-        delays, transparent_last, cut_by_the_program, cut_within_a_text, calls_too_late, two_calls, stays_quiet, transparent_last_of_exchange, cut_exchange,
+        delays, transparent_last, cut_by_the_program, cut_within_a_text, calls_too_late, two_calls, stays_quiet, transparent_last_of_exchange, cut_exchange, station_of_a_host,
     ):
         yield talk()
 

@@ -38,6 +38,15 @@ class Call(typing.NamedTuple):
     killed_after: float = None
 
 
+class Stays(typing.NamedTuple):
+    """A run of the program as a station that stays on the line, with these decks in out/, all of which are sent; the jobs that come into in/."""
+
+    words: list
+    decks: dict
+    came: list
+    killed_after: float = None
+
+
 class Speaker(typing.NamedTuple):
     """A peer that is this script: it says bytes, hears just those of a `Hears`, waits as many seconds as a number says, or is hung up on; at last
     it hangs up."""
@@ -88,7 +97,12 @@ class Folder:
         return os.path.join(self.path, name)
 
     def start(self, call, address):
-        if call.given is not None:
+        if isinstance(call, Stays):
+            os.makedirs(self.at("station/out"))
+            for name, deck in call.decks.items():
+                with open(self.at(f"station/out/{name}"), "w") as file:
+                    file.write(deck)
+        elif call.given is not None:
             with open(self.at("jobs"), "wb") as file:
                 file.write(job_file([job.entry() for job in call.given]))
         words = [self.program, *(address if word == "%TO" else word for word in call.words)]
@@ -171,6 +185,8 @@ def faults_of(program, talk):
         for call in talk.calls:
             if isinstance(call, Call) and not call.killed_after:
                 yield from faults_of_files(folder, call)
+            if isinstance(call, Stays):
+                yield from faults_of_station(folder, call)
         for deck, job in talk.decks.items():
             yield fault_of_words(folder, ["blocks", "-"], blocks_told(job.blocks()) + f"back {len(job.records)}\n", deck)
     finally:
@@ -227,6 +243,8 @@ def fault_of_call(folder, call, port):
 
 def fault_of_end(folder, call, process):
     ending = folder.ended(process, call.killed_after)
+    if isinstance(call, Stays):
+        return None if ending and ending[:2] == (0, "") else f"the station ends with {ending}"
     wanted = None if call.killed_after else (call.status, call.printed, call.told)
     return None if ending == wanted else f"rje {call.words[0]} ends with {ending} in place of {wanted}"
 
@@ -268,6 +286,16 @@ def faults_of_files(folder, call):
         yield fault_of_file(folder, "got", job_file([job.entry(call.state) for job in call.came]))
         yield fault_of_words(folder, ["show", "got", "--records"], shown(call.came, whole, has_records=True))
         yield fault_of_words(folder, ["print", "got"], "".join(map(printed, call.came)))
+
+
+def faults_of_station(folder, call):
+    """What is wrong with the folder of a station: each deck is in sent/, and each job that came is in in/, in the order of names."""
+    names = sorted(os.listdir(folder.at("station/sent")))
+    yield None if names == sorted(call.decks) else f"in sent/ {names}"
+    names = sorted(os.listdir(folder.at("station/in")), key=lambda name: (name[:16], int(name[17:-4])))
+    yield None if len(names) == len(call.came) else f"in in/ {names}"
+    for name, job in zip(names, call.came):
+        yield fault_of_file(folder, f"station/in/{name}", job_file([job.entry(WHOLE)]))
 
 
 def fault_of_file(folder, name, wanted):
