@@ -220,8 +220,9 @@ impl<D: FolderDisk + Drop, C: Clock, W: Write, L: Write> FolderSpool<D, C, W, L>
         Ok(())
     }
 
-    /// A job lies ready still.
+    /// A job lies ready still. The folder is read anew, since its file comes before those that were to be next.
     fn take_back(&mut self, job: usize) -> Result<(), SpoolFault> {
+        self.ready = Vec::new(self.alloc);
         if let Some(file) = self.given.iter_mut().find(|file| file.has(job)) {
             file.lies_ready(&mut self.folder)?;
         }
