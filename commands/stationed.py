@@ -181,6 +181,9 @@ def jobs_of(name, lines):
 def resolve(near, far):
     """The operator's hand: of each file in doubt looks whether its jobs came, and moves it to sent/ or back to out/. How many there were."""
     found = near.names("doubt")
+    if found:
+        # What was on its way when the connection broke has come, or won't.
+        time.sleep(0.5)
     came = {lines for _, lines in far.came()}
     for name in found:
         jobs = jobs_of(name, near.decks[name])
