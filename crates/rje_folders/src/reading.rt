@@ -7,8 +7,9 @@ ghost use Rattle.rje_folders.specs.declared.folder_fault.FolderFault.TheVariants
 use crate::folder::Folder;
 use crate::folder_disk::FolderDisk;
 use crate::folder_fault::FolderFault;
+use rje_stores::FileKind;
 use std::alloc::Global;
-use std::io::{self, Read};
+use std::io::{self, ErrorKind, Read};
 
 /// How many bytes are read at once.
 const PIECE: usize = 65_536;
@@ -37,7 +38,8 @@ pub(crate) fn read_ready<D: FolderDisk>(
     }
 }
 
-/// A file in out/, open to be read.
+/// A file in out/, open to be read. A symbolic link is refused, since its names in other folders can't be told from others, and so are a folder, a
+/// device, and a pipe, which would be waited for.
 fn open_ready<D: FolderDisk>(
     disk: &D,
     alloc: Global,
@@ -48,7 +50,14 @@ fn open_ready<D: FolderDisk>(
         (D.opened file).name ≡ path_in station.now Folder.Out name.now) }
 {
     let ready = Folder::Out.path(alloc, station, name)?;
-    disk.open_to_read(ready.as_str())
+    if disk.is_link(ready.as_str())? {
+        return Err(io::Error::from(ErrorKind::Unsupported));
+    }
+    match disk.status(ready.as_str())?.kind {
+        FileKind::Regular => disk.open_to_read(ready.as_str()),
+        FileKind::Folder => Err(io::Error::from(ErrorKind::IsADirectory)),
+        FileKind::Device => Err(io::Error::from(ErrorKind::Unsupported)),
+    }
 }
 
 /// All bytes of an open file of a folder. Too large where it has more than `most`.

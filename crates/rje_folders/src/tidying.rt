@@ -27,7 +27,7 @@ pub(crate) fn tidy_ready<D: FolderDisk>(
         (D.asked disk.old) (D.asked disk.new) }
 {
     let ready = Folder::Out.path(alloc, station, name)?;
-    if disk.status(ready.as_str())?.links < 2 {
+    if has_one_name(disk, ready.as_str())? {
         return Ok(());
     }
     match kept_name(disk, alloc, station, name, ready.as_str())? {
@@ -50,7 +50,7 @@ pub(crate) fn tidy_doubt<D: FolderDisk>(
         (D.asked disk.old) (D.asked disk.new) }
 {
     let doubt = Folder::Doubt.path(alloc, station, name)?;
-    if disk.status(doubt.as_str())?.links < 2 {
+    if has_one_name(disk, doubt.as_str())? {
         return Ok(());
     }
     match second_in(disk, alloc, station, Folder::Sent, name, doubt.as_str())? {
@@ -62,8 +62,31 @@ pub(crate) fn tidy_doubt<D: FolderDisk>(
     }
 }
 
-/// Whether a name in out/ is passed over: its file has one in sent/, doubt/ or refused/ too, or is there no more.
+/// Whether the file of a path has no other name, or is there no more.
+fn has_one_name<D: FolderDisk>(disk: &D, path: &str) -> io::Result<bool> {
+    match disk.status(path) {
+        Ok(found) => Ok(found.links < 2),
+        Err(error) if error.kind() == ErrorKind::NotFound => Ok(true),
+        Err(error) => Err(error),
+    }
+}
+
+/// Whether a name in out/ is passed over: its file has one in sent/, doubt/ or refused/ too, is there no more, or can't be looked at. It fails for
+/// want of memory alone.
 pub(crate) fn is_passed_over<D: FolderDisk>(
+    disk: &D,
+    alloc: Global,
+    station: &str,
+    name: &str,
+) -> io::Result<bool> {
+    match has_kept_name(disk, alloc, station, name) {
+        Err(error) if error.kind() != ErrorKind::OutOfMemory => Ok(true),
+        looked => looked,
+    }
+}
+
+/// Whether the file of a name in out/ has one in sent/, doubt/ or refused/ too, or is there no more.
+fn has_kept_name<D: FolderDisk>(
     disk: &D,
     alloc: Global,
     station: &str,
