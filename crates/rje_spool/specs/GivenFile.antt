@@ -2,6 +2,7 @@
 use Rattle.std.specs.Prelude.{◌≡◌, ℕ, List, string_bytes, true}
 use Rattle.rje_stores.specs.Disk.{Asked, Call, has_synced_name}
 use Rattle.rje_folders.specs.declared.folder.Folder.{Folder}
+use Rattle.rje_folders.specs.FileNames.{IsNumbered}
 use Rattle.rje_folders.specs.Folder.{path_in}
 use Rattle.rje_folders.specs.Moving.{IsSecond}
 use Rattle.rje_folders.specs.Promising.{IsSent}
@@ -26,3 +27,24 @@ HasSent station name doubt _ before after = ⊥
 abbrev pub StaysInDoubt : Place → (before after : List Asked) → Type 0
 StaysInDoubt (Place.Promised doubt) before after = has_synced_name (string_bytes doubt) before ≡ true → has_synced_name (string_bytes doubt) after ≡ true
 StaysInDoubt _ before after = Unit {0}
+
+-- it has a name in doubt/ beside the one in out/
+abbrev pub HasSecondName : Place → Type 0
+HasSecondName (Place.Promised doubt) = Unit {0}
+HasSecondName _ = ⊥
+
+-- nothing became of its jobs yet: it stands in out/
+abbrev pub IsUnsettled : Place → Type 0
+IsUnsettled Place.Ready = Unit {0}
+IsUnsettled (Place.Promised doubt) = Unit {0}
+IsUnsettled _ = ⊥
+
+-- it stands in sent/, on disk
+abbrev pub IsInSent : (station name : List ℕ) → Place → List Asked → Type 0
+IsInSent station name (Place.Sent sent) after = IsNumbered (path_in station Folder.Sent name) (string_bytes sent) × (has_synced_name (string_bytes sent) after ≡ true)
+IsInSent station name _ after = ⊥
+
+-- it stands in doubt/ alone, as far as the station knows
+abbrev pub IsDoubted : Place → Type 0
+IsDoubted (Place.Doubted doubt) = Unit {0}
+IsDoubted _ = ⊥

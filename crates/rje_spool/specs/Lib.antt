@@ -1,3 +1,5 @@
 pub mod Outgoing
 pub mod Paper
 pub mod GivenFile
+pub mod GivenFiles
+pub mod Keeping

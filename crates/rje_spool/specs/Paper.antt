@@ -1,11 +1,16 @@
 -- What is made of a job that came (own profile).
-use Rattle.std.specs.Prelude.{ℕ, List}
+use Rattle.std.specs.Prelude.{ℕ, List, codes}
 use Rattle.rje_text.specs.declared.mode.Mode.{Mode}
 use Rattle.rje_text.specs.declared.select.Select.{Select}
+use Rattle.rje_folders.specs.declared.folder.Folder.{Folder}
+use Rattle.rje_folders.specs.FileNames.{IsBetween}
+use Rattle.rje_folders.specs.Folder.{path_in}
 use Rattle.rje_jobs.specs.declared.job.Job.{Job}
 use Rattle.rje_jobs.specs.declared.punch.Form.{Form}
 use Rattle.rje_jobs.specs.Listing.{listing}
 use Rattle.rje_jobs.specs.Punch.{punched}
+use Rattle.rje_stores.specs.Disk.{Asked}
+use Rattle.rje_stores.specs.Replacing.{IsOnDisk}
 
 -- of a job for the punch its cards, as they are where it is transparent; of any other its listing
 abbrev pub paper_for : Select → Mode → Job → List ℕ
@@ -15,3 +20,19 @@ paper_for _ mode job = listing job
 
 abbrev pub paper : Job → List ℕ
 paper job = paper_for job.select job.mode job
+
+-- where it lies, and how its name ends: transparent cards, other cards, or a listing
+abbrev pub paper_folder : Select → Folder
+paper_folder Select.Punch = Folder.Punch
+paper_folder _ = Folder.Print
+
+abbrev pub paper_ending : Select → Mode → List ℕ
+paper_ending Select.Punch Mode.Transparent = codes ".cards"
+paper_ending Select.Punch Mode.Normal = codes ".deck"
+paper_ending _ mode = codes ".txt"
+
+-- the job has its paper: the file of this path, which has its name from a time and a number, has just that; it is on disk, and so is its name
+pub record HasPaper (station : List ℕ) (job : Job) (path : List ℕ) (after : List Asked) : Type 0 where
+  pub stamp : List ℕ
+  pub named : IsBetween (path_in station (paper_folder job.select) stamp) (paper_ending job.select job.mode) path
+  pub on_disk : IsOnDisk path (paper job) after

@@ -1,11 +1,13 @@
 //! The spool of a station's folder.
-ghost use Rattle.std.specs.Prelude.{[]};
+ghost use Rattle.std.specs.Prelude.{◌≡◌, [], IfOk, string_bytes};
+ghost use Rattle.rje_spool.specs.Keeping.{IsKeptIn};
+ghost use Rattle.rje_spool.specs.Paper.{HasPaper};
 
 use crate::console::Console;
-use crate::given_file::{GivenFile, Place};
+use crate::given_files::GivenFiles;
 use crate::notice::{JobLabel, Notice};
 use crate::outgoing::{Outgoing, outgoing_of};
-use crate::paper::{paper_of, received_file};
+use crate::paper::{paper_of, place_of_paper, received_file};
 use crate::refused_file::RefusedFile;
 use crate::spool_fault::SpoolFault;
 use crate::watching::Watching;
@@ -15,7 +17,6 @@ use rje_jobs::{DeckFault, FileFault, Job};
 use rje_session::Spool;
 use rje_station::Station;
 use rje_stores::MAX_INPUT;
-use rje_text::{Mode, Select};
 use std::alloc::Global;
 use std::io::Write;
 use std::time::Clock;
@@ -38,7 +39,7 @@ pub struct FolderSpool<D: FolderDisk + Drop, C, W, L> {
     // The names that were found to be of no use to the station, and can't be put aside.
     passed: Vec<String>,
     // The files of the transmission that was begun last.
-    given: Vec<GivenFile>,
+    given: GivenFiles,
     // The time of what was kept last, and the number that comes next with it.
     stamp: String,
     number: u32,
@@ -58,7 +59,7 @@ impl<D: FolderDisk + Drop, C: Clock, W: Write, L: Write> FolderSpool<D, C, W, L>
             console,
             ready: Vec::new(alloc),
             passed: Vec::new(alloc),
-            given: Vec::new(alloc),
+            given: GivenFiles::new(alloc),
             stamp: String::new(alloc),
             number: 1,
             watching: Watching::new(),
@@ -72,11 +73,7 @@ impl<D: FolderDisk + Drop, C: Clock, W: Write, L: Write> FolderSpool<D, C, W, L>
 
     /// All jobs of the last transmission are in doubt, those that were counted too: answers came out of step.
     pub fn doubt_all(&mut self) -> Result<(), SpoolFault> {
-        let given: usize = match self.given.last() {
-            Some(file) => file.first.saturating_add(file.count),
-            None => 0,
-        };
-        for job in 0..given {
+        for job in 0..self.given.jobs() {
             self.doubt(job)?;
         }
         Ok(())
@@ -156,14 +153,7 @@ impl<D: FolderDisk + Drop, C: Clock, W: Write, L: Write> FolderSpool<D, C, W, L>
         jobs: &mut Vec<Job>,
     ) -> Result<(), SpoolFault> {
         let Outgoing { jobs: more, places } = outgoing;
-        let file = GivenFile {
-            name,
-            first: jobs.len(),
-            count: more.len(),
-            places,
-            place: Place::Ready,
-        };
-        push(&mut self.given, file)?;
+        self.given.add(name, more.len(), places)?;
         for job in more.into_vec() {
             push(jobs, job)?;
         }
@@ -200,21 +190,28 @@ impl<D: FolderDisk + Drop, C: Clock, W: Write, L: Write> FolderSpool<D, C, W, L>
         push(&mut self.passed, name)
     }
 
-    /// One of the jobs of a file may have arrived, or nobody knows: the file stands in doubt/.
+    /// A job may have arrived, or nobody knows: its file stands in doubt/.
     fn doubt(&mut self, job: usize) -> Result<(), SpoolFault> {
-        let Some(file) = self.given.iter_mut().find(|file| file.has(job)) else {
-            return Ok(());
-        };
-        if file.is_doubted(&mut self.folder)? {
-            tell_doubt(file, &mut self.console);
+        if self.given.is_doubted(job, &mut self.folder)? {
+            self.tell_doubt(job);
         }
         Ok(())
     }
 
+    /// Tells that the file of a job stands in doubt/.
+    fn tell_doubt(&mut self, job: usize) {
+        let Some(file) = self.given.of(job) else {
+            return;
+        };
+        if let Some(path) = file.doubt_path() {
+            self.console.tell(Notice::Doubt(file.name.as_str(), path));
+        }
+    }
+
     /// A job was counted.
     fn count(&mut self, job: usize) -> Result<(), SpoolFault> {
-        if let Some(file) = self.given.iter_mut().find(|file| file.has(job)) {
-            file.was_counted(job, &mut self.folder)?;
+        self.given.is_counted(job, &mut self.folder)?;
+        if let Some(file) = self.given.of(job) {
             self.console.tell(Notice::Sent(file.name.as_str()));
         }
         Ok(())
@@ -223,14 +220,14 @@ impl<D: FolderDisk + Drop, C: Clock, W: Write, L: Write> FolderSpool<D, C, W, L>
     /// A job lies ready still. The folder is read anew, since its file comes before those that were to be next.
     fn take_back(&mut self, job: usize) -> Result<(), SpoolFault> {
         self.ready = Vec::new(self.alloc);
-        if let Some(file) = self.given.iter_mut().find(|file| file.has(job)) {
-            file.lies_ready(&mut self.folder)?;
-        }
+        self.given.lies_ready(job, &mut self.folder)?;
         Ok(())
     }
 
     /// The number of what is kept next, with its time.
-    fn number_anew(&mut self) -> Result<(), SpoolFault> {
+    fn number_anew(&mut self) -> Result<(), SpoolFault>
+        ensures folder { self.new.folder ≡ self.old.folder }
+    {
         let stamp = self.console.stamps().stamp()?;
         if stamp.as_str() != self.stamp.as_str() {
             self.stamp = stamp;
@@ -239,46 +236,46 @@ impl<D: FolderDisk + Drop, C: Clock, W: Write, L: Write> FolderSpool<D, C, W, L>
         Ok(())
     }
 
-    /// Keeps these bytes in a folder, under the time and the number that comes next.
-    fn keep_bytes(
-        &mut self,
-        folder: Folder,
-        ending: &str,
-        bytes: &[u8],
-    ) -> Result<String, SpoolFault> {
-        let kept = self
-            .folder
-            .keep(folder, self.stamp.as_str(), self.number, ending, bytes)?;
+    /// Keeps a job in a folder, as a job file of it alone, under the time and the number that comes next. Its path. On disk when it returns.
+    fn keep_in(&mut self, folder: Folder, job: &Job) -> Result<String, SpoolFault>
+        ensures kept { D.discloses → IfOk result (λ path.
+            IsKeptIn (string_bytes self.old.folder.path) folder job.now (string_bytes path)
+            (D.asked self.new.folder.disk)) }
+        ensures path { self.new.folder.path ≡ self.old.folder.path }
+    {
+        self.number_anew()?;
+        let file = received_file(self.alloc, job)?;
+        let kept = self.folder.keep(
+            folder,
+            self.stamp.as_str(),
+            self.number,
+            ".job",
+            file.as_slice(),
+        )?;
         self.number = kept.next;
         Ok(kept.path)
     }
 
-    /// Keeps the paper of a job, beside the job itself.
-    fn keep_paper(&mut self, job: &Job) -> Result<(), SpoolFault> {
+    /// Keeps the paper of a job, under the time and the number of the job itself. Its path. On disk when it returns.
+    fn keep_paper(&mut self, job: &Job) -> Result<String, SpoolFault>
+        ensures paper { D.discloses → IfOk result (λ path.
+            HasPaper (string_bytes self.old.folder.path) job.now (string_bytes path)
+            (D.asked self.new.folder.disk)) }
+        ensures path { self.new.folder.path ≡ self.old.folder.path }
+    {
         let Ok(paper) = paper_of(self.alloc, job) else {
             return Err(SpoolFault::OutOfMemory);
         };
-        let (folder, ending) = match (job.select, job.mode) {
-            (Select::Punch, Mode::Transparent) => (Folder::Punch, ".cards"),
-            (Select::Punch, Mode::Normal) => (Folder::Punch, ".deck"),
-            (Select::Unset | Select::Printer, _) => (Folder::Print, ".txt"),
-        };
+        let (folder, ending) = place_of_paper(job);
         let number = self.number.saturating_sub(1);
-        self.folder.keep(
+        let kept = self.folder.keep(
             folder,
             self.stamp.as_str(),
             number,
             ending,
             paper.as_slice(),
         )?;
-        Ok(())
-    }
-}
-
-/// Tells that a file stands in doubt/.
-fn tell_doubt<C: Clock, W: Write, L: Write>(file: &GivenFile, console: &mut Console<C, W, L>) {
-    if let Some(path) = file.doubt_path() {
-        console.tell(Notice::Doubt(file.name.as_str(), path));
+        Ok(kept.path)
     }
 }
 
@@ -319,20 +316,18 @@ impl<D: FolderDisk + Drop, C: Clock, W: Write, L: Write> Spool for FolderSpool<D
     }
 
     fn next(&mut self, alloc: Global) -> Result<Vec<Job>, SpoolFault> {
-        self.given = Vec::new(alloc);
+        self.given = GivenFiles::new(alloc);
         self.watching = Watching::new();
         self.take_files()
     }
 
     fn look_on<'a>(&mut self, station: &Station<'a>) {
         self.watching
-            .look_on(station, self.given.as_slice(), &mut self.console);
+            .look_on(station, &self.given, &mut self.console);
     }
 
     fn goes_out(&mut self, job: usize) -> Result<(), SpoolFault> {
-        if let Some(file) = self.given.iter_mut().find(|file| file.has(job)) {
-            file.goes_out(&mut self.folder)?;
-        }
+        self.given.goes_out(job, &mut self.folder)?;
         Ok(())
     }
 
@@ -345,9 +340,7 @@ impl<D: FolderDisk + Drop, C: Clock, W: Write, L: Write> Spool for FolderSpool<D
     }
 
     fn keep(&mut self, job: &Job) -> Result<(), SpoolFault> {
-        self.number_anew()?;
-        let file = received_file(self.alloc, job)?;
-        let path = self.keep_bytes(Folder::In, ".job", file.as_slice())?;
+        let path = self.keep_in(Folder::In, job)?;
         self.console
             .tell(Notice::Received(path.as_str(), JobLabel::of(job)));
         if let Err(fault) = self.keep_paper(job) {
@@ -359,9 +352,7 @@ impl<D: FolderDisk + Drop, C: Clock, W: Write, L: Write> Spool for FolderSpool<D
     }
 
     fn keep_cut(&mut self, job: &Job) -> Result<(), SpoolFault> {
-        self.number_anew()?;
-        let file = received_file(self.alloc, job)?;
-        let path = self.keep_bytes(Folder::Cut, ".job", file.as_slice())?;
+        let path = self.keep_in(Folder::Cut, job)?;
         self.console
             .tell(Notice::Cut(path.as_str(), JobLabel::of(job)));
         Ok(())

@@ -1,9 +1,10 @@
 //! A file whose jobs are in a transmission.
-ghost use Rattle.std.specs.Prelude.{◌≡◌, ◌≢◌, IfOk, OnOk, string_bytes};
+ghost use Rattle.std.specs.Prelude.{◌≡◌, IfOk, OnOk, false, string_bytes};
 ghost use Rattle.rje_stores.specs.Replacing.{Adds};
 ghost use Rattle.rje_folders.specs.Promising.{MayPromise, MaySettle};
 ghost use Rattle.rje_spool.specs.declared.given_file.Place.TheVariants.{Promised, Ready};
-ghost use Rattle.rje_spool.specs.GivenFile.{HasSent, IsPromised, OfPromised, StaysInDoubt};
+ghost use Rattle.rje_spool.specs.GivenFile.{HasSecondName, HasSent, IsDoubted, IsInSent, IsUnsettled, OfPromised, StaysInDoubt};
+ghost use Rattle.rje_spool.specs.GivenFiles.{HasBeenCounted, HasGoneOut, is_last_of, is_of};
 
 use rje_day::Disposition;
 use rje_files::MARK;
@@ -39,16 +40,17 @@ pub(crate) struct GivenFile {
 
 impl GivenFile {
     /// Whether a job of the transmission is of it.
-    pub(crate) fn has(&self, job: usize) -> bool {
+    pub(crate) fn has(&self, job: usize) -> bool
+        ensures { result ≡ is_of job self.now }
+    {
         self.first <= job && job - self.first < self.count
     }
 
     /// Whether a job of the transmission is its last.
-    fn ends_with(&self, job: usize) -> bool {
-        match job.checked_sub(self.first) {
-            Some(place) => place.saturating_add(1) == self.count,
-            None => false,
-        }
+    fn ends_with(&self, job: usize) -> bool
+        ensures { result ≡ is_last_of job self.now }
+    {
+        self.has(job) && self.count - (job - self.first) == 1
     }
 
     /// Where a job of the transmission is marked in the file, if it is.
@@ -64,10 +66,10 @@ impl GivenFile {
         ensures asks { D.discloses → Adds
             (MayPromise D.are_one (string_bytes folder.old.path) (string_bytes self.old.name))
             (D.asked folder.old.disk) (D.asked folder.new.disk) }
-        ensures out { OnOk result (self.new.place ≢ Ready) }
-        ensures promised { D.discloses → OnOk result (self.old.place ≡ Ready
-            → IsPromised (string_bytes folder.old.path) (string_bytes self.old.name)
-            self.new.place (D.asked folder.old.disk) (D.asked folder.new.disk)) }
+        ensures gone { D.discloses → OnOk result (HasGoneOut (string_bytes folder.old.path)
+            self.old self.new (D.asked folder.old.disk) (D.asked folder.new.disk)) }
+        ensures second { OnOk result (IsUnsettled self.old.place
+            → HasSecondName self.new.place) }
         ensures rest { self.new ≡ record self.old { place = self.new.place } }
         ensures path { folder.new.path ≡ folder.old.path }
     {
@@ -83,6 +85,10 @@ impl GivenFile {
         job: usize,
         folder: &mut StationFolder<D>,
     ) -> Result<(), FolderFault>
+        ensures sent { D.discloses → OnOk result (HasBeenCounted job (string_bytes folder.old.path)
+            self.old self.new (D.asked folder.new.disk)) }
+        ensures ready { OnOk result (is_last_of job self.old ≡ false
+            → HasSecondName self.old.place → self.new.place ≡ Ready) }
         ensures rest { self.new ≡ record self.old { place = self.new.place } }
         ensures path { folder.new.path ≡ folder.old.path }
     {
@@ -116,6 +122,9 @@ impl GivenFile {
         ensures asks { D.discloses → Adds (OfPromised (λ doubt. MaySettle D.are_one
             (string_bytes folder.old.path) (string_bytes self.old.name) doubt Disposition.Sent)
             self.old.place) (D.asked folder.old.disk) (D.asked folder.new.disk) }
+        ensures stands { D.discloses → OnOk result (HasSecondName self.old.place
+            → IsInSent (string_bytes folder.old.path) (string_bytes self.old.name)
+            self.new.place (D.asked folder.new.disk)) }
         ensures sent { D.discloses → OnOk result ((doubt : _) → self.old.place ≡ Promised doubt
             → HasSent (string_bytes folder.old.path) (string_bytes self.old.name)
             (string_bytes doubt) self.new.place (D.asked folder.old.disk) (D.asked folder.new.disk)) }
@@ -134,6 +143,7 @@ impl GivenFile {
         &mut self,
         folder: &mut StationFolder<D>,
     ) -> Result<(), FolderFault>
+        ensures ready { OnOk result (HasSecondName self.old.place → self.new.place ≡ Ready) }
         ensures asks { D.discloses → Adds (OfPromised (λ doubt. MaySettle D.are_one
             (string_bytes folder.old.path) (string_bytes self.old.name) doubt Disposition.Ready)
             self.old.place) (D.asked folder.old.disk) (D.asked folder.new.disk) }
@@ -152,18 +162,23 @@ impl GivenFile {
         &mut self,
         folder: &mut StationFolder<D>,
     ) -> Result<bool, FolderFault>
+        ensures doubted { OnOk result (IsDoubted self.new.place) }
         ensures rest { self.new ≡ record self.old { place = self.new.place } }
         ensures path { folder.new.path ≡ folder.old.path }
     {
-        if let Place::Doubted(_) = &self.place {
-            return Ok(false);
+        match &self.place {
+            Place::Doubted(_) => Ok(false),
+            Place::Sent(sent) => {
+                let doubt = folder.doubt(sent.as_str(), self.name.as_str())?;
+                self.place = Place::Doubted(doubt);
+                Ok(true)
+            }
+            _ => {
+                self.goes_out(folder)?;
+                self.stays_in_doubt(folder)?;
+                Ok(true)
+            }
         }
-        if let Place::Sent(sent) = &self.place {
-            self.place = Place::Doubted(folder.doubt(sent.as_str(), self.name.as_str())?);
-        }
-        self.goes_out(folder)?;
-        self.stays_in_doubt(folder)?;
-        Ok(true)
     }
 
     /// It was promised, and may have arrived: it stands in doubt/ alone.
@@ -174,6 +189,7 @@ impl GivenFile {
         ensures asks { D.discloses → Adds (OfPromised (λ doubt. MaySettle D.are_one
             (string_bytes folder.old.path) (string_bytes self.old.name) doubt Disposition.InDoubt)
             self.old.place) (D.asked folder.old.disk) (D.asked folder.new.disk) }
+        ensures doubted { OnOk result (HasSecondName self.old.place → IsDoubted self.new.place) }
         ensures stays { D.discloses → StaysInDoubt self.old.place
             (D.asked folder.old.disk) (D.asked folder.new.disk) }
         ensures rest { self.new ≡ record self.old { place = self.new.place } }

@@ -4,6 +4,7 @@
 mod console;
 mod folder_spool;
 mod given_file;
+mod given_files;
 mod notice;
 mod outgoing;
 mod paper;

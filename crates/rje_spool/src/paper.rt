@@ -3,9 +3,10 @@ ghost use Rattle.std.specs.Prelude.{◌≡◌, [], ◌∷◌, IfErr, IfOk};
 ghost use Rattle.rje_files.specs.declared.job_file.version.FileVersion.TheVariants.{Second};
 ghost use Rattle.rje_files.specs.Entry.{entry_of};
 ghost use Rattle.rje_files.specs.JobFile.{IsEntryFileOf};
-ghost use Rattle.rje_spool.specs.Paper.{paper};
+ghost use Rattle.rje_spool.specs.Paper.{paper, paper_ending, paper_folder};
 
 use rje_files::growth_of;
+use rje_folders::Folder;
 use rje_jobs::{FileFault, Form, Job, list_job, punch_job};
 use rje_text::{Mode, Select};
 use std::alloc::{AllocError, Global};
@@ -30,5 +31,17 @@ pub fn paper_of(alloc: Global, job: &Job) -> Result<Vec<u8>, FileFault>
         (Select::Punch, Mode::Transparent) => punch_job(alloc, job, Form::Raw),
         (Select::Punch, Mode::Normal) => punch_job(alloc, job, Form::Ascii),
         (Select::Unset | Select::Printer, _) => list_job(alloc, job),
+    }
+}
+
+/// The folder of a job's paper, and how the paper's name ends.
+pub(crate) fn place_of_paper(job: &Job) -> (Folder, &'static str)
+    ensures folder { result.0 ≡ paper_folder job.now.select }
+    ensures ending { result.1.now ≡ paper_ending job.now.select job.now.mode }
+{
+    match (job.select, job.mode) {
+        (Select::Punch, Mode::Transparent) => (Folder::Punch, ".cards"),
+        (Select::Punch, Mode::Normal) => (Folder::Punch, ".deck"),
+        (Select::Unset | Select::Printer, _) => (Folder::Print, ".txt"),
     }
 }

@@ -1,7 +1,7 @@
 //! What is told of a transmission while it goes on.
 
 use crate::console::Console;
-use crate::given_file::GivenFile;
+use crate::given_files::GivenFiles;
 use crate::notice::{JobLabel, Notice};
 use bsc_link::{Say, Sound};
 use rje_files::NO_NAME;
@@ -44,7 +44,7 @@ impl Watching {
     pub(crate) fn look_on<'a, C: Clock, W: Write, L: Write>(
         &mut self,
         station: &Station<'a>,
-        files: &[GivenFile],
+        files: &GivenFiles,
         console: &mut Console<C, W, L>,
     ) {
         if station.is_receiving() {
@@ -58,7 +58,7 @@ impl Watching {
     fn look_on_sending<'a, C: Clock, W: Write, L: Write>(
         &mut self,
         station: &Station<'a>,
-        files: &[GivenFile],
+        files: &GivenFiles,
         console: &mut Console<C, W, L>,
     ) {
         match station.due() {
@@ -75,7 +75,7 @@ impl Watching {
     fn tell_sending<'a, C: Clock, W: Write, L: Write>(
         &mut self,
         station: &Station<'a>,
-        files: &[GivenFile],
+        files: &GivenFiles,
         console: &mut Console<C, W, L>,
     ) {
         let sender = station.sender();
@@ -84,8 +84,7 @@ impl Watching {
             return;
         }
         self.sending = counted.saturating_add(1);
-        let file = files.iter().find(|file| file.has(counted));
-        if let Some(file) = file {
+        if let Some(file) = files.of(counted) {
             let label = JobLabel::of(&sender.jobs()[counted]);
             console.tell(Notice::Sending(file.name.as_str(), label));
         }

@@ -1,0 +1,30 @@
+-- The files of out/ whose jobs are in a transmission, in the order of their jobs (own profile). A job goes by its number there, from 0.
+use Rattle.std.specs.Prelude.{◌≡◌, ◌≢◌, ℕ, ◌-◌, ◌==◌, Bool, true, ◌&&◌, List, position, slice_get, slice_set, nat_lt, nat_le, Some, string_bytes}
+use Rattle.rje_stores.specs.Disk.{Asked}
+use Rattle.rje_spool.specs.declared.given_file.GivenFile.{GivenFile}
+use Rattle.rje_spool.specs.declared.given_file.Place.{Place}
+use Rattle.rje_spool.specs.GivenFile.{HasSecondName, IsInSent, IsPromised}
+
+-- the job is one of the file's
+abbrev pub is_of : ℕ → GivenFile → Bool
+is_of job file = nat_le file.first job && nat_lt (job - file.first) file.count
+
+-- it is the last one of the file's: from it on there is one
+abbrev pub is_last_of : ℕ → GivenFile → Bool
+is_last_of job file = is_of job file && (file.count - (job - file.first) == 1)
+
+-- This holds of the file that a job is of, the first such, as it stood before and as it stands now; the others are as they were.
+abbrev pub OfFile : (job : ℕ) → (Holds : GivenFile → GivenFile → Type 0) → (before after : List GivenFile) → Type 0
+OfFile job Holds before after =
+    (place : ℕ) (file : GivenFile) → position (is_of job) before ≡ Some place → slice_get before place ≡ Some file
+    → (now : GivenFile) × (after ≡ slice_set before place now) × Holds file now
+
+-- it doesn't stand in out/ alone; and where it did, it has a name in doubt/ now, on disk, beside the one in out/
+pub record HasGoneOut (station : List ℕ) (file now : GivenFile) (before after : List Asked) : Type 0 where
+  pub out : now.place ≢ Place.Ready
+  pub promised : file.place ≡ Place.Ready → IsPromised station (string_bytes file.name) now.place before after
+
+-- where its last job was counted, and it had a name in doubt/, it stands in sent/ now, on disk
+abbrev pub HasBeenCounted : (job : ℕ) → (station : List ℕ) → (file now : GivenFile) → (after : List Asked) → Type 0
+HasBeenCounted job station file now after =
+    is_last_of job file ≡ true → HasSecondName file.place → IsInSent station (string_bytes file.name) now.place after

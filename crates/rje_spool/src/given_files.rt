@@ -1,0 +1,131 @@
+//! The files whose jobs are in a transmission.
+ghost use Rattle.std.specs.Prelude.{◌≡◌, false, [], position, string_bytes, OnOk};
+ghost use Rattle.rje_spool.specs.declared.given_file.Place.TheVariants.{Ready};
+ghost use Rattle.rje_spool.specs.GivenFile.{HasSecondName, IsDoubted};
+ghost use Rattle.rje_spool.specs.GivenFiles.{HasBeenCounted, HasGoneOut, OfFile, is_last_of, is_of};
+
+use crate::given_file::{GivenFile, Place};
+use rje_folders::{FolderDisk, FolderFault, StationFolder};
+use std::alloc::{AllocError, Global};
+
+/// The files of the transmission that was begun last, in the order of their jobs. A job goes by its number in the transmission, from 0.
+#[derive(Debug, Drop)]
+pub(crate) struct GivenFiles {
+    files: Vec<GivenFile>,
+}
+
+impl GivenFiles {
+    /// None yet. Takes no memory.
+    pub(crate) fn new(alloc: Global) -> GivenFiles
+        ensures none { result.files.items ≡ [] }
+    {
+        GivenFiles {
+            files: Vec::new(alloc),
+        }
+    }
+
+    /// How many jobs they have.
+    pub(crate) fn jobs(&self) -> usize {
+        match self.files.last() {
+            Some(file) => file.first.saturating_add(file.count),
+            None => 0,
+        }
+    }
+
+    /// A file of this name, with so many jobs, comes after these. Where each of them is marked in it, if it is a job file.
+    pub(crate) fn add(
+        &mut self,
+        name: String,
+        count: usize,
+        places: Vec<usize>,
+    ) -> Result<(), AllocError> {
+        let file = GivenFile {
+            name,
+            first: self.jobs(),
+            count,
+            places,
+            place: Place::Ready,
+        };
+        self.files.push(file)?;
+        Ok(())
+    }
+
+    /// The file that a job is of.
+    pub(crate) fn of(&self, job: usize) -> Option<&GivenFile> {
+        self.files.get(self.place_of(job)?)
+    }
+
+    /// The place of the file that a job is of.
+    fn place_of(&self, job: usize) -> Option<usize>
+        ensures { result ≡ position (is_of job) self.now.files.items }
+    {
+        self.files.iter().position(|file| file.has(job))
+    }
+
+    /// The last block of a job goes out next: its file has a name in doubt/ from then on, on disk.
+    pub(crate) fn goes_out<D: FolderDisk + Drop>(
+        &mut self,
+        job: usize,
+        folder: &mut StationFolder<D>,
+    ) -> Result<(), FolderFault>
+        ensures out { D.discloses → OnOk result (OfFile job
+            (λ file now. HasGoneOut (string_bytes folder.old.path) file now
+            (D.asked folder.old.disk) (D.asked folder.new.disk))
+            self.old.files.items self.new.files.items) }
+    {
+        match self.place_of(job) {
+            Some(place) => self.files[place].goes_out(folder),
+            None => Ok(()),
+        }
+    }
+
+    /// A job was counted: it is marked as sent, and where it is the last one of its file the file goes to sent/.
+    pub(crate) fn is_counted<D: FolderDisk + Drop>(
+        &mut self,
+        job: usize,
+        folder: &mut StationFolder<D>,
+    ) -> Result<(), FolderFault>
+        ensures sent { D.discloses → OnOk result (OfFile job
+            (λ file now. HasBeenCounted job (string_bytes folder.old.path) file now
+            (D.asked folder.new.disk)) self.old.files.items self.new.files.items) }
+        ensures ready { OnOk result (OfFile job (λ file now. is_last_of job file ≡ false
+            → HasSecondName file.place → now.place ≡ Ready)
+            self.old.files.items self.new.files.items) }
+    {
+        match self.place_of(job) {
+            Some(place) => self.files[place].was_counted(job, folder),
+            None => Ok(()),
+        }
+    }
+
+    /// A job lies ready still, and so does what is left of its file.
+    pub(crate) fn lies_ready<D: FolderDisk + Drop>(
+        &mut self,
+        job: usize,
+        folder: &mut StationFolder<D>,
+    ) -> Result<(), FolderFault>
+        ensures ready { OnOk result (OfFile job
+            (λ file now. HasSecondName file.place → now.place ≡ Ready)
+            self.old.files.items self.new.files.items) }
+    {
+        match self.place_of(job) {
+            Some(place) => self.files[place].lies_ready(folder),
+            None => Ok(()),
+        }
+    }
+
+    /// Nobody knows whether a job arrived: its file stands in doubt/. Whether it didn't before.
+    pub(crate) fn is_doubted<D: FolderDisk + Drop>(
+        &mut self,
+        job: usize,
+        folder: &mut StationFolder<D>,
+    ) -> Result<bool, FolderFault>
+        ensures doubted { OnOk result (OfFile job (λ file now. IsDoubted now.place)
+            self.old.files.items self.new.files.items) }
+    {
+        match self.place_of(job) {
+            Some(place) => self.files[place].is_doubted(folder),
+            None => Ok(false),
+        }
+    }
+}
