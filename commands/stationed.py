@@ -291,6 +291,14 @@ def one_station(checks, program, folder):
         for name in (".x.deck", "y.deck.part", "z.deck.hold"):
             with open(station.at("out", name), "w") as file:
                 file.write("NO\n")
+        # No files: a link to nowhere, one to a deck, a folder, and a pipe, which nobody writes into.
+        os.symlink("/nowhere", station.at("out", "a.link.deck"))
+        os.symlink("../c.txt", station.at("out", "a.second.deck"))
+        with open(station.at("c.txt"), "w") as file:
+            file.write("NO\n")
+        os.mkdir(station.at("out", "a.folder.deck"))
+        os.mkfifo(station.at("out", "a.pipe.deck"))
+        left = ["a.folder.deck", "a.link.deck", "a.pipe.deck", "a.second.deck", "y.deck.part", "z.deck.hold"]
         with open(station.at("out", "b.txt"), "w") as file:
             file.write("B\n")
         with open(station.at("out", "c.deck"), "w") as file:
@@ -312,7 +320,7 @@ def one_station(checks, program, folder):
         peer.says(ACK1)
         checks.check(not peer.hears(EOT) and "it doesn't end")
         checks.check(station.names("sent") != ["d.punch.deck"] and "a file isn't in sent/ once it is counted")
-        checks.check(station.names("doubt") + station.names("out") != ["y.deck.part", "z.deck.hold"] and f"in out/ {station.names('out')}")
+        checks.check(station.names("doubt") + station.names("out") != left and f"in out/ {station.names('out')}")
         checks.check(station.names("refused") != ["b.txt", "b.txt.why", "c.deck", "c.deck.why"] and f"refused {station.names('refused')}")
         with open(station.at("refused", "c.deck.why")) as file:
             checks.check(file.read() != "deck line 1 column 2: no EBCDIC character\n" and "another reason")
@@ -330,6 +338,10 @@ def one_station(checks, program, folder):
         second = subprocess.run([program, "station", station.folder, "--to", address], stdin=subprocess.DEVNULL, capture_output=True, text=True)
         wanted = (3, "", f"rje: {station.folder} is in use\n")
         checks.check((second.returncode, second.stdout, second.stderr) != wanted and f"a second station told {second}")
+        nowhere = station.at("nowhere")
+        lost = subprocess.run([program, "station", nowhere, "--to", address], stdin=subprocess.DEVNULL, capture_output=True, text=True)
+        wanted = (3, "", f"rje: {nowhere}: entity not found\n")
+        checks.check((lost.returncode, lost.stdout, lost.stderr) != wanted and f"a station without a folder told {lost}")
         # An answer after EOT: what was counted is in doubt.
         station.put("e.deck", ["E"])
         checks.check(not peer.hears(ENQ) and "it doesn't bid again")
@@ -354,7 +366,7 @@ def one_station(checks, program, folder):
         day = time.strftime("%Y%m%d", time.gmtime())
         told = [re.sub(day + r"T\d{6}Z-\d+", "TIME", line) for line in told]
         wanted = [
-            f"station of {station.folder}", "refused b.txt: neither a deck nor a job file, by its name",
+            f"station of {station.folder}", "a.folder.deck: out: is a directory", "a.pipe.deck: out: unsupported", "a.second.deck: out: unsupported", "refused b.txt: neither a deck nor a job file, by its name",
             "refused c.deck: deck line 1 column 2: no EBCDIC character", "bid", "sending d.punch.deck punch 2 cards", "sent d.punch.deck",
             "received in/TIME.job unset whole 1 records", "receiving job 2", "received cut/TIME.job unset CUT 1 records", "bid",
             "sending e.deck unset 1 cards", "sent e.deck", "DOUBT e.deck may have arrived: doubt/e.deck", "line failed: answers out of step",

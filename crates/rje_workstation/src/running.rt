@@ -4,7 +4,7 @@ use crate::attending::attend;
 use crate::speaking::most_quiet;
 use rje_commands::{CommandFault, tell};
 use rje_day::{Day, Settings};
-use rje_folders::{FolderDisk, FolderFault, StationFolder};
+use rje_folders::{Folder, FolderDisk, FolderFault, StationFolder};
 use rje_orders::{Order, Partner, StationOrder};
 use rje_program::tell_words;
 use rje_spool::{Console, FolderSpool, Notice};
@@ -12,7 +12,7 @@ use rje_stores::SystemDisk;
 use rje_words::parse;
 use std::alloc::Global;
 use std::fs::{File, OpenOptions};
-use std::io::{self, Write};
+use std::io::{self, ErrorKind, Write};
 use std::net::{Net, OpenListener, SocketAddr, TcpListener};
 use std::rt::Files;
 use std::time::Clock;
@@ -38,31 +38,34 @@ where
     };
     match run(rt, alloc, &order, err, is_terminal) {
         Ok(()) => 0,
-        Err(StationEnd::Folder(FolderFault::InUse)) => {
-            let _ = writeln!(err, "rje: {} is in use", order.folder);
-            3
-        }
-        Err(StationEnd::Folder(FolderFault::OutOfMemory)) => tell(&CommandFault::OutOfMemory, err),
-        Err(StationEnd::Folder(fault)) => {
-            let _ = writeln!(err, "rje: {}: {fault}", order.folder);
-            3
-        }
-        Err(StationEnd::Log(error)) => {
-            let _ = writeln!(err, "rje: {}/log: {error}", order.folder);
-            3
-        }
-        Err(StationEnd::Listener(address, error)) => {
-            let kind = error.kind();
-            let _ = writeln!(
-                err,
-                "rje: can't listen on {address}: {kind}\nrje: line failed"
-            );
-            3
-        }
+        Err(end) => tell_end(&end, order.folder, err),
     }
 }
 
+/// Tells why a station in this folder ends that wasn't to, and returns the exit status.
+fn tell_end<E: Write>(end: &StationEnd, folder: &str, err: &mut E) -> u8 {
+    if end.is_want_of_memory() {
+        return tell(&CommandFault::OutOfMemory, err);
+    }
+    let _ = match end {
+        StationEnd::Folder(FolderFault::InUse) => writeln!(err, "rje: {folder} is in use"),
+        // No folder can be made in one that isn't there.
+        StationEnd::Folder(FolderFault::Failed(Folder::Out, ErrorKind::NotFound)) => {
+            writeln!(err, "rje: {folder}: {}", ErrorKind::NotFound)
+        }
+        StationEnd::Folder(fault) => writeln!(err, "rje: {folder}: {fault}"),
+        StationEnd::Log(error) => writeln!(err, "rje: {folder}/log: {error}"),
+        StationEnd::Listener(address, error) => writeln!(
+            err,
+            "rje: can't listen on {address}: {}\nrje: line failed",
+            error.kind()
+        ),
+    };
+    3
+}
+
 /// Why a station ends that wasn't to.
+#[derive(Drop)]
 enum StationEnd {
     /// Its folder can't be used.
     Folder(FolderFault),
@@ -70,6 +73,17 @@ enum StationEnd {
     Log(io::Error),
     /// It can't listen at this address.
     Listener(SocketAddr, io::Error),
+}
+
+impl StationEnd {
+    /// Whether there was no memory for it.
+    fn is_want_of_memory(&self) -> bool {
+        match self {
+            StationEnd::Folder(fault) => *fault == FolderFault::OutOfMemory,
+            StationEnd::Log(error) => error.kind() == ErrorKind::OutOfMemory,
+            StationEnd::Listener(_, error) => error.kind() == ErrorKind::OutOfMemory,
+        }
+    }
 }
 
 /// Has the folder, and stays on the line.
