@@ -1,0 +1,2 @@
+pub mod Passage
+pub mod Day

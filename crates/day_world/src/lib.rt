@@ -1,0 +1,6 @@
+//! A whole day of two stations, exchange after exchange.
+#![tactic(auto)]
+
+mod laws;
+
+pub use laws::days_keep_each_job_once;
