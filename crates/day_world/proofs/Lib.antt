@@ -1,3 +1,4 @@
 pub mod Lists
 pub mod Passages
+pub mod Carried
 pub mod WholeDay

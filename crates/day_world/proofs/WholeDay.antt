@@ -10,7 +10,8 @@ use Rattle.rje_day.specs.Ended.{disposition_of}
 use Rattle.rje_day.specs.Giving.{AllMayOccur, Becomes, IsGiven, LiesReady, Name, Occurrence, Transmission, Transmitted}
 use Rattle.rje_day.specs.Giving.{PutOut as IsPutOut}
 use Rattle.rje_day.specs.Laws.{GivesNoJobAgain}
-use Rattle.day_world.specs.Day.{AreAmong, BringsEachOnce, BringsNoOther, BringsNoneReady, BringsWhatWasSent, Exchanged, Happening, IsAmong, IsEachOnce, KeepsWhatCame, LeavesFewInDoubt, OverDays, PutOut, came_in, is_same, kept_in, occurrences, passages, sent_by, sent_in}
+use Rattle.day_world.specs.Day.{AllCarried, AreAmong, BringsEachOnce, BringsNoOther, BringsNoneReady, BringsWhatWasSent, Exchanged, Happening, IsAmong, IsEachOnce, KeepsWhatCame, LeavesFewInDoubt, OverDays, PutOut, came_in, is_same, kept_in, occurrences, passages, sent_by, sent_in}
+use Rattle.day_world.specs.Carried.{PassOnTheFirstJobs}
 use Rattle.day_world.specs.Passage.{ComesThrough, IsPassedOn, LeavesOneInDoubt, Passage, came, in_doubt, jobs_of, names_of, sent, transmission_of}
 use Rattle.day_world.proofs.Lists.{among_either, beginning, beside, first_at, itself, once_first, once_joined}
 use Rattle.day_world.proofs.Passages.{comes_through, leaves_one_in_doubt}
@@ -132,20 +133,29 @@ each_once again rank (Exchanged up down ∷ past) p may once =
 
 -- ---- The law.
 
-pub keeps_what_came : OverDays KeepsWhatCame
-keeps_what_came day rank d = all_kept (passages rank day) (d.passed rank)
+own_passage : (rank : Rank) (up down : Passage) → IsPassedOn up × IsPassedOn down → IsPassedOn (sent_by rank up down)
+own_passage Rank.Primary up down p = p.0
+own_passage Rank.Secondary up down p = p.1
 
-pub brings_what_was_sent : OverDays BringsWhatWasSent
-brings_what_was_sent day rank d = all_sent (passages rank day) (each_through (passages rank day) (d.passed rank))
+all_passed : PassOnTheFirstJobs → (rank : Rank) (day : List Happening) → AllCarried day → AllByRecursion IsPassedOn (passages rank day)
+all_passed pass rank [] carried = tt
+all_passed pass rank (PutOut by name ∷ past) carried = all_passed pass rank past carried
+all_passed pass rank (Exchanged up down ∷ past) carried = (own_passage rank up down (pass up down carried.0), all_passed pass rank past carried.1)
 
-pub brings_no_other : OverDays BringsNoOther
-brings_no_other day rank d = each_through (passages rank day) (d.passed rank)
+pub keeps_what_came : PassOnTheFirstJobs → OverDays KeepsWhatCame
+keeps_what_came pass day rank d = all_kept (passages rank day) (all_passed pass rank day d.carried)
 
-pub brings_each_once : GivesNoJobAgain → OverDays BringsEachOnce
-brings_each_once again day rank d = each_once again rank day (d.passed rank) (d.ready rank) (d.once rank)
+pub brings_what_was_sent : PassOnTheFirstJobs → OverDays BringsWhatWasSent
+brings_what_was_sent pass day rank d = all_sent (passages rank day) (each_through (passages rank day) (all_passed pass rank day d.carried))
 
-pub brings_none_ready : GivesNoJobAgain → OverDays BringsNoneReady
-brings_none_ready again day rank d = none_ready again rank day (d.passed rank) (d.ready rank)
+pub brings_no_other : PassOnTheFirstJobs → OverDays BringsNoOther
+brings_no_other pass day rank d = each_through (passages rank day) (all_passed pass rank day d.carried)
+
+pub brings_each_once : PassOnTheFirstJobs → GivesNoJobAgain → OverDays BringsEachOnce
+brings_each_once pass again day rank d = each_once again rank day (all_passed pass rank day d.carried) (d.ready rank) (d.once rank)
+
+pub brings_none_ready : PassOnTheFirstJobs → GivesNoJobAgain → OverDays BringsNoneReady
+brings_none_ready pass again day rank d = none_ready again rank day (all_passed pass rank day d.carried) (d.ready rank)
 
 pub leaves_few_in_doubt : OverDays LeavesFewInDoubt
 leaves_few_in_doubt day rank d = each_one (passages rank day)

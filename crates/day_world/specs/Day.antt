@@ -5,7 +5,8 @@ use Rattle.bsc_link.specs.declared.rank.Rank.{Rank}
 use Rattle.rje_day.specs.Giving.{AllMayOccur, LiesReady, Name, Occurrence, Transmitted}
 use Rattle.rje_day.specs.Giving.{PutOut as IsPutOut}
 use Rattle.rje_jobs.specs.declared.job.Job.{Job}
-use Rattle.day_world.specs.Passage.{ComesThrough, IsPassedOn, LeavesOneInDoubt, Named, Passage, came, jobs_of, names_of, sent, transmission_of}
+use Rattle.day_world.specs.Carried.{IsCarried}
+use Rattle.day_world.specs.Passage.{ComesThrough, LeavesOneInDoubt, Named, Passage, came, jobs_of, names_of, sent, transmission_of}
 
 -- ---- What happens.
 
@@ -73,9 +74,15 @@ IsEachOnce (n ∷ names) = (IsAmong n names → ⊥) × IsEachOnce names
 
 -- ---- A day.
 
--- Each way of each exchange is passed on; each job is put out once, and each transmission is given only what lies ready, each once.
+-- each exchange was carried
+abbrev pub AllCarried : List Happening → Type 0
+AllCarried [] = Unit {0}
+AllCarried (PutOut by name ∷ past) = AllCarried past
+AllCarried (Exchanged up down ∷ past) = IsCarried up down × AllCarried past
+
+-- Each exchange was carried; at either station each job is put out once, and each transmission is given only what lies ready, each once.
 pub record IsDay (day : List Happening) : Type 0 where
-  pub passed : (rank : Rank) → AllByRecursion IsPassedOn (passages rank day)
+  pub carried : AllCarried day
   pub ready : (rank : Rank) → AllMayOccur (occurrences rank day)
   pub once : (rank : Rank) → AllByRecursion (λ t. IsEachOnce (names_of t.given)) (passages rank day)
 

@@ -3,4 +3,4 @@
 
 mod laws;
 
-pub use laws::days_keep_each_job_once;
+pub use laws::{days_keep_each_job_once, exchanges_pass_on_the_first_jobs};
