@@ -37,7 +37,7 @@ use Rattle.connection_world.proofs.Stations.{ends_or_asks, quiet_counts_none, wo
 said_something : (say : Say) (rest : List Block) (f : Frame) → IsFrameOf say rest f → say ≢ Say.Nothing
 said_something say rest f due e = subst (λ x. IsFrameOf x rest f) e due
 
-speaks_own : (f : Frame) (s s' : Contending) → SpeaksOwn f s s' → Speaks f s.sender s'.sender
+pub speaks_own : (f : Frame) (s s' : Contending) → SpeaksOwn f s s' → Speaks f s.sender s'.sender
 speaks_own f s s' speaks =
     let some = said_something (due_at s) s.sender.rest f speaks.due in
     record {
@@ -57,18 +57,18 @@ listens_none : (given : Given Answer) (s s' : Contending) → ListensOwn given s
 listens_none given s s' listens none = rw none at listens
 
 -- its own transmission leaves the receiving side as it is
-abbrev with_own : Say → Contending → Sending → ContenderState → Contending
+abbrev pub with_own : Say → Contending → Sending → ContenderState → Contending
 with_own say s x c = elim say [ Say.Nothing ↦ s | _ ↦ record s { sender = x; contender = c } ]
 
 receiver_kept : (say : Say) (s : Contending) (x : Sending) (c : ContenderState) → (with_own say s x c).receiver ≡ s.receiver
 receiver_kept Say.Nothing s x c = refl
 receiver_kept _ s x c = refl
 
-spoke_aside : (f : Frame) (s s' : Contending) → SpeaksOwn f s s' → s'.receiver ≡ s.receiver
+pub spoke_aside : (f : Frame) (s s' : Contending) → SpeaksOwn f s s' → s'.receiver ≡ s.receiver
 spoke_aside f s s' speaks =
     ap (λ x. x.receiver) (speaks.state ∙ spoken_of_due s (due_at s) refl (said_something (due_at s) s.sender.rest f speaks.due))
 
-listened_aside : (given : Given Answer) (s s' : Contending) → ListensOwn given s s' → s'.receiver ≡ s.receiver
+pub listened_aside : (given : Given Answer) (s s' : Contending) → ListensOwn given s s' → s'.receiver ≡ s.receiver
 listened_aside Given.Nothing s s' listens = ap (λ x. x.receiver) listens
 listened_aside (Given.Answer a) s s' listens = ap (λ x. x.receiver) listens.1 ∙ receiver_kept (due_at s) s _ _
 listened_aside Given.Bid s s' listens = ap (λ x. x.receiver) listens.1 ∙ receiver_kept (due_at s) s _ _
@@ -78,26 +78,26 @@ listened_aside (Given.InVain rest) s s' listens = ap (λ x. x.receiver) listens.
 -- ---- It hears the other station.
 
 -- what it makes of that: it replies, or the other's transmission ended
-abbrev after_hearing_other : Contending → Contending
+abbrev pub after_hearing_other : Contending → Contending
 after_hearing_other s = if s.receiver.over then after_other_ended s else after_own_reply s
 
 sender_left : (s : Contending) → (after_hearing_other s).sender ≡ s.sender
 sender_left s = elim (cases_Bool s.receiver.over) [ inl e ↦ rw e refl | inr e ↦ rw e refl ]
 
-receiver_left : (s : Contending) → wordless (after_hearing_other s).receiver ≡ wordless s.receiver
+pub receiver_left : (s : Contending) → wordless (after_hearing_other s).receiver ≡ wordless s.receiver
 receiver_left s = elim (cases_Bool s.receiver.over) [ inl e ↦ rw e refl | inr e ↦ rw e refl ]
 
-taken_other : (s : Contending) (h : OneHearing) → lets_in s.contender (sound_heard h.what) ≡ true
+pub taken_other : (s : Contending) (h : OneHearing) → lets_in s.contender (sound_heard h.what) ≡ true
     → after_other s h.what h.refused h.wish
     ≡ record s { sender = gives_way s.contender.rank (sound_heard h.what) s.sender; receiver = after_receiving s.receiver h.what h.refused h.wish; contender = contender_hears (sound_heard h.what) s.contender }
 taken_other s h e = rw (e, after_other) refl
 
-passed_other : (s : Contending) (h : OneHearing) → lets_in s.contender (sound_heard h.what) ≡ false
+pub passed_other : (s : Contending) (h : OneHearing) → lets_in s.contender (sound_heard h.what) ≡ false
     → after_other s h.what h.refused h.wish ≡ record s { receiver = after_passing s.receiver }
 passed_other s h e = rw (e, after_other) refl
 
 -- its sending side stays, or gives way
-abbrev MayYield : Sending → Sending → Type 0
+abbrev pub MayYield : Sending → Sending → Type 0
 MayYield s s' = (s' ≡ s) ⊎ (s' ≡ record s { core = sender_yielded s.core })
 
 gives_way_or_not : (rank : Rank) (sound : Sound) (s : Sending) → MayYield s (gives_way rank sound s)
@@ -105,7 +105,7 @@ gives_way_or_not Rank.Secondary Sound.Enq s = inr refl
 gives_way_or_not Rank.Secondary _ s = inl refl
 gives_way_or_not Rank.Primary _ s = inl refl
 
-sender_after_other : (h : OneHearing) (s s' : Contending) → HearsOther h s s' → MayYield s.sender s'.sender
+pub sender_after_other : (h : OneHearing) (s s' : Contending) → HearsOther h s s' → MayYield s.sender s'.sender
 sender_after_other h s s' hears = elim (cases_Bool (lets_in s.contender (sound_heard h.what))) [
   | inl e ↦ subst (MayYield s.sender) (sym (left ∙ ap (λ x. x.sender) (taken_other s h e))) (gives_way_or_not s.contender.rank (sound_heard h.what) s.sender)
   | inr e ↦ inl (left ∙ ap (λ x. x.sender) (passed_other s h e))
@@ -114,7 +114,7 @@ sender_after_other h s s' hears = elim (cases_Bool (lets_in s.contender (sound_h
     left : s'.sender ≡ (after_other s h.what h.refused h.wish).sender
     left = ap (λ x. x.sender) hears.state ∙ sender_left (after_other s h.what h.refused h.wish)
 
-receiver_after_other : (h : OneHearing) (s s' : Contending) → HearsOther h s s' → FarGoes h s.receiver s'.receiver
+pub receiver_after_other : (h : OneHearing) (s s' : Contending) → HearsOther h s s' → FarGoes h s.receiver s'.receiver
 receiver_after_other h s s' hears = elim (cases_Bool (lets_in s.contender (sound_heard h.what))) [
   | inl e ↦
       let is = ap (λ x. x.receiver) (taken_other s h e) in

@@ -1,5 +1,5 @@
 -- Each way of an exchange is passed on.
-use Rattle.std.proofs.Common.{◌≡◌, refl, sym, ap, ◌∙◌, subst, ℕ, zero, suc, ◌+◌, ◌<◌, ◌≤◌, Bool, true, false, if◌then◌else◌, nat_le, List, [], ◌∷◌, length, map, take, drop, slice_get, Some, ◌⊎◌, inl, inr, arith}
+use Rattle.std.proofs.Common.{◌≡◌, refl, sym, ap, ◌∙◌, subst, ℕ, zero, suc, ◌<◌, ◌≤◌, Bool, true, false, if◌then◌else◌, nat_le, List, [], ◌∷◌, length, take, Some, inl, inr, arith}
 use Rattle.std.specs.List.{AllByRecursion}
 use Rattle.std.proofs.lemmas.Grind.{common_steps}
 use Rattle.std.proofs.lemmas.Bool.{cases_lt, true≢false}
@@ -11,13 +11,12 @@ use Rattle.rje_day.specs.Ended.{disposition_of}
 use Rattle.rje_jobs.specs.declared.job.Job.{Job}
 use Rattle.rje_jobs.specs.Fitting.{JobFits}
 use Rattle.rje_station.specs.Station.{Contending}
-use Rattle.rje_session.specs.Account.{ended_of}
 use Rattle.rje_session.specs.Keeping.{AreKept}
 use Rattle.line_world.specs.Headline.{HandsFirst}
 use Rattle.connection_world.specs.BothWays.{AtEnd, EndWent}
 use Rattle.connection_world.specs.LastBlocks.{HandOutWhatWasSaid, HandsFirstWhere, HasSaidLast}
-use Rattle.day_world.specs.Carried.{HasKept, IsBooked, IsCarried, PassOnTheFirstJobs}
-use Rattle.day_world.specs.Passage.{IsPassedOn, Passage, came, jobs_of}
+use Rattle.day_world.specs.Carried.{HasKept, IsBooked, PassOnTheFirstJobs}
+use Rattle.day_world.specs.Passage.{IsPassedOn, Passage, jobs_of}
 
 -- ---- How many were kept.
 

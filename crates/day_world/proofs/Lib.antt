@@ -1,4 +1,5 @@
 pub mod Lists
 pub mod Passages
 pub mod Carried
+pub mod Books
 pub mod WholeDay

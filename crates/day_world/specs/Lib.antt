@@ -1,3 +1,4 @@
 pub mod Passage
 pub mod Carried
+pub mod Books
 pub mod Day

@@ -1,4 +1,5 @@
 //! What holds of every day of two stations.
+ghost use Rattle.day_world.specs.Books.{BookWhatHappens};
 ghost use Rattle.day_world.specs.Carried.{PassOnTheFirstJobs};
 ghost use Rattle.day_world.specs.Day.{BringsEachOnce, BringsNoOther, BringsNoneReady, BringsWhatWasSent, KeepsWhatCame, LeavesFewInDoubt, OverDays};
 
@@ -12,6 +13,12 @@ pub fn exchanges_pass_on_the_first_jobs()
 {
     exchanges_hand_out_what_was_said();
 }
+
+/// Whatever happens at an end of an exchange: a session that enters it turn by turn, and settles what is left once its transmission is over,
+/// books what it sends, and has kept all jobs that came whole, in order and as they came.
+pub fn sessions_book_what_happens()
+    ensures { BookWhatHappens }
+{}
 
 /// The headline over a whole day, each way, whatever is sent again.
 #[tactic(auto, using(crate::proofs::WholeDay::over_days))]

@@ -3,4 +3,6 @@
 
 mod laws;
 
-pub use laws::{days_keep_each_job_once, exchanges_pass_on_the_first_jobs};
+pub use laws::{
+    days_keep_each_job_once, exchanges_pass_on_the_first_jobs, sessions_book_what_happens,
+};
