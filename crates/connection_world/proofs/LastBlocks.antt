@@ -64,7 +64,8 @@ counted_on Etb d n = refl
 first_is : (c : Block) (bs : List Block) (b : Block) (behind : List Block) → c ∷ bs ≡ b ∷ behind → c ≡ b
 first_is c bs b behind e = cc
 
-ended_with : (n : ℕ) (bs : List Block) (b : Block) (behind : List Block) → drop n bs ≡ b ∷ behind → ended_by (take (suc n) bs) ≡ with_closing b.closing (ended_by (take n bs))
+ended_with : (n : ℕ) (bs : List Block) (b : Block) (behind : List Block) → drop n bs ≡ b ∷ behind
+    → ended_by (take (suc n) bs) ≡ with_closing b.closing (ended_by (take n bs))
 ended_with zero [] b behind e = cc
 ended_with (suc n) [] b behind e = cc
 ended_with zero (c ∷ bs) b behind e = counted_so c.closing 0 ∙ ap (λ x. with_closing x 0) (ap (λ x. x.closing) (first_is c bs b behind e))
@@ -112,16 +113,19 @@ module _ (back : CutReadsBack) (in_order : GetsInOrder) (within : StaysWithinPla
 
 -- ---- Each way.
 
-module _ (own : GivesOwnAnswers) (at_most : GetsAtMostOneMore) (knows : KnowsBeforeBlocks) (in_order : GetsInOrder) (within : StaysWithinPlan) (counts : CountsBlocks)
-    (receiving : ReceivingTurns) (back : CutReadsBack) where
-  one_way : (rank other : Rank) (jobs others : List Job) (near far : List AtEnd) (p s : Contending) → AllByRecursion JobFits jobs → (went : EndWent rank jobs near p)
-      → EndWent other others far s → AreConnected rank near far → HandsFirstWhere (HasSaidLast p.sender.counted rank jobs near p went) p.sender.counted jobs s.receiver.jobs
+module _ (own : GivesOwnAnswers) (at_most : GetsAtMostOneMore) (knows : KnowsBeforeBlocks) (in_order : GetsInOrder) (within : StaysWithinPlan)
+    (counts : CountsBlocks) (receiving : ReceivingTurns) (back : CutReadsBack) where
+  one_way : (rank other : Rank) (jobs others : List Job) (near far : List AtEnd) (p s : Contending) → AllByRecursion JobFits jobs
+      → (went : EndWent rank jobs near p)
+      → EndWent other others far s → AreConnected rank near far
+      → HandsFirstWhere (HasSaidLast p.sender.counted rank jobs near p went) p.sender.counted jobs s.receiver.jobs
   one_way rank other jobs others near far p s fit went went_other c =
       let Holds : ℕ → Type 0 = λ n. HasSaidLast n rank jobs near p went in
       let last =
       stand_at_last own at_most knows counts receiving (LastsHold Holds) jobs rank other others near far p s went went_other c
       (lasts_hold Holds rank jobs near p went (λ n said. said)) in
-      subst (λ n. HandsFirstWhere (Holds n) n jobs s.receiver.jobs) last.counted (hands_where back in_order within Holds jobs last.near s.receiver fit last.stood)
+      subst (λ n. HandsFirstWhere (Holds n) n jobs s.receiver.jobs) last.counted
+      (hands_where back in_order within Holds jobs last.near s.receiver fit last.stood)
 
   pub hand_out_what_was_said : HandOutWhatWasSaid
   hand_out_what_was_said ups downs near far p s fit_ups fit_downs c = (

@@ -60,10 +60,11 @@ pub fn exchanges_keep_order()
     histories_keep_order();
 }
 
-/// More exactly, to the job. Of the jobs of each station the other one hands out whole those that are counted; or one more, the next one,
-/// and then the station has said that one's last block, with as many jobs counted as now.
+/// More exactly, to the job. Of the jobs of each station the other one hands out whole those that
+/// are counted; or one more, the next one, and then the station has said that one's last block, with
+/// as many jobs counted as now.
 pub fn exchanges_hand_out_what_was_said()
-    ensures { HandOutWhatWasSaid }
+    ensures last_said { HandOutWhatWasSaid }
 {
     answers_are_own();
     ends_agree();

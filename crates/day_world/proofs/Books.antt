@@ -44,9 +44,9 @@ use Rattle.connection_world.specs.LastBlocks.{HasSaidLast, IsLastOfJob}
 use Rattle.connection_world.proofs.OneWay.{MayYield, listened_aside, passed_other, receiver_after_other, receiver_left, sender_after_other, speaks_own, spoke_aside, taken_other, with_own}
 use Rattle.connection_world.proofs.SideBySide.{FarGoes}
 use Rattle.connection_world.proofs.Stations.{said_of_block}
-use Rattle.day_world.specs.Books.{BeginsWith, BookWhatHappens, Books, announced, answered, books, in_hand, kept_by, kept_next}
-use Rattle.day_world.specs.Carried.{HasKept}
-use Rattle.day_world.specs.Passage.{jobs_of}
+use Rattle.day_world.specs.Books.{BeginsWith, Books, CarryWhatIsEntered, Enters, announced, answered, books, in_hand, kept_by, kept_next}
+use Rattle.day_world.specs.Carried.{HasKept, IsBooked}
+use Rattle.day_world.specs.Passage.{Passage, jobs_of}
 
 -- ---- The sending side, step by step.
 
@@ -73,10 +73,12 @@ answer_steps s sound pause =
 
 listened_steps : (given : Given Answer) (s s' : Contending) → ListensOwn given s s' → Steps s.sender s'.sender
 listened_steps Given.Nothing s s' listens = subst (λ (x : Contending). Steps s.sender x.sender) (sym listens) (refl, inl refl)
-listened_steps (Given.Answer a) s s' listens = subst (λ (x : Contending). Steps s.sender x.sender) (sym listens.1) (answer_steps s (sound_given (Given.Answer a)) listens.0)
+listened_steps (Given.Answer a) s s' listens =
+    subst (λ (x : Contending). Steps s.sender x.sender) (sym listens.1) (answer_steps s (sound_given (Given.Answer a)) listens.0)
 listened_steps Given.Bid s s' listens = subst (λ (x : Contending). Steps s.sender x.sender) (sym listens.1) (answer_steps s (sound_given Given.Bid) listens.0)
 listened_steps Given.End s s' listens = subst (λ (x : Contending). Steps s.sender x.sender) (sym listens.1) (answer_steps s (sound_given Given.End) listens.0)
-listened_steps (Given.InVain rest) s s' listens = subst (λ (x : Contending). Steps s.sender x.sender) (sym listens.1) (answer_steps s (sound_given (Given.InVain rest)) listens.0)
+listened_steps (Given.InVain rest) s s' listens =
+    subst (λ (x : Contending). Steps s.sender x.sender) (sym listens.1) (answer_steps s (sound_given (Given.InVain rest)) listens.0)
 
 yield_stays : (s s' : Sending) → MayYield s s' → Stays s s'
 yield_stays s s' (inl is) = (ap (λ x. x.jobs) is, ap (λ x. x.counted) is)
@@ -85,7 +87,8 @@ yield_stays s s' (inr is) = (ap (λ x. x.jobs) is, ap (λ x. x.counted) is)
 -- ---- What is entered.
 
 -- a job that may arrive still may, whatever is entered
-out_announced : (goes : Bool) (job n : ℕ) (ledger : List Entry) → may_arrive ledger n ≡ true → may_arrive ((if goes then MayArrive job ∷ [] else []) ++ ledger) n ≡ true
+out_announced : (goes : Bool) (job n : ℕ) (ledger : List Entry) → may_arrive ledger n ≡ true
+    → may_arrive ((if goes then MayArrive job ∷ [] else []) ++ ledger) n ≡ true
 out_announced false job n ledger out = out
 out_announced true job n ledger out = either (job == n)
   where
@@ -122,11 +125,16 @@ out_now c ledger goes =
     ap (λ b. may_arrive ((if b then MayArrive c.station.sender.counted ∷ [] else []) ++ ledger) c.station.sender.counted) goes
     ∙ ap (λ b. if b then true else may_arrive ledger c.station.sender.counted) (eq-eqb c.station.sender.counted c.station.sender.counted refl)
 
-answered_in_step : (c c' : Carried) (before after : List Entry) → Steps c.station.sender c'.station.sender → after ≡ settling c.station.sender.counted c'.station.sender.counted ++ before
+answered_in_step : (c c' : Carried) (before after : List Entry) → Steps c.station.sender c'.station.sender
+    → after ≡ settling c.station.sender.counted c'.station.sender.counted ++ before
     → c'.may_have_come ≡ (c.may_have_come && (c.station.sender.counted == c'.station.sender.counted)) → IsInStep c before → IsInStep c' after
 answered_in_step c c' before after steps is may in_step = record {
-  sent = λ job within. let there : job < length c.station.sender.jobs = rw (sym steps.0) within in let sent = in_step.sent job there in grind (arith, common_steps);
-  out = λ job within from. let there : job < length c.station.sender.jobs = rw (sym steps.0) within in let out = in_step.out job there in grind (arith, common_steps);
+  sent = λ job within.
+      let there : job < length c.station.sender.jobs = rw (sym steps.0) within in
+      let sent = in_step.sent job there in grind (arith, common_steps);
+  out = λ job within from.
+      let there : job < length c.station.sender.jobs = rw (sym steps.0) within in
+      let out = in_step.out job there in grind (arith, common_steps);
 }
 
 -- ---- The receiving side, step by step.
@@ -154,17 +162,20 @@ heard_jobs h s s' hears =
       | inl e ↦
           ap (λ x. x.receiver.jobs) (taken_other s h e)
           ∙ ap (λ a. jobs_after h.what a s.receiver.jobs)
-          (core_accepts s.receiver.core.place s.receiver.core.odd_accepted s.receiver.core.last_reply s.receiver.core.rvi_made (sound_taken h.what h.refused) h.wish)
+          (core_accepts s.receiver.core.place s.receiver.core.odd_accepted s.receiver.core.last_reply s.receiver.core.rvi_made
+          (sound_taken h.what h.refused) h.wish)
           ∙ sym (ap (λ x. x.receiver.jobs) (taken_other s (record h { wish = Wish.Go }) e))
       | inr e ↦ ap (λ x. x.receiver.jobs) (passed_other s h e) ∙ sym (ap (λ x. x.receiver.jobs) (passed_other s (record h { wish = Wish.Go }) e))
     ]
 
 -- all that came whole stay kept
-heard_kept : (h : OneHearing) (s s' : Contending) (n : ℕ) → HearsOther h s s' → AreKept n s.receiver.jobs → AreKept (kept_with n (slice_get s'.receiver.jobs n)) s'.receiver.jobs
+heard_kept : (h : OneHearing) (s s' : Contending) (n : ℕ) → HearsOther h s s' → AreKept n s.receiver.jobs
+    → AreKept (kept_with n (slice_get s'.receiver.jobs n)) s'.receiver.jobs
 heard_kept h s s' n hears kept =
     let jobs = heard_jobs h s s' hears in
-    subst (AreKept (kept_with n (slice_get s'.receiver.jobs n))) (sym jobs)
-    (others_kept n (kept_with n (slice_get s'.receiver.jobs n)) s (after_other s h.what h.refused Wish.Go) s'.receiver.jobs h.what h.refused refl jobs kept refl)
+    let now : ℕ = kept_with n (slice_get s'.receiver.jobs n) in
+    subst (AreKept now) (sym jobs)
+    (others_kept n now s (after_other s h.what h.refused Wish.Go) s'.receiver.jobs h.what h.refused refl jobs kept refl)
 
 -- and as they were
 read_same : (n : ℕ) (jobs : List Job) (u : Unpacked) (w : Bool) → AreKept n jobs → take n (with_read jobs u w) ≡ take n jobs
@@ -262,7 +273,8 @@ module _ (rank : Rank) (jobs : List Job) (begun : List Entry) where
       given = ap (λ x. x.sender.jobs) went
 
   -- it spoke
-  module _ (f : Frame) (past : List AtEnd) (s s' : Contending) (went : EndWent rank jobs past s) (speaks : SpeaksOwn f s s') (b : Books) (a : Along past s went b) where
+  module _ (f : Frame) (past : List AtEnd) (s s' : Contending) (went : EndWent rank jobs past s) (speaks : SpeaksOwn f s s') (b : Books)
+      (a : Along past s went b) where
     abbrev c : Carried
     c = in_hand s b
 
@@ -283,7 +295,10 @@ module _ (rank : Rank) (jobs : List Job) (begun : List Entry) where
     says_last last = or_not b.may_have_come (is_of_block (due_at s)) (ends_with s.sender.rest) of_block (ap ends_with last.outstanding ∙ last.last)
       where
         of_block : is_of_block (due_at s) ≡ true
-        of_block = elim (said_of_block (due_at s) s.sender.rest f last.block speaks.due last.said) [ inl first ↦ ap is_of_block first | inr again ↦ ap is_of_block again ]
+        of_block = elim (said_of_block (due_at s) s.sender.rest f last.block speaks.due last.said) [
+          | inl first ↦ ap is_of_block first
+          | inr again ↦ ap is_of_block again
+        ]
 
     said_then : (n : ℕ) → HasSaidLast n rank jobs (Own (Says f) ∷ past) s' (s, went, speaks) → may_arrive (announcing c ++ ledger b) n ≡ true
     said_then n (inl (same, last)) = subst (λ m. may_arrive (announcing c ++ ledger b) m ≡ true) same (out_then (says_last last))
@@ -394,22 +409,46 @@ keeps_all kept n jobs are same =
     let many : length kept ≡ n = ap length same ∙ kept_length n jobs are in
     record { many = subst (λ m. AreKept m jobs) (sym many) are; same = same ∙ ap (λ m. take m jobs) (sym many) }
 
-pub book_what_happens : BookWhatHappens
-book_what_happens t rank past s went begun after begins ended finishes =
-    let b : Books = books rank (jobs_of t.given) past s went in
-    let c : Carried = in_hand s b in
-    let a = along rank (jobs_of t.given) begun begins past s went in
-    let so = rest_so c (b.entered ++ begun) finishes.rest (nat_lt c.station.sender.counted (length c.station.sender.jobs)) refl a.in_step finishes.settles in
-    let next : Option Job = slice_get s.receiver.jobs b.kept in
-    record {
-      booked = record {
-        session = c;
-        ledger = after;
-        given = a.given;
-        counted = refl;
-        ended = ended;
-        settled = settled_on c next finishes.rest after finishes.cut so.0;
-        entered = λ n said. subst (λ (l : List Entry). may_arrive l n ≡ true) (sym finishes.cut) (out_cut next n finishes.rest (so.1 n (a.said n said)));
-      };
-      kept = keeps_all (kept_by b.entered) b.kept s.receiver.jobs a.kept a.kept_are;
-    }
+-- one end
+module _ (own other : Passage) (rank : Rank) (past : List AtEnd) (s : Contending) (went : EndWent rank (jobs_of own.given) past s)
+    (e : Enters own other rank past s went) where
+  abbrev last : Books
+  last = books rank (jobs_of own.given) past s went
+
+  a : Along rank (jobs_of own.given) e.begun past s went last
+  a = along rank (jobs_of own.given) e.begun e.begins past s went
+
+  so : IsSettled (in_hand s last) e.finishes.rest × ((n : ℕ) → may_arrive (last.entered ++ e.begun) n ≡ true → may_arrive e.finishes.rest n ≡ true)
+  so =
+      rest_so (in_hand s last) (last.entered ++ e.begun) e.finishes.rest (nat_lt s.sender.counted (length s.sender.jobs)) refl a.in_step e.finishes.settles
+
+  booked : IsBooked own rank past s went
+  booked = record {
+    session = in_hand s last;
+    ledger = e.after;
+    given = a.given;
+    counted = refl;
+    ended = e.ended;
+    settled = settled_on (in_hand s last) (slice_get s.receiver.jobs last.kept) e.finishes.rest e.after e.finishes.cut so.0;
+    entered = λ n said.
+        subst (λ (l : List Entry). may_arrive l n ≡ true) (sym e.finishes.cut)
+        (out_cut (slice_get s.receiver.jobs last.kept) n e.finishes.rest (so.1 n (a.said n said)));
+  }
+
+  keeps : HasKept other.kept s.receiver.jobs
+  keeps = keeps_all other.kept last.kept s.receiver.jobs a.kept (e.kept ∙ a.kept_are)
+
+pub carry_what_is_entered : CarryWhatIsEntered
+carry_what_is_entered up down c = record {
+  near = c.near;
+  far = c.far;
+  p = c.p;
+  s = c.s;
+  exchange = c.exchange;
+  fit_up = c.fit_up;
+  fit_down = c.fit_down;
+  booked_up = booked up down Rank.Primary c.near c.p c.exchange.primary c.primary;
+  booked_down = booked down up Rank.Secondary c.far c.s c.exchange.secondary c.secondary;
+  kept_up = keeps down up Rank.Secondary c.far c.s c.exchange.secondary c.secondary;
+  kept_down = keeps up down Rank.Primary c.near c.p c.exchange.primary c.primary;
+}

@@ -30,7 +30,8 @@ none_such : (is : Disposition → Bool) (ended : Ended) (k : ℕ) (given : List 
     → with_fate is ended k given ≡ []
 none_such is ended k [] none = refl
 none_such is ended k (g ∷ given) none =
-    ap (λ b. if b then g ∷ with_fate is ended (k + 1) given else with_fate is ended (k + 1) given) (ap (λ n. is (disposition_of ended n)) (here k) ∙ none 0 (omega arith))
+    ap (λ b. if b then g ∷ with_fate is ended (k + 1) given else with_fate is ended (k + 1) given)
+    (ap (λ n. is (disposition_of ended n)) (here k) ∙ none 0 (omega arith))
     ∙ none_such is ended (k + 1) given (λ i less. ap (λ n. is (disposition_of ended n)) (next k i) ∙ none (suc i) (omega (arith, less)))
   where
     here : (k : ℕ) → k ≡ k + 0
@@ -61,7 +62,9 @@ behind ended k n g given r = record {
     next k i = omega arith
 
 abbrev Comes : Ended → (k n : ℕ) → List Named → Type 0
-Comes ended k n given = (take n given ≡ with_fate is_sent ended k given) ⊎ (take n given ≡ with_fate is_sent ended k given ++ with_fate is_in_doubt ended k given)
+Comes ended k n given =
+    (take n given ≡ with_fate is_sent ended k given)
+    ⊎ (take n given ≡ with_fate is_sent ended k given ++ with_fate is_in_doubt ended k given)
 
 -- behind one that is in doubt none came
 none_behind : (ended : Ended) (k n : ℕ) (given : List Named) → disposition_of ended k ≡ Disposition.InDoubt → Reach ended (k + 1) n given → take n given ≡ []
@@ -71,7 +74,10 @@ none_behind ended k (suc n) (h ∷ given) e r = let less = r.ready 0 (omega arit
 
 comes : (ended : Ended) (k n : ℕ) (given : List Named) → Reach ended k n given → Comes ended k n given
 comes ended k zero given r =
-    inl (sym (none_such is_sent ended k given (λ i less. not_sent (disposition_of ended (k + i)) (λ e. let so = r.sent i less e in absurd (omega (arith, so))))))
+    inl (
+    sym
+    (none_such is_sent ended k given
+    (λ i less. not_sent (disposition_of ended (k + i)) (λ e. let so = r.sent i less e in absurd (omega (arith, so))))))
 comes ended k (suc n) [] r = inl refl
 comes ended k (suc n) (g ∷ given) r = which (comes ended (k + 1) n given (behind ended k n g given r)) (disposition_of ended k) refl
   where

@@ -20,7 +20,8 @@ use Rattle.day_world.proofs.Passages.{comes_through, leaves_one_in_doubt}
 
 all_kept : (passed : List Passage) → AllByRecursion IsPassedOn passed → kept_in passed ≡ jobs_of (came_in passed)
 all_kept [] p = refl
-all_kept (t ∷ past) p = ap (λ xs. xs ++ t.kept) (all_kept past p.1) ∙ ap (λ xs. jobs_of (came_in past) ++ xs) p.0.first ∙ sym (map-append (λ g. g.job) (came_in past) (came t))
+all_kept (t ∷ past) p =
+    ap (λ xs. xs ++ t.kept) (all_kept past p.1) ∙ ap (λ xs. jobs_of (came_in past) ++ xs) p.0.first ∙ sym (map-append (λ g. g.job) (came_in past) (came t))
 
 each_through : (passed : List Passage) → AllByRecursion IsPassedOn passed → AllByRecursion ComesThrough passed
 each_through [] p = tt
@@ -66,7 +67,8 @@ gone_on name o occurred g = record {
   gone = g.gone;
 }
 
-gone_put : (name other : Name) (own : Bool) (occurred : List Occurrence) → IsGone name occurred → IsGone name (if own then IsPutOut other ∷ occurred else occurred)
+gone_put : (name other : Name) (own : Bool) (occurred : List Occurrence) → IsGone name occurred
+    → IsGone name (if own then IsPutOut other ∷ occurred else occurred)
 gone_put name other true occurred g = gone_on name (IsPutOut other) occurred g
 gone_put name other false occurred g = g
 
@@ -85,13 +87,15 @@ gone_here name t occurred p is =
       gone = λ e. let so = p.ready at.0 within e in absurd (omega (arith, so, at.1));
     }
 
-came_gone : (rank : Rank) (day : List Happening) (name : Name) → AllByRecursion IsPassedOn (passages rank day) → IsAmong name (names_of (came_in (passages rank day)))
+came_gone : (rank : Rank) (day : List Happening) (name : Name) → AllByRecursion IsPassedOn (passages rank day)
+    → IsAmong name (names_of (came_in (passages rank day)))
     → IsGone name (occurrences rank day)
 came_gone rank [] name p is = absurd is
 came_gone rank (PutOut by other ∷ past) name p is = gone_put name other (is_same rank by) (occurrences rank past) (came_gone rank past name p is)
 came_gone rank (Exchanged up down ∷ past) name p is =
     let t = sent_by rank up down in
-    elim (among_either name (names_of (came_in (passages rank past))) (take (length t.kept) (names_of t.given)) (subst (IsAmong name) (came_names t (passages rank past)) is)) [
+    let here = subst (IsAmong name) (came_names t (passages rank past)) is in
+    elim (among_either name (names_of (came_in (passages rank past))) (take (length t.kept) (names_of t.given)) here) [
       | inl before ↦ gone_on name (Transmitted (transmission_of t)) (occurrences rank past) (came_gone rank past name p.1 before)
       | inr now ↦ gone_here name t (occurrences rank past) p.0 now
     ]
@@ -104,11 +108,13 @@ given_alone name other (suc k, e) = cc
 gone_not_ready : GivesNoJobAgain → (name : Name) (occurred : List Occurrence) → AllMayOccur occurred → IsGone name occurred → LiesReady occurred name → ⊥
 gone_not_ready again name occurred may g ready =
     let next : Transmission = record { jobs = name ∷ []; ended = Ended.Done } in
+    let there : LiesReady (g.later ++ Transmitted g.t ∷ g.earlier) name = subst (λ xs. LiesReady xs name) g.is ready in
     again (Transmitted next ∷ g.later) g.earlier g.t name g.what
-    (λ other given. subst (LiesReady (g.later ++ Transmitted g.t ∷ g.earlier)) (given_alone name other given) (subst (λ xs. LiesReady xs name) g.is ready), subst AllMayOccur g.is may)
+    (λ other given. subst (LiesReady (g.later ++ Transmitted g.t ∷ g.earlier)) (given_alone name other given) there, subst AllMayOccur g.is may)
     g.became g.gone (inl (0, refl))
 
-none_ready : GivesNoJobAgain → (rank : Rank) (day : List Happening) → AllByRecursion IsPassedOn (passages rank day) → AllMayOccur (occurrences rank day) → (name : Name)
+none_ready : GivesNoJobAgain → (rank : Rank) (day : List Happening) → AllByRecursion IsPassedOn (passages rank day) → AllMayOccur (occurrences rank day)
+    → (name : Name)
     → LiesReady (occurrences rank day) name → IsAmong name (names_of (came_in (passages rank day))) → ⊥
 none_ready again rank day p may name ready is = gone_not_ready again name (occurrences rank day) may (came_gone rank day name p is) ready
 

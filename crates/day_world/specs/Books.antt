@@ -1,15 +1,17 @@
 -- What a session enters as things happen at its end, turn by turn as rje_session has it (own profile).
 use Rattle.std.specs.Prelude.{◌≡◌, ◌⊎◌, ℕ, ◌==◌, Bool, false, ◌&&◌, ◌||◌, List, [], ◌∷◌, ◌++◌, length, slice_get, nat_lt, MatchBool}
+use Rattle.std.specs.List.{AllByRecursion}
 use Rattle.bsc_link.specs.declared.rank.Rank.{Rank}
 use Rattle.rje_jobs.specs.declared.job.Job.{Job}
+use Rattle.rje_jobs.specs.Fitting.{JobFits}
 use Rattle.rje_station.specs.Station.{Contending}
 use Rattle.rje_session.specs.Account.{SettlesRest, ended_of}
 use Rattle.rje_session.specs.Keeping.{cutting, keeping, kept_with}
 use Rattle.rje_session.specs.Ledger.{Entry, Given, Kept}
 use Rattle.rje_session.specs.Turns.{Carried, announcing, goes_out, settling}
-use Rattle.connection_world.specs.BothWays.{AtEnd, Own, Crosses, Others, EndWent}
+use Rattle.connection_world.specs.BothWays.{AtEnd, Own, Crosses, Others, EndWent, IsExchange}
 use Rattle.connection_world.specs.Connection.{Says}
-use Rattle.day_world.specs.Carried.{HasKept, IsBooked}
+use Rattle.day_world.specs.Carried.{IsCarried}
 use Rattle.day_world.specs.Passage.{Passage, jobs_of}
 
 -- What it keeps beside its station: whether the job after those counted may have arrived, how many jobs are kept, and what it has entered since the
@@ -65,14 +67,29 @@ kept_by [] = []
 kept_by (Kept job ∷ past) = kept_by past ++ job ∷ []
 kept_by (_ ∷ past) = kept_by past
 
--- What an end comes to by its books: it has booked what it sends, and kept the jobs that came whole.
-pub record BooksAndKeeps (t : Passage) (rank : Rank) (past : List AtEnd) (s : Contending) (went : EndWent rank (jobs_of t.given) past s) : Type 0 where
-  pub booked : IsBooked t rank past s went
-  pub kept : HasKept (kept_by (books rank (jobs_of t.given) past s went).entered) s.receiver.jobs
+-- At an end the session enters turn by turn what happens, from when its transmission began until it is over: so its own jobs end, and of the other
+-- end's these are kept.
+pub record Enters (own other : Passage) (rank : Rank) (past : List AtEnd) (s : Contending) (went : EndWent rank (jobs_of own.given) past s) : Type 0 where
+  pub begun : List Entry
+  pub after : List Entry
+  pub begins : BeginsWith (jobs_of own.given) begun
+  pub ended : own.ended ≡ ended_of (in_hand s (books rank (jobs_of own.given) past s went))
+  pub finishes :
+      Finishes (in_hand s (books rank (jobs_of own.given) past s went)) ((books rank (jobs_of own.given) past s went).entered ++ begun) after
+  pub kept : other.kept ≡ kept_by (books rank (jobs_of own.given) past s went).entered
 
--- whatever happens at an end of an exchange, over any ledger
-abbrev pub BookWhatHappens : Type 0
-BookWhatHappens =
-    (t : Passage) (rank : Rank) (past : List AtEnd) (s : Contending) (went : EndWent rank (jobs_of t.given) past s) (begun after : List Entry)
-    → let b = books rank (jobs_of t.given) past s went in
-    BeginsWith (jobs_of t.given) begun → t.ended ≡ ended_of (in_hand s b) → Finishes (in_hand s b) (b.entered ++ begun) after → BooksAndKeeps t rank past s went
+-- an exchange of two new stations with jobs that can be sent, at each end of which a session does
+pub record IsEntered (up down : Passage) : Type 0 where
+  pub near : List AtEnd
+  pub far : List AtEnd
+  pub p : Contending
+  pub s : Contending
+  pub exchange : IsExchange (jobs_of up.given) (jobs_of down.given) near far p s
+  pub fit_up : AllByRecursion JobFits (jobs_of up.given)
+  pub fit_down : AllByRecursion JobFits (jobs_of down.given)
+  pub primary : Enters up down Rank.Primary near p exchange.primary
+  pub secondary : Enters down up Rank.Secondary far s exchange.secondary
+
+-- then it is carried
+abbrev pub CarryWhatIsEntered : Type 0
+CarryWhatIsEntered = (up down : Passage) → IsEntered up down → IsCarried up down

@@ -4,5 +4,5 @@
 mod laws;
 
 pub use laws::{
-    days_keep_each_job_once, exchanges_pass_on_the_first_jobs, sessions_book_what_happens,
+    days_keep_each_job_once, exchanges_pass_on_the_first_jobs, sessions_carry_their_exchanges,
 };

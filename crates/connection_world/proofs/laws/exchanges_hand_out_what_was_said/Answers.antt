@@ -3,4 +3,4 @@ use Rattle.connection_world.proofs.LastBlocks.{hand_out_what_was_said}
 use Rattle.connection_world.proofs.laws.exchanges_hand_out_what_was_said.Goals as goal
 
 pub returns : goal.returns
-returns c = search hand_out_what_was_said
+returns c = record { last_said = search hand_out_what_was_said }

@@ -3,4 +3,4 @@ use Rattle.day_world.proofs.Carried.{pass_on_the_first_jobs}
 use Rattle.day_world.proofs.laws.exchanges_pass_on_the_first_jobs.Goals as goal
 
 pub returns : goal.returns
-returns c = search pass_on_the_first_jobs
+returns c = record { passed_on = search pass_on_the_first_jobs }
