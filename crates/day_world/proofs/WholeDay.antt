@@ -101,7 +101,7 @@ came_gone rank (Exchanged up down ∷ past) name p is =
     ]
 
 -- or else one more transmission could be given it
-given_alone : (name other : Name) → IsGiven other (record { jobs = name ∷ []; ended = Ended.Done }) → name ≡ other
+pub given_alone : (name other : Name) → IsGiven other (record { jobs = name ∷ []; ended = Ended.Done }) → name ≡ other
 given_alone name other (zero, e) = cc
 given_alone name other (suc k, e) = cc
 

@@ -92,7 +92,7 @@ OverDays Holds = (day : List Happening) (rank : Rank) → IsDay day → Holds (p
 
 -- what is kept is, in order, just what came
 abbrev pub KeepsWhatCame : List Passage → List Occurrence → Type 0
-KeepsWhatCame sent occurred = kept_in sent ≡ jobs_of (came_in sent)
+KeepsWhatCame passed occurred = kept_in passed ≡ jobs_of (came_in passed)
 
 -- each job that was sent came, in the order of the day and each at a place of its own
 abbrev pub BringsWhatWasSent : List Passage → List Occurrence → Type 0
