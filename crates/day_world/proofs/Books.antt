@@ -435,7 +435,7 @@ module _ (own other : Passage) (rank : Rank) (past : List AtEnd) (s : Contending
         (out_cut (slice_get s.receiver.jobs last.kept) n e.finishes.rest (so.1 n (a.said n said)));
   }
 
-  keeps : HasKept other.kept s.receiver.jobs
+  pub keeps : HasKept other.kept s.receiver.jobs
   keeps = keeps_all other.kept last.kept s.receiver.jobs a.kept (e.kept ∙ a.kept_are)
 
 pub carry_what_is_entered : CarryWhatIsEntered

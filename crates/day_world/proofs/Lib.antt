@@ -3,4 +3,4 @@ pub mod Passages
 pub mod Carried
 pub mod Books
 pub mod WholeDay
-pub mod CrossingDay
+pub mod WorkedDay

@@ -2,4 +2,4 @@ pub mod Passage
 pub mod Carried
 pub mod Books
 pub mod Day
-pub mod CrossingDay
+pub mod WorkedDay
