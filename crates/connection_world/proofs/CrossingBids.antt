@@ -21,16 +21,16 @@ use Rattle.connection_world.proofs.LateBid.{comes_whole}
 
 -- ---- The primary, whose station has these blocks.
 
-abbrev with_blocks : Job → List Block → Contending
+abbrev pub with_blocks : Job → List Block → Contending
 with_blocks job rest = record (first_contending Rank.Primary (job ∷ [])) { sender = record (first_sending (job ∷ [])) { rest = rest } }
 
-abbrev answered : Contending → Sound → Contending
+abbrev pub answered : Contending → Sound → Contending
 answered s sound = after_answer (after_own_speaking s) sound false
 
-abbrev done : Job → List Block → Contending
+abbrev pub done : Job → List Block → Contending
 done job rest = after_own_speaking (answered (answered (with_blocks job rest) Sound.Ack0) Sound.Ack1)
 
-primary_went : (job : Job) (b : Block) → blocks (job ∷ []) ≡ b ∷ [] → EndWent Rank.Primary (job ∷ []) (at_primary b) (done job (b ∷ []))
+abbrev pub primary_went : (job : Job) (b : Block) → blocks (job ∷ []) ≡ b ∷ [] → EndWent Rank.Primary (job ∷ []) (at_primary b) (done job (b ∷ []))
 primary_went job b is_block =
     let s0 = with_blocks job (b ∷ []) in
     let s1 = answered s0 Sound.Ack0 in
@@ -54,16 +54,16 @@ primary_went job b is_block =
 
 -- ---- The secondary.
 
-abbrev listened : Contending → Heard → Contending
+abbrev pub listened : Contending → Heard → Contending
 listened s what = after_own_reply (after_other s what false Wish.Go)
 
-abbrev begun : Job → Contending
+abbrev pub begun : Job → Contending
 begun job = answered (listened (first_contending Rank.Secondary (job ∷ [])) heard.Quiet) Sound.Quiet
 
-abbrev heard_out : Job → Block → Contending
+abbrev pub heard_out : Job → Block → Contending
 heard_out job b = after_other_ended (after_other (listened (listened (begun job) (heard.Frame frame.Enq)) (heard.Frame (frame.Block b))) (heard.Frame frame.Eot) false Wish.Go)
 
-secondary_went : (job : Job) (b : Block) (u : Unpacked) → IsRead b None u → EndWent Rank.Secondary (job ∷ []) (at_secondary b) (heard_out job b)
+abbrev pub secondary_went : (job : Job) (b : Block) (u : Unpacked) → IsRead b None u → EndWent Rank.Secondary (job ∷ []) (at_secondary b) (heard_out job b)
 secondary_went job b u is_read =
     let s0 = first_contending Rank.Secondary (job ∷ []) in
     let s1 = listened s0 heard.Quiet in
@@ -89,7 +89,7 @@ secondary_went job b u is_read =
 
 -- ---- Between them.
 
-up : (b : Block) → AreConnected Rank.Primary (at_primary b) (at_secondary b)
+pub up : (b : Block) → AreConnected Rank.Primary (at_primary b) (at_secondary b)
 up b = record {
   up = (
     (omega arith, (frame.Eot, inl (refl, refl), comes_whole frame.Eot)),
@@ -108,7 +108,7 @@ up b = record {
     second : (1 ≤ 1) × (1 < 2) × (0 < 2)
     second = (omega arith, omega arith, omega arith)
 
-down : (b : Block) → AreConnected Rank.Secondary (at_secondary b) (at_primary b)
+pub down : (b : Block) → AreConnected Rank.Secondary (at_secondary b) (at_primary b)
 down b = record { up = tt; down = tt; in_time = (refl, (refl, (tt, (refl, tt)))) }
 
 pub crossing_bids_come_through : CrossingBidsComeThrough

@@ -21,7 +21,7 @@ use Rattle.line_world.specs.Turns.{after_turn}
 use Rattle.connection_world.specs.Connection.{AtReceiver, AtSender, Says, Comes, InVain, OneHearing, ComeDown, ComeUp, IsFrameOf, IsReplied, Listens, MayComeAs, ReceiverWent, SenderWent, told}
 use Rattle.connection_world.proofs.Awaited.{AllCame, EndsWith, Settles, answer_came, answer_settles, vain_came, vain_settles}
 use Rattle.connection_world.proofs.Numbers.{AllAnswered, AllSaid, up_before_answer, up_before_vain}
-use Rattle.connection_world.proofs.SideBySide.{FarWent, Grows, MayHear, Stand, after_event, after_saying, begin, given_none}
+use Rattle.connection_world.proofs.SideBySide.{AnyFrame, FarWent, Grows, MayHear, Stand, after_event, after_saying, begin, given_none}
 use Rattle.connection_world.specs.Headline.{but_for_notes}
 use Rattle.connection_world.proofs.Stations.{answering_same, ends_or_asks, said_block, said_sound, turned, turned_same, wordless}
 
@@ -50,7 +50,7 @@ first_taken jobs = record {
 
 -- one more turn
 module _ (jobs : List Job) (s : Sending) (r : Receiving) (f : Frame) (h : OneHearing) (sound : Sound) (pause : Bool)
-    (live : s.over ≡ false) (due : IsFrameOf (say_in s.core.place) s.rest f) (up : MayComeAs f h.what) (may : MayRefuse h.what (begun_in r.jobs) h.refused)
+    (live : s.over ≡ false) (due : IsFrameOf (say_in s.core.place) s.rest f) (spoken : AnyFrame f s) (up : MayComeAs f h.what) (may : MayRefuse h.what (begun_in r.jobs) h.refused)
     (reply : h.reply ≡ (after_receiving r h.what h.refused h.wish).due) (hears : MayHear (say_in s.core.place) h.reply sound) where
   abbrev turn : SpokenTurn
   turn = record { said = say_in s.core.place; arrived = sound_heard h.what; refused = h.refused; reply = h.reply; heard = sound; wish = h.wish; pause = pause }
@@ -86,7 +86,7 @@ module _ (jobs : List Job) (s : Sending) (r : Receiving) (f : Frame) (h : OneHea
     receiving = answering_same (say_in s.core.place) (after_receiving t.far h.what h.refused h.wish) ∙ ap (λ x. wordless (after_receiving x h.what h.refused h.wish)) t.receiving;
   }
 
-taken_grows : (jobs : List Job) → Grows (Taken jobs)
+taken_grows : (jobs : List Job) → Grows AnyFrame (Taken jobs)
 taken_grows jobs = record {
   same = λ s s' r r' sending receiving t. record {
     turns = t.turns;
@@ -159,19 +159,19 @@ module _ (own : GivesOwnAnswers) (jobs : List Job) (gives_way : Bool) where
   stand_far : (near : List AtSender) (s : Sending) (far : List AtReceiver) (r : Receiving) → SenderWent gives_way (first_sending jobs) near s
       → FarWent far r → ComeUp near far → ComeDown near far → AllHappen gives_way (told near) → StandsAfter near s far r
   stand_far [] s far r went received up down all = record {
-    settled = λ _. subst (λ x. Taken jobs x r) (sym went) (begin (Taken jobs) (taken_grows jobs) (first_sending jobs) far r (first_taken jobs) received up);
+    settled = λ _. subst (λ x. Taken jobs x r) (sym went) (begin AnyFrame (Taken jobs) (taken_grows jobs) (first_sending jobs) far r (first_taken jobs) received up);
     awaiting = λ awaits. absurd (true≢false (sym awaits));
   }
   stand_far (Says f ∷ past) s far r (near, went, speaks) received up down all =
-      after_saying (Taken jobs) (taken_grows jobs) f past near s far r speaks (all_said gives_way past all.1) ((not_ended gives_way jobs past near went).live speaks.live)
+      after_saying AnyFrame (Taken jobs) (taken_grows jobs) f past near s far r speaks tt (all_said gives_way past all.1) ((not_ended gives_way jobs past near went).live speaks.live)
       received up down (λ far r received up down. (stand_far past near far r went received up down all.1).settled all.0)
   stand_far (Comes a ∷ past) s far r (near, went, listens) received up down all =
-      after_event (Taken jobs) (taken_grows jobs) (Event.Answer a) (kept_of gives_way (told past)) (things (told past)) near s far r listens
+      after_event AnyFrame (Taken jobs) (taken_grows jobs) (Event.Answer a) (kept_of gives_way (told past)) (things (told past)) near s far r listens
       (stand_far past near far r went received (up_before_answer a past far up) down.1 all.1)
       (λ b is. own gives_way (told past) (Event.Answer a) b all is) (λ b is. answer_came (λ x. IsReplied x far) gives_way (told past) a b is down.0)
       (answer_settles a (kept_of gives_way (told past)))
   stand_far (InVain rest ∷ past) s far r (near, went, listens) received up down all =
-      after_event (Taken jobs) (taken_grows jobs) (Event.Vain rest) (kept_of gives_way (told past)) (things (told past)) near s far r listens
+      after_event AnyFrame (Taken jobs) (taken_grows jobs) (Event.Vain rest) (kept_of gives_way (told past)) (things (told past)) near s far r listens
       (stand_far past near far r went received (up_before_vain rest past far up) down all.1)
       (λ b is. own gives_way (told past) (Event.Vain rest) b all is) (λ b is. vain_came (λ x. IsReplied x far) gives_way (told past) rest b is (all_came past far down))
       (vain_settles rest (kept_of gives_way (told past)))

@@ -6,6 +6,7 @@ pub mod Faithful
 pub mod Standing
 pub mod OneWay
 pub mod Headline
+pub mod LastBlocks
 pub mod LateBid
 pub mod CrossingBids
 pub mod Possible

@@ -1,6 +1,5 @@
 -- One way of two stations that both have jobs: what the one says in its own transmission, and what the other hears of it.
-use Rattle.std.proofs.Common.{◌≡◌, ◌≢◌, refl, sym, ap, ◌∙◌, subst, ℕ, ◌+◌, Bool, true, false, if◌then◌else◌, Option, Some, None, List, [], ◌∷◌, take, ◌⊎◌, inl, inr}
-use Rattle.std.specs.List.{AllByRecursion}
+use Rattle.std.proofs.Common.{◌≡◌, ◌≢◌, refl, sym, ap, ◌∙◌, subst, ◌+◌, Bool, true, false, if◌then◌else◌, Option, Some, None, List, [], ◌∷◌, ◌⊎◌, inl, inr}
 use Rattle.std.proofs.lemmas.Bool.{cases_Bool, true≢false}
 use Rattle.bsc_codes.specs.declared.block.Block.{Block}
 use Rattle.bsc_frame.specs.declared.frame.Frame.{Frame}
@@ -16,17 +15,14 @@ use Rattle.rje_answers.specs.declared.given.Given.{Given}
 use Rattle.rje_answers.specs.declared.said.Said.{Said}
 use Rattle.rje_answers.specs.Awaiting.{Kept, given_at, has_answer, kept_after, said_in}
 use Rattle.rje_answers.specs.Law.{AllHappen, Answer, Events, GivesOwnAnswers, kept_of, things}
-use Rattle.bsc_history.specs.Known.{known}
+use Rattle.bsc_history.specs.Agreement.{GetsAtMostOneMore, KnowsBeforeBlocks}
 use Rattle.rje_jobs.specs.declared.job.Job.{Job}
-use Rattle.rje_jobs.specs.Blocks.{blocks}
-use Rattle.rje_jobs.specs.Fitting.{JobFits}
 use Rattle.rje_station.specs.Hearing.{sound_heard}
 use Rattle.rje_station.specs.Laws.{CountsBlocks}
 use Rattle.rje_station.specs.Receiving.{Receiving, after_receiving}
-use Rattle.rje_station.specs.Sending.{Sending, after_hearing, ended_by, first_sending, is_end}
+use Rattle.rje_station.specs.Sending.{Sending, after_hearing, first_sending, is_end}
 use Rattle.rje_station.specs.Station.{Contending, after_other, after_other_ended, after_own_reply, after_passing, contender_hears, due_at, gives_way, lets_in}
 use Rattle.rje_station.proofs.Due.{answered_of_due, due_kept, going_at, says_at, spoken_of_due}
-use Rattle.line_world.specs.Headline.{OfHistories}
 use Rattle.line_world.specs.Turns.{ReceivingTurns}
 use Rattle.connection_world.specs.Connection.{AtReceiver, Says, Comes, InVain, ComeDown, ComeUp, IsFrameOf, IsReplied, Listens, OneHearing, Speaks, hearing_of, sound_given, told}
 use Rattle.connection_world.specs.BothWays.{AreConnected, AtEnd, Own, Crosses, Others, Crossing, Bid, End, Text, EndWent, HearsOther, ListensOwn, SpeaksOwn, event_of, kept_by, others_of, own_of, told_both, yields}
@@ -41,7 +37,7 @@ use Rattle.connection_world.proofs.Stations.{ends_or_asks, quiet_counts_none, wo
 said_something : (say : Say) (rest : List Block) (f : Frame) → IsFrameOf say rest f → say ≢ Say.Nothing
 said_something say rest f due e = subst (λ x. IsFrameOf x rest f) e due
 
-speaks_own : (f : Frame) (s s' : Contending) → SpeaksOwn f s s' → Speaks f s.sender s'.sender
+pub speaks_own : (f : Frame) (s s' : Contending) → SpeaksOwn f s s' → Speaks f s.sender s'.sender
 speaks_own f s s' speaks =
     let some = said_something (due_at s) s.sender.rest f speaks.due in
     record {
@@ -61,18 +57,18 @@ listens_none : (given : Given Answer) (s s' : Contending) → ListensOwn given s
 listens_none given s s' listens none = rw none at listens
 
 -- its own transmission leaves the receiving side as it is
-abbrev with_own : Say → Contending → Sending → ContenderState → Contending
+abbrev pub with_own : Say → Contending → Sending → ContenderState → Contending
 with_own say s x c = elim say [ Say.Nothing ↦ s | _ ↦ record s { sender = x; contender = c } ]
 
 receiver_kept : (say : Say) (s : Contending) (x : Sending) (c : ContenderState) → (with_own say s x c).receiver ≡ s.receiver
 receiver_kept Say.Nothing s x c = refl
 receiver_kept _ s x c = refl
 
-spoke_aside : (f : Frame) (s s' : Contending) → SpeaksOwn f s s' → s'.receiver ≡ s.receiver
+pub spoke_aside : (f : Frame) (s s' : Contending) → SpeaksOwn f s s' → s'.receiver ≡ s.receiver
 spoke_aside f s s' speaks =
     ap (λ x. x.receiver) (speaks.state ∙ spoken_of_due s (due_at s) refl (said_something (due_at s) s.sender.rest f speaks.due))
 
-listened_aside : (given : Given Answer) (s s' : Contending) → ListensOwn given s s' → s'.receiver ≡ s.receiver
+pub listened_aside : (given : Given Answer) (s s' : Contending) → ListensOwn given s s' → s'.receiver ≡ s.receiver
 listened_aside Given.Nothing s s' listens = ap (λ x. x.receiver) listens
 listened_aside (Given.Answer a) s s' listens = ap (λ x. x.receiver) listens.1 ∙ receiver_kept (due_at s) s _ _
 listened_aside Given.Bid s s' listens = ap (λ x. x.receiver) listens.1 ∙ receiver_kept (due_at s) s _ _
@@ -82,26 +78,26 @@ listened_aside (Given.InVain rest) s s' listens = ap (λ x. x.receiver) listens.
 -- ---- It hears the other station.
 
 -- what it makes of that: it replies, or the other's transmission ended
-abbrev after_hearing_other : Contending → Contending
+abbrev pub after_hearing_other : Contending → Contending
 after_hearing_other s = if s.receiver.over then after_other_ended s else after_own_reply s
 
 sender_left : (s : Contending) → (after_hearing_other s).sender ≡ s.sender
 sender_left s = elim (cases_Bool s.receiver.over) [ inl e ↦ rw e refl | inr e ↦ rw e refl ]
 
-receiver_left : (s : Contending) → wordless (after_hearing_other s).receiver ≡ wordless s.receiver
+pub receiver_left : (s : Contending) → wordless (after_hearing_other s).receiver ≡ wordless s.receiver
 receiver_left s = elim (cases_Bool s.receiver.over) [ inl e ↦ rw e refl | inr e ↦ rw e refl ]
 
-taken_other : (s : Contending) (h : OneHearing) → lets_in s.contender (sound_heard h.what) ≡ true
+pub taken_other : (s : Contending) (h : OneHearing) → lets_in s.contender (sound_heard h.what) ≡ true
     → after_other s h.what h.refused h.wish
     ≡ record s { sender = gives_way s.contender.rank (sound_heard h.what) s.sender; receiver = after_receiving s.receiver h.what h.refused h.wish; contender = contender_hears (sound_heard h.what) s.contender }
 taken_other s h e = rw (e, after_other) refl
 
-passed_other : (s : Contending) (h : OneHearing) → lets_in s.contender (sound_heard h.what) ≡ false
+pub passed_other : (s : Contending) (h : OneHearing) → lets_in s.contender (sound_heard h.what) ≡ false
     → after_other s h.what h.refused h.wish ≡ record s { receiver = after_passing s.receiver }
 passed_other s h e = rw (e, after_other) refl
 
 -- its sending side stays, or gives way
-abbrev MayYield : Sending → Sending → Type 0
+abbrev pub MayYield : Sending → Sending → Type 0
 MayYield s s' = (s' ≡ s) ⊎ (s' ≡ record s { core = sender_yielded s.core })
 
 gives_way_or_not : (rank : Rank) (sound : Sound) (s : Sending) → MayYield s (gives_way rank sound s)
@@ -109,7 +105,7 @@ gives_way_or_not Rank.Secondary Sound.Enq s = inr refl
 gives_way_or_not Rank.Secondary _ s = inl refl
 gives_way_or_not Rank.Primary _ s = inl refl
 
-sender_after_other : (h : OneHearing) (s s' : Contending) → HearsOther h s s' → MayYield s.sender s'.sender
+pub sender_after_other : (h : OneHearing) (s s' : Contending) → HearsOther h s s' → MayYield s.sender s'.sender
 sender_after_other h s s' hears = elim (cases_Bool (lets_in s.contender (sound_heard h.what))) [
   | inl e ↦ subst (MayYield s.sender) (sym (left ∙ ap (λ x. x.sender) (taken_other s h e))) (gives_way_or_not s.contender.rank (sound_heard h.what) s.sender)
   | inr e ↦ inl (left ∙ ap (λ x. x.sender) (passed_other s h e))
@@ -118,7 +114,7 @@ sender_after_other h s s' hears = elim (cases_Bool (lets_in s.contender (sound_h
     left : s'.sender ≡ (after_other s h.what h.refused h.wish).sender
     left = ap (λ x. x.sender) hears.state ∙ sender_left (after_other s h.what h.refused h.wish)
 
-receiver_after_other : (h : OneHearing) (s s' : Contending) → HearsOther h s s' → FarGoes h s.receiver s'.receiver
+pub receiver_after_other : (h : OneHearing) (s s' : Contending) → HearsOther h s s' → FarGoes h s.receiver s'.receiver
 receiver_after_other h s s' hears = elim (cases_Bool (lets_in s.contender (sound_heard h.what))) [
   | inl e ↦
       let is = ap (λ x. x.receiver) (taken_other s h e) in
@@ -288,38 +284,45 @@ stays_open rank jobs (Others e ∷ past) s (mid, went, hears) =
 
 -- ---- All of it.
 
-module _ (own : GivesOwnAnswers) (counts : CountsBlocks) (receiving : ReceivingTurns) (jobs : List Job) (rank : Rank) where
+-- each frame that it spoke was spoken so, where the station then stood
+abbrev pub AllSpoken : (Frame → Sending → Type 0) → (rank : Rank) (jobs : List Job) (past : List AtEnd) (s : Contending) → EndWent rank jobs past s → Type 0
+AllSpoken Spoken rank jobs [] s went = Unit {0}
+AllSpoken Spoken rank jobs (Own (Says f) ∷ past) s (mid, went, speaks) = Spoken f mid.sender × AllSpoken Spoken rank jobs past mid went
+AllSpoken Spoken rank jobs (_ ∷ past) s (mid, went, goes) = AllSpoken Spoken rank jobs past mid went
+
+module _ (own : GivesOwnAnswers) (at_most : GetsAtMostOneMore) (knows : KnowsBeforeBlocks) (counts : CountsBlocks) (receiving : ReceivingTurns)
+    (Spoken : Frame → Sending → Type 0) (jobs : List Job) (rank : Rank) where
   -- where both stand, and where they do if the station hears EOT now
   record Both (past : List AtEnd) (s : Contending) (far : List AtReceiver) (r : Receiving) : Type 0 where
-    stand : Stand (Stood jobs) (Awaits rank past) (things (told (own_of past))) s.sender far r
-    ended : Awaits rank past ≡ true → (pause : Bool) → Stood jobs (after_hearing s.sender Sound.Eot pause) r
+    stand : Stand (Stood Spoken jobs) (Awaits rank past) (things (told (own_of past))) s.sender far r
+    ended : Awaits rank past ≡ true → (pause : Bool) → Stood Spoken jobs (after_hearing s.sender Sound.Eot pause) r
 
-  grows : Grows (Stood jobs)
-  grows = stood_grows counts receiving jobs
+  grows : Grows Spoken (Stood Spoken jobs)
+  grows = stood_grows at_most knows Spoken counts receiving jobs
 
   -- after it spoke
-  both_said : (f : Frame) (past : List AtEnd) (s s' : Contending) (far : List AtReceiver) (r : Receiving) → EndWent rank jobs past s → SpeaksOwn f s s' → FarWent far r
+  both_said : (f : Frame) (past : List AtEnd) (s s' : Contending) (far : List AtReceiver) (r : Receiving) → EndWent rank jobs past s → SpeaksOwn f s s' → Spoken f s.sender → FarWent far r
       → ComeUp (Says f ∷ own_of past) far → ComeDown (own_of past) far → AllHappen (yields rank) (told_both past)
-      → ((far : List AtReceiver) (r : Receiving) → FarWent far r → ComeUp (own_of past) far → ComeDown (own_of past) far → Stood jobs s.sender r)
+      → ((far : List AtReceiver) (r : Receiving) → FarWent far r → ComeUp (own_of past) far → ComeDown (own_of past) far → Stood Spoken jobs s.sender r)
       → Both (Own (Says f) ∷ past) s' far r
-  both_said f past s s' far r went speaks received up down all before =
+  both_said f past s s' far r went speaks spoken received up down all before =
       let said = speaks_own f s s' speaks in
-      let stands = after_saying (Stood jobs) grows f (own_of past) s.sender s'.sender far r said (all_said (yields rank) past all)
+      let stands = after_saying Spoken (Stood Spoken jobs) grows f (own_of past) s.sender s'.sender far r said spoken (all_said (yields rank) past all)
       ((stays_open rank jobs past s went).live said.live) received up down before in
       record {
         stand = stands;
         ended = λ awaits pause.
-            subst (λ x. Stood jobs (after_hearing x Sound.Eot pause) r) (sym said.state)
-            (stood_ended jobs s.sender r f pause said.due awaits
-            (subst (λ x. Stood jobs (after_hearing x Sound.Quiet pause) r) said.state (stands.awaiting awaits Sound.Quiet pause (inl refl))));
+            subst (λ x. Stood Spoken jobs (after_hearing x Sound.Eot pause) r) (sym said.state)
+            (stood_ended Spoken jobs s.sender r f pause said.due awaits
+            (subst (λ x. Stood Spoken jobs (after_hearing x Sound.Quiet pause) r) said.state (stands.awaiting awaits Sound.Quiet pause (inl refl))));
       }
 
   -- after an event
   module _ (e : Event Answer) (past : List AtEnd) (s s' : Contending) (far : List AtReceiver) (r : Receiving) (went : EndWent rank jobs past s)
       (listens : ListensOwn (given_at e (kept_by rank past)) s s') (before : Both past s far r) where
     record BothAfter : Type 0 where
-      stand : Stand (Stood jobs) (has_answer (kept_after e (kept_by rank past)).said) (things (told (own_of past))) s'.sender far r
-      ended : has_answer (kept_after e (kept_by rank past)).said ≡ true → (pause : Bool) → Stood jobs (after_hearing s'.sender Sound.Eot pause) r
+      stand : Stand (Stood Spoken jobs) (has_answer (kept_after e (kept_by rank past)).said) (things (told (own_of past))) s'.sender far r
+      ended : has_answer (kept_after e (kept_by rank past)).said ≡ true → (pause : Bool) → Stood Spoken jobs (after_hearing s'.sender Sound.Eot pause) r
 
     hears : AnySettles e (kept_by rank past) → Listens (given_at e (kept_by rank past)) s.sender s'.sender
     hears settles = listens_own (given_at e (kept_by rank past)) s s' (λ some. (stays_open rank jobs past s went).due (awaited settles some)) listens
@@ -329,9 +332,9 @@ module _ (own : GivesOwnAnswers) (counts : CountsBlocks) (receiving : ReceivingT
         awaited (inr so) some = so.0
 
     still_ended : AnySettles e (kept_by rank past) → has_answer (kept_after e (kept_by rank past)).said ≡ true → (pause : Bool)
-        → Stood jobs (after_hearing s'.sender Sound.Eot pause) r
+        → Stood Spoken jobs (after_hearing s'.sender Sound.Eot pause) r
     still_ended (inl (none, same)) awaits pause =
-        subst (λ x. Stood jobs (after_hearing x.sender Sound.Eot pause) r) (sym (listens_none (given_at e (kept_by rank past)) s s' listens none))
+        subst (λ x. Stood Spoken jobs (after_hearing x.sender Sound.Eot pause) r) (sym (listens_none (given_at e (kept_by rank past)) s s' listens none))
         (before.ended (sym same ∙ awaits) pause)
     still_ended (inr (awaited, over)) awaits pause = absurd (true≢false (sym awaits ∙ over))
 
@@ -342,18 +345,18 @@ module _ (own : GivesOwnAnswers) (counts : CountsBlocks) (receiving : ReceivingT
         let any = any_settles e (kept_by rank past) EndsWith settles in
         record {
           stand =
-              after_event (Stood jobs) grows e (kept_by rank past) (things (told (own_of past))) s.sender s'.sender far r (hears any) before.stand
+              after_event Spoken (Stood Spoken jobs) grows e (kept_by rank past) (things (told (own_of past))) s.sender s'.sender far r (hears any) before.stand
               (λ a is. own a is ∙ same_things past) replied settles;
           ended = still_ended any;
         }
 
     -- what crosses
     module _ (sound : Sound) (given : Given Answer) (some : given ≢ Given.Nothing) (is_sound : sound_given given ≡ sound)
-        (stood : Awaits rank past ≡ true → (pause : Bool) → Stood jobs (after_hearing s.sender sound pause) r) where
+        (stood : Awaits rank past ≡ true → (pause : Bool) → Stood Spoken jobs (after_hearing s.sender sound pause) r) where
       both_crossed : Settles e (kept_by rank past) (λ g. g ≡ given) → BothAfter
       both_crossed (inl (none, same)) = record {
         stand =
-            goes_on (Stood jobs) grows e (kept_by rank past) (things (told (own_of past))) s.sender s'.sender far r (hears (inl (none, same))) before.stand none _ same;
+            goes_on Spoken (Stood Spoken jobs) grows e (kept_by rank past) (things (told (own_of past))) s.sender s'.sender far r (hears (inl (none, same))) before.stand none _ same;
         ended = still_ended (inl (none, same));
       }
       both_crossed (inr (awaited, over, is)) =
@@ -361,53 +364,54 @@ module _ (own : GivesOwnAnswers) (counts : CountsBlocks) (receiving : ReceivingT
           record {
             stand = record {
               settled = λ _.
-                  subst (λ x. Stood jobs x r) (ap (λ x. after_hearing s.sender x heard.0) (sym is_sound ∙ ap sound_given (sym is)) ∙ sym heard.1) (stood awaited heard.0);
+                  subst (λ x. Stood Spoken jobs x r) (ap (λ x. after_hearing s.sender x heard.0) (sym is_sound ∙ ap sound_given (sym is)) ∙ sym heard.1) (stood awaited heard.0);
               awaiting = λ awaits. absurd (true≢false (sym awaits ∙ over));
             };
             ended = still_ended (inr (awaited, over));
           }
 
-  both : (past : List AtEnd) (s : Contending) (far : List AtReceiver) (r : Receiving) → EndWent rank jobs past s → FarWent far r → ComeUp (own_of past) far
-      → ComeDown (own_of past) far → AllHappen (yields rank) (told_both past) → Both past s far r
-  both [] s far r went received up down all = record {
+  both : (past : List AtEnd) (s : Contending) (far : List AtReceiver) (r : Receiving) (went : EndWent rank jobs past s) → AllSpoken Spoken rank jobs past s went → FarWent far r
+      → ComeUp (own_of past) far → ComeDown (own_of past) far → AllHappen (yields rank) (told_both past) → Both past s far r
+  both [] s far r went spoken received up down all = record {
     stand = record {
-      settled = λ _. subst (λ x. Stood jobs x.sender r) (sym went) (begin (Stood jobs) grows (first_sending jobs) far r (first_stood jobs) received up);
+      settled = λ _. subst (λ x. Stood Spoken jobs x.sender r) (sym went) (begin Spoken (Stood Spoken jobs) grows (first_sending jobs) far r (first_stood Spoken jobs) received up);
       awaiting = λ awaits. absurd (true≢false (sym awaits));
     };
     ended = λ awaits. absurd (true≢false (sym awaits));
   }
-  both (Own (Says f) ∷ past) s far r (mid, went, speaks) received up down all =
-      both_said f past mid s far r went speaks received up down all.1 (λ far r received up down. (both past mid far r went received up down all.1).stand.settled all.0)
-  both (Own (Comes a) ∷ past) s far r (mid, went, listens) received up down all =
-      let before = both past mid far r went received (up_before_answer a (own_of past) far up) down.1 all.1 in
+  both (Own (Says f) ∷ past) s far r (mid, went, speaks) spoken received up down all =
+      both_said f past mid s far r went speaks spoken.0 received up down all.1
+      (λ far r received up down. (both past mid far r went spoken.1 received up down all.1).stand.settled all.0)
+  both (Own (Comes a) ∷ past) s far r (mid, went, listens) spoken received up down all =
+      let before = both past mid far r went spoken received (up_before_answer a (own_of past) far up) down.1 all.1 in
       let after = both_heard (Event.Answer a) past mid s far r went listens before
       (λ b is. own (yields rank) (told_both past) (Event.Answer a) b all is) (λ b is. answer_came (λ x. IsReplied x far) (yields rank) (told_both past) a b is down.0)
       (answer_settles a (kept_by rank past)) in
       record { stand = after.stand; ended = after.ended }
-  both (Own (InVain rest) ∷ past) s far r (mid, went, listens) received up down all =
-      let before = both past mid far r went received (up_before_vain rest (own_of past) far up) down all.1 in
+  both (Own (InVain rest) ∷ past) s far r (mid, went, listens) spoken received up down all =
+      let before = both past mid far r went spoken received (up_before_vain rest (own_of past) far up) down all.1 in
       let after = both_heard (Event.Vain rest) past mid s far r went listens before
       (λ b is. own (yields rank) (told_both past) (Event.Vain rest) b all is) (λ b is. vain_came (λ x. IsReplied x far) (yields rank) (told_both past) rest b is (all_came past far down))
       (vain_settles rest (kept_by rank past)) in
       record { stand = after.stand; ended = after.ended }
-  both (Crosses Bid ∷ past) s far r (mid, went, listens) received up down all =
-      let before = both past mid far r went received up down all.1 in
+  both (Crosses Bid ∷ past) s far r (mid, went, listens) spoken received up down all =
+      let before = both past mid far r went spoken received up down all.1 in
       let after = both_crossed Event.Bid past mid s far r went listens before Sound.Quiet Given.Bid (λ e. cc) refl
       (λ awaited pause. before.stand.awaiting awaited Sound.Quiet pause (inl refl)) (bid_settles (kept_by rank past)) in
       record { stand = after.stand; ended = after.ended }
-  both (Crosses End ∷ past) s far r (mid, went, listens) received up down all =
-      let before = both past mid far r went received up down all.1 in
+  both (Crosses End ∷ past) s far r (mid, went, listens) spoken received up down all =
+      let before = both past mid far r went spoken received up down all.1 in
       let after = both_crossed Event.End past mid s far r went listens before Sound.Eot Given.End (λ e. cc) refl before.ended (end_settles (kept_by rank past)) in
       record { stand = after.stand; ended = after.ended }
-  both (Crosses Text ∷ past) s far r (mid, went, listens) received up down all =
-      let before = both past mid far r went received up down all.1 in
+  both (Crosses Text ∷ past) s far r (mid, went, listens) spoken received up down all =
+      let before = both past mid far r went spoken received up down all.1 in
       record {
         stand =
-            subst (λ x. Stand (Stood jobs) (Awaits rank past) (things (told (own_of past))) x.sender far r) (sym listens) before.stand;
-        ended = λ awaits pause. subst (λ x. Stood jobs (after_hearing x.sender Sound.Eot pause) r) (sym listens) (before.ended awaits pause);
+            subst (λ x. Stand (Stood Spoken jobs) (Awaits rank past) (things (told (own_of past))) x.sender far r) (sym listens) before.stand;
+        ended = λ awaits pause. subst (λ x. Stood Spoken jobs (after_hearing x.sender Sound.Eot pause) r) (sym listens) (before.ended awaits pause);
       }
-  both (Others e ∷ past) s far r (mid, went, hears) received up down all =
-      let before = both past mid far r went received up down (reply_happened (yields rank) (hearing_of e).reply (told_both past) all) in
+  both (Others e ∷ past) s far r (mid, went, hears) spoken received up down all =
+      let before = both past mid far r went spoken received up down (reply_happened (yields rank) (hearing_of e).reply (told_both past) all) in
       let idle = reply_idle (yields rank) (hearing_of e).reply (told_both past) hears.0 in
       record {
         stand = record {
@@ -417,24 +421,25 @@ module _ (own : GivesOwnAnswers) (counts : CountsBlocks) (receiving : ReceivingT
         ended = λ awaits. absurd (true≢false (sym awaits ∙ idle));
       }
     where
-      may_yield : MayYield mid.sender s.sender → Stood jobs mid.sender r → Stood jobs s.sender r
-      may_yield (inl is) p = subst (λ x. Stood jobs x r) (sym is) p
-      may_yield (inr is) p = subst (λ x. Stood jobs x r) (sym is) (stood_yielded jobs mid.sender r p)
+      may_yield : MayYield mid.sender s.sender → Stood Spoken jobs mid.sender r → Stood Spoken jobs s.sender r
+      may_yield (inl is) p = subst (λ x. Stood Spoken jobs x r) (sym is) p
+      may_yield (inr is) p = subst (λ x. Stood Spoken jobs x r) (sym is) (stood_yielded Spoken jobs mid.sender r p)
 
-  -- so what holds of all histories holds of both
-  module _ (Holds : ℕ → List Job → List Job → Type 0) (law : OfHistories Holds) (fit : AllByRecursion JobFits jobs) where
-    of_stood : (s : Sending) (r : Receiving) → Stood jobs s r → Holds s.counted jobs r.jobs
-    of_stood s r p =
-        subst (λ n. Holds n jobs r.jobs) (sym p.counted.counted)
-        (subst (Holds (ended_by (take (known p.h) (blocks jobs))) jobs) (sym p.jobs_are) (law jobs p.h fit p.spoken))
+  -- where it awaits an answer, they will stand so where none comes
+  pub record StandsAtLast (s : Sending) (r : Receiving) : Type 0 where
+    pub near : Sending
+    pub counted : near.counted ≡ s.counted
+    pub stood : Stood Spoken jobs near r
 
-    pub one_way : (other : Rank) (others : List Job) (near far : List AtEnd) (p s : Contending) → EndWent rank jobs near p → EndWent other others far s
-        → AreConnected rank near far → Holds p.sender.counted jobs s.receiver.jobs
-    one_way other others near far p s went went_other c =
-        let b = both near p (others_of far) s.receiver went (receives other others far s went_other) c.up c.down c.in_time in
-        elim (cases_Bool (Awaits rank near)) [
-          | inl e ↦
-              subst (λ n. Holds n jobs s.receiver.jobs) (quiet_counts_none p.sender false).1
-              (of_stood (after_hearing p.sender Sound.Quiet false) s.receiver (b.stand.awaiting e Sound.Quiet false (inl refl)))
-          | inr e ↦ of_stood p.sender s.receiver (b.stand.settled e)
-        ]
+  pub stand_at_last : (other : Rank) (others : List Job) (near far : List AtEnd) (p s : Contending) (went : EndWent rank jobs near p) → EndWent other others far s
+      → AreConnected rank near far → AllSpoken Spoken rank jobs near p went → StandsAtLast p.sender s.receiver
+  stand_at_last other others near far p s went went_other c spoken =
+      let b = both near p (others_of far) s.receiver went spoken (receives other others far s went_other) c.up c.down c.in_time in
+      elim (cases_Bool (Awaits rank near)) [
+        | inl e ↦ record {
+          near = after_hearing p.sender Sound.Quiet false;
+          counted = (quiet_counts_none p.sender false).1;
+          stood = b.stand.awaiting e Sound.Quiet false (inl refl);
+        }
+        | inr e ↦ record { near = p.sender; counted = refl; stood = b.stand.settled e }
+      ]

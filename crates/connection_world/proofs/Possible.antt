@@ -14,6 +14,7 @@ use Rattle.bsc_link.specs.declared.wish.Wish.{Wish}
 use Rattle.bsc_link.specs.Receiver.{receiver_news}
 use Rattle.bsc_link.specs.Sender.{is_enough, say_in}
 use Rattle.bsc_history.specs.declared.spoken_turn.SpokenTurn.{SpokenTurn}
+use Rattle.bsc_history.specs.Agreement.{GetsAtMostOneMore, KnowsBeforeBlocks}
 use Rattle.bsc_history.specs.Fate.{MayBeHeardAs, sound_of, sound_of_reply}
 use Rattle.bsc_history.specs.History.{History, is_over}
 use Rattle.bsc_history.specs.Known.{known}
@@ -41,7 +42,7 @@ use Rattle.line_world.specs.Turns.{ReceivingTurns}
 use Rattle.line_world.proofs.Numbered.{plan_length}
 use Rattle.connection_world.specs.Connection.{AtReceiver, AtSender, Says, Comes, InVain, Arrives, NothingArrives, OneHearing, ComeDown, ComeUp, IsFrameOf, IsReplied, IsThing, Listens, IsOverConnection, MayComeAs, SenderWent, come_by, sound_of_rest, told}
 use Rattle.connection_world.specs.Headline.{MayBeConnections, but_for_notes}
-use Rattle.connection_world.proofs.SideBySide.{MayHear}
+use Rattle.connection_world.proofs.SideBySide.{AnyFrame, MayHear}
 use Rattle.connection_world.proofs.Standing.{Going, Stood, first_stood, more_blocks, stood_grows}
 use Rattle.connection_world.proofs.Stations.{ends_or_asks, idles, said_block, said_sound, turned, wordless}
 
@@ -62,7 +63,7 @@ frame_of_due Say.Nothing rest some left = absurd (some refl)
 frame_of_due Say.Block rest some left = let first = left tt in (frame.Block first.0, subst (λ x. IsFrameOf Say.Block x (frame.Block first.0)) (sym first.2) refl)
 frame_of_due Say.Again rest some left = let first = left tt in (frame.Block first.0, subst (λ x. IsFrameOf Say.Again x (frame.Block first.0)) (sym first.2) refl)
 
-pub due_frame : (jobs : List Job) (s : Sending) (r : Receiving) → Stood jobs s r → s.over ≡ false → (f : Frame) × IsFrameOf (say_in s.core.place) s.rest f
+pub due_frame : (jobs : List Job) (s : Sending) (r : Receiving) → Stood AnyFrame jobs s r → s.over ≡ false → (f : Frame) × IsFrameOf (say_in s.core.place) s.rest f
 due_frame jobs s r p live =
     let going : Going jobs p.h s = p.live live in
     let goes : is_over p.h ≡ false = (more_blocks jobs p.h going.0 going.1 going.2 s going.3 live).1 in
@@ -410,9 +411,9 @@ record Made (jobs : List Job) (gives_way : Bool) (s : Sending) (r : Receiving) :
   idle : has_answer (kept_of gives_way (told near)).said ≡ false
   in_order : answered gives_way (told near) ≤ things (told near)
   alive : s.over ≡ false → (r.over ≡ false) × (come_by far ≤ things (told near))
-  stood : Stood jobs s r
+  stood : Stood AnyFrame jobs s r
 
-module _ (counts_blocks : CountsBlocks) (receiving : ReceivingTurns) (jobs : List Job) (gives_way : Bool) where
+module _ (at_most : GetsAtMostOneMore) (knows : KnowsBeforeBlocks) (counts_blocks : CountsBlocks) (receiving : ReceivingTurns) (jobs : List Job) (gives_way : Bool) where
   first_made : Made jobs gives_way (first_sending jobs) first_receiving
   first_made = record {
     near = [];
@@ -421,7 +422,7 @@ module _ (counts_blocks : CountsBlocks) (receiving : ReceivingTurns) (jobs : Lis
     idle = refl;
     in_order = omega arith;
     alive = λ _. (refl, omega arith);
-    stood = first_stood jobs;
+    stood = first_stood AnyFrame jobs;
   }
 
   module _ (s s' : Sending) (r r' : Receiving) (t : SpokenTurn) (says : SenderTakes s s' t) (hears : ReceiverTakes r r' t) (faithful : IsFaithful s hears.what t)
@@ -450,8 +451,8 @@ module _ (counts_blocks : CountsBlocks) (receiving : ReceivingTurns) (jobs : Lis
     state : s' ≡ turned s place_says t.heard t.pause
     state = says.state ∙ ap (λ x. turned s x t.heard t.pause) says.said
 
-    stood_then : Stood jobs (turned s place_says t.heard t.pause) (after_receiving r hears.what t.refused t.wish)
-    stood_then = (stood_grows counts_blocks receiving jobs).more s r f hearing t.heard t.pause says.live due come hears.may hears.reply may_hear p.stood
+    stood_then : Stood AnyFrame jobs (turned s place_says t.heard t.pause) (after_receiving r hears.what t.refused t.wish)
+    stood_then = (stood_grows at_most knows AnyFrame counts_blocks receiving jobs).more s r f hearing t.heard t.pause says.live due tt come hears.may hears.reply may_hear p.stood
 
     -- the receiving station replied what was due, or nothing was
     abbrev heard_it : Receiving
@@ -471,7 +472,7 @@ module _ (counts_blocks : CountsBlocks) (receiving : ReceivingTurns) (jobs : Lis
       idle = on.idle;
       in_order = on.in_order;
       alive = λ over. let so = live over in (so.1, on.more so.0);
-      stood = (stood_grows counts_blocks receiving jobs).same _ _ heard_it r' (ap but_for_notes (sym state)) (ap wordless (sym state')) stood_then;
+      stood = (stood_grows at_most knows AnyFrame counts_blocks receiving jobs).same _ _ heard_it r' (ap but_for_notes (sym state)) (ap wordless (sym state')) stood_then;
     }
 
     one_more : Made jobs gives_way s' r'
@@ -506,7 +507,7 @@ module _ (counts_blocks : CountsBlocks) (receiving : ReceivingTurns) (jobs : Lis
   all_made s r [] sent received faithful = subst (λ x. Made jobs gives_way x r) (sym sent) (subst (Made jobs gives_way (first_sending jobs)) (sym received) first_made)
   all_made s r (t ∷ h) (near, sent, says) (far, received, hears) (now, before) = one_more near s far r t says hears now (all_made near far h sent received before)
 
-pub may_be_connections : CountsBlocks → ReceivingTurns → MayBeConnections
-may_be_connections counts receiving jobs gives_way h s r sent received faithful =
-    let p = all_made counts receiving jobs gives_way s r h sent received faithful in
+pub may_be_connections : GetsAtMostOneMore → KnowsBeforeBlocks → CountsBlocks → ReceivingTurns → MayBeConnections
+may_be_connections at_most knows counts receiving jobs gives_way h s r sent received faithful =
+    let p = all_made at_most knows counts receiving jobs gives_way s r h sent received faithful in
     record { near = p.near; far = p.far; connected = p.connected }

@@ -32,12 +32,17 @@ pub record MayHear (say : Say) (reply : Option Reply) (sound : Sound) : Type 0 w
   pub down : MayBeHeardAs (sound_of_reply reply) sound
   pub done : say ≡ Say.End → sound ≡ Sound.Quiet
 
--- What holds of two stations that take turns, whatever it is: it asks nothing of what they note, and each turn keeps it.
-pub record Grows (T : Sending → Receiving → Type 0) : Type 0 where
+-- What holds of two stations that take turns, whatever it is: it asks nothing of what they note, and each turn keeps it in which the sending one
+-- spoke such a frame where it stood.
+pub record Grows (Spoken : Frame → Sending → Type 0) (T : Sending → Receiving → Type 0) : Type 0 where
   pub same : (s s' : Sending) (r r' : Receiving) → but_for_notes s ≡ but_for_notes s' → wordless r ≡ wordless r' → T s r → T s' r'
-  pub more : (s : Sending) (r : Receiving) (f : Frame) (h : OneHearing) (sound : Sound) (pause : Bool) → s.over ≡ false → IsFrameOf (say_in s.core.place) s.rest f
+  pub more : (s : Sending) (r : Receiving) (f : Frame) (h : OneHearing) (sound : Sound) (pause : Bool) → s.over ≡ false → IsFrameOf (say_in s.core.place) s.rest f → Spoken f s
       → MayComeAs f h.what → MayRefuse h.what (begun_in r.jobs) h.refused → h.reply ≡ (after_receiving r h.what h.refused h.wish).due
       → MayHear (say_in s.core.place) h.reply sound → T s r → T (turned s (say_in s.core.place) sound pause) (after_receiving r h.what h.refused h.wish)
+
+-- whatever it spoke
+abbrev pub AnyFrame : Frame → Sending → Type 0
+AnyFrame f s = Unit {0}
 
 -- ---- A receiving station.
 
@@ -55,7 +60,7 @@ passed : (h : OneHearing) (r r' : Receiving) → is_passed_over (sound_heard h.w
 passed h r r' over (inl (may, reply, state)) = sym (state ∙ passed_is_nothing r h.what h.refused h.wish may over)
 passed h r r' over (inr (none, state)) = sym state
 
-module _ (T : Sending → Receiving → Type 0) (grows : Grows T) where
+module _ (Spoken : Frame → Sending → Type 0) (T : Sending → Receiving → Type 0) (grows : Grows Spoken T) where
   -- before anything was said
   pub begin : (s : Sending) (far : List AtReceiver) (r : Receiving) → T s first_receiving → FarWent far r → ComeUp [] far → T s r
   begin s [] r t went up = grows.same s s first_receiving r refl (ap wordless (sym went)) t
@@ -63,12 +68,12 @@ module _ (T : Sending → Receiving → Type 0) (grows : Grows T) where
   begin s (NothingArrives h ∷ far) r t (last, went, goes) up = grows.same s s last r refl (passed h last r up.0 goes) (begin s far last t went up.1)
 
   -- a thing that never arrives, or hasn't yet
-  one_lost : (s : Sending) (r : Receiving) (f : Frame) (sound : Sound) (pause : Bool) → s.over ≡ false → IsFrameOf (say_in s.core.place) s.rest f → sound ≡ Sound.Quiet
+  one_lost : (s : Sending) (r : Receiving) (f : Frame) (sound : Sound) (pause : Bool) → s.over ≡ false → IsFrameOf (say_in s.core.place) s.rest f → Spoken f s → sound ≡ Sound.Quiet
       → T s r → T (turned s (say_in s.core.place) sound pause) r
-  one_lost s r f sound pause live due quiet t =
+  one_lost s r f sound pause live due spoken quiet t =
       let none : OneHearing = record { what = heard.Quiet; refused = false; wish = Wish.Go; reply = None } in
       grows.same _ _ (after_receiving r heard.Quiet false Wish.Go) r refl (passed_is_nothing r heard.Quiet false Wish.Go refl refl)
-      (grows.more s r f none sound pause live due (record { sound = all_lost (sound_of_frame f); block = no_block }) refl (quiet_is_silent r Wish.Go)
+      (grows.more s r f none sound pause live due spoken (record { sound = all_lost (sound_of_frame f); block = no_block }) refl (quiet_is_silent r Wish.Go)
       (record { down = subst (MayBeHeardAs Sound.Quiet) (sym quiet) (all_lost Sound.Quiet); done = λ e. quiet }) t)
     where
       is_quiet : Heard → Bool
@@ -84,8 +89,8 @@ MayBeGiven n far sound = (sound ≡ Sound.Quiet) ⊎ ((a : Answer) × (a.thing +
 
 -- ---- The last thing that was said, and all that has arrived.
 
-module _ (T : Sending → Receiving → Type 0) (grows : Grows T) (f : Frame) (past : List AtSender) (s : Sending) (sound : Sound) (pause : Bool)
-    (live : s.over ≡ false) (due : IsFrameOf (say_in s.core.place) s.rest f) (done : say_in s.core.place ≡ Say.End → sound ≡ Sound.Quiet)
+module _ (Spoken : Frame → Sending → Type 0) (T : Sending → Receiving → Type 0) (grows : Grows Spoken T) (f : Frame) (past : List AtSender) (s : Sending) (sound : Sound) (pause : Bool)
+    (live : s.over ≡ false) (due : IsFrameOf (say_in s.core.place) s.rest f) (spoken : Spoken f s) (done : say_in s.core.place ≡ Say.End → sound ≡ Sound.Quiet)
     (said : AllSaid past) (answered : AllAnswered past)
     (before : (far : List AtReceiver) (r : Receiving) → FarWent far r → ComeUp past far → ComeDown past far → T s r) where
   abbrev n : ℕ
@@ -104,7 +109,7 @@ module _ (T : Sending → Receiving → Type 0) (grows : Grows T) (f : Frame) (p
   missing : (far : List AtReceiver) (r : Receiving) → FarWent far r → ComeUp (Says f ∷ past) far → ComeDown past far → come_by far ≤ n → MayBeGiven (n + 1) far sound
       → After r
   missing far r went up down below heard =
-      one_lost T grows s r f sound pause live due (not_arrived far up below heard) (before far r went (up_before_saying f past far below up) down)
+      one_lost Spoken T grows s r f sound pause live due spoken (not_arrived far up below heard) (before far r went (up_before_saying f past far below up) down)
 
   arrived : (k : ℕ) (h : OneHearing) (far : List AtReceiver) (r r' : Receiving) → FarWent far r → FarGoes h r r' → ComeUp (Says f ∷ past) (Arrives k h ∷ far)
       → ComeDown past (Arrives k h ∷ far) → k ≡ n → MayComeAs f h.what → MayBeGiven (n + 1) (Arrives k h ∷ far) sound → After r'
@@ -134,8 +139,8 @@ module _ (T : Sending → Receiving → Type 0) (grows : Grows T) (f : Frame) (p
       which : FarGoes h r r' → After r'
       which (inl (may, reply, state)) =
           grows.same _ _ (after_receiving r h.what h.refused h.wish) r' refl (sym state)
-          (grows.more s r f h sound pause live due comes may reply (record { down = fate heard; done = done }) t)
-      which (inr (none, state)) = grows.same _ _ r r' refl (sym state) (one_lost T grows s r f sound pause live due (silent none heard) t)
+          (grows.more s r f h sound pause live due spoken comes may reply (record { down = fate heard; done = done }) t)
+      which (inr (none, state)) = grows.same _ _ r r' refl (sym state) (one_lost Spoken T grows s r f sound pause live due spoken (silent none heard) t)
 
   pub side_by_side : (far : List AtReceiver) (r : Receiving) → FarWent far r → ComeUp (Says f ∷ past) far → ComeDown past far → MayBeGiven (n + 1) far sound → After r
   side_by_side [] r went up down heard = missing [] r went up down (omega arith) heard
@@ -168,7 +173,7 @@ pub given_none : (given : Given Answer) (s s' : Sending) → Listens given s s' 
 given_none given s s' listens none = rw none at listens
 
 -- after something came, or a hearing was in vain
-module _ (T : Sending → Receiving → Type 0) (grows : Grows T) (e : Event Answer) (k : Kept Answer) (n : ℕ) (s s' : Sending) (far : List AtReceiver) (r : Receiving)
+module _ (Spoken : Frame → Sending → Type 0) (T : Sending → Receiving → Type 0) (grows : Grows Spoken T) (e : Event Answer) (k : Kept Answer) (n : ℕ) (s s' : Sending) (far : List AtReceiver) (r : Receiving)
     (listens : Listens (given_at e k) s s') (before : Stand T (has_answer k.said) n s far r) where
   pub goes_on : given_at e k ≡ Given.Nothing → (awaits : Bool) → awaits ≡ has_answer k.said → Stand T awaits n s' far r
   goes_on none awaits same =
@@ -206,12 +211,12 @@ module _ (T : Sending → Receiving → Type 0) (grows : Grows T) (e : Event Ans
     }
 
 -- after it spoke
-module _ (T : Sending → Receiving → Type 0) (grows : Grows T) (f : Frame) (past : List AtSender) (s s' : Sending) (far : List AtReceiver) (r : Receiving)
-    (speaks : Speaks f s s') (said : AllSaid past) (answered : AllAnswered past) (went : FarWent far r) (up : ComeUp (Says f ∷ past) far) (down : ComeDown past far)
+module _ (Spoken : Frame → Sending → Type 0) (T : Sending → Receiving → Type 0) (grows : Grows Spoken T) (f : Frame) (past : List AtSender) (s s' : Sending) (far : List AtReceiver) (r : Receiving)
+    (speaks : Speaks f s s') (spoken : Spoken f s) (said : AllSaid past) (answered : AllAnswered past) (went : FarWent far r) (up : ComeUp (Says f ∷ past) far) (down : ComeDown past far)
     (before : (far : List AtReceiver) (r : Receiving) → FarWent far r → ComeUp past far → ComeDown past far → T s r) where
   with_turn : (sound : Sound) (pause : Bool) → (say_in s.core.place ≡ Say.End → sound ≡ Sound.Quiet) → MayBeGiven (things (told past) + 1) far sound
       → T (turned s (say_in s.core.place) sound pause) r
-  with_turn sound pause done heard = side_by_side T grows f past s sound pause speaks.live speaks.due done said answered before far r went up down heard
+  with_turn sound pause done heard = side_by_side Spoken T grows f past s sound pause speaks.live speaks.due spoken done said answered before far r went up down heard
 
   not_end : has_answer (said_in f) ≡ true → say_in s.core.place ≡ Say.End → ⊥
   not_end asks ends =

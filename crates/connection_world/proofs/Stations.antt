@@ -81,6 +81,16 @@ said_block Say.Again [] f b due is = absurd due
 said_block Say.Again (c ∷ more) f b due is = (more, same_block b c f more due is)
 said_block Say.Nothing rest f b due is = absurd due
 
+-- and it is said for the first time or again
+pub said_of_block : (say : Say) (rest : List Block) (f : Frame) (b : Block) → IsFrameOf say rest f → f ≡ frame.Block b → (say ≡ Say.Block) ⊎ (say ≡ Say.Again)
+said_of_block Say.Bid rest f b due is = absurd (other_block f _ b due is refl)
+said_of_block Say.Ask rest f b due is = absurd (other_block f _ b due is refl)
+said_of_block Say.Delay rest f b due is = absurd (other_block f _ b due is refl)
+said_of_block Say.End rest f b due is = absurd (other_block f _ b due is refl)
+said_of_block Say.Block rest f b due is = inl refl
+said_of_block Say.Again rest f b due is = inr refl
+said_of_block Say.Nothing rest f b due is = absurd due
+
 -- ---- Fates.
 
 pub all_lost : (said : Sound) → MayBeHeardAs said Sound.Quiet

@@ -3,3 +3,4 @@ pub mod Headline
 pub mod BothWays
 pub mod LateBid
 pub mod CrossingBids
+pub mod LastBlocks

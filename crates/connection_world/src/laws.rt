@@ -2,12 +2,15 @@
 ghost use Rattle.connection_world.specs.BothWays.{OverExchanges};
 ghost use Rattle.connection_world.specs.CrossingBids.{CrossingBidsComeThrough};
 ghost use Rattle.connection_world.specs.Headline.{MayBeConnections, OverConnections, TakeFaithfulTurns};
+ghost use Rattle.connection_world.specs.LastBlocks.{HandOutWhatWasSaid};
 ghost use Rattle.connection_world.specs.LateBid.{LateBidComesThrough};
 ghost use Rattle.line_world.specs.Headline.{AreHandedInOrder, AreHandedWhole, HandsFirstJobs};
 
+use bsc_history::ends_agree;
 use line_world::{faithful_lines_keep_order, histories_keep_order, stations_keep_history};
 use rje_answers::answers_are_own;
 use rje_station::counted_blocks_end_counted_jobs;
+use rje_text::cut_reads_back;
 
 /// Whatever comes late over a connection, and whatever it loses or damages: where each thing is answered with fewer than two hearings in
 /// vain since it was said, or not at all, there are turns that both stations take, in each of which the line is faithful, and that leave
@@ -24,6 +27,7 @@ pub fn connections_are_faithful()
 pub fn faithful_turns_may_be_connections()
     ensures { MayBeConnections }
 {
+    ends_agree();
     counted_blocks_end_counted_jobs();
     stations_keep_history();
 }
@@ -50,9 +54,23 @@ pub fn exchanges_keep_order()
     ensures first_jobs { OverExchanges HandsFirstJobs }
 {
     answers_are_own();
+    ends_agree();
     counted_blocks_end_counted_jobs();
     stations_keep_history();
     histories_keep_order();
+}
+
+/// More exactly, to the job. Of the jobs of each station the other one hands out whole those that
+/// are counted; or one more, the next one, and then the station has said that one's last block, with
+/// as many jobs counted as now.
+pub fn exchanges_hand_out_what_was_said()
+    ensures last_said { HandOutWhatWasSaid }
+{
+    answers_are_own();
+    ends_agree();
+    counted_blocks_end_counted_jobs();
+    stations_keep_history();
+    cut_reads_back();
 }
 
 /// A worked example: the first bid comes late, when its sender has given it up, and the answer to it is lost; a job of one block comes all

@@ -1,0 +1,5 @@
+pub mod Passage
+pub mod Carried
+pub mod Books
+pub mod Day
+pub mod WorkedDay
