@@ -1,5 +1,5 @@
 -- A byte of a file that is marked where the file is: call after call.
-use Rattle.std.proofs.Common.{◌≡◌, inl, inr, ℕ, take, drop, set, ◌+◌, ◌<◌, List, [], ◌∷◌, ◌++◌, length, Some, Result, Ok, Err, OnOk, true, false, if◌then◌else◌, refl, sym, ◌∙◌, ap, subst, arith}
+use Rattle.std.proofs.Common.{◌≡◌, inl, inr, ℕ, take, drop, set, ◌+◌, ◌<◌, List, [], ◌∷◌, ◌++◌, length, Option, Some, Result, Ok, Err, OnOk, true, false, if◌then◌else◌, refl, sym, ◌∙◌, ap, subst, arith}
 use Rattle.std.specs.Prelude.{bytes_eq, nat_eq, nat_lt, option_and_then, IfSome}
 use Rattle.std.proofs.lemmas.Bool.Decides.{nat_tests}
 use Rattle.std.specs.declared.io.Error.{Error}
@@ -13,6 +13,13 @@ use Rattle.rje_folders.specs.Marking.{HasOnDisk, IsMarked, MayMark}
 -- the file was opened, to have a byte marked
 pub opened_may : {A : Type 0} (result : Result A Error) (path : List ℕ) (place mark : ℕ) (a b : List Asked) → IsOpened result path a b → Adds (MayMark path place mark) a b
 opened_may result path place mark a b (bytes, e, had) = added_call (MayMark path place mark) a a b result (Open path bytes) (added_none (MayMark path place mark) a) e (inl (bytes, refl))
+
+-- a file that was opened is as long as the bytes that it had
+pub length_of_opened : (path : List ℕ) (number len : ℕ) (had : List ℕ) (a b : List Asked) → b ≡ Done (Open path had) ∷ a → number ≡ seen_as path a
+    → IfSome (bytes_of number b) (λ bytes. len ≡ length bytes) → len ≡ length had
+length_of_opened path number len had a b e n known =
+    let is : bytes_of number b ≡ Some had = ap (bytes_of number) e ∙ rw n (rw (same_number (seen_as path a)) refl) in
+    subst (λ (o : Option (List ℕ)). IfSome o (λ bytes. len ≡ length bytes)) is known
 
 -- and the byte was written
 pub written_may : {A B : Type 0} (opened : Result A Error) (result : Result B Error) (path : List ℕ) (file : Opened) (place mark : ℕ) (a b c : List Asked) → IsOpened opened path a b → file.name ≡ path

@@ -1,3 +1,4 @@
 pub mod Changes
 pub mod Replacing
 pub mod Turning
+pub mod Marking

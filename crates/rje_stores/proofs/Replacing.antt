@@ -1,17 +1,14 @@
 -- Calls of a disk, one after another.
-use Rattle.std.proofs.Common.{◌≡◌, ◌≢◌, inl, inr, ℕ, suc, take, drop, set, ◌+◌, ◌<◌, List, [], ◌∷◌, ◌++◌, length, Option, Some, None, Result, Ok, Err, OnOk, Bool, true, false, if◌then◌else◌, refl, sym, ◌∙◌, ap, subst, append_assoc, length-append, arith}
-use Rattle.std.specs.Prelude.{bytes_eq, nat_eq, nat_lt, codes, decimal, unwrap_or, option_and_then, IfSome}
-use Rattle.std.proofs.lemmas.Bool.Decides.{nat_tests}
+use Rattle.std.proofs.Common.{◌≡◌, ◌≢◌, inl, inr, ℕ, suc, ◌+◌, ◌<◌, List, [], ◌∷◌, ◌++◌, length, Option, Some, None, Result, Ok, Err, OnOk, Bool, true, false, if◌then◌else◌, refl, sym, ◌∙◌, ap, subst, append_assoc, length-append, arith}
+use Rattle.std.specs.Prelude.{bytes_eq, nat_eq, codes, decimal, unwrap_or}
 use Rattle.std.specs.IoError.{error_kind}
 use Rattle.std.specs.declared.io.Error.{Error}
 use Rattle.std.specs.declared.io.ErrorKind.{ErrorKind}
 use Rattle.std.proofs.lemmas.Slice.Eq.{bytes_eq-Decides}
 use Rattle.std.proofs.lemmas.Bool.{eq-eqb, false_from_ne_true}
 use Rattle.std.proofs.lemmas.Option.{same_Some}
-use Rattle.std.proofs.lemmas.List.{take-append-drop, take-set, drop-set}
-use Rattle.rje_stores.specs.Disk.{Asked, Call, Opened, Done, Refused, Failed, Create, Open, OpenLock, SetMode, Fill, GoOn, WriteAt, Sync, SyncBytes, Rename, Link, Remove, SyncFolder, WriteDevice, call_of, standing, bytes_of, is_synced, has_synced_name, changes, takes, names, came_to, failed_by, seen_as, overwritten, has_synced_bytes, IsOpened}
-use Rattle.rje_stores.specs.FileStore.{HasSet, IsSet, MaySet}
-use Rattle.rje_stores.specs.Replacing.{Adds, Each, Either, HasTried, IsApart, IsBeside, IsNewBeside, IsWhole, IsOnDisk, LeadsTo, MayReplace, MayTry}
+use Rattle.rje_stores.specs.Disk.{Asked, Call, Opened, Done, Refused, Failed, Create, Open, OpenLock, SetMode, Fill, GoOn, WriteAt, Sync, SyncBytes, Rename, Link, Remove, SyncFolder, WriteDevice, call_of, standing, bytes_of, is_synced, takes, came_to, failed_by}
+use Rattle.rje_stores.specs.Replacing.{Adds, Each, Either, HasTried, IsApart, IsBeside, IsNewBeside, IsWhole, MayReplace, MayTry}
 use Rattle.rje_stores.specs.Inside.Filling.{AddsSync, Fills, MayFill}
 
 -- nothing was asked
@@ -236,46 +233,6 @@ name_of_new path file name after (before, e, f, beside) = beside
 -- what was asked by one rule, and then by another
 pub added_either : (P Q : Call → List Asked → Type 0) (a b c : List Asked) → Adds P a b → Adds Q b c → Adds (Either P Q) a c
 added_either P Q a b c p q = added_twice (Either P Q) a b c (added_weaker P (Either P Q) (λ call before x. inl x) a b p) (added_weaker Q (Either P Q) (λ call before x. inr x) b c q)
-
--- a list with an element set is its front, the element and the rest
-set_parts : (xs : List ℕ) (i : ℕ) (y : ℕ) → i < length xs → take i xs ++ (y ∷ drop (i + 1) xs) ≡ set xs i y
-set_parts xs i y h = sym (ap (λ (l : List ℕ). l ++ (y ∷ drop (i + 1) xs)) (take-set xs i y)) ∙ sym (ap (λ (l : List ℕ). take i (set xs i y) ++ l) (drop-set xs i y h)) ∙ take-append-drop i (set xs i y)
-
--- a byte that is written where the file is
-pub byte_is_set : (path : List ℕ) (file : Opened) (place byte : ℕ) (had : List ℕ) (before : List Asked) → file ≡ record { name = path; number = seen_as path before } → place < length had
-    → IsSet path place byte (Done (SyncBytes file) ∷ Done (WriteAt file place (byte ∷ [])) ∷ Done (Open path had) ∷ before)
-byte_is_set path file place byte had before e h =
-    let IsIt : Opened → Type 0 = λ f. IsSet path place byte (Done (SyncBytes f) ∷ Done (WriteAt f place (byte ∷ [])) ∷ Done (Open path had) ∷ before) in
-    let number = seen_as path before in
-    let stands : (if bytes_eq path path then Some number else standing path before) ≡ Some number = rw (same_name path) refl in
-    let long : nat_lt (length had) place ≡ false = grind (arith, nat_tests) in
-    let has : (if nat_eq number number then option_and_then (overwritten place (byte ∷ [])) (if nat_eq number number then Some had else bytes_of number before) else (if nat_eq number number then Some had else bytes_of number before))
-    ≡ Some (set had place byte) = rw (same_number number, long) (ap (λ (l : List ℕ). Some l) (set_parts had place byte h)) in
-    let synced : (if nat_eq number number then true else (if nat_eq number number then false else has_synced_bytes number before)) ≡ true = rw (same_number number) refl in
-    subst IsIt (sym e) (number, had, Done (SyncBytes _) ∷ Done (WriteAt _ place (byte ∷ [])) ∷ [], before, refl, stands, h, has, synced)
-
--- the file that a name leads to was opened, to have a byte set
-pub opened_to_set : {A : Type 0} (result : Result A Error) (leads : List ℕ → List ℕ → Type 0) (name path : List ℕ) (place byte : ℕ) (a b : List Asked)
-    → IsOpened result path a b → LeadsTo leads name path → Adds (MaySet leads name place byte) a b
-opened_to_set result leads name path place byte a b (bytes, e, had) led =
-    added_call (MaySet leads name place byte) a a b result (Open path bytes) (added_none (MaySet leads name place byte) a) e (path, led, inl (bytes, refl))
-
--- how many bytes an open file is known to have
-pub length_of_opened : (path : List ℕ) (number len : ℕ) (had : List ℕ) (a b : List Asked) → b ≡ Done (Open path had) ∷ a → number ≡ seen_as path a
-    → IfSome (bytes_of number b) (λ bytes. len ≡ length bytes) → len ≡ length had
-length_of_opened path number len had a b e n known =
-    let is : bytes_of number b ≡ Some had = ap (bytes_of number) e ∙ rw n (rw (same_number (seen_as path a)) refl) in
-    subst (λ (o : Option (List ℕ)). IfSome o (λ bytes. len ≡ length bytes)) is known
-
--- the byte is set, where its bytes are put on disk
-pub set_done : {A : Type 0} (result : Result A Error) (leads : List ℕ → List ℕ → Type 0) (name path : List ℕ) (file : Opened) (place byte : ℕ) (had : List ℕ) (a b c d : List Asked)
-    → LeadsTo leads name path → b ≡ Done (Open path had) ∷ a → file ≡ record { name = path; number = seen_as path a } → place < length had
-    → c ≡ Done (WriteAt file place (byte ∷ [])) ∷ b → d ≡ came_to result (SyncBytes file) ∷ c → OnOk result (HasSet leads name place byte d)
-set_done (Err _) leads name path file place byte had a b c d led opened is h written synced = tt
-set_done (Ok _) leads name path file place byte had a b c d led opened is h written synced =
-    let all : d ≡ Done (SyncBytes file) ∷ Done (WriteAt file place (byte ∷ [])) ∷ Done (Open path had) ∷ a =
-    synced ∙ ap (λ (l : List Asked). Done (SyncBytes file) ∷ l) (written ∙ ap (λ (l : List Asked). Done (WriteAt file place (byte ∷ [])) ∷ l) opened) in
-    (path, led, subst (λ (l : List Asked). IsSet path place byte l) (sym all) (byte_is_set path file place byte had a is h))
 
 -- the file that was made is removed again
 pub tried_done : {A : Type 0} (result : Result A Error) (path : List ℕ) (file : Opened) (name : List ℕ) (a b : List Asked) → IsNewBeside path file name a → b ≡ came_to result (Remove name) ∷ a

@@ -1,9 +1,10 @@
 -- What a store over a disk asks it, and what is on disk then.
-use Rattle.std.specs.Prelude.{◌≡◌, ◌⊎◌, ℕ, ◌<◌, List, [], ◌∷◌, ◌++◌, ⊤, length, set, Option, Some, true, string_bytes, option_map, option_and_then}
+use Rattle.std.specs.Prelude.{◌≡◌, ◌⊎◌, ℕ, ◌<◌, List, [], ◌∷◌, length, set, Option, Some, true, string_bytes, option_map, option_and_then}
 use Rattle.rje_stores.specs.declared.file_store.growing.Growing.{Growing}
 use Rattle.rje_stores.specs.declared.file_store.growing.Older.{Older}
 use Rattle.rje_stores.specs.Disk.{Asked, Call, Opened, Done, Open, WriteAt, SyncBytes, Remove, WriteDevice, standing, bytes_of, has_synced_bytes}
-use Rattle.rje_stores.specs.Replacing.{IsOnDisk, HasTried, LeadsTo, MayReplace, MayTry}
+use Rattle.rje_stores.specs.Growing.{IsOpening}
+use Rattle.rje_stores.specs.Replacing.{Adds, IsOnDisk, HasTried, LeadsTo, MayReplace, MayTry}
 
 -- the name of the copy that stands beside a file that grows, where there is one
 abbrev pub older_name : {F : Type 0} → Option (Older F) → Option (List ℕ)
@@ -26,20 +27,30 @@ abbrev pub IsWritten : (List ℕ → List ℕ → Type 0) → (name bytes : List
 IsWritten leads name bytes after = (path : List ℕ) × LeadsTo leads name path
     × (IsOnDisk path bytes after ⊎ ((before : List Asked) × (after ≡ Done (WriteDevice path bytes) ∷ before)))
 
+-- what may be asked to set a byte of an open file: to write that one byte at its place, and to put it on disk
+abbrev pub MayMark : Opened → (place byte : ℕ) → Call → List Asked → Type 0
+MayMark file place byte call before = (call ≡ WriteAt file place (byte ∷ [])) ⊎ (call ≡ SyncBytes file)
+
 -- what may be asked to set a byte of the file that a name leads to: to open it, to write that one byte at its place, and to put it on disk
 abbrev pub MaySet : (List ℕ → List ℕ → Type 0) → (name : List ℕ) → (place byte : ℕ) → Call → List Asked → Type 0
 MaySet leads name place byte call before = (path : List ℕ) × LeadsTo leads name path × (
     ((bytes : List ℕ) × (call ≡ Open path bytes))
-    ⊎ ((file : Opened) × (file.name ≡ path) × ((call ≡ WriteAt file place (byte ∷ [])) ⊎ (call ≡ SyncBytes file))))
+    ⊎ ((file : Opened) × (file.name ≡ path) × MayMark file place byte call before))
 
--- the file that a path leads to was opened with some bytes, has them with this byte at this place, and they are on disk
-abbrev pub IsSet : (path : List ℕ) → (place byte : ℕ) → List Asked → Type 0
-IsSet path place byte after = (number : ℕ) × (had : List ℕ) × (calls before : List Asked) × (after ≡ calls ++ Done (Open path had) ∷ before)
-    × (standing path after ≡ Some number) × (place < length had) × (bytes_of number after ≡ Some (set had place byte)) × (has_synced_bytes number after ≡ true)
+-- the file under a path had some bytes, and was asked for nothing but this byte at this place; it stands there with that byte set, on disk
+pub record IsSet (file : Opened) (place byte : ℕ) (before after : List Asked) : Type 0 where
+  pub had : List ℕ
+  pub stood : standing file.name before ≡ Some file.number
+  pub bytes : bytes_of file.number before ≡ Some had
+  pub room : place < length had
+  pub asks : Adds (MayMark file place byte) before after
+  pub stands : standing file.name after ≡ Some file.number
+  pub has : bytes_of file.number after ≡ Some (set had place byte)
+  pub synced : has_synced_bytes file.number after ≡ true
 
--- the same of a name
-abbrev pub HasSet : (List ℕ → List ℕ → Type 0) → (name : List ℕ) → (place byte : ℕ) → List Asked → Type 0
-HasSet leads name place byte after = (path : List ℕ) × LeadsTo leads name path × IsSet path place byte after
+-- once the file of a name was opened, if that, the byte was set in the file that stood under its path
+abbrev pub HasSet : (List ℕ → List ℕ → Type 0) → (name : List ℕ) → (place byte : ℕ) → (before after : List Asked) → Type 0
+HasSet leads name place byte before after = (file : Opened) × (opened : List Asked) × LeadsTo leads name file.name × Adds IsOpening before opened × IsSet file place byte opened after
 
 -- what may be asked to look at a name: to make a file beside the path that it leads to, and to remove it
 abbrev pub MayLook : (List ℕ → List ℕ → Type 0) → (name : List ℕ) → Call → List Asked → Type 0

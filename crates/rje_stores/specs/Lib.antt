@@ -5,3 +5,4 @@ pub mod Replacing
 pub mod Inside
 pub mod FileStore
 pub mod Growing
+pub mod Marked

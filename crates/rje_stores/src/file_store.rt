@@ -7,6 +7,7 @@ ghost use Rattle.rje_stores.specs.FileStore.{HasLooked, HasSet, IsWritten, MayLo
 mod beside;
 mod growing;
 mod locks;
+mod marked;
 
 use crate::disk::{Disk, FileKind};
 use crate::reading::{MAX_INPUT, read_all};
@@ -15,6 +16,7 @@ use crate::system_disk::SystemDisk;
 use beside::{lead_to_one, replace, resolved, try_beside};
 use growing::Growing;
 use locks::FileLock;
+use marked::MarkedDisk;
 use std::alloc::Global;
 use std::fs::{File, Permissions};
 use std::io::{self, ErrorKind};
@@ -25,7 +27,7 @@ use std::rt::Files;
 /// the process.
 #[derive(Drop)]
 pub struct FileStore<D: Disk> {
-    disk: D,
+    disk: MarkedDisk<D>,
     alloc: Global,
     growing: Option<Growing<D>>,
     locks: Vec<FileLock<D::File>>,
@@ -56,7 +58,7 @@ impl<D: Disk> FileStore<D> {
         ensures settled { result.growing ≡ None }
     {
         FileStore {
-            disk,
+            disk: MarkedDisk::over(disk),
             alloc,
             growing: None,
             locks: Vec::new(alloc),
@@ -67,13 +69,13 @@ impl<D: Disk> FileStore<D> {
     pub fn disk(&self) -> &D
         ensures { result.now ≡ self.now.disk }
     {
-        &self.disk
+        self.disk.disk()
     }
 
     /// Gives up all locks, and leaves nothing of them beside the files.
     pub fn release(&mut self) {
         for lock in self.locks.iter() {
-            lock.remove(&mut self.disk);
+            lock.remove(self.disk.closed());
         }
         self.locks.clear();
     }
@@ -85,7 +87,7 @@ impl<D: Disk> FileStore<D> {
     {
         for lock in self.locks.iter_mut() {
             if lock.is_of(name) {
-                lock.follow(&self.disk);
+                lock.follow(self.disk.disk());
             }
         }
     }
@@ -97,35 +99,13 @@ impl<D: Disk> FileStore<D> {
             → OnOk result (IsWritten D.leads name.now bytes.now (D.asked self.new.disk)) }
         ensures growing { self.new.growing ≡ self.old.growing }
     {
-        let path = resolved(&self.disk, self.alloc, name)?;
+        let path = resolved(self.disk.disk(), self.alloc, name)?;
         let path = path.as_str();
-        match target_of(&self.disk, path)? {
-            Target::Device => Ok(self.disk.write_device(path, bytes)?),
-            Target::New => replace(&mut self.disk, self.alloc, path, None, bytes),
-            Target::File(mode) => replace(&mut self.disk, self.alloc, path, Some(mode), bytes),
+        match target_of(self.disk.disk(), path)? {
+            Target::Device => Ok(self.disk.closed().write_device(path, bytes)?),
+            Target::New => replace(self.disk.closed(), self.alloc, path, None, bytes),
+            Target::File(mode) => replace(self.disk.closed(), self.alloc, path, Some(mode), bytes),
         }
-    }
-
-    /// Changes a byte where the file is, on disk.
-    fn put_byte(&mut self, name: &str, place: usize, byte: u8) -> io::Result<()>
-        ensures asks { D.discloses → Adds (MaySet D.leads name.now place byte)
-            (D.asked self.old.disk) (D.asked self.new.disk) }
-        ensures sets { D.discloses
-            → OnOk result (HasSet D.leads name.now place byte (D.asked self.new.disk)) }
-        ensures growing { self.new.growing ≡ self.old.growing }
-    {
-        let path = resolved(&self.disk, self.alloc, name)?;
-        let path = path.as_str();
-        let file = self.disk.open_to_write(path)?;
-        let found = self.disk.status_of(&file)?;
-        if found.kind != FileKind::Regular {
-            return Err(io::Error::from(ErrorKind::InvalidInput));
-        }
-        if found.len <= place as u64 {
-            return Err(io::Error::from(ErrorKind::InvalidInput));
-        }
-        self.disk.write_at(&file, place as u64, &[byte])?;
-        self.disk.sync_bytes(&file)
     }
 
     fn place(&mut self, name: &str) -> io::Result<Place>
@@ -134,12 +114,12 @@ impl<D: Disk> FileStore<D> {
         ensures tried { D.discloses → IfOk result (λ place. place ≡ Place.Growing
             → HasLooked D.leads name.now (D.asked self.new.disk)) }
     {
-        let path = resolved(&self.disk, self.alloc, name)?;
+        let path = resolved(self.disk.disk(), self.alloc, name)?;
         let path = path.as_str();
-        match target_of(&self.disk, path)? {
+        match target_of(self.disk.disk(), path)? {
             Target::Device => Ok(Place::Once),
             Target::New | Target::File(_) => {
-                try_beside(&mut self.disk, self.alloc, path)?;
+                try_beside(self.disk.closed(), self.alloc, path)?;
                 Ok(Place::Growing)
             }
         }
@@ -160,10 +140,11 @@ impl<D: Disk> FileStore<D> {
         match self.growing.take() {
             Some(growing) if growing.is_of(name) => Ok(growing),
             Some(other) => {
-                other.settle(&mut self.disk);
-                Growing::open(&mut self.disk, self.alloc, name)
+                let disk = self.disk.closed();
+                other.settle(disk);
+                Growing::open(disk, self.alloc, name)
             }
-            None => Growing::open(&mut self.disk, self.alloc, name),
+            None => Growing::open(self.disk.closed(), self.alloc, name),
         }
     }
 
@@ -181,7 +162,7 @@ impl<D: Disk> FileStore<D> {
             → IsReady D.leads D.opened D.folder_of self.new.growing (D.asked self.new.disk) }
     {
         let growing = self.growing_of(name)?;
-        let growing = growing.extended(&mut self.disk, self.alloc, front, tail)?;
+        let growing = growing.extended(self.disk.closed(), self.alloc, front, tail)?;
         self.growing = Some(growing);
         Ok(())
     }
@@ -214,7 +195,7 @@ impl<D: Disk> Store for FileStore<D> {
         }
         // The room first: a lock that there is no room for would leave its file.
         self.locks.reserve(1)?;
-        if let Some(lock) = FileLock::take(&mut self.disk, alloc, name)? {
+        if let Some(lock) = FileLock::take(self.disk.closed(), alloc, name)? {
             if self.locks.push(lock).is_err() {
                 return Err(StoreFault::OutOfMemory);
             }
@@ -226,7 +207,7 @@ impl<D: Disk> Store for FileStore<D> {
         ensures limit { IfOk result (λ bytes. length bytes.items ≤ MAX_INPUT) }
         ensures same { self.new ≡ self.old }
     {
-        read_all(alloc, &mut self.disk.open_to_read(name)?)
+        read_all(alloc, &mut self.disk.disk().open_to_read(name)?)
     }
 
     fn write(&mut self, name: &str, bytes: &[u8]) -> Result<(), StoreFault>
@@ -260,7 +241,7 @@ impl<D: Disk> Store for FileStore<D> {
         if one == other {
             return Ok(true);
         }
-        Ok(lead_to_one(&self.disk, alloc, one, other)?)
+        Ok(lead_to_one(self.disk.disk(), alloc, one, other)?)
     }
 
     fn extend(
@@ -299,11 +280,12 @@ impl<D: Disk> Store for FileStore<D> {
             (MaySet D.leads name.now place byte))
             (D.asked self.old.disk) (D.asked self.new.disk) }
         ensures on_disk { D.discloses
-            → OnOk result (HasSet D.leads name.now place byte (D.asked self.new.disk)) }
+            → OnOk result (HasSet D.leads name.now place byte
+            (D.asked self.old.disk) (D.asked self.new.disk)) }
         ensures settled { self.new.growing ≡ None }
     {
         self.settle();
-        Ok(self.put_byte(name, place, byte)?)
+        Ok(self.disk.set_byte(self.alloc, name, place, byte)?)
     }
 
     fn settle(&mut self)
@@ -312,7 +294,7 @@ impl<D: Disk> Store for FileStore<D> {
         ensures settled { self.new.growing ≡ None }
     {
         if let Some(growing) = self.growing.take() {
-            growing.settle(&mut self.disk);
+            growing.settle(self.disk.closed());
         }
     }
 }

@@ -120,8 +120,39 @@ fn a_byte_is_set_where_the_file_is(rt: HostRuntime) {
     assert!(rt; files.set_byte(alloc, "a.job", 3, b'-').is_ok());
     assert!(rt; files.set_byte(alloc, "a.job", 4, b'-') == Err(INVALID));
     assert!(rt;
+        files.disk().asked() == b"open a.job\nwrite to a.job: -\nsync bytes of a.job\n".as_slice()
+    );
+}
+
+#[test]
+fn a_file_stays_open_from_one_byte_to_the_next(rt: HostRuntime) {
+    let alloc = rt.alloc();
+    let mut files = store_failing_at(alloc, 0, ErrorKind::StorageFull);
+    assert!(rt; files.set_byte(alloc, "a.job", 0, b'-').is_ok());
+    assert!(rt; files.set_byte(alloc, "a.job", 1, b'*').is_ok());
+    assert!(rt; files.set_byte(alloc, "b.job", 1, b'+').is_ok());
+    assert!(rt; files.set_byte(alloc, "a.job", 2, b'-').is_ok());
+    assert!(rt;
         files.disk().asked()
-            == b"open a.job\nwrite to a.job: -\nsync bytes of a.job\nopen a.job\n".as_slice()
+            == b"open a.job\nwrite to a.job: -\nsync bytes of a.job\nwrite to a.job: *\nsync bytes of a.job\nopen b.job\nwrite to b.job: +\nsync bytes of b.job\nopen a.job\nwrite to a.job: -\nsync bytes of a.job\n".as_slice()
+    );
+
+    // Another file may have its name.
+    assert!(rt; files.write("a.job", b"one").is_ok());
+    assert!(rt; files.set_byte(alloc, "a.job", 2, b'*').is_ok());
+    assert!(rt;
+        files.disk().asked().ends_with(
+            b"sync folder of a.job\nopen a.job\nwrite to a.job: *\nsync bytes of a.job\n"
+        )
+    );
+
+    // What it has is not known once it can't be put on disk.
+    let mut files = store_failing_at(alloc, 3, ErrorKind::StorageFull);
+    assert!(rt; files.set_byte(alloc, "a.job", 0, b'-') == Err(FULL));
+    assert!(rt; files.set_byte(alloc, "a.job", 1, b'*').is_ok());
+    assert!(rt;
+        files.disk().asked()
+            == b"open a.job\nwrite to a.job: -\nsync bytes of a.job\nopen a.job\nwrite to a.job: *\nsync bytes of a.job\n".as_slice()
     );
 }
 

@@ -1,8 +1,8 @@
 use Rattle.std.proofs.Common.{◌≡◌, ◌<◌, length, inr, refl, ap, arith}
 use Rattle.rje_stores.specs.Disk.{Opened, SyncBytes}
-use Rattle.rje_stores.proofs.Replacing.{added_call, length_of_opened}
+use Rattle.rje_stores.proofs.Replacing.{added_call}
 use Rattle.rje_folders.specs.Marking.{MayMark}
-use Rattle.rje_folders.proofs.Marked.{marked_done, opened_may, written_may}
+use Rattle.rje_folders.proofs.Marked.{length_of_opened, marked_done, opened_may, written_may}
 use Rattle.rje_folders.proofs.marking.set_mark.Goals as goal
 
 pub returns-in_err-file-clause-asks : goal.returns-in_err-file-clause-asks

@@ -1,7 +1,7 @@
 use Rattle.std.proofs.Common.{inr, List, ℕ, subst}
 use Rattle.std.specs.Prelude.{string_bytes}
 use Rattle.rje_files.specs.Growth.{grown}
-use Rattle.rje_stores.specs.Replacing.{Either, LeadsTo, MayReplace}
+use Rattle.rje_stores.specs.Replacing.{Adds, Either, LeadsTo, MayReplace}
 use Rattle.rje_stores.specs.FileStore.{MaySettle, copy_of}
 use Rattle.rje_stores.specs.Growing.{HasGrowing, IsOpening, MayGrow, MayOpen}
 use Rattle.rje_stores.proofs.Replacing.{added_twice, added_weaker}
@@ -20,12 +20,13 @@ returns-in_err-growing-2-clause-asks g c = λ told ready.
     let copy = copy_of c.args.self.now.growing in
     let leads = g.D.Disk.leads in
     let name = c.args.name.now in
-    let h : HasGrowing leads g.D.Disk.opened g.D.Disk.folder_of c.in_ok-growing.growing (g.D.Disk.asked c.growing_of.new.self.disk) = c.in_ok-growing.ensures.growing told ready in
+    let h : HasGrowing leads g.D.Disk.opened g.D.Disk.folder_of c.in_ok-growing.growing (g.D.Disk.asked c.closed.result.now) = rw c.closed.ensures.disk (c.in_ok-growing.ensures.growing told ready) in
+    let opens : Adds (Either (MaySettle copy) (MayOpen leads name)) (g.D.Disk.asked c.args.self.now.disk) (g.D.Disk.asked c.closed.result.now) = rw c.closed.ensures.disk (c.growing_of.ensures.asks told) in
     let path = string_bytes c.in_ok-growing.growing.path in
     let bytes = grown c.args.front.now c.args.tail.now h.2.0 in
     let led : LeadsTo leads name path = subst (λ (n : List ℕ). LeadsTo leads n path) c.in_ok-growing.ensures.name h.0 in
     added_twice (Either (MaySettle copy) (MayGrow leads name)) _ _ _
-    (added_weaker (Either (MaySettle copy) (MayOpen leads name)) (Either (MaySettle copy) (MayGrow leads name)) (opening_grows copy leads name) _ _ (c.growing_of.ensures.asks told))
+    (added_weaker (Either (MaySettle copy) (MayOpen leads name)) (Either (MaySettle copy) (MayGrow leads name)) (opening_grows copy leads name) _ _ opens)
     (added_weaker (MayReplace path bytes) (Either (MaySettle copy) (MayGrow leads name)) (λ call before may. inr (path, bytes, led, may)) _ _ (c.extended.ensures.asks told h.1 h.2.0 h.2.1))
 
 pub returns-clause-asks : goal.returns-clause-asks
@@ -33,12 +34,13 @@ returns-clause-asks g c = λ told ready.
     let copy = copy_of c.args.self.now.growing in
     let leads = g.D.Disk.leads in
     let name = c.args.name.now in
-    let h : HasGrowing leads g.D.Disk.opened g.D.Disk.folder_of c.in_ok-growing.growing (g.D.Disk.asked c.growing_of.new.self.disk) = c.in_ok-growing.ensures.growing told ready in
+    let h : HasGrowing leads g.D.Disk.opened g.D.Disk.folder_of c.in_ok-growing.growing (g.D.Disk.asked c.closed.result.now) = rw c.closed.ensures.disk (c.in_ok-growing.ensures.growing told ready) in
+    let opens : Adds (Either (MaySettle copy) (MayOpen leads name)) (g.D.Disk.asked c.args.self.now.disk) (g.D.Disk.asked c.closed.result.now) = rw c.closed.ensures.disk (c.growing_of.ensures.asks told) in
     let path = string_bytes c.in_ok-growing.growing.path in
     let bytes = grown c.args.front.now c.args.tail.now h.2.0 in
     let led : LeadsTo leads name path = subst (λ (n : List ℕ). LeadsTo leads n path) c.in_ok-growing.ensures.name h.0 in
     added_twice (Either (MaySettle copy) (MayGrow leads name)) _ _ _
-    (added_weaker (Either (MaySettle copy) (MayOpen leads name)) (Either (MaySettle copy) (MayGrow leads name)) (opening_grows copy leads name) _ _ (c.growing_of.ensures.asks told))
+    (added_weaker (Either (MaySettle copy) (MayOpen leads name)) (Either (MaySettle copy) (MayGrow leads name)) (opening_grows copy leads name) _ _ opens)
     (added_weaker (MayReplace path bytes) (Either (MaySettle copy) (MayGrow leads name)) (λ call before may. inr (path, bytes, led, may)) _ _ (c.extended.ensures.asks told h.1 h.2.0 h.2.1))
 
 pub returns-clause-on_disk : goal.returns-clause-on_disk
@@ -46,15 +48,16 @@ returns-clause-on_disk g c = λ told ready.
     let copy = copy_of c.args.self.now.growing in
     let leads = g.D.Disk.leads in
     let name = c.args.name.now in
-    let h : HasGrowing leads g.D.Disk.opened g.D.Disk.folder_of c.in_ok-growing.growing (g.D.Disk.asked c.growing_of.new.self.disk) = c.in_ok-growing.ensures.growing told ready in
+    let h : HasGrowing leads g.D.Disk.opened g.D.Disk.folder_of c.in_ok-growing.growing (g.D.Disk.asked c.closed.result.now) = rw c.closed.ensures.disk (c.in_ok-growing.ensures.growing told ready) in
+    let opens : Adds (Either (MaySettle copy) (MayOpen leads name)) (g.D.Disk.asked c.args.self.now.disk) (g.D.Disk.asked c.closed.result.now) = rw c.closed.ensures.disk (c.growing_of.ensures.asks told) in
     let path = string_bytes c.in_ok-growing.growing.path in
     let bytes = grown c.args.front.now c.args.tail.now h.2.0 in
     let led : LeadsTo leads name path = subst (λ (n : List ℕ). LeadsTo leads n path) c.in_ok-growing.ensures.name h.0 in (
       path,
       h.2.0,
-      g.D.Disk.asked c.growing_of.new.self.disk,
+      g.D.Disk.asked c.closed.result.now,
       led,
-      added_weaker (Either (MaySettle copy) (MayOpen leads name)) IsOpening (is_opening copy leads name) _ _ (c.growing_of.ensures.asks told),
+      added_weaker (Either (MaySettle copy) (MayOpen leads name)) IsOpening (is_opening copy leads name) _ _ opens,
       under_is g.D.Disk.opened h.2.0 c.in_ok-growing.growing _ h.2.1.0,
       c.extended.ensures.asks told h.1 h.2.0 h.2.1,
       c.in_ok-growing-2.ensures.on_disk told h.1 h.2.0 h.2.1,

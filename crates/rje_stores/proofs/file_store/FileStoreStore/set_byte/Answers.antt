@@ -1,9 +1,13 @@
 use Rattle.rje_stores.specs.FileStore.{MaySet, MaySettle, copy_of}
 use Rattle.rje_stores.proofs.Replacing.{added_either}
+use Rattle.rje_stores.proofs.Marking.{settled_and_set}
 use Rattle.rje_stores.proofs.file_store.FileStoreStore.set_byte.Goals as goal
 
-pub returns-in_err-put_byte-clause-asks : goal.returns-in_err-put_byte-clause-asks
-returns-in_err-put_byte-clause-asks g c = λ told. added_either (MaySettle (copy_of c.args.self.now.growing)) (MaySet g.D.Disk.leads c.args.name.now c.args.place c.args.byte) _ _ _ (c.settle.ensures.asks told) (c.put_byte.ensures.asks told)
+pub returns-in_err-set_byte-clause-asks : goal.returns-in_err-set_byte-clause-asks
+returns-in_err-set_byte-clause-asks g c = λ told. added_either (MaySettle (copy_of c.args.self.now.growing)) (MaySet g.D.Disk.leads c.args.name.now c.args.place c.args.byte) _ _ _ (c.settle.ensures.asks told) (c.set_byte.ensures.asks told)
 
 pub returns-clause-asks : goal.returns-clause-asks
-returns-clause-asks g c = λ told. added_either (MaySettle (copy_of c.args.self.now.growing)) (MaySet g.D.Disk.leads c.args.name.now c.args.place c.args.byte) _ _ _ (c.settle.ensures.asks told) (c.put_byte.ensures.asks told)
+returns-clause-asks g c = λ told. added_either (MaySettle (copy_of c.args.self.now.growing)) (MaySet g.D.Disk.leads c.args.name.now c.args.place c.args.byte) _ _ _ (c.settle.ensures.asks told) (c.set_byte.ensures.asks told)
+
+pub returns-clause-on_disk : goal.returns-clause-on_disk
+returns-clause-on_disk g c = λ told. settled_and_set (copy_of c.args.self.now.growing) g.D.Disk.leads c.args.name.now c.args.place c.args.byte _ _ _ (c.settle.ensures.asks told) (c.in_ok-set_byte.ensures.sets told)
