@@ -1,5 +1,5 @@
 -- A file that grows, and the copy that is older.
-use Rattle.std.proofs.Common.{◌≡◌, ◌≢◌, inl, inr, ℕ, suc, take, drop, ◌+◌, ◌-◌, ◌<◌, ◌≤◌, List, [], ◌∷◌, ◌++◌, length, Option, Some, None, Result, Ok, Err, OnOk, Bool, true, false, if◌then◌else◌, Global, refl, sym, ◌∙◌, ap, subst, append_assoc, length-append, length-drop, arith}
+use Rattle.std.proofs.Common.{◌≡◌, ◌≢◌, inl, inr, ℕ, drop, ◌+◌, ◌-◌, ◌<◌, ◌≤◌, List, [], ◌∷◌, ◌++◌, length, Option, Some, None, Result, Ok, Err, OnOk, true, false, if◌then◌else◌, Global, refl, sym, ◌∙◌, ap, subst, append_assoc, length-append, length-drop, arith}
 use Rattle.std.specs.Prelude.{bytes_eq, nat_eq, nat_lt, option_and_then, option_map, IfOk, IfSome, string_bytes, String}
 use Rattle.std.specs.IoError.{error_kind}
 use Rattle.std.specs.declared.io.Error.{Error}
@@ -10,13 +10,13 @@ use Rattle.std.proofs.lemmas.Slice.Eq.{bytes_eq-Decides}
 use Rattle.std.proofs.lemmas.Option.{same_Some}
 use Rattle.std.proofs.lemmas.List.{drop-drop, drop-append-le, drop_all}
 use Rattle.rje_files.specs.Growth.{grown}
-use Rattle.rje_stores.specs.Disk.{Asked, Call, Opened, Done, Refused, Failed, Create, Open, SetMode, Fill, GoOn, WriteAt, Sync, Rename, Link, Remove, SyncFolder, call_of, came_to, failed_by, standing, bytes_of, is_synced, has_synced_name, gone_on, overwritten, writes, IsOpened}
-use Rattle.rje_stores.specs.Replacing.{Adds, Each, Either, IsApart, IsBeside, IsOnDisk, IsWhole, LeadsTo, MayReplace, MayTry}
+use Rattle.rje_stores.specs.Disk.{Asked, Call, Opened, Done, Refused, Failed, Open, GoOn, WriteAt, Sync, Rename, Link, call_of, came_to, failed_by, standing, bytes_of, is_synced, overwritten, IsOpened}
+use Rattle.rje_stores.specs.Replacing.{Adds, Each, Either, IsBeside, IsOnDisk, IsWhole, LeadsTo, MayReplace, MayTry}
 use Rattle.rje_stores.specs.declared.file_store.growing.Growing.{Growing}
 use Rattle.rje_stores.specs.declared.file_store.growing.Older.{Older}
 use Rattle.rje_stores.specs.Growing.{Agrees, IsGrowing, IsNewest, IsOlder, IsOpening, MayGrow, MayOpen, bytes_under}
 use Rattle.rje_stores.specs.FileStore.{MaySettle}
-use Rattle.rje_stores.specs.Inside.Filling.{AddsSync, AreTwo, HasGrown, HasTurned, IsNamed, IsSecond, KeepsNames, MayFill, MayLink, Turns}
+use Rattle.rje_stores.specs.Inside.Filling.{AreTwo, HasGrown, HasTurned, IsNamed, IsSecond, KeepsNames, MayFill, MayLink, Turns}
 use Rattle.rje_stores.proofs.Replacing.{added_none, added_call, added_weaker, filled_keeps, not_beside, same_name, same_number, standing_below, synced_keeps, whatever_came}
 
 -- numbers that differ

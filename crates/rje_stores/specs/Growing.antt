@@ -1,5 +1,5 @@
 -- How a file grows: by way of a copy beside it, which is older by one growth and takes turns with it.
-use Rattle.std.specs.Prelude.{◌≡◌, ◌⊎◌, ◌≤◌, ℕ, List, [], ◌++◌, length, drop, Option, Some, IfSome, true, string_bytes, option_and_then}
+use Rattle.std.specs.Prelude.{◌≡◌, ◌⊎◌, ◌≤◌, ℕ, List, ◌++◌, length, drop, Option, Some, IfSome, true, string_bytes, option_and_then}
 use Rattle.rje_files.specs.Growth.{grown}
 use Rattle.rje_stores.specs.declared.file_store.growing.Growing.{Growing}
 use Rattle.rje_stores.specs.declared.file_store.growing.Older.{Older}

@@ -86,7 +86,7 @@ impl<F: Drop> FileLock<F> {
     /// Removes the file beside, unless another process has done so: then the name may be another file's. It is locked until this value is let
     /// go, so whoever opened it before finds that it has no name any more.
     pub(super) fn remove<D: Disk<File = F>>(&self, disk: &mut D) {
-        if is_there(disk, &self.lock) {
+        if has_name(disk, &self.lock) {
             let _ = disk.remove(self.beside.as_str());
         }
     }
@@ -114,7 +114,7 @@ fn lock_of<D: Disk>(disk: &mut D, path: &str) -> Result<D::File, StoreFault> {
     for _ in 0..MAX_TRIES {
         let file = open_lock(disk, path)?;
         locked(disk, &file)?;
-        if is_there(disk, &file) {
+        if has_name(disk, &file) {
             return Ok(file);
         }
     }
@@ -122,7 +122,7 @@ fn lock_of<D: Disk>(disk: &mut D, path: &str) -> Result<D::File, StoreFault> {
 }
 
 /// Whether an open file has a name.
-fn is_there<D: Disk>(disk: &D, file: &D::File) -> bool {
+pub(super) fn has_name<D: Disk>(disk: &D, file: &D::File) -> bool {
     match disk.status_of(file) {
         Ok(found) => found.links != 0,
         Err(_) => false,

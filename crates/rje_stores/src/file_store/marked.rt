@@ -9,6 +9,7 @@ ghost use Rattle.rje_stores.specs.Marked.{IsMarked};
 ghost use Rattle.rje_stores.specs.contracts.file_store.marked.MarkedDisk.{the_row};
 
 use super::beside::resolved;
+use super::locks::has_name;
 use crate::disk::{Disk, FileKind};
 use std::alloc::Global;
 use std::io::{self, ErrorKind};
@@ -100,7 +101,7 @@ impl<F: Drop> MarkedFile<F> {
     }
 }
 
-/// The file of this name: the one that is kept open, where that is it, else opened.
+/// The file of this name: the one that is kept open, where that is it and it has a name still, else opened.
 fn file_of<D: Disk>(
     disk: &mut D,
     alloc: Global,
@@ -115,7 +116,7 @@ fn file_of<D: Disk>(
     ensures name { IfOk result (λ file. string_bytes file.name ≡ name.now) }
 {
     match kept {
-        Some(file) if file.is_of(name) => Ok(file),
+        Some(file) if file.is_of(name) && has_name(disk, &file.file) => Ok(file),
         _ => opened(disk, alloc, name),
     }
 }

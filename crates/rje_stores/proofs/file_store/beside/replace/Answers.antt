@@ -1,8 +1,7 @@
 use Rattle.std.proofs.Common.{subst, sym}
 use Rattle.rje_stores.specs.Disk.{Remove}
-use Rattle.rje_stores.specs.Inside.Filling.{AddsSync}
 use Rattle.rje_stores.specs.Replacing.{IsBeside, MayReplace, MayTry}
-use Rattle.rje_stores.proofs.Replacing.{added_call, added_twice, added_weaker, name_of_new, sync_may, tried_may, whole_synced}
+use Rattle.rje_stores.proofs.Replacing.{added_call, added_twice, added_weaker, name_of_new, sync_may, tried_may}
 use Rattle.rje_stores.proofs.file_store.beside.replace.Goals as goal
 
 pub returns-in_err-beside-clause-asks : goal.returns-in_err-beside-clause-asks

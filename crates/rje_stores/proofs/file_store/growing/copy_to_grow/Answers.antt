@@ -1,5 +1,5 @@
 use Rattle.std.proofs.Common.{inr, refl, subst, sym}
-use Rattle.std.specs.Prelude.{IfSome, string_bytes}
+use Rattle.std.specs.Prelude.{IfSome}
 use Rattle.rje_stores.specs.Disk.{Remove}
 use Rattle.rje_stores.specs.Replacing.{IsBeside, MayTry}
 use Rattle.rje_stores.specs.Growing.{IsOlder}

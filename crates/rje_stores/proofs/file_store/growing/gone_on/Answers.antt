@@ -1,5 +1,5 @@
-use Rattle.std.proofs.Common.{inl, inr, refl, ap, ◌∙◌, ◌∷◌, List}
-use Rattle.rje_stores.specs.Disk.{Asked, Done, GoOn, Sync, WriteAt}
+use Rattle.std.proofs.Common.{inl, inr, refl}
+use Rattle.rje_stores.specs.Disk.{GoOn, Sync, WriteAt}
 use Rattle.rje_stores.specs.Inside.Filling.{MayFill}
 use Rattle.rje_stores.proofs.Replacing.{added_call, added_none}
 use Rattle.rje_stores.proofs.Turning.{turns_done}

@@ -1,4 +1,4 @@
-use Rattle.std.proofs.Common.{◌≡◌, Some, refl, sym, ap, ◌∙◌, string_bytes, List, ℕ}
+use Rattle.std.proofs.Common.{◌≡◌, Some, refl, sym, ap, ◌∙◌, List, ℕ}
 use Rattle.rje_stores.specs.Disk.{Remove}
 use Rattle.rje_stores.specs.FileStore.{MaySettle, older_name}
 use Rattle.rje_stores.proofs.Replacing.{added_call, added_none}

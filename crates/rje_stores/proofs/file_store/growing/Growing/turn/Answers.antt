@@ -2,7 +2,6 @@ use Rattle.std.proofs.Common.{◌≡◌, ◌≤◌, ℕ, List, Option, length, s
 use Rattle.std.specs.Prelude.{IfSome, string_bytes}
 use Rattle.rje_files.specs.Growth.{grown}
 use Rattle.rje_stores.specs.Replacing.{MayReplace}
-use Rattle.rje_stores.specs.Inside.Filling.{AreTwo, HasGrown, HasTurned}
 use Rattle.rje_stores.proofs.Replacing.{added_twice, filled_keeps, filled_may}
 use Rattle.rje_stores.proofs.Turning.{on_ok, ready_to_turn, seconds_before, turn_grown, turn_two, turn_whole}
 use Rattle.rje_stores.proofs.file_store.growing.Growing.turn.Goals as goal
