@@ -5,8 +5,8 @@ connected.py PROGRAM SLOW [SEEDS [BEYOND]]   SLOW: slow.c as a library; SEEDS: h
 
 Between two ends stands a wire. It holds each message back, in order, loses or spoils some, and answers some texts by NAK in the place
 of the end that they were for. The premise is that a round trip, from a thing's being said to its answer's arrival, stays below two
-time-outs. The wire measures it; a conversation in which this machine was too slow for that is held again with the same seed, and isn't
-judged where three were so. Looked at of each conversation: it comes to an end; statuses are 0, 3 or 4, with a told line just at 3; in
+time-outs. The wire measures it, also where a peer answers twice; a conversation in which this machine was too slow for that is held again with
+the same seed, and isn't judged where three were so. Looked at of each conversation: it comes to an end; statuses are 0, 3 or 4, with a told line just at 3; in
 the file that was sent as many of the first jobs are marked as were counted; where the sender ended with 0 the other end has these jobs
 whole, in order and each once, and at most one job more. A scripted peer awaits each answer for two time-outs, and counts by the rules
 of the line. Beyond the premise nine of ten directions with a job lost or doubled have to end with another status than 0.
@@ -629,7 +629,7 @@ class Plan(typing.NamedTuple):
     seed: int
     ends: list
     fates: list
-    has_premise: bool = False
+    is_timed: bool = False
 
 
 class Outcome(typing.NamedTuple):
@@ -741,7 +741,7 @@ class Conversation:
         self.done(outcome)
 
     def outcome(self):
-        slow = self.plan.has_premise and self.wire.longest > ROUND_TRIP * TIMEOUT, self.wire.is_hasty
+        slow = self.plan.is_timed and self.wire.longest > ROUND_TRIP * TIMEOUT, self.wire.is_hasty
         if self.is_stopped:
             return Outcome(self.plan, self.statuses, [None, None], ["comes to no end"], [], self.wire.said, *slow)
         commands = [end.command for end in self.plan.ends]
@@ -850,7 +850,7 @@ def twice_plan(seed, chance):
     draws = random.Random(chance.random())
     often, refused = chance.choice([0.1, 0.3, 0.6]), chance.choice([0.1, 0.3])
     habits = Habits(refuses=lambda number: draws.random() < refused, twice=lambda: draws.random() < often)
-    return Plan("twice", seed, [End("send", UP), End(habits=habits)], fates_of(chance, drawn_most(chance)))
+    return Plan("twice", seed, [End("send", UP), End(habits=habits)], fates_of(chance, drawn_most(chance)), True)
 
 
 WITHIN = {"send": send_plan, "receive": receive_plan, "exchange": exchange_plan}
@@ -1074,10 +1074,12 @@ def ways_of(outcomes):
 
 
 def check_beyond(checks, kinds):
-    """Of the conversations of these kinds beyond the premise that are wrong, nine of ten are reported by a status."""
+    """Of the conversations of these kinds beyond the premise that are wrong, nine of ten are reported by a status. One in which this machine
+    was too slow isn't counted."""
     told = []
-    for kind, outcomes in kinds.items():
-        figures(f"{kind}: {len(outcomes)} conversations; {ways_of(outcomes)}")
+    for kind, held in kinds.items():
+        outcomes = [it for it in held if not it.is_slow]
+        figures(f"{kind}: {len(held)} conversations, {len(held) - len(outcomes)} not judged; {ways_of(outcomes)}")
         told += [status for it in outcomes for status in it.told()]
         checks.check(" | ".join(f"{kind} {it.plan[1]}: {'; '.join(it.faults)}" for it in outcomes if it.faults))
     silent = sum(status == 0 for status in told)
