@@ -1,6 +1,7 @@
 -- Runs of blanks, and what is written for them.
-use Rattle.std.proofs.Common.{◌≡◌, ◌≢◌, ℕ, zero, suc, ◌+◌, ◌*◌, ◌<◌, true, false, List, [], ◌∷◌, ◌++◌, length, drop, get_or, refl, ap, ◌∙◌, arith, add-one, eqb}
-use Rattle.std.proofs.lemmas.List.{append_assoc, append-nil, drop_more}
+use Rattle.std.proofs.Common.{◌≡◌, ◌≢◌, ℕ, zero, suc, ◌+◌, ◌*◌, ◌<◌, true, false, List, [], ◌∷◌, ◌++◌, ◌≤◌, length, take, drop, get_or, refl, sym, ap, ◌∙◌, arith, add-one, eqb, ⊎_elim}
+use Rattle.std.proofs.lemmas.Bool.{cases_lt}
+use Rattle.std.proofs.lemmas.List.{append_assoc, append-nil, get_or-drop, length-drop}
 use Rattle.std.proofs.lemmas.Bool.Decides.{nat_tests}
 use Rattle.std.specs.List.{flat_map}
 use Rattle.bsc_codes.specs.Bytes.{BLANK, IGS}
@@ -45,16 +46,53 @@ pub behind_end : (m : ℕ) → behind m [] ≡ written_run (Blanks m)
 behind_end zero = refl
 behind_end (suc m) = ap (flat_map written_run) (blanks_then-nil m) ∙ append-nil (written_run (Blanks (suc m)))
 
--- the step of a loop over the bytes, at a blank
-pub blank_step : (bs : List ℕ) (i m : ℕ) → i < length bs → get_or bs i 0 ≡ BLANK → behind m (drop i bs) ≡ behind (m + 1) (drop (i + 1) bs)
-blank_step bs i m h e = rw (drop_more bs i 0 h) (behind_blank m (get_or bs i 0) (drop (i + 1) bs) e)
+-- so many blanks in front
+behind_blanks : (m n : ℕ) (bytes : List ℕ) → n ≤ length bytes → ((k : ℕ) → k < n → get_or bytes k 0 ≡ BLANK) → behind m bytes ≡ behind (m + n) (drop n bytes)
+behind_blanks m zero bytes h e = let none : m ≡ m + 0 = omega arith in ap (λ k. behind k bytes) none
+behind_blanks m (suc n) [] h e = absurd (omega (arith, h))
+behind_blanks m (suc n) (x ∷ xs) h e =
+    let more : (m + 1) + n ≡ m + suc n = omega arith in
+    behind_blank m x xs (e 0 (omega arith)) ∙ behind_blanks (m + 1) n xs (omega (arith, h)) (λ k l. e (suc k) (omega (arith, l)))
+    ∙ ap (λ k. behind k (drop n xs)) more
 
--- at another byte
-pub byte_step : (bs : List ℕ) (i m : ℕ) → i < length bs → get_or bs i 0 ≢ BLANK → behind m (drop i bs) ≡ written_run (Blanks m) ++ get_or bs i 0 ∷ behind 0 (drop (i + 1) bs)
-byte_step bs i m h e = rw (drop_more bs i 0 h) (behind_byte m (get_or bs i 0) (drop (i + 1) bs) e)
+pub blanks_first : (n : ℕ) (bytes : List ℕ) → n ≤ length bytes → ((k : ℕ) → k < n → get_or bytes k 0 ≡ BLANK) → behind 0 bytes ≡ behind n (drop n bytes)
+blanks_first n bytes h e =
+    let all : 0 + n ≡ n = omega arith in
+    behind_blanks 0 n bytes h e ∙ ap (λ k. behind k (drop n bytes)) all
 
-pub byte_join : (out w r : List ℕ) (x : ℕ) → ((out ++ w) ++ x ∷ []) ++ r ≡ out ++ (w ++ x ∷ r)
-byte_join out w r x = simp append_assoc
+-- so many other bytes in front
+behind_bytes : (n : ℕ) (bytes : List ℕ) → n ≤ length bytes → ((k : ℕ) → k < n → get_or bytes k 0 ≢ BLANK) → behind 0 bytes ≡ take n bytes ++ behind 0 (drop n bytes)
+behind_bytes zero bytes h e = refl
+behind_bytes (suc n) [] h e = absurd (omega (arith, h))
+behind_bytes (suc n) (x ∷ xs) h e =
+    behind_byte 0 x xs (e 0 (omega arith)) ∙ ap (λ ys. x ∷ ys) (behind_bytes n xs (omega (arith, h)) (λ k l. e (suc k) (omega (arith, l))))
+
+-- blanks, and then a word of other bytes, which is empty at the end alone
+pub behind_word : (m n : ℕ) (bytes : List ℕ) → n ≤ length bytes → ((k : ℕ) → k < n → get_or bytes k 0 ≢ BLANK) → (n ≡ 0 → length bytes ≡ 0)
+    → behind m bytes ≡ written_run (Blanks m) ++ (take n bytes ++ behind 0 (drop n bytes))
+behind_word m zero [] h e none = behind_end m ∙ sym (append-nil (written_run (Blanks m)))
+behind_word m zero (x ∷ xs) h e none = absurd (omega (arith, none refl))
+behind_word m (suc n) [] h e none = absurd (omega (arith, h))
+behind_word m (suc n) (x ∷ xs) h e none =
+    behind_byte m x xs (e 0 (omega arith)) ∙ ap (λ ys. written_run (Blanks m) ++ x ∷ ys) (behind_bytes n xs (omega (arith, h)) (λ k l. e (suc k) (omega (arith, l))))
+
+-- the word behind all blanks in front has a byte, unless nothing is left
+pub word_is_some : (rest left : List ℕ) (b n : ℕ) → left ≡ drop b rest → (b < length rest → get_or rest b 0 ≢ BLANK) → (n < length left → get_or left n 0 ≡ BLANK)
+    → n ≡ 0 → length left ≡ 0
+word_is_some rest left b n is other blank none = ⊎_elim (λ (some : 0 < length left). absurd (other (inside some) (sym (at some)))) (λ (h : length left ≤ 0). omega (arith, h)) (cases_lt 0 (length left))
+  where
+    inside : 0 < length left → b < length rest
+    inside h = omega (arith, h, ap (λ (xs : List ℕ). length xs) is, length-drop b rest)
+
+    at : 0 < length left → BLANK ≡ get_or rest b 0
+    at h =
+        let here : n < length left = omega (arith, h, none) in
+        let zero_th : get_or left n 0 ≡ get_or (drop b rest) 0 0 = ap (λ k. get_or left k 0) none ∙ ap (λ (xs : List ℕ). get_or xs 0 0) is in
+        let same : b + 0 ≡ b = omega arith in
+        sym (blank here) ∙ zero_th ∙ get_or-drop b rest 0 0 ∙ ap (λ k. get_or rest k 0) same
+
+pub word_join : (out w word r : List ℕ) → ((out ++ w) ++ word) ++ r ≡ out ++ (w ++ (word ++ r))
+word_join out w word r = simp append_assoc
 
 pub length-full_counts : (n : ℕ) → length (full_counts n) ≡ 2 * n
 length-full_counts zero = refl

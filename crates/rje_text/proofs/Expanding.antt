@@ -52,6 +52,53 @@ pub stands_byte : (text ys : List ℕ) (n i : ℕ) → n ≤ i → i < length te
     → Stands (drop n (take (i + 1) text)) (ys ++ get_or text i 0 ∷ [])
 stands_byte text ys n i m h e s = subst (λ xs. Stands xs (ys ++ get_or text i 0 ∷ [])) (sym (drop-take_more text n i m h)) (Stands-append s (byte e nothing))
 
+-- what is known of the rest of a text after its first i bytes, of which the first IGS stands after n
+module _ (text rest : List ℕ) (i n : ℕ) (is : rest ≡ drop i text) (before : (k : ℕ) → k < n → get_or rest k 0 ≢ IGS) where
+  no_igs : (k : ℕ) → k < n → get_or (drop i text) k 0 ≢ IGS
+  no_igs k l q = before k l (ap (λ (xs : List ℕ). get_or xs k 0) is ∙ q)
+
+  pub no_igs_at : (k : ℕ) → k < n → get_or text (i + k) 0 ≢ IGS
+  no_igs_at k l q = no_igs k l (get_or-drop i text k 0 ∙ q)
+
+  rest_length : i ≤ length text → length text ≡ i + length rest
+  rest_length h = omega (arith, h, ap (λ (xs : List ℕ). length xs) is, length-drop i text)
+
+  pub igs_at : (n < length rest → get_or rest n 0 ≡ IGS) → i + n < length text → get_or text (i + n) 0 ≡ IGS
+  igs_at at h =
+      let inside : n < length rest = omega (arith, h, rest_length (omega (arith, h))) in
+      sym (get_or-drop i text n 0) ∙ sym (ap (λ (xs : List ℕ). get_or xs n 0) is) ∙ at inside
+
+-- so many bytes after the first i, of which none is an IGS
+pub stands_bytes : (text ys : List ℕ) (n i m : ℕ) → n ≤ i → i + m ≤ length text → ((k : ℕ) → k < m → get_or (drop i text) k 0 ≢ IGS) → Stands (drop n (take i text)) ys
+    → Stands (drop n (take (i + m) text)) (ys ++ take m (drop i text))
+stands_bytes text ys n i zero l h e s =
+    let same : i ≡ i + 0 = omega arith in
+    subst (λ k. Stands (drop n (take k text)) (ys ++ [])) same (subst (λ zs. Stands (drop n (take i text)) zs) (sym (append-nil ys)) s)
+stands_bytes text ys n i (suc m) l h e s =
+    let before = stands_bytes text ys n i m l (omega (arith, h)) (λ k q. e k (omega (arith, q))) s in
+    let one : m + 1 ≡ suc m = omega arith in
+    let behind : i + m + 1 ≡ i + suc m = omega arith in
+    let at : get_or (drop i text) m 0 ≡ get_or text (i + m) 0 = get_or-drop i text m 0 in
+    let last : take (suc m) (drop i text) ≡ take m (drop i text) ++ get_or text (i + m) 0 ∷ [] =
+    ap (λ k. take k (drop i text)) (sym one) ∙ take_more (drop i text) m 0 (omega (arith, h, length-drop i text)) ∙ ap (λ x. take m (drop i text) ++ x ∷ []) at in
+    let next = stands_byte text (ys ++ take m (drop i text)) n (i + m) (omega (arith, l)) (omega (arith, h)) (λ q. e m (omega arith) (at ∙ q)) before in
+    subst (λ k. Stands (drop n (take k text)) (ys ++ take (suc m) (drop i text))) behind
+    (subst (λ zs. Stands (drop n (take (i + m + 1) text)) zs) (append_assoc ys (take m (drop i text)) (get_or text (i + m) 0 ∷ []) ∙ ap (λ zs. ys ++ zs) (sym last)) next)
+
+-- the same of the bytes in front of the first IGS
+pub stands_front : (text rest ys : List ℕ) (head i n m : ℕ) → head ≤ i → i ≤ length text → rest ≡ drop i text → n ≤ length rest
+    → ((k : ℕ) → k < n → get_or rest k 0 ≢ IGS) → m ≤ n → Stands (drop head (take i text)) ys
+    → (i + m ≤ length text) × (zs : List ℕ) × (length zs ≡ length ys + m) × Stands (drop head (take (i + m) text)) zs
+stands_front text rest ys head i n m behind l is within before some s =
+    let all = rest_length text rest i n is before l in
+    let inside : i + m ≤ length text = omega (arith, all, within, some) in
+    let none : (k : ℕ) → k < m → get_or (drop i text) k 0 ≢ IGS = λ k q. no_igs text rest i n is before k (omega (arith, q, some)) in (
+      inside,
+      ys ++ take m (drop i text),
+      omega (arith, length-append ys (take m (drop i text)), length-take-le m (drop i text) (omega (arith, inside, length-drop i text))),
+      stands_bytes text ys head i m behind inside none s,
+    )
+
 pub stands_count : (text ys : List ℕ) (n i : ℕ) → n ≤ i → i + 1 < length text → get_or text i 0 ≡ IGS → is_count (get_or text (i + 1) 0) ≡ true
     → Stands (drop n (take i text)) ys → Stands (drop n (take (i + 2) text)) (ys ++ replicate (get_or text (i + 1) 0 - BLANK) BLANK)
 stands_count text ys n i m h e t s =
@@ -216,6 +263,42 @@ built_byte text i action bytes b h e =
     let room : length (bytes ++ ((x ∷ []) ++ ys)) ≤ 144 = subst (λ zs. length (bytes ++ zs) ≤ 144) more b.room in (
       omega (arith, room, length-append bytes ((x ∷ []) ++ ys)),
       regrouped text (i + 1) action bytes (x ∷ []) ys rest room (b.read ∙ ap (λ zs. Some (record { action = action; bytes = record { items = bytes ++ zs } })) more),
+    )
+
+-- so many bytes after the first i, of which none is an IGS
+pub built_bytes : (text : List ℕ) (i m : ℕ) (action : Action) (bytes : List ℕ) → IsBuilt text i action bytes → i + m ≤ length text
+    → ((k : ℕ) → k < m → get_or (drop i text) k 0 ≢ IGS) → (length bytes + m ≤ 144) × IsBuilt text (i + m) action (bytes ++ take m (drop i text))
+built_bytes text i zero action bytes b h e = (
+  omega (arith, b.room, length-append bytes b.more),
+  let same : i ≡ i + 0 = omega arith in
+  subst (λ k. IsBuilt text k action (bytes ++ [])) same (subst (λ zs. IsBuilt text i action zs) (sym (append-nil bytes)) b),
+)
+built_bytes text i (suc m) action bytes b h e =
+    let (_, before) = built_bytes text i m action bytes b (omega (arith, h)) (λ k q. e k (omega (arith, q))) in
+    let one : m + 1 ≡ suc m = omega arith in
+    let behind : i + m + 1 ≡ i + suc m = omega arith in
+    let at : get_or (drop i text) m 0 ≡ get_or text (i + m) 0 = get_or-drop i text m 0 in
+    let last : take (suc m) (drop i text) ≡ take m (drop i text) ++ get_or text (i + m) 0 ∷ [] =
+    ap (λ k. take k (drop i text)) (sym one) ∙ take_more (drop i text) m 0 (omega (arith, h, length-drop i text)) ∙ ap (λ x. take m (drop i text) ++ x ∷ []) at in
+    let (room, next) = built_byte text (i + m) action (bytes ++ take m (drop i text)) before (omega (arith, h)) (λ q. e m (omega arith) (at ∙ q)) in (
+      omega (arith, room, length-append bytes (take m (drop i text)), length-take-le m (drop i text) (omega (arith, h, length-drop i text))),
+      subst (λ k. IsBuilt text k action (bytes ++ take (suc m) (drop i text))) behind
+          (subst (λ zs. IsBuilt text (i + m + 1) action zs) (append_assoc bytes (take m (drop i text)) (get_or text (i + m) 0 ∷ []) ∙ ap (λ zs. bytes ++ zs) (sym last)) next),
+    )
+
+-- the same of the bytes in front of the first IGS
+pub built_front : (text rest piece : List ℕ) (i n : ℕ) (action : Action) (bytes : List ℕ) → IsBuilt text i action bytes → i ≤ length text → rest ≡ drop i text
+    → piece ≡ take n rest → n ≤ length rest → ((k : ℕ) → k < n → get_or rest k 0 ≢ IGS) → (n < length rest → get_or rest n 0 ≡ IGS)
+    → (length bytes + length piece ≤ 144) × IsBuilt text (i + length piece) action (bytes ++ piece)
+    × (i + length piece < length text → get_or text (i + length piece) 0 ≡ IGS)
+built_front text rest piece i n action bytes b l is front within before at =
+    let len : length piece ≡ n = ap (λ (xs : List ℕ). length xs) front ∙ length-take-le n rest within in
+    let all = rest_length text rest i n is before l in
+    let (room, next) = built_bytes text i n action bytes b (omega (arith, all, within)) (no_igs text rest i n is before) in
+    let same : take n (drop i text) ≡ piece = ap (take n) (sym is) ∙ sym front in (
+      omega (arith, room, len),
+      subst (λ k. IsBuilt text (i + k) action (bytes ++ piece)) (sym len) (subst (λ zs. IsBuilt text (i + n) action (bytes ++ zs)) same next),
+      λ h. ap (λ k. get_or text (i + k) 0) len ∙ igs_at text rest i n is before at (omega (arith, h, len)),
     )
 
 -- an IGS has its count

@@ -13,6 +13,7 @@ mod pushed;
 mod record;
 mod record_text;
 mod records;
+mod searching;
 mod select;
 mod spelling;
 mod text_fault;

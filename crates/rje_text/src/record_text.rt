@@ -4,10 +4,11 @@ ghost use Rattle.arrayvec.specs.ArrayVec.{array_vec_len};
 ghost use Rattle.rje_text.specs.Reading.{is_count, record_of};
 ghost use Rattle.rje_text.specs.Inside.RecordText.{HasHead, reads_record, IsFaultFrom};
 
+use crate::searching::first_place;
+use crate::spelling::append;
 use crate::{Action, MAX_RECORD, Record, TextFault};
 use arrayvec::ArrayVec;
 use bsc_codes::{BLANK, ESC, IGS, IRS};
-use memchr::memchr;
 
 /// Whether this text is a record's. Its place in the block's text is `start`.
 pub(crate) fn check_record(text: &[u8], start: usize) -> Result<(), TextFault>
@@ -19,7 +20,14 @@ pub(crate) fn check_record(text: &[u8], start: usize) -> Result<(), TextFault>
     let mut length = 0;
     let mut i = head;
     while i < text.len() {
-        if text[i] == IGS {
+        let (_, rest) = text.split_at(i);
+        let data = first_place(IGS, rest);
+        if MAX_RECORD - length < data {
+            return Err(TextFault::RecordTooLong(start + i + (MAX_RECORD - length)));
+        }
+        length += data;
+        i += data;
+        if i < text.len() {
             if text.len() <= i + 1 || !is_blank_count(text[i + 1]) {
                 return Err(TextFault::BadCount(start + i + 1));
             }
@@ -29,12 +37,6 @@ pub(crate) fn check_record(text: &[u8], start: usize) -> Result<(), TextFault>
             }
             length += count;
             i += 2;
-        } else {
-            if length == MAX_RECORD {
-                return Err(TextFault::RecordTooLong(start + i));
-            }
-            length += 1;
-            i += 1;
         }
     }
     Ok(())
@@ -49,12 +51,13 @@ pub(crate) fn record_from(text: &[u8]) -> Record
     let mut bytes = ArrayVec::new();
     let mut i = head;
     while i < text.len() {
-        if text[i] == IGS {
+        let (_, rest) = text.split_at(i);
+        let (data, _) = rest.split_at(first_place(IGS, rest));
+        append(&mut bytes, data);
+        i += data.len();
+        if i < text.len() {
             fill(&mut bytes, (text[i + 1] - BLANK) as usize);
             i += 2;
-        } else {
-            bytes.push(text[i]);
-            i += 1;
         }
     }
     Record { action, bytes }
@@ -95,8 +98,5 @@ pub(crate) fn record_end(text: &[u8]) -> usize
     ensures before { (k : ℕ) → k < result → slice_index text.now k ≢ IRS }
     ensures at { result < length text.now → slice_index text.now result ≡ IRS }
 {
-    match memchr(IRS, text) {
-        Some(end) => end,
-        None => text.len(),
-    }
+    first_place(IRS, text)
 }

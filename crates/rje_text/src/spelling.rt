@@ -1,11 +1,12 @@
 //! How a record is written in a text.
-ghost use Rattle.std.specs.Prelude.{◌≡◌, ◌+◌, ◌≤◌, ◌++◌, length};
+ghost use Rattle.std.specs.Prelude.{◌≡◌, ◌≢◌, ℕ, ◌+◌, ◌<◌, ◌≤◌, ◌++◌, length, slice_index};
 ghost use Rattle.arrayvec.specs.ArrayVec.{array_vec_len};
 ghost use Rattle.rje_text.specs.Spelling.{action_escape, compressed, written_run, spelling};
 ghost use Rattle.rje_text.specs.Spelling.Run.{Blanks};
 ghost use Rattle.rje_text.specs.Action.{code_of};
 
 use crate::packer::MAX_TEXT_SENT;
+use crate::searching::first_place;
 use crate::{Action, Mode, Record};
 use arrayvec::ArrayVec;
 use bsc_codes::{BLANK, ESC, IGS, IRS};
@@ -52,18 +53,28 @@ fn compress(bytes: &[u8], out: &mut TextInHand)
     ensures text { out.new.items ≡ out.old.items ++ compressed bytes.now }
     ensures room { array_vec_len out.new ≤ array_vec_len out.old + length bytes.now }
 {
-    let mut run: usize = 0;
-    for byte in bytes {
-        if *byte == BLANK {
-            run += 1;
-        } else {
-            push_blanks(out, run);
-            out.push(*byte);
-            run = 0;
-        }
+    let mut i = 0;
+    while i < bytes.len() {
+        let (_, rest) = bytes.split_at(i);
+        let blanks = blanks_in_front(rest);
+        push_blanks(out, blanks);
+        let (_, data) = rest.split_at(blanks);
+        let (word, _) = data.split_at(first_place(BLANK, data));
+        append(out, word);
+        i += blanks + word.len();
     }
-    let trailing = run;
-    push_blanks(out, trailing);
+}
+
+/// How many blanks there are in front of the first other byte.
+fn blanks_in_front(bytes: &[u8]) -> usize
+    ensures within { result ≤ length bytes.now }
+    ensures before { (k : ℕ) → k < result → slice_index bytes.now k ≡ BLANK }
+    ensures at { result < length bytes.now → slice_index bytes.now result ≢ BLANK }
+{
+    match bytes.iter().position(|byte| *byte != BLANK) {
+        Some(place) => place,
+        None => bytes.len(),
+    }
 }
 
 /// Appends a run of blanks: a count for each 63 of them, and the rest.
