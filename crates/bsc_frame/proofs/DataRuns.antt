@@ -7,14 +7,13 @@ use Rattle.bsc_frame.specs.Body.{IsNormalText}
 use Rattle.bsc_frame.specs.Inside.Listening.Data.{IsData}
 use Rattle.bsc_frame.specs.Inside.Listening.HeardSoFar.{Text, On, next, with_byte}
 use Rattle.bsc_frame.specs.Inside.Listening.Run.{run}
+use Rattle.bsc_frame.proofs.FirstBad.{each_normal}
 use Rattle.bsc_frame.proofs.Hearing.{run_on}
 use Rattle.bsc_frame.proofs.NormalBytes.{passes}
 
 -- each byte of a normal text is kept as it comes
 pub normal_bytes : (bytes : List ℕ) → AllByRecursion IsNormalText bytes → (k : ℕ) → k < length bytes → IsData false (get_or bytes k 0)
-normal_bytes [] all k l = absurd (omega (arith, l))
-normal_bytes (byte ∷ bytes) all zero l = passes byte all.0
-normal_bytes (byte ∷ bytes) all (suc k) l = normal_bytes bytes all.1 k (omega (arith, l))
+normal_bytes bytes all k l = passes (get_or bytes k 0) (each_normal bytes all k l)
 
 -- one, where there is room
 with_room : (transparent : Bool) (text : List ℕ) (byte : ℕ) → length text < 512 → with_byte transparent text byte ≡ On (Text transparent (text ++ byte ∷ []))
