@@ -271,7 +271,7 @@ pub built_bytes : (text : List ℕ) (i m : ℕ) (action : Action) (bytes : List 
 built_bytes text i zero action bytes b h e = (
   omega (arith, b.room, length-append bytes b.more),
   let same : i ≡ i + 0 = omega arith in
-  subst (λ k. IsBuilt text k action (bytes ++ [])) same (subst (λ zs. IsBuilt text i action zs) (sym (append-nil bytes)) b),
+      subst (λ k. IsBuilt text k action (bytes ++ [])) same (subst (λ zs. IsBuilt text i action zs) (sym (append-nil bytes)) b),
 )
 built_bytes text i (suc m) action bytes b h e =
     let (_, before) = built_bytes text i m action bytes b (omega (arith, h)) (λ k q. e k (omega (arith, q))) in

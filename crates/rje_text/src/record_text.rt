@@ -10,6 +10,8 @@ use crate::{Action, MAX_RECORD, Record, TextFault};
 use arrayvec::ArrayVec;
 use bsc_codes::{BLANK, ESC, IGS, IRS};
 
+const BLANKS: [u8; MAX_RECORD] = [BLANK; MAX_RECORD];
+
 /// Whether this text is a record's. Its place in the block's text is `start`.
 pub(crate) fn check_record(text: &[u8], start: usize) -> Result<(), TextFault>
     requires { start + length text.now < 2 ^ 63 }
@@ -87,9 +89,8 @@ fn fill(bytes: &mut ArrayVec<u8, MAX_RECORD>, count: usize)
     requires { array_vec_len bytes.old + count ≤ MAX_RECORD }
     ensures { bytes.new.items ≡ bytes.old.items ++ replicate count BLANK }
 {
-    for _i in 0..count {
-        bytes.push(BLANK);
-    }
+    let (blanks, _) = BLANKS.split_at(count);
+    append(bytes, blanks);
 }
 
 /// The place of the first IRS, or the text's length.

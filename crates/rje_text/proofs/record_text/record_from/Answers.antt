@@ -1,4 +1,4 @@
-use Rattle.std.proofs.Common.{arith, subst, sym, List, ℕ, ◌+◌, ◌++◌, length}
+use Rattle.std.proofs.Common.{arith, subst, sym, List, ℕ, ◌+◌, length}
 use Rattle.rje_text.proofs.Expanding.{IsBuilt, nothing_built, built_front, built_count}
 use Rattle.rje_text.proofs.record_text.record_from.Goals as goal
 
