@@ -298,7 +298,11 @@ def one_station(checks, program, folder):
             file.write("NO\n")
         os.mkdir(station.at("out", "a.folder.deck"))
         os.mkfifo(station.at("out", "a.pipe.deck"))
-        left = ["a.folder.deck", "a.link.deck", "a.pipe.deck", "a.second.deck", "y.deck.part", "z.deck.hold"]
+        # A name in Latin-1.
+        no_text = os.fsdecode(b"\xe9.deck")
+        with open(station.at("out", no_text), "w") as file:
+            file.write("NO\n")
+        left = ["a.folder.deck", "a.link.deck", "a.pipe.deck", "a.second.deck", "y.deck.part", "z.deck.hold", no_text]
         with open(station.at("out", "b.txt"), "w") as file:
             file.write("B\n")
         with open(station.at("out", "c.deck"), "w") as file:
@@ -366,7 +370,7 @@ def one_station(checks, program, folder):
         day = time.strftime("%Y%m%d", time.gmtime())
         told = [re.sub(day + r"T\d{6}Z-\d+", "TIME", line) for line in told]
         wanted = [
-            f"station of {station.folder}", "a.folder.deck: out: is a directory", "a.pipe.deck: out: unsupported", "a.second.deck: out: unsupported", "refused b.txt: neither a deck nor a job file, by its name",
+            f"station of {station.folder}", "a.folder.deck: out: is a directory", "a.pipe.deck: out: unsupported", "a.second.deck: out: unsupported", "out: names that are no text: 1", "refused b.txt: neither a deck nor a job file, by its name",
             "refused c.deck: deck line 1 column 2: no EBCDIC character", "bid", "sending d.punch.deck punch 2 cards", "sent d.punch.deck",
             "received in/TIME.job unset whole 1 records", "receiving job 2", "received cut/TIME.job unset CUT 1 records", "bid",
             "sending e.deck unset 1 cards", "sent e.deck", "DOUBT e.deck may have arrived: doubt/e.deck", "line failed: answers out of step",

@@ -21,6 +21,9 @@ pub trait FolderDisk: Disk {
     /// The names in a folder, in no order, but for those that are no text.
     fn names_in(&self, alloc: Global, folder: &str) -> io::Result<Vec<String>>;
 
+    /// How many names in a folder are no text.
+    fn count_unreadable_names(&self, folder: &str) -> io::Result<usize>;
+
     /// Makes a folder, where there is none of this name.
     fn make_folder(&mut self, path: &str) -> io::Result<()>
         ensures { Self.discloses → Self.asked self.new ≡ Self.asked self.old };
@@ -45,6 +48,20 @@ impl<'a, R: Files<File = File> + Alloc + Clone + Drop> FolderDisk for SystemDisk
             }
         }
         Ok(names)
+    }
+
+    fn count_unreadable_names(&self, folder: &str) -> io::Result<usize> {
+        let mut count: usize = 0;
+        for entry in fs::read_dir(self.runtime(), folder)? {
+            match entry {
+                Ok(_) => {}
+                Err(error) if error.kind() == ErrorKind::InvalidFilename => {
+                    count = count.saturating_add(1);
+                }
+                Err(error) => return Err(error),
+            }
+        }
+        Ok(count)
     }
 
     fn make_folder(&mut self, path: &str) -> io::Result<()> {

@@ -161,6 +161,16 @@ pub(crate) fn names_ready<D: FolderDisk>(
     Ok(ready_names(ready)?)
 }
 
+/// How many names in out/ are no text.
+pub(crate) fn unreadable_names<D: FolderDisk>(
+    disk: &D,
+    alloc: Global,
+    station: &str,
+) -> io::Result<usize> {
+    let path = Folder::Out.own_path(alloc, station)?;
+    disk.count_unreadable_names(path.as_str())
+}
+
 /// Whether one of the files is there by which the operator tells the station something.
 pub(crate) fn is_there<D: FolderDisk>(
     disk: &D,

@@ -17,7 +17,9 @@ use crate::folder_disk::FolderDisk;
 use crate::folder_fault::FolderFault;
 use crate::keeping::Kept;
 use crate::marking::set_mark;
-use crate::opening::{clear_up, is_there, locked, make_folders, names_ready, tidy_up};
+use crate::opening::{
+    clear_up, is_there, locked, make_folders, names_ready, tidy_up, unreadable_names,
+};
 use crate::promising::{promise, put_in_doubt, settle};
 use crate::reading::read_ready;
 use crate::receiving::{explain, keep_in, refuse};
@@ -62,6 +64,13 @@ impl<D: FolderDisk + Drop> StationFolder<D> {
             Folder::Out,
             &error,
         ))
+    }
+
+    /// How many names in out/ are no text: their files are left alone.
+    pub fn unreadable_names(&self) -> Result<usize, FolderFault> {
+        unreadable_names(&self.disk, self.alloc, self.path.as_str()).map_err(
+            |error| FolderFault::of(Folder::Out, &error),
+        )
     }
 
     /// The bytes of a file in out/. Too large where it has more than `most`.

@@ -38,6 +38,8 @@ pub struct FolderSpool<D: FolderDisk + Drop, C, W, L> {
     ready: Vec<String>,
     // The names that were found to be of no use to the station, and can't be put aside.
     passed: Vec<String>,
+    // How many names that are no text the operator was told of.
+    unreadable: usize,
     // The files of the transmission that was begun last.
     given: GivenFiles,
     // The time of what was kept last, and the number that comes next with it.
@@ -59,6 +61,7 @@ impl<D: FolderDisk + Drop, C: Clock, W: Write, L: Write> FolderSpool<D, C, W, L>
             console,
             ready: Vec::new(alloc),
             passed: Vec::new(alloc),
+            unreadable: 0,
             given: GivenFiles::new(alloc),
             stamp: String::new(alloc),
             number: 1,
@@ -83,6 +86,7 @@ impl<D: FolderDisk + Drop, C: Clock, W: Write, L: Write> FolderSpool<D, C, W, L>
     fn has_ready(&mut self) -> bool {
         if self.ready.is_empty() {
             self.ready = self.names_anew();
+            self.tell_unreadable();
         }
         !self.ready.is_empty()
     }
@@ -95,6 +99,17 @@ impl<D: FolderDisk + Drop, C: Clock, W: Write, L: Write> FolderSpool<D, C, W, L>
         names.retain(|name| !self.is_passed(name.as_str()));
         names.reverse();
         names
+    }
+
+    /// Tells of the names in out/ that are no text, where they are more than was told.
+    fn tell_unreadable(&mut self) {
+        let count = self.folder.unreadable_names().unwrap_or(self.unreadable);
+        if count > self.unreadable {
+            if let Ok(text) = format!(in self.alloc; "out: names that are no text: {count}") {
+                self.console.tell(Notice::Failed(text.as_str()));
+            }
+        }
+        self.unreadable = count;
     }
 
     /// Whether a name was found to be of no use.

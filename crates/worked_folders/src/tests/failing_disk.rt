@@ -387,6 +387,10 @@ impl FolderDisk for FailingDisk {
         Ok(names)
     }
 
+    fn count_unreadable_names(&self, _folder: &str) -> io::Result<usize> {
+        Ok(0)
+    }
+
     fn make_folder(&mut self, _path: &str) -> io::Result<()> {
         Ok(())
     }

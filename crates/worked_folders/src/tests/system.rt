@@ -16,6 +16,9 @@ fn a_folder_of_the_system_is_read(rt: HostRuntime) -> Result<(), Fail> {
     assert!(rt; nulls == 1);
     let missing = disk.names_in(rt.alloc(), "/dev/none");
     assert!(rt; missing.err().map(|error| error.kind()) == Some(ErrorKind::NotFound));
+    assert!(rt; disk.count_unreadable_names("/dev")? == 0);
+    let missing = disk.count_unreadable_names("/dev/none");
+    assert!(rt; missing.err().map(|error| error.kind()) == Some(ErrorKind::NotFound));
     Ok(())
 }
 
