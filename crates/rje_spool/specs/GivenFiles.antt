@@ -1,5 +1,6 @@
 -- The files of out/ whose jobs are in a transmission, in the order of their jobs (own profile). A job goes by its number there, from 0.
-use Rattle.std.specs.Prelude.{◌≡◌, ◌≢◌, ℕ, ◌-◌, ◌==◌, Bool, true, ◌&&◌, List, position, slice_get, slice_set, nat_lt, nat_le, Some, string_bytes}
+use Rattle.std.specs.Prelude.{◌≡◌, ◌≢◌, ℕ, ◌+◌, ◌-◌, ◌==◌, Bool, true, ◌&&◌, List, length, min, position, slice_get, slice_set, nat_lt, nat_le, Option, Some, option_and_then, string_bytes}
+use Rattle.std.specs.Option.{option_map_or}
 use Rattle.rje_stores.specs.Disk.{Asked}
 use Rattle.rje_spool.specs.declared.given_file.GivenFile.{GivenFile}
 use Rattle.rje_spool.specs.declared.given_file.Place.{Place}
@@ -12,6 +13,20 @@ is_of job file = nat_le file.first job && nat_lt (job - file.first) file.count
 -- it is the last one of the file's: from it on there is one
 abbrev pub is_last_of : ℕ → GivenFile → Bool
 is_last_of job file = is_of job file && (file.count - (job - file.first) == 1)
+
+-- how many jobs the files have: those of each follow those of the one before
+abbrev pub jobs_of : List GivenFile → ℕ
+jobs_of files = option_map_or (λ file. min (file.first + file.count) 18446744073709551615) (slice_get files (length files - 1)) 0
+
+-- a file that comes after these has so many jobs, whose numbers follow theirs; nothing became of it yet
+pub record IsNext (files : List GivenFile) (count : ℕ) (file : GivenFile) : Type 0 where
+  pub first : file.first ≡ jobs_of files
+  pub many : file.count ≡ count
+  pub ready : file.place ≡ Place.Ready
+
+-- the file that a job is of, the first such
+abbrev pub file_of : ℕ → List GivenFile → Option GivenFile
+file_of job files = option_and_then (slice_get files) (position (is_of job) files)
 
 -- This holds of the file that a job is of, the first such, as it stood before and as it stands now; the others are as they were.
 abbrev pub OfFile : (job : ℕ) → (Holds : GivenFile → GivenFile → Type 0) → (before after : List GivenFile) → Type 0

@@ -1,8 +1,9 @@
 //! The files whose jobs are in a transmission.
-ghost use Rattle.std.specs.Prelude.{◌≡◌, false, [], position, string_bytes, OnOk};
+ghost use Rattle.std.specs.Prelude.{◌≡◌, ◌++◌, ◌∷◌, false, [], position, option_copied, string_bytes, OnOk, OnErr};
+ghost use Rattle.rje_spool.specs.declared.given_file.GivenFile.{GivenFile as Item};
 ghost use Rattle.rje_spool.specs.declared.given_file.Place.TheVariants.{Ready};
 ghost use Rattle.rje_spool.specs.GivenFile.{HasSecondName, IsDoubted};
-ghost use Rattle.rje_spool.specs.GivenFiles.{HasBeenCounted, HasGoneOut, OfFile, is_last_of, is_of};
+ghost use Rattle.rje_spool.specs.GivenFiles.{HasBeenCounted, HasGoneOut, IsNext, OfFile, file_of, is_last_of, is_of, jobs_of};
 
 use crate::given_file::{GivenFile, Place};
 use rje_folders::{FolderDisk, FolderFault, StationFolder};
@@ -25,7 +26,9 @@ impl GivenFiles {
     }
 
     /// How many jobs they have.
-    pub(crate) fn jobs(&self) -> usize {
+    pub(crate) fn jobs(&self) -> usize
+        ensures { result ≡ jobs_of self.now.files.items }
+    {
         match self.files.last() {
             Some(file) => file.first.saturating_add(file.count),
             None => 0,
@@ -38,7 +41,12 @@ impl GivenFiles {
         name: String,
         count: usize,
         places: Vec<usize>,
-    ) -> Result<(), AllocError> {
+    ) -> Result<(), AllocError>
+        ensures added { OnOk result ((file : Item) × (self.new.files.items
+            ≡ self.old.files.items ++ file ∷ []) × IsNext self.old.files.items count file
+            × (file.name ≡ name) × (file.places ≡ places)) }
+        ensures kept { OnErr result (self.new.files.items ≡ self.old.files.items) }
+    {
         let file = GivenFile {
             name,
             first: self.jobs(),
@@ -51,7 +59,9 @@ impl GivenFiles {
     }
 
     /// The file that a job is of.
-    pub(crate) fn of(&self, job: usize) -> Option<&GivenFile> {
+    pub(crate) fn of(&self, job: usize) -> Option<&GivenFile>
+        ensures { option_copied result ≡ file_of job self.now.files.items }
+    {
         self.files.get(self.place_of(job)?)
     }
 
