@@ -88,7 +88,7 @@ def main():
         out, err = receiver.communicate(timeout=60)
         took = resource.getrusage(resource.RUSAGE_CHILDREN).ru_maxrss >> 10
         told = err.decode().replace(f"{room}/", "")
-        print(taken, receiver.returncode, out.decode().strip(), told.strip(), sep=";", end=f";{'little' if took < 300 else took}\n")
+        print(taken, receiver.returncode, out.decode().strip(), told.strip(), sep=";", end=f";{'little' if took < 60 else took}\n")
 
 
 main()

@@ -16,7 +16,7 @@ fn main(rt: HostRuntime) -> Result<()> {
     let mut out = rt.stdout();
     let mut packer = Packer::new(Select::Punch, Mode::Normal);
     let mut so_far = None;
-    for record in job.records.into_vec() {
+    for record in job.records.iter() {
         if let Pushed::Full(record) = packer.push(record)? {
             show(alloc, &packer.close(false), so_far, &mut out)?;
             so_far = Some(Mode::Normal);
@@ -33,7 +33,7 @@ fn show<O: Write>(alloc: Global, block: &Block, so_far: Option<Mode>, out: &mut 
     }
     let mut cards = vec![in alloc; b'\n']?;
     for record in unpack(alloc, block, so_far)?.records.iter() {
-        push_card(record, Form::Ascii, &mut cards)?;
+        push_card(&record, Form::Ascii, &mut cards)?;
     }
     out.write_all(&cards)?;
     Ok(())

@@ -1,5 +1,5 @@
 -- Turns of stations over lines of any kind: what their calls did is a turn, and the turns so far go on by it.
-use Rattle.std.proofs.Common.{◌≡◌, ℕ, ◌+◌, Bool, false, List, [], ◌∷◌, length, Some, None, refl, ap, sym, ◌∙◌, arith}
+use Rattle.std.proofs.Common.{◌≡◌, Bool, false, List, [], ◌∷◌, Some, None, refl, ap, sym, ◌∙◌}
 use Rattle.bsc_frame.specs.declared.heard.Heard.{Heard}
 use Rattle.bsc_link.specs.declared.say.Say.{Say}
 use Rattle.bsc_link.specs.declared.sound.Sound.{Sound}
@@ -9,9 +9,8 @@ use Rattle.rje_station.specs.Hearing.{sound_heard}
 use Rattle.rje_station.specs.Receiving.{Receiving, after_receiving}
 use Rattle.rje_station.specs.Sending.{Sending, after_speaking, after_hearing, is_end}
 use Rattle.bsc_history.specs.declared.spoken_turn.SpokenTurn.{SpokenTurn}
-use Rattle.bsc_history.specs.History.{History}
 use Rattle.line_world.specs.Turns.{after_turn}
-use Rattle.line_world.specs.AnyLines.{SenderTakes, SenderTook, Turns, after_answering, ReceiverTakes, ReceiverTook}
+use Rattle.line_world.specs.AnyLines.{Turns, after_answering, ReceiverTakes}
 
 -- ---- Some turns.
 

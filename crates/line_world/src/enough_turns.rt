@@ -6,7 +6,6 @@ ghost use Rattle.rje_jobs.specs.Fitting.{JobFits};
 ghost use Rattle.line_world.specs.Fairness.{turns_for};
 
 use rje_jobs::{Job, job_fits};
-use rje_text::next_block;
 
 /// How many turns are enough on a fair line: seven for the bid, and seven for each block. None where a job can't be sent, or the number is
 /// over the greatest u64. Takes no memory.
@@ -31,11 +30,11 @@ fn blocks_in(job: &Job) -> usize
     requires fits { JobFits job.now }
     ensures { result ≡ length (blocks_of_job job.now) }
 {
-    let records = job.records.as_slice();
-    let (_, mut place) = next_block(records, 0, job.select, job.mode);
+    let records = &job.records;
+    let (_, mut place) = records.next_block(0, job.select, job.mode);
     let mut count = 1;
     while place < records.len() {
-        (_, place) = next_block(records, place, job.select, job.mode);
+        (_, place) = records.next_block(place, job.select, job.mode);
         count += 1;
     }
     count

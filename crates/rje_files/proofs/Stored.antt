@@ -2,6 +2,7 @@
 use Rattle.std.proofs.Common.{◌≡◌, ℕ, zero, suc, List, [], ◌∷◌, ◌++◌, length, take, drop, get_or, refl, ap, sym, ◌∙◌, subst, arith}
 use Rattle.std.proofs.lemmas.List.{append_assoc, length-take, take-append-drop}
 use Rattle.std.specs.List.{flat_map, AllByRecursion}
+use Rattle.rje_text.specs.declared.record.Record.{Record}
 use Rattle.rje_files.specs.JobFile.{record_bytes, action_byte, HasRoom}
 use Rattle.rje_files.specs.Inside.Reading.Grammar.{Records}
 use Rattle.rje_files.specs.Inside.Reading.Stored.{IsRecordHere, AreRecordsHere, record_in, records_in, behind_record, behind_records, action_in}
@@ -53,6 +54,15 @@ pub others_here : (n m : ℕ) (xs : List ℕ) → n ≡ suc m → AreRecordsHere
 others_here n m xs e h =
     let these : AreRecordsHere (suc m) xs = subst (λ (k : ℕ). AreRecordsHere k xs) e h in
     these.1
+
+pub first_here : (n m : ℕ) (xs : List ℕ) → n ≡ suc m → AreRecordsHere n xs → IsRecordHere xs
+first_here n m xs e h =
+    let these : AreRecordsHere (suc m) xs = subst (λ (k : ℕ). AreRecordsHere k xs) e h in
+    these.0
+
+pub collected_more : (n m : ℕ) (xs : List ℕ) (rs all : List Record) → n ≡ suc m → rs ++ records_in n xs ≡ all → (rs ++ record_in xs ∷ []) ++ records_in m (behind_record xs) ≡ all
+collected_more n m xs rs all e h =
+    append_assoc rs (record_in xs ∷ []) (records_in m (behind_record xs)) ∙ ap (λ (k : ℕ). rs ++ records_in k xs) (sym e) ∙ h
 
 pub one_passed : (n m : ℕ) (xs : List ℕ) → n ≡ suc m → behind_records n xs ≡ behind_records m (behind_record xs)
 one_passed n m xs e = ap (λ (k : ℕ). behind_records k xs) e

@@ -1,5 +1,5 @@
 //! The records of a job as they stand in a job file.
-ghost use Rattle.std.specs.Prelude.{◌≡◌, ◌≤◌, length, IfOk};
+ghost use Rattle.std.specs.Prelude.{◌≡◌, ◌≤◌, length, take, drop, slice_index, IfOk};
 ghost use Rattle.rje_files.specs.Inside.Reading.Stored.{AreRecordsHere, IsRecordHere, behind_record, behind_records, record_in, records_in, action_in};
 
 use arrayvec::ArrayVec;
@@ -61,11 +61,24 @@ impl<'a> FileRecords<'a> {
     pub(crate) fn collect_records(self, alloc: Global) -> Result<Records, AllocError>
         ensures { IfOk result (λ records. records ≡ self.entry) }
     {
-        let mut records = Vec::with_capacity(alloc, self.len())?;
-        for item in self {
-            records.push(item)?;
+        let mut records = Records::with_capacity(alloc, self.len(), self.data_length())?;
+        let mut rest = self.rest;
+        for _i in 0..self.left {
+            let (action, items) = parts_at(rest);
+            records.push_data(action, items)?;
+            rest = behind_record_at(rest);
         }
-        Ok(Records::from(records))
+        Ok(records)
+    }
+
+    /// How many bytes of data the records have that are left.
+    fn data_length(&self) -> usize {
+        let behind = behind_records_at(self.rest, self.left);
+        let heads = self.left.saturating_mul(2);
+        self.rest
+            .len()
+            .saturating_sub(behind.len())
+            .saturating_sub(heads)
     }
 }
 
@@ -116,12 +129,23 @@ fn record_at(bytes: &[u8]) -> Record
     requires { IsRecordHere bytes.now }
     ensures { result ≡ record_in bytes.now }
 {
-    let (_, behind) = bytes.split_at(2);
-    let (items, _) = behind.split_at(bytes[1] as usize);
+    let (action, items) = parts_at(bytes);
     Record {
-        action: action_at(bytes[0]),
+        action,
         bytes: data(items),
     }
+}
+
+/// The action and the data of the record at the front.
+fn parts_at(bytes: &[u8]) -> (Action, &[u8])
+    requires { IsRecordHere bytes.now }
+    ensures action { result.0 ≡ action_in (slice_index bytes.now 0) }
+    ensures items { result.1.now ≡ take (slice_index bytes.now 1) (drop 2 bytes.now) }
+    ensures limit { length result.1.now ≤ MAX_RECORD }
+{
+    let (_, behind) = bytes.split_at(2);
+    let (items, _) = behind.split_at(bytes[1] as usize);
+    (action_at(bytes[0]), items)
 }
 
 fn data(items: &[u8]) -> ArrayVec<u8, MAX_RECORD>
@@ -138,5 +162,8 @@ fn data(items: &[u8]) -> ArrayVec<u8, MAX_RECORD>
 fn action_at(byte: u8) -> Action
     ensures { result ≡ action_in byte }
 {
-    Action::of(byte).unwrap_or(Action::Plain)
+    match byte {
+        0 => Action::Plain,
+        code => Action::of(code).unwrap_or(Action::Plain),
+    }
 }

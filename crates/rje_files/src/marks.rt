@@ -51,7 +51,7 @@ fn end_of(start: usize, entry: &Entry) -> Option<usize>
         end ≡ start + length (entry_bytes FileVersion.Second entry.now)) }
 {
     let mut end = start.checked_add(FIELDS)?;
-    for record in entry.job.records.as_slice() {
+    for record in entry.job.records.iter() {
         end = end.checked_add(RECORD + record.bytes.len())?;
     }
     Some(end)

@@ -9,7 +9,7 @@ use crate::cards::{CARD, Cards};
 use crate::lines::next_line;
 use crate::{DeckFault, Job};
 use bsc_codes::to_ebcdic;
-use rje_text::{Mode, Record, Records, Select};
+use rje_text::{Mode, Records, Select};
 use std::alloc::{AllocError, Global};
 
 /// The first printable character, the blank, and the last one, the tilde.
@@ -37,11 +37,10 @@ pub fn job_of_cards(
 ) -> Result<Job, AllocError>
     ensures job { IfOk result (λ job. job ≡ JobOfCards select mode cards.entry) }
 {
-    let records = collected(alloc, cards)?;
     Ok(Job {
         select: deck_device(select, mode),
         mode,
-        records: Records::from(records),
+        records: collected(alloc, cards)?,
         whole: true,
     })
 }
@@ -58,11 +57,11 @@ pub fn cards_of_deck<'a>(deck: &'a [u8], mode: Mode) -> Result<Cards<'a>, DeckFa
     Ok(Cards::new(deck, mode, count))
 }
 
-/// The cards as a vector, whose memory is taken at once.
-fn collected(alloc: Global, cards: Cards) -> Result<Vec<Record>, AllocError>
-    ensures { IfOk result (λ records. records.items ≡ cards.entry) }
+/// The cards as records, whose memory is taken at once in normal mode.
+fn collected(alloc: Global, cards: Cards) -> Result<Records, AllocError>
+    ensures { IfOk result (λ records. records ≡ cards.entry) }
 {
-    let mut records = Vec::with_capacity(alloc, cards.len())?;
+    let mut records = Records::with_capacity(alloc, cards.len(), cards.rest().len())?;
     for card in cards {
         records.push(card)?;
     }

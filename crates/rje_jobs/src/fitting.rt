@@ -4,14 +4,14 @@ ghost use Rattle.rje_text.specs.PackFault.{pack_fault};
 ghost use Rattle.rje_jobs.specs.Fitting.{JobFits, AreSent};
 
 use crate::Job;
-use rje_text::{MAX_RECORD, Mode, PackFault, Record, Select};
+use rje_text::{MAX_RECORD, Mode, PackFault, Record, RecordsIter, Select};
 
 /// Whether the job can be sent: it is whole, each of its records can be sent, and a transparent job is for the punch.
 pub fn job_fits(job: &Job) -> bool
     ensures fits { IsTrue result ↔ JobFits job.now }
 {
     heading_fits(job.select, job.mode, job.whole)
-        && are_sent(job.records.as_slice(), job.select, job.mode)
+        && are_sent(job.records.iter(), job.select, job.mode)
 }
 
 /// Whether a job of this selection and mode can be sent if its records can: it is whole, and a transparent job is for the punch.
@@ -23,11 +23,11 @@ pub fn heading_fits(select: Select, mode: Mode, whole: bool) -> bool
 }
 
 /// Whether each of these records can be sent in a job of this selection and mode.
-fn are_sent(records: &[Record], select: Select, mode: Mode) -> bool
-    ensures { IsTrue result ↔ AreSent select mode records.now }
+fn are_sent(records: RecordsIter, select: Select, mode: Mode) -> bool
+    ensures { IsTrue result ↔ AreSent select mode records.entry }
 {
     for item in records {
-        if !record_fits(item, select, mode) {
+        if !record_fits(&item, select, mode) {
             return false;
         }
     }

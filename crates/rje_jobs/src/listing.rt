@@ -24,8 +24,8 @@ pub fn push_listing(job: &Job, out: &mut Vec<u8>) -> Result<(), FileFault>
     ensures front { StartsWith out.new.items out.old.items }
     ensures memory { IfErr result (λ fault. fault ≡ FileFault.OutOfMemory) }
 {
-    for item in job.records.as_slice() {
-        push_line(item, out)?;
+    for item in job.records.iter() {
+        push_line(&item, out)?;
     }
     Ok(())
 }

@@ -35,8 +35,8 @@ pub fn push_cards(job: &Job, form: Form, out: &mut Vec<u8>) -> Result<(), FileFa
     ensures front { StartsWith out.new.items out.old.items }
     ensures memory { IfErr result (λ fault. fault ≡ FileFault.OutOfMemory) }
 {
-    for item in job.records.as_slice() {
-        push_card(item, form, out)?;
+    for item in job.records.iter() {
+        push_card(&item, form, out)?;
     }
     Ok(())
 }

@@ -7,7 +7,7 @@ use crate::words::{
     character, closing_text, form_text, push_ascii, push_fault, push_number, select_text,
 };
 use bsc_codes::Block;
-use rje_text::{Action, Mode, Record, Select, TextFault, Unpacked, unpack};
+use rje_text::{Action, Mode, Record, Records, Select, TextFault, Unpacked, unpack};
 use std::alloc::{AllocError, Global};
 
 /// Puts the words for a block after a text. `so_far` is the mode of its job's earlier blocks; `None`: the block is the job's first.
@@ -71,7 +71,7 @@ fn push_unpacked(
     text.extend_from_slice(b" ")?;
     push_number(text, unpacked.records.len())?;
     text.extend_from_slice(b" records")?;
-    push_records(text, unpacked.records.as_slice())
+    push_records(text, &unpacked.records)
 }
 
 /// Puts the selection that a job's first block makes after a text.
@@ -85,11 +85,11 @@ fn push_select(text: &mut Vec<u8>, so_far: Option<Mode>, select: Select) -> Resu
     text.extend_from_slice(select_text(select))
 }
 
-fn push_records(text: &mut Vec<u8>, records: &[Record]) -> Result<(), AllocError>
+fn push_records(text: &mut Vec<u8>, records: &Records) -> Result<(), AllocError>
     ensures { OnOk result (text.new.items ≡ text.old.items ++ flat_map record_words records.now) }
 {
-    for item in records {
-        push_record(text, item)?;
+    for item in records.iter() {
+        push_record(text, &item)?;
     }
     Ok(())
 }

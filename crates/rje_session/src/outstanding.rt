@@ -7,7 +7,6 @@ ghost use Rattle.rje_session.specs.Outstanding.{BeginsAt, blocks_from, ends_with
 use bsc_codes::Closing;
 use rje_jobs::Job;
 use rje_station::{Event, SendingStation, Trace};
-use rje_text::next_block;
 
 /// Whether the outstanding block, which begins with this record, is the last of its job.
 pub(crate) fn is_last<'a>(sender: &SendingStation<'a>, from: usize) -> bool
@@ -30,7 +29,7 @@ fn is_last_from(job: &Job, from: usize) -> bool
     if from >= job.records.len() {
         return true;
     }
-    let (block, _) = next_block(job.records.as_slice(), from, job.select, job.mode);
+    let (block, _) = job.records.next_block(from, job.select, job.mode);
     match block.closing {
         Closing::Etx => true,
         Closing::Etb => false,

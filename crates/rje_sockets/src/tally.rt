@@ -50,9 +50,9 @@ impl Tally {
         } else {
             (0, JOB_HEADER)
         };
-        let more = job.records.as_slice().get(seen..).unwrap_or(&[]);
+        let more = job.records.len().saturating_sub(seen);
         let mut bytes = self.bytes.saturating_add(begun);
-        for record in more {
+        for record in job.records.iter_from(seen) {
             bytes = bytes
                 .saturating_add(RECORD_HEADER)
                 .saturating_add(record.bytes.len());
@@ -61,7 +61,7 @@ impl Tally {
             jobs: jobs.len(),
             last: job.records.len(),
             whole: job.whole,
-            records: self.records.saturating_add(more.len()),
+            records: self.records.saturating_add(more),
             bytes,
         }
     }

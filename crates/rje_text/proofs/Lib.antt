@@ -12,3 +12,4 @@ pub mod Prefixes
 pub mod NoneFound
 pub mod OneFault
 pub mod NextBlocks
+pub mod PackedRecords

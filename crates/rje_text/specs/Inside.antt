@@ -1,2 +1,3 @@
 -- What private functions cite; no promise rests on it.
 pub mod RecordText
+pub mod Packed

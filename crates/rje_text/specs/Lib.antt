@@ -2,6 +2,7 @@ pub mod Action
 pub mod Spelling
 pub mod Reading
 pub mod TextFault
+pub mod Records
 pub mod Inside
 pub mod PackFault
 pub mod Cut

@@ -1,12 +1,16 @@
 //! The blocks of a job, one as it is asked for.
-ghost use Rattle.std.specs.Prelude.{◌≡◌, ◌⊎◌, ◌<◌, length, None};
+ghost use Rattle.std.specs.Prelude.{◌≡◌, ◌⊎◌, ◌<◌, ◌≤◌, ◌++◌, length, nat_le, None, if◌then◌else◌};
+ghost use Rattle.bsc_codes.specs.declared.block.Closing.TheVariants.{Etb, Etx};
+ghost use Rattle.rje_text.specs.Spelling.{spelling};
+ghost use Rattle.rje_text.specs.Records.{record_at};
+ghost use Rattle.rje_text.specs.Cut.{is_transparent as transparent};
 ghost use Rattle.std.specs.List.{AllByRecursion};
 ghost use Rattle.rje_text.specs.PackFault.{pack_fault};
 ghost use Rattle.rje_text.specs.NextBlock.{IsNextBlock, IsSendable};
 
-use crate::packer::{closing_of, is_transparent, select_device, take};
-use crate::spelling::append;
-use crate::{Mode, Record, Select};
+use crate::packer::{closing_of, is_transparent, select_device, take, take_record};
+use crate::spelling::{TextInHand, append};
+use crate::{Mode, Record, Records, Select};
 use arrayvec::ArrayVec;
 use bsc_codes::Block;
 
@@ -25,15 +29,63 @@ pub fn next_block(records: &[Record], from: usize, select: Select, mode: Mode) -
         select_device(select, mode, &mut in_hand);
     }
     let mut place = from;
-    while place < records.len() && take(&mut in_hand, mode, &records[place]) {
+    while place < records.len() && take_record(&mut in_hand, mode, &records[place]) {
         place += 1;
     }
+    (closed(&in_hand, mode, place == records.len()), place)
+}
+
+/// The same block, of records that stand one after another in memory.
+pub(crate) fn next_block_of(
+    records: &Records,
+    from: usize,
+    select: Select,
+    mode: Mode,
+) -> (Block, usize)
+    requires sent { AllByRecursion (λ r. pack_fault select mode r ≡ None) records.now }
+    requires within { (from < length records.now) ⊎ ((from ≡ 0) × (length records.now ≡ 0)) }
+    ensures next { IsNextBlock select mode records.now from result.0 result.1 }
+    ensures sendable { IsSendable result.0 }
+{
+    let mut in_hand = ArrayVec::new();
+    if from == 0 {
+        select_device(select, mode, &mut in_hand);
+    }
+    let mut place = from;
+    while place < records.len() && take_at(&mut in_hand, mode, records, place) {
+        place += 1;
+    }
+    let block = closed(&in_hand, mode, place == records.len());
+    (block, place)
+}
+
+/// Appends the record at a place to a text as it stands there, if there is room for it; else the text stays as it was.
+fn take_at(text: &mut TextInHand, mode: Mode, records: &Records, place: usize) -> bool
+    requires room { length text.old.items ≤ 510 }
+    requires place { place < length records.now }
+    ensures room { result
+        ≡ nat_le (length (text.old.items ++ spelling mode (record_at records.now place))) 510 }
+    ensures taken { text.new.items ≡ (if result
+        then text.old.items ++ spelling mode (record_at records.now place)
+        else text.old.items) }
+    ensures short { length (spelling mode (record_at records.now place)) ≤ 147 }
+{
+    let (action, items) = records.data_at(place);
+    take(text, mode, action, items)
+}
+
+/// The block of this text: a job's last one, or one that more follow.
+fn closed(in_hand: &TextInHand, mode: Mode, last: bool) -> Block
+    requires { length in_hand.now.items ≤ 510 }
+    ensures text { result.text.items ≡ in_hand.now.items }
+    ensures closing { result.closing ≡ (if last then Etx else Etb) }
+    ensures form { result.transparent ≡ transparent mode }
+{
     let mut text = ArrayVec::new();
     append(&mut text, in_hand.as_slice());
-    let block = Block {
+    Block {
         text,
-        closing: closing_of(place == records.len()),
+        closing: closing_of(last),
         transparent: is_transparent(mode),
-    };
-    (block, place)
+    }
 }

@@ -31,7 +31,7 @@ pub(crate) fn unpack_cards(
         Ok(records) => Ok(Unpacked {
             select: Select::Punch,
             mode: Mode::Transparent,
-            records: Records::from(records),
+            records,
         }),
         Err(AllocError) => Err(TextFault::OutOfMemory),
     }
@@ -72,11 +72,11 @@ fn check_cards(text: &[u8], so_far: Option<Mode>) -> Result<(), TextFault>
     Ok(())
 }
 
-fn collect_cards(alloc: Global, text: &[u8]) -> Result<Vec<Record>, AllocError>
+fn collect_cards(alloc: Global, text: &[u8]) -> Result<Records, AllocError>
     requires { length text.now % CARD ≡ 0 }
-    ensures { IfOk result (λ records. records.items ≡ cards (length text.now / 80) text.now) }
+    ensures { IfOk result (λ records. records ≡ cards (length text.now / 80) text.now) }
 {
-    let mut records = Vec::with_capacity(alloc, text.len() / CARD)?;
+    let mut records = Records::with_capacity(alloc, text.len() / CARD, text.len())?;
     let mut rest = text;
     while !rest.is_empty() {
         let (card, others) = rest.split_at(CARD);

@@ -2,7 +2,7 @@
 ghost use Rattle.std.specs.Prelude.{◌≡◌, ◌≤◌, ◌++◌, [], length, nat_le, true, false, None, IfOk, if◌then◌else◌};
 
 use crate::spelling::{TextInHand, append, spell};
-use crate::{Mode, PackFault, Pushed, Record, Select};
+use crate::{Action, Mode, PackFault, Pushed, Record, Select};
 use arrayvec::ArrayVec;
 use bsc_codes::{Block, Closing, DC1, DC2};
 use std::marker::Model;
@@ -78,7 +78,7 @@ impl Packer {
         ensures taken { self.new ≡ (if result then with_record self.old item.now else self.old) }
         ensures short { length (spelling self.old.mode item.now) ≤ 147 }
     {
-        take(&mut self.text, self.mode, item)
+        take_record(&mut self.text, self.mode, item)
     }
 
     /// The block of what was taken since the last one: a job's last block, or one that more blocks follow. After a last block the
@@ -103,23 +103,38 @@ impl Packer {
 
 ghost use Rattle.bsc_codes.specs.declared.block.Closing.TheVariants.{Etb, Etx};
 ghost use Rattle.rje_text.specs.Spelling.{selection, spelling};
+ghost use Rattle.rje_text.specs.Records.{record_with};
 ghost use Rattle.rje_text.specs.Cut.{is_transparent as transparent};
 
-/// Appends a record to a text as it stands there, if there is room for it; else the text stays as it was.
-pub(crate) fn take(text: &mut TextInHand, mode: Mode, item: &Record) -> bool
+/// Appends a record of this action and these data to a text as it stands there, if there is room for it; else the text stays as it was.
+pub(crate) fn take(text: &mut TextInHand, mode: Mode, action: Action, items: &[u8]) -> bool
+    requires room { length text.old.items ≤ 510 }
+    requires limit { length items.now ≤ 144 }
+    ensures room { result
+        ≡ nat_le (length (text.old.items ++ spelling mode (record_with action items.now))) 510 }
+    ensures taken { text.new.items ≡ (if result
+        then text.old.items ++ spelling mode (record_with action items.now)
+        else text.old.items) }
+    ensures short { length (spelling mode (record_with action items.now)) ≤ 147 }
+{
+    let before = text.len();
+    spell(action, items, mode, text);
+    if MAX_TEXT_SENT < text.len() {
+        text.truncate(before);
+        return false;
+    }
+    true
+}
+
+/// Appends a record likewise.
+pub(crate) fn take_record(text: &mut TextInHand, mode: Mode, item: &Record) -> bool
     requires { length text.old.items ≤ 510 }
     ensures room { result ≡ nat_le (length (text.old.items ++ spelling mode item.now)) 510 }
     ensures taken { text.new.items ≡ (if result then text.old.items ++ spelling mode item.now
         else text.old.items) }
     ensures short { length (spelling mode item.now) ≤ 147 }
 {
-    let before = text.len();
-    spell(item, mode, text);
-    if MAX_TEXT_SENT < text.len() {
-        text.truncate(before);
-        return false;
-    }
-    true
+    take(text, mode, item.action, item.bytes.as_slice())
 }
 
 /// Puts into an empty text what stands in front of a job's first one: the byte that selects the device.

@@ -4,10 +4,11 @@ ghost use Rattle.arrayvec.specs.ArrayVec.{array_vec_len};
 ghost use Rattle.rje_text.specs.Spelling.{action_escape, compressed, written_run, spelling};
 ghost use Rattle.rje_text.specs.Spelling.Run.{Blanks};
 ghost use Rattle.rje_text.specs.Action.{code_of};
+ghost use Rattle.rje_text.specs.Records.{record_with};
 
 use crate::packer::MAX_TEXT_SENT;
 use crate::searching::first_place;
-use crate::{Action, Mode, Record};
+use crate::{Action, Mode};
 use arrayvec::ArrayVec;
 use bsc_codes::{BLANK, ESC, IGS, IRS};
 
@@ -19,19 +20,20 @@ pub(crate) type TextInHand = ArrayVec<u8, MAX_IN_HAND>;
 
 const MAX_IN_HAND: usize = MAX_TEXT_SENT + MAX_SPELLING;
 
-/// Appends a record to the text as it stands in a text of this mode.
-pub(crate) fn spell(item: &Record, mode: Mode, text: &mut TextInHand)
-    requires { array_vec_len text.old ≤ MAX_TEXT_SENT }
-    ensures text { text.new.items ≡ text.old.items ++ spelling mode item.now }
+/// Appends a record of this action and these data to the text as it stands in a text of this mode.
+pub(crate) fn spell(action: Action, items: &[u8], mode: Mode, text: &mut TextInHand)
+    requires room { array_vec_len text.old ≤ MAX_TEXT_SENT }
+    requires limit { length items.now ≤ 144 }
+    ensures text { text.new.items ≡ text.old.items ++ spelling mode (record_with action items.now) }
     ensures short { array_vec_len text.new ≤ array_vec_len text.old + MAX_SPELLING }
 {
     match mode {
         Mode::Normal => {
-            escape(item.action, text);
-            compress(item.bytes.as_slice(), text);
+            escape(action, text);
+            compress(items, text);
             text.push(IRS);
         }
-        Mode::Transparent => append(text, item.bytes.as_slice()),
+        Mode::Transparent => append(text, items),
     }
 }
 

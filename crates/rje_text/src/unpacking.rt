@@ -6,7 +6,7 @@ ghost use Rattle.rje_text.specs.Inside.RecordText.{HasFront, HasParts, HasRecord
 
 use crate::cards::{count_cards, unpack_cards};
 use crate::record_text::{check_record, record_end, record_from};
-use crate::{Counted, Mode, Record, Records, Select, TextFault, Unpacked};
+use crate::{Counted, Mode, Records, Select, TextFault, Unpacked};
 use bsc_codes::{Block, DC1, DC2, DC3, MAX_TEXT};
 use std::alloc::{AllocError, Global};
 
@@ -52,7 +52,7 @@ fn unpack_normal(alloc: Global, text: &[u8], so_far: Option<Mode>) -> Result<Unp
         Ok(records) => Ok(Unpacked {
             select,
             mode: Mode::Normal,
-            records: Records::from(records),
+            records,
         }),
         Err(AllocError) => Err(TextFault::OutOfMemory),
     }
@@ -147,12 +147,12 @@ fn check(text: &[u8], base: usize) -> Result<usize, TextFault>
     Ok(count)
 }
 
-/// The `count` records of a text, in just the memory that they take.
-fn collect(alloc: Global, text: &[u8], count: usize) -> Result<Vec<Record>, AllocError>
+/// The `count` records of a text. Their data are mostly no longer than the text, and memory is taken at once for that many.
+fn collect(alloc: Global, text: &[u8], count: usize) -> Result<Records, AllocError>
     requires { HasRecords count text.now }
-    ensures { IfOk result (λ records. records_in text.now ≡ Some records.items) }
+    ensures { IfOk result (λ records. records_in text.now ≡ Some records) }
 {
-    let mut records = Vec::with_capacity(alloc, count)?;
+    let mut records = Records::with_capacity(alloc, count, text.len())?;
     let mut start = 0;
     while start < text.len() {
         let (_, rest) = text.split_at(start);

@@ -40,19 +40,16 @@ fn is_record(found: &Record, action: Action, bytes: &[u8]) -> bool {
 
 /// Whether the records are this one.
 fn is_one_record(records: &Records, action: Action, bytes: &[u8]) -> bool {
-    match records.as_slice() {
-        [found] => is_record(found, action, bytes),
-        _ => false,
-    }
+    records.len() == 1 && records.iter().all(|found| is_record(&found, action, bytes))
 }
 
 /// Whether the records are of plain data, these.
 fn are_plain(records: &Records, wanted: &[&[u8]]) -> bool {
-    for (place, found) in records.as_slice().iter().enumerate() {
+    for (place, found) in records.iter().enumerate() {
         let Some(bytes) = wanted.get(place) else {
             return false;
         };
-        if !is_record(found, Action::Plain, bytes) {
+        if !is_record(&found, Action::Plain, bytes) {
             return false;
         }
     }

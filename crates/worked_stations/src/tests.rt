@@ -75,7 +75,7 @@ fn is_same_job(given: &Job, job: &Job) -> bool {
     given.whole
         && given.select == job.select
         && given.mode == job.mode
-        && given.records.as_slice() == job.records.as_slice()
+        && given.records.iter().eq(job.records.iter())
 }
 
 /// The jobs are the same, and all are whole.

@@ -12,7 +12,7 @@ use crate::entry::received_state;
 use crate::{Entry, JobName, NO_NAME, State};
 use byteorder::{BigEndian, ByteOrder};
 use rje_jobs::{Cards, Job, deck_device};
-use rje_text::{Action, Mode, Record, Select};
+use rje_text::{Action, Mode, Record, Records, Select};
 use std::alloc::{AllocError, Global};
 
 /// The columns of a card.
@@ -100,7 +100,7 @@ fn write_job(job: &Job, out: &mut Vec<u8>) -> Result<(), AllocError>
         byte_of_mode(job.mode),
         job.whole as u8,
     ])?;
-    write_records(job.records.as_slice(), out)
+    write_records(&job.records, out)
 }
 
 fn write_entry(entry: &Entry, out: &mut Vec<u8>) -> Result<(), AllocError>
@@ -129,7 +129,7 @@ fn write_parts(name: &JobName, state: State, job: &Job, out: &mut Vec<u8>) -> Re
         → FitsFields FileVersion.Second (entry_with name.now state job.now)) }
 {
     write_fields(name, state, job.select, job.mode, out)?;
-    write_records(job.records.as_slice(), out)
+    write_records(&job.records, out)
 }
 
 /// Appends what stands before the records of a job of version 2.
@@ -169,13 +169,14 @@ pub(super) fn write_growth(
 }
 
 /// Appends the number of these records, and the records.
-fn write_records(items: &[Record], out: &mut Vec<u8>) -> Result<(), AllocError>
+fn write_records(items: &Records, out: &mut Vec<u8>) -> Result<(), AllocError>
     ensures records { OnOk result (out.new.items ≡ out.old.items ++ records_bytes items.now) }
     ensures room { OnOk result (AllByRecursion HasRoom items.now) }
+    ensures few { OnOk result (length items.now < 2 ^ 64) }
 {
     write_number(items.len(), out)?;
-    for item in items {
-        write_record(item, out)?;
+    for item in items.iter() {
+        write_record(&item, out)?;
     }
     Ok(())
 }

@@ -11,7 +11,6 @@ use bsc_codes::Closing;
 use bsc_frame::Frame;
 use bsc_link::Next;
 use rje_jobs::Job;
-use rje_text::next_block;
 use std::marker::Model;
 
 /// The blocks of some jobs that aren't counted yet. It keeps the outstanding one, which is the first of them, and the place of the record
@@ -135,7 +134,7 @@ fn begin_job(jobs: &[Job], at: usize) -> (Frame, usize)
 {
     if at < jobs.len() {
         let job = &jobs[at];
-        let (block, place) = next_block(job.records.as_slice(), 0, job.select, job.mode);
+        let (block, place) = job.records.next_block(0, job.select, job.mode);
         (Frame::Block(block), place)
     } else {
         (Frame::Eot, 0)
@@ -158,7 +157,7 @@ fn after_block(jobs: &[Job], at: usize, closing: Closing, place: usize) -> (Fram
         }
         Closing::Etb => {
             let job = &jobs[at];
-            let (block, place) = next_block(job.records.as_slice(), place, job.select, job.mode);
+            let (block, place) = job.records.next_block(place, job.select, job.mode);
             (Frame::Block(block), place, at)
         }
     }

@@ -45,7 +45,7 @@ fn a_text_is_read_or_finds_no_memory(rt: HostRuntime) -> Result<(), Fail> {
     assert!(rt; read.mode == Mode::Normal);
     assert!(rt; read.records.len() == 100);
     let wanted = record(&rt, Action::Plain, &[0xC1]);
-    assert!(rt; read.records.iter().all(|item| *item == wanted));
+    assert!(rt; read.records.iter().all(|item| item == wanted));
     Ok(())
 }
 
@@ -61,7 +61,7 @@ fn cards_are_read_or_find_no_memory(rt: HostRuntime) -> Result<(), Fail> {
     assert!(rt; read.mode == Mode::Transparent);
     assert!(rt; read.records.len() == 6);
     let wanted = record(&rt, Action::Plain, &CARD);
-    assert!(rt; read.records.iter().all(|item| *item == wanted));
+    assert!(rt; read.records.iter().all(|item| item == wanted));
     Ok(())
 }
 

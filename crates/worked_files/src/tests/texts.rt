@@ -221,7 +221,6 @@ fn transparent_texts_are_cards(rt: HostRuntime) -> Result<(), Fail> {
     assert!(rt; six.records.len() == 6);
     assert!(rt;
         six.records
-            .as_slice()
             .iter()
             .all(|card| card.bytes.as_slice() == CARD.as_slice())
     );
@@ -262,11 +261,27 @@ fn records_are_a_list(rt: HostRuntime) -> Result<(), Fail> {
     let records = two_records(&rt)?;
     assert!(rt; records.len() == 2);
     assert!(rt; records.iter().count() == 2);
-    let items = records.into_vec();
+    assert!(rt; records.iter_from(1).count() == 1);
+    assert!(rt; records.iter_from(3).next().is_none());
+    assert!(rt; is_record(&records.at(1), Action::Double, &[]));
+    let items = records.to_vec()?;
     assert!(rt; items.len() == 2);
     assert!(rt; is_record(&items[0], Action::Plain, &[0xC1]));
     assert!(rt; is_record(&items[1], Action::Double, &[]));
-    assert!(rt; Records::from(items).len() == 2);
+    assert!(rt; Records::of(rt.alloc(), items.as_slice())?.len() == 2);
+    Ok(())
+}
+
+#[test]
+fn records_are_joined(rt: HostRuntime) -> Result<(), Fail> {
+    let mut records = two_records(&rt)?;
+    records.append(two_records(&rt)?)?;
+    records.push_data(Action::Single, &[0xC2; 144])?;
+    assert!(rt; records.len() == 5);
+    assert!(rt; is_record(&records.at(2), Action::Plain, &[0xC1]));
+    assert!(rt; is_record(&records.at(3), Action::Double, &[]));
+    assert!(rt; is_record(&records.at(4), Action::Single, &[0xC2; 144]));
+    assert!(rt; records.clone()?.iter().eq(records.iter()));
     Ok(())
 }
 

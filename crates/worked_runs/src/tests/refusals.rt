@@ -14,14 +14,14 @@ use std::test::Fail;
 
 /// A job of `count` records, at most 1,000, whose memory is taken in one growth.
 fn job_of(rt: &(impl Abort + AllocGlobal), count: usize) -> Result<Job, AllocError> {
-    let mut records = Vec::with_capacity(rt.alloc(), 1000)?;
+    let mut records = Records::with_capacity(rt.alloc(), 1000, 80_000)?;
     for _ in 0..count {
         records.push(record_of(rt, 80))?;
     }
     Ok(Job {
         select: Select::Unset,
         mode: Mode::Normal,
-        records: Records::from(records),
+        records,
         whole: true,
     })
 }

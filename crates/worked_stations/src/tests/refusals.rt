@@ -16,14 +16,14 @@ use std::test::Fail;
 
 /// A job of `count` records, at most 1,000, whose memory is taken in one growth.
 fn job_of(rt: &(impl Abort + AllocGlobal), count: usize) -> Result<Job, AllocError> {
-    let mut records = Vec::with_capacity(rt.alloc(), 1000)?;
+    let mut records = Records::with_capacity(rt.alloc(), 1000, 80_000)?;
     for _ in 0..count {
         records.push(record_of(rt, 80))?;
     }
     Ok(Job {
         select: Select::Unset,
         mode: Mode::Normal,
-        records: Records::from(records),
+        records,
         whole: true,
     })
 }
@@ -169,7 +169,7 @@ fn assert_came(rt: &impl Abort, jobs: &[Job], came: &[Came]) {
 /// The records of the job are of these bytes, one each.
 fn assert_records(rt: &impl Abort, job: &Job, bytes: &[u8]) {
     assert!(rt; job.records.len() == bytes.len());
-    for (place, record) in job.records.as_slice().iter().enumerate() {
+    for (place, record) in job.records.iter().enumerate() {
         assert!(rt; record.action == Action::Plain);
         assert!(rt; record.bytes.as_slice() == [bytes[place]].as_slice());
     }

@@ -2,7 +2,7 @@
 use super::failing_lines::line_of;
 use super::{bad_jobs, block, buffer, job_of};
 use arrayvec::ArrayVec;
-use bsc_codes::{Closing, SYN};
+use bsc_codes::{Block, Closing, SYN};
 use bsc_frame::{Frame, write_frame};
 use bsc_link::{Outcome, Reply, Say, Sound, Wish};
 use line_world::MemoryLine;
@@ -123,7 +123,7 @@ fn assert_one_job(rt: &impl Abort, jobs: &[Job], records: usize, bytes: &[u8]) {
     assert!(rt; job.select == Select::Unset);
     assert!(rt; job.mode == Mode::Normal);
     assert!(rt; job.records.len() == records);
-    for item in job.records.as_slice() {
+    for item in job.records.iter() {
         assert!(rt; item.action == Action::Plain);
         assert!(rt; item.bytes.as_slice() == bytes);
     }
@@ -193,16 +193,23 @@ fn a_thousand_records_go_through(rt: HostRuntime) {
 }
 
 #[test]
-fn blocks_are_made_on_demand(rt: HostRuntime) {
+fn blocks_are_made_on_demand(rt: HostRuntime) -> Result<(), AllocError> {
     let job = job_of(&rt, 1000, 80);
     assert!(rt; job_fits(&job));
-    let records = job.records.as_slice();
+    let records = &job.records;
     assert!(rt; records.len() == 1000);
-    let (first, place) = next_block(records, 0, job.select, job.mode);
+    let (first, place) = records.next_block(0, job.select, job.mode);
     assert!(rt; first.text.len() == 486);
     assert!(rt; first.closing == Closing::Etb);
     assert!(rt; place == 6);
-    let (last, place) = next_block(records, 996, job.select, job.mode);
+    assert_last_four(&rt, records.next_block(996, job.select, job.mode));
+    let vector = records.to_vec()?;
+    assert_last_four(&rt, next_block(&vector, 996, job.select, job.mode));
+    Ok(())
+}
+
+/// The last block of 1,000 records of 80 bytes C1 has four of them.
+fn assert_last_four(rt: &impl Abort, (last, place): (Block, usize)) {
     assert!(rt; last.text.len() == 324);
     assert!(rt; last.closing == Closing::Etx);
     assert!(rt; place == 1000);
@@ -275,7 +282,7 @@ fn a_block_that_cannot_be_read_leaves_the_jobs(rt: HostRuntime) {
     assert!(rt; jobs[0].mode == Mode::Transparent);
     assert!(rt; jobs[0].select == Select::Punch);
     assert!(rt; jobs[0].records.len() == 6);
-    for card in jobs[0].records.as_slice() {
+    for card in jobs[0].records.iter() {
         assert!(rt; card.bytes.as_slice() == [0xC1; 80].as_slice());
     }
 }

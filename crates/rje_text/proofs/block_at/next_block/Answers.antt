@@ -8,5 +8,5 @@ loop-place-preserved c =
     let r = c.index-records-place.result in
     let here : r ≡ get_or c.args.records.now c.loop-place.place r = search rules in
     let room : leb (length (c.loop-place.in_hand.items ++ spelling c.args.mode r)) 510 ≡ true = search rules in
-    let taken : c.take.new.text.items ≡ c.loop-place.in_hand.items ++ spelling c.args.mode r = search rules in
+    let taken : c.take_record.new.text.items ≡ c.loop-place.in_hand.items ++ spelling c.args.mode r = search rules in
     rw taken (packed_on c.args.select c.args.mode c.loop-place.in_hand.items c.args.records.now c.args.from c.loop-place.place r c.loop-place.invariant c.loop-place-test.true here room)

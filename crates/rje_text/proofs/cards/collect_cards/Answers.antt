@@ -12,7 +12,7 @@ loop-rest-preserved c =
     let more = cards_more c.loop-rest.rest.now c.split_at.result.0.now c.split_at.result.1.now c.card_record.result some c.loop-rest.invariant.whole card.front card.back r.action r.bytes in
     record {
       whole = others_whole c.loop-rest.rest.now c.split_at.result.0.now c.split_at.result.1.now c.card_record.result some c.loop-rest.invariant.whole card.front card.back r.action r.bytes;
-      joined = ap (λ rs. rs ++ cards (length c.split_at.result.1.now / 80) c.split_at.result.1.now) c.in_ok-push.ensures.items
-          ∙ append_assoc c.loop-rest.records.items (c.card_record.result ∷ []) (cards (length c.split_at.result.1.now / 80) c.split_at.result.1.now)
-          ∙ ap (λ rs. c.loop-rest.records.items ++ rs) (sym more) ∙ c.loop-rest.invariant.joined;
+      joined = ap (λ rs. rs ++ cards (length c.split_at.result.1.now / 80) c.split_at.result.1.now) c.in_ok-push.ensures.ok
+          ∙ append_assoc c.loop-rest.records (c.card_record.result ∷ []) (cards (length c.split_at.result.1.now / 80) c.split_at.result.1.now)
+          ∙ ap (λ rs. c.loop-rest.records ++ rs) (sym more) ∙ c.loop-rest.invariant.joined;
     }

@@ -8,7 +8,7 @@ use Rattle.rje_text.proofs.cards.unpack_cards.Goals as goal
 pub returns-in-Ok-clause-read : goal.returns-in-Ok-clause-read
 returns-in-Ok-clause-read c = (
   whole_cards c.args.text.now c.requires c.in_default.ensures.cards
-      ∙ ap (λ rs. Some (record { select = Punch; mode = Transparent; records = rs })) (sym c.in-Ok.ensures ∙ sym c.from.ensures),
+      ∙ ap (λ rs. Some (record { select = Punch; mode = Transparent; records = rs })) (sym c.in-Ok.ensures),
   c.in_default.ensures.agrees,
 )
 

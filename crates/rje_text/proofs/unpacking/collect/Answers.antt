@@ -7,7 +7,7 @@ use Rattle.rje_text.proofs.unpacking.collect.Goals as goal
 pub loop-start-init : goal.loop-start-init
 loop-start-init c =
     let (rs, read, many) = c.requires in
-    record { within = omega arith; rest = (rs, read, read ∙ ap (λ zs. Some (zs ++ rs)) (sym c.in_ok-records.ensures.items)) }
+    record { within = omega arith; rest = (rs, read, read ∙ ap (λ zs. Some (zs ++ rs)) (sym c.in_ok-records.ensures)) }
 
 pub record_from-requires : goal.record_from-requires
 record_from-requires c =
@@ -24,7 +24,7 @@ returns-then-end-rest c =
     let last = collected_end c.args.text.now c.split_at.result.1.now c.split_at-in-loop-start.result.0.now c.loop-start.start c.record_end-end.result
     c.split_at.ensures.back c.split_at-in-loop-start.ensures.front c.loop-start-test.true end.within end.before end.at inv.0 c.record_from.result
     (ap (λ (xs : List ℕ). records_in xs) c.split_at.ensures.back ∙ inv.1) c.if-end-rest.true c.record_from.ensures in
-    inv.2 ∙ ap (λ zs. Some (c.loop-start.records.items ++ zs)) last ∙ ap (λ zs. Some zs) (sym c.in_ok-push.ensures.items)
+    inv.2 ∙ ap (λ zs. Some (c.loop-start.records ++ zs)) last ∙ ap (λ zs. Some zs) (sym c.in_ok-push.ensures.ok)
 
 pub loop-start-preserved : goal.loop-start-preserved
 loop-start-preserved c =
@@ -38,13 +38,13 @@ loop-start-preserved c =
       rest = (
         later,
         reads,
-        inv.2 ∙ ap (λ zs. Some (c.loop-start.records.items ++ zs)) more
-            ∙ ap (λ zs. Some zs) (sym (append_assoc c.loop-start.records.items (c.record_from.result ∷ []) later) ∙ ap (λ zs. zs ++ later) (sym c.in_ok-push.ensures.items)),
+        inv.2 ∙ ap (λ zs. Some (c.loop-start.records ++ zs)) more
+            ∙ ap (λ zs. Some zs) (sym (append_assoc c.loop-start.records (c.record_from.result ∷ []) later) ∙ ap (λ zs. zs ++ later) (sym c.in_ok-push.ensures.ok)),
       );
     }
 
 pub returns : goal.returns
 returns c =
     let inv = c.loop-start.invariant.rest in
-    inv.2 ∙ ap (λ zs. Some (c.loop-start.records.items ++ zs)) (none_left c.args.text.now c.loop-start.start inv.0 c.loop-start-test.false inv.1)
-    ∙ ap (λ zs. Some zs) (append-nil c.loop-start.records.items)
+    inv.2 ∙ ap (λ zs. Some (c.loop-start.records ++ zs)) (none_left c.args.text.now c.loop-start.start inv.0 c.loop-start-test.false inv.1)
+    ∙ ap (λ zs. Some zs) (append-nil c.loop-start.records)

@@ -6,7 +6,7 @@ use Rattle.rje_text.proofs.unpacking.collect.Given as goal
 abbrev pub invariant-loop-start : goal.invariant-loop-start
 invariant-loop-start l = record {
   within : l.start ≤ length l.text;
-  rest : (more : List Record) × (records_in (drop l.start l.text) ≡ Some more) × (records_in l.text ≡ Some (l.records.items ++ more));
+  rest : (more : List Record) × (records_in (drop l.start l.text) ≡ Some more) × (records_in l.text ≡ Some (l.records ++ more));
 }
 
 abbrev pub decreases-loop-start : goal.decreases-loop-start

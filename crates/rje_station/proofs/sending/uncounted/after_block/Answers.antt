@@ -8,7 +8,7 @@ next_block-block-requires-clause-sent c =
     let job = c.index-jobs-at.result in
     let here : job ≡ get_or c.args.jobs.now c.args.at job = search rules in
     let within = place_within c.args.jobs.now c.args.at c.args.closing c.args.place c.requires.within in
-    rw c.as_slice.ensures (fit_at c.args.jobs.now c.args.at job c.requires.fit within here)
+    fit_at c.args.jobs.now c.args.at job c.requires.fit within here
 
 pub returns-in-Etx-clause-rest : goal.returns-in-Etx-clause-rest
 returns-in-Etx-clause-rest c =
