@@ -10,12 +10,12 @@ use Rattle.rje_text.specs.declared.action.Action.{Action}
 use Rattle.rje_text.specs.declared.extent.Extent.{Extent}
 use Rattle.rje_text.specs.declared.record.Record.{Record}
 use Rattle.rje_text.specs.Inside.Packed.{IsWithin, record_of_extent, records_of_extents, moved}
-use Rattle.rje_text.specs.Records.{record_with}
+use Rattle.rje_text.specs.Records.{record_of_data}
 
 kept_one : (bytes more : List ℕ) (e : Extent) → IsWithin bytes e → record_of_extent (bytes ++ more) e ≡ record_of_extent bytes e
 kept_one bytes more e w =
-    ap (λ (data' : List ℕ). record_with e.action (take e.length data')) (drop-append-le e.start bytes more (omega (arith, w.end)))
-    ∙ ap (record_with e.action) (take-append-le e.length (drop e.start bytes) more (omega (arith, w.end, length-drop e.start bytes)))
+    ap (λ (data' : List ℕ). record_of_data e.action (take e.length data')) (drop-append-le e.start bytes more (omega (arith, w.end)))
+    ∙ ap (record_of_data e.action) (take-append-le e.length (drop e.start bytes) more (omega (arith, w.end, length-drop e.start bytes)))
 
 -- with more bytes after them the records are the same
 pub kept : (bytes more : List ℕ) (es : List Extent) → All (IsWithin bytes) es → records_of_extents (bytes ++ more) es ≡ records_of_extents bytes es
@@ -29,14 +29,14 @@ still_within bytes more es h k d l = record { end = omega (arith, (h k d l).end,
 
 -- data that are put behind the bytes, as a record
 pub pushed_one : (bytes items : List ℕ) (action : Action)
-    → record_of_extent (bytes ++ items) (record { start = length bytes; length = length items; action = action }) ≡ record_with action items
+    → record_of_extent (bytes ++ items) (record { start = length bytes; length = length items; action = action }) ≡ record_of_data action items
 pushed_one bytes items action =
-    ap (λ (data' : List ℕ). record_with action (take (length items) data')) (drop-append_seam bytes items)
-    ∙ ap (record_with action) (take_all (length items) items (omega arith))
+    ap (λ (data' : List ℕ). record_of_data action (take (length items) data')) (drop-append_seam bytes items)
+    ∙ ap (record_of_data action) (take_all (length items) items (omega arith))
 
 pub pushed : (bytes items : List ℕ) (es : List Extent) (action : Action) → All (IsWithin bytes) es
     → records_of_extents (bytes ++ items) (es ++ record { start = length bytes; length = length items; action = action } ∷ [])
-    ≡ records_of_extents bytes es ++ record_with action items ∷ []
+    ≡ records_of_extents bytes es ++ record_of_data action items ∷ []
 pushed bytes items es action h =
     map-append (record_of_extent (bytes ++ items)) es _
     ∙ ap (λ (rs : List Record). rs ++ record_of_extent (bytes ++ items) (record { start = length bytes; length = length items; action = action }) ∷ []) (kept bytes items es h)
@@ -48,7 +48,7 @@ pushed_within bytes items es action h l =
     All-push (IsWithin (bytes ++ items)) es _ (still_within bytes items es h) (record { end = omega (arith, length-append bytes items); limit = l })
 
 moved_one : (bytes more : List ℕ) (e : Extent) → record_of_extent (bytes ++ more) (moved (length bytes) e) ≡ record_of_extent more e
-moved_one bytes more e = ap (λ (data' : List ℕ). record_with e.action (take e.length data')) (drop-append-add bytes more e.start)
+moved_one bytes more e = ap (λ (data' : List ℕ). record_of_data e.action (take e.length data')) (drop-append-add bytes more e.start)
 
 all_moved : (bytes more : List ℕ) (es : List Extent) → records_of_extents (bytes ++ more) (map (moved (length bytes)) es) ≡ records_of_extents more es
 all_moved bytes more [] = refl

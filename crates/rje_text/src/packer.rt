@@ -103,7 +103,7 @@ impl Packer {
 
 ghost use Rattle.bsc_codes.specs.declared.block.Closing.TheVariants.{Etb, Etx};
 ghost use Rattle.rje_text.specs.Spelling.{selection, spelling};
-ghost use Rattle.rje_text.specs.Records.{record_with};
+ghost use Rattle.rje_text.specs.Records.{record_of_data};
 ghost use Rattle.rje_text.specs.Cut.{is_transparent as transparent};
 
 /// Appends a record of this action and these data to a text as it stands there, if there is room for it; else the text stays as it was.
@@ -111,11 +111,11 @@ pub(crate) fn take(text: &mut TextInHand, mode: Mode, action: Action, items: &[u
     requires room { length text.old.items ≤ 510 }
     requires limit { length items.now ≤ 144 }
     ensures room { result
-        ≡ nat_le (length (text.old.items ++ spelling mode (record_with action items.now))) 510 }
+        ≡ nat_le (length (text.old.items ++ spelling mode (record_of_data action items.now))) 510 }
     ensures taken { text.new.items ≡ (if result
-        then text.old.items ++ spelling mode (record_with action items.now)
+        then text.old.items ++ spelling mode (record_of_data action items.now)
         else text.old.items) }
-    ensures short { length (spelling mode (record_with action items.now)) ≤ 147 }
+    ensures short { length (spelling mode (record_of_data action items.now)) ≤ 147 }
 {
     let before = text.len();
     spell(action, items, mode, text);

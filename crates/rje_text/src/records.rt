@@ -4,7 +4,7 @@ ghost use Rattle.std.specs.List.{All, AllByRecursion};
 ghost use Rattle.rje_text.specs.PackFault.{pack_fault};
 ghost use Rattle.rje_text.specs.NextBlock.{IsNextBlock, IsSendable};
 ghost use Rattle.rje_text.specs.Inside.Packed.{IsWithin, moved};
-ghost use Rattle.rje_text.specs.Records.{record_at, record_with};
+ghost use Rattle.rje_text.specs.Records.{record_at, record_of_data};
 
 use crate::block_at::next_block_of;
 use crate::extent::Extent;
@@ -87,7 +87,7 @@ impl Records {
     /// Adds a record of this action and these data after these. Without memory for it nothing changes.
     pub fn push_data(&mut self, action: Action, items: &[u8]) -> Result<(), AllocError>
         requires { length items.now ≤ MAX_RECORD }
-        ensures ok { OnOk result (self.new ≡ self.old ++ record_with action items.now ∷ []) }
+        ensures ok { OnOk result (self.new ≡ self.old ++ record_of_data action items.now ∷ []) }
         ensures err { OnErr result (self.new ≡ self.old) }
     {
         let extent = Extent {
@@ -117,7 +117,7 @@ impl Records {
     pub(crate) fn data_at(&self, place: usize) -> (Action, &[u8])
         requires { place < length self.now }
         ensures limit { length result.1.now ≤ 144 }
-        ensures record { record_with result.0 result.1.now ≡ record_at self.now place }
+        ensures record { record_of_data result.0 result.1.now ≡ record_at self.now place }
     {
         let extent = &self.extents[place];
         (extent.action, extent.data(self.bytes.as_slice()))

@@ -1,13 +1,13 @@
 //! How a record is written in a text.
-ghost use Rattle.std.specs.Prelude.{◌≡◌, ◌≢◌, ℕ, ◌+◌, ◌<◌, ◌≤◌, ◌++◌, length, slice_index};
+ghost use Rattle.std.specs.Prelude.{◌≡◌, ◌≢◌, ℕ, ◌+◌, ◌<◌, ◌≤◌, ◌++◌, length, slice_index, IsTrue, IsFalse};
 ghost use Rattle.arrayvec.specs.ArrayVec.{array_vec_len};
 ghost use Rattle.rje_text.specs.Spelling.{action_escape, compressed, written_run, spelling};
 ghost use Rattle.rje_text.specs.Spelling.Run.{Blanks};
 ghost use Rattle.rje_text.specs.Action.{code_of};
-ghost use Rattle.rje_text.specs.Records.{record_with};
+ghost use Rattle.rje_text.specs.Records.{record_of_data};
+ghost use Rattle.rje_text.specs.Inside.Words.{AreWords, IsAlone};
 
 use crate::packer::MAX_TEXT_SENT;
-use crate::searching::first_place;
 use crate::{Action, Mode};
 use arrayvec::ArrayVec;
 use bsc_codes::{BLANK, ESC, IGS, IRS};
@@ -24,7 +24,7 @@ const MAX_IN_HAND: usize = MAX_TEXT_SENT + MAX_SPELLING;
 pub(crate) fn spell(action: Action, items: &[u8], mode: Mode, text: &mut TextInHand)
     requires room { array_vec_len text.old ≤ MAX_TEXT_SENT }
     requires limit { length items.now ≤ 144 }
-    ensures text { text.new.items ≡ text.old.items ++ spelling mode (record_with action items.now) }
+    ensures text { text.new.items ≡ text.old.items ++ spelling mode (record_of_data action items.now) }
     ensures short { array_vec_len text.new ≤ array_vec_len text.old + MAX_SPELLING }
 {
     match mode {
@@ -61,7 +61,7 @@ fn compress(bytes: &[u8], out: &mut TextInHand)
         let blanks = blanks_in_front(rest);
         push_blanks(out, blanks);
         let (_, data) = rest.split_at(blanks);
-        let (word, _) = data.split_at(first_place(BLANK, data));
+        let (word, _) = data.split_at(words_in_front(data));
         append(out, word);
         i += blanks + word.len();
     }
@@ -77,6 +77,28 @@ fn blanks_in_front(bytes: &[u8]) -> usize
         Some(place) => place,
         None => bytes.len(),
     }
+}
+
+/// How many bytes there are in front of the first two blanks, or of a last one. A blank alone stands as it is, so they are written as they are.
+fn words_in_front(bytes: &[u8]) -> usize
+    ensures within { result ≤ length bytes.now }
+    ensures alone { AreWords result bytes.now }
+    ensures at { result < length bytes.now → slice_index bytes.now result ≡ BLANK }
+{
+    let mut place = 0;
+    while place < bytes.len() && !ends_words(bytes, place) {
+        place += 1;
+    }
+    place
+}
+
+/// Whether two blanks stand at a place, or a last one.
+fn ends_words(bytes: &[u8], place: usize) -> bool
+    requires { place < length bytes.now }
+    ensures ends { IsTrue result → slice_index bytes.now place ≡ BLANK }
+    ensures goes_on { IsFalse result → IsAlone bytes.now place }
+{
+    bytes[place] == BLANK && (place + 1 == bytes.len() || bytes[place + 1] == BLANK)
 }
 
 /// Appends a run of blanks: a count for each 63 of them, and the rest.

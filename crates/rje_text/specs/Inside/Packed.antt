@@ -2,11 +2,11 @@
 use Rattle.std.specs.Prelude.{◌≤◌, ◌+◌, ℕ, List, length, take, drop, map}
 use Rattle.rje_text.specs.declared.extent.Extent.{Extent}
 use Rattle.rje_text.specs.declared.record.Record.{Record}
-use Rattle.rje_text.specs.Records.{record_with}
+use Rattle.rje_text.specs.Records.{record_of_data}
 
 -- the record that stands at an extent
 abbrev pub record_of_extent : List ℕ → Extent → Record
-record_of_extent bytes e = record_with e.action (take e.length (drop e.start bytes))
+record_of_extent bytes e = record_of_data e.action (take e.length (drop e.start bytes))
 
 -- a record stands there: its data end within the bytes, and are no more than a record has
 pub record IsWithin (bytes : List ℕ) (e : Extent) : Type 0 where

@@ -2,7 +2,7 @@ use Rattle.std.proofs.Common.{◌≡◌, ℕ, ◌+◌, ◌++◌, [], List, lengt
 use Rattle.std.proofs.lemmas.List.{append-nil, drop_all, drop-drop, length-append, length-take-le}
 use Rattle.rje_text.specs.Spelling.{compressed, written_run}
 use Rattle.rje_text.specs.Spelling.Run.{Blanks}
-use Rattle.rje_text.proofs.Blanks.{behind, blanks_first, behind_word, word_join, word_is_some}
+use Rattle.rje_text.proofs.Blanks.{behind, blanks_first, behind_word, word_begins, word_join, word_is_some}
 use Rattle.rje_text.proofs.spelling.compress.Goals as goal
 
 pub loop-i-preserved : goal.loop-i-preserved
@@ -10,16 +10,17 @@ loop-i-preserved c =
     let bs = c.args.bytes.now in
     let i = c.loop-i.i in
     let b = c.blanks_in_front-blanks.result in
-    let n = c.first_place.result in
+    let n = c.words_in_front.result in
     let rest = c.split_at.result.1.now in
     let behind_them = c.split_at-in-loop-i.result.1.now in
     let word = c.split_at-in-loop-i-2.result.0.now in
     let blanks = blanks_first b rest c.blanks_in_front-blanks.ensures.within c.blanks_in_front-blanks.ensures.before in
     let is_data : behind_them ≡ drop b rest = c.split_at-in-loop-i.ensures.back in
-    let none = word_is_some rest behind_them b n is_data c.blanks_in_front-blanks.ensures.at c.first_place.ensures.at in
-    let words = behind_word b n behind_them c.first_place.ensures.within c.first_place.ensures.before none in
+    let none = word_is_some rest behind_them b n is_data c.blanks_in_front-blanks.ensures.at c.words_in_front.ensures.at in
+    let begins = word_begins rest behind_them b is_data c.blanks_in_front-blanks.ensures.at in
+    let words = behind_word b n behind_them c.words_in_front.ensures.within c.words_in_front.ensures.alone begins none in
     let is_word : word ≡ take n behind_them = c.split_at-in-loop-i-2.ensures.front in
-    let len : length word ≡ n = ap (λ (xs : List ℕ). length xs) is_word ∙ length-take-le n behind_them c.first_place.ensures.within in
+    let len : length word ≡ n = ap (λ (xs : List ℕ). length xs) is_word ∙ length-take-le n behind_them c.words_in_front.ensures.within in
     let after : drop n behind_them ≡ drop (i + (b + length word)) bs =
     ap (drop n) (is_data ∙ ap (drop b) c.split_at.ensures.back ∙ drop-drop b i bs) ∙ drop-drop n _ bs ∙ ap (λ k. drop k bs) (omega (arith, len)) in
     let out = c.loop-i.out.items in
