@@ -1,5 +1,8 @@
 """A sender whose job never ends: when `receive` leaves, with what status, and how much memory it took. `endless.py PROGRAM KIND [MB]`, the
-limit of its memory where there is one. The kinds: full cards, empty records, transparent cards, and jobs of a card, one after another."""
+limit of its memory where there is one. The kinds: full cards, empty records, transparent cards, and jobs of a card, one after another.
+
+`endless.py PROGRAM station KIND`: when a station hangs up, what it tells then, what `show` prints of what is in cut/, how much memory it took,
+and whether it listens still."""
 import os, resource, socket, subprocess, sys, tempfile
 
 ENQ, EOT, NAK = b"\x32\x32\x2d\xff", b"\x32\x32\x37\xff", b"\x32\x32\x3d\xff"
@@ -49,8 +52,11 @@ def send(line, block):
     assert answer(line) == ACKS[0]
     taken = tries = 0
     while tries < 7:
-        line.sendall(block)
-        said = answer(line)
+        try:
+            line.sendall(block)
+            said = answer(line)
+        except ConnectionError:
+            return taken
         if said == ACKS[(taken + 1) % 2]:
             taken, tries = taken + 1, 0
         elif said == NAK:
@@ -68,22 +74,48 @@ def limited(megabytes):
     return limit if megabytes else None
 
 
-def main():
-    program, kind, megabytes = sys.argv[1], sys.argv[2], int((sys.argv + ["0"])[3])
-    with tempfile.TemporaryDirectory() as room, socket.socket() as free:
+def free_port():
+    with socket.socket() as free:
         free.bind(("127.0.0.1", 0))
-        port = free.getsockname()[1]
-        free.close()
+        return free.getsockname()[1]
+
+
+def connected(port, peer):
+    """A connection to a process that listens, or is about to."""
+    while True:
+        try:
+            line = socket.create_connection(("127.0.0.1", port))
+            line.setsockopt(socket.IPPROTO_TCP, socket.TCP_NODELAY, 1)
+            return line
+        except ConnectionRefusedError:
+            assert peer.poll() is None
+
+
+def to_station(program, kind):
+    with tempfile.TemporaryDirectory() as room:
+        port = free_port()
+        station = subprocess.Popen([program, "station", room, "--listen", f"127.0.0.1:{port}"], stderr=subprocess.PIPE, text=True)
+        with connected(port, station) as line:
+            taken = send(line, BLOCKS[kind])
+        with connected(port, station):
+            listens = station.poll() is None
+        station.terminate()
+        told = [text.split(" ", 2)[2] for text in station.communicate(timeout=60)[1].splitlines() if "more came" in text]
+        took = resource.getrusage(resource.RUSAGE_CHILDREN).ru_maxrss >> 10
+        [cut] = os.listdir(f"{room}/cut")
+        shown = subprocess.run([program, "show", f"{room}/cut/{cut}"], capture_output=True, text=True).stdout
+        print(taken, *told, shown.strip(), "little" if took < 80 else took, "listens" if listens else "is gone", sep=";")
+
+
+def main():
+    if sys.argv[2] == "station":
+        return to_station(sys.argv[1], sys.argv[3])
+    program, kind, megabytes = sys.argv[1], sys.argv[2], int((sys.argv + ["0"])[3])
+    with tempfile.TemporaryDirectory() as room:
+        port = free_port()
         words = [program, "receive", f"{room}/got.job", "--listen", f"127.0.0.1:{port}"]
         receiver = subprocess.Popen(words, stdout=subprocess.PIPE, stderr=subprocess.PIPE, preexec_fn=limited(megabytes))
-        while True:
-            try:
-                line = socket.create_connection(("127.0.0.1", port))
-                break
-            except ConnectionRefusedError:
-                assert receiver.poll() is None
-        line.setsockopt(socket.IPPROTO_TCP, socket.TCP_NODELAY, 1)
-        with line:
+        with connected(port, receiver) as line:
             taken = send(line, BLOCKS[kind])
         out, err = receiver.communicate(timeout=60)
         took = resource.getrusage(resource.RUSAGE_CHILDREN).ru_maxrss >> 10

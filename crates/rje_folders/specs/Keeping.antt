@@ -1,6 +1,6 @@
 -- How bytes become a new file of a folder, which is never in the place of another.
-use Rattle.std.specs.Prelude.{◌≡◌, ◌⊎◌, ℕ, List, [], ◌++◌, Some, ⊤, codes, decimal}
-use Rattle.rje_stores.specs.Disk.{Asked, Call, Create, Fill, Sync, Link, Remove, SyncFolder, bytes_of}
+use Rattle.std.specs.Prelude.{◌≡◌, ◌⊎◌, ℕ, List, [], ◌∷◌, ◌++◌, Some, ⊤, codes, decimal}
+use Rattle.rje_stores.specs.Disk.{Asked, Call, Done, Create, Fill, Sync, Link, Remove, SyncFolder, bytes_of}
 use Rattle.rje_stores.specs.Replacing.{IsWhole}
 
 -- the name of a new file of a folder as long as it is written; it begins with a dot, so that whoever reads the folder leaves it alone
@@ -18,3 +18,7 @@ MayKeep folder IsNew bytes (Link from to) before = IsTemporary folder from × Is
 MayKeep folder IsNew bytes (SyncFolder name) before = IsNew name
 MayKeep folder IsNew bytes (Remove name) before = IsTemporary folder name ⊎ (IsNew name × IsWhole name bytes before)
 MayKeep folder IsNew bytes _ before = ⊥
+
+-- among the calls that came after those before, a file got this name, which no file had
+abbrev pub WasNamed : (name : List ℕ) → (before after : List Asked) → Type 0
+WasNamed name before after = (from : List ℕ) × (earlier later : List Asked) × (after ≡ later ++ (Done (Link from name) ∷ (earlier ++ before)))

@@ -4,7 +4,7 @@ ghost use Rattle.rje_stores.specs.Disk.{bytes_of};
 ghost use Rattle.rje_stores.specs.Replacing.{Adds, IsOnDisk};
 ghost use Rattle.rje_stores.specs.Inside.Filling.{Fills};
 ghost use Rattle.rje_folders.specs.FileNames.{IsNameBefore, IsNameOf};
-ghost use Rattle.rje_folders.specs.Keeping.{IsTemporary, MayKeep};
+ghost use Rattle.rje_folders.specs.Keeping.{IsTemporary, MayKeep, WasNamed};
 ghost use Rattle.rje_folders.specs.Inside.Calls.{IsKept, IsNewIn, MayCreate, MayWrite};
 
 use crate::file_names::FileNames;
@@ -45,6 +45,8 @@ pub fn keep<D: Disk>(
         (D.asked disk.old) (D.asked disk.new) }
     ensures on_disk { D.discloses → IfOk result (λ kept.
         IsOnDisk (string_bytes kept.path) bytes.now (D.asked disk.new)) }
+    ensures named_new { D.discloses → IfOk result (λ kept.
+        WasNamed (string_bytes kept.path) (D.asked disk.old) (D.asked disk.new)) }
     ensures named { IfOk result (λ kept. IsNameOf names.entry (string_bytes kept.path)) }
     ensures next { IfOk result (λ kept.
         IsNameBefore names.entry kept.next (string_bytes kept.path)) }
@@ -96,6 +98,10 @@ fn keep_new<D: Disk>(
         → IsNewIn folder (D.opened new.now.file) (string_bytes new.now.path) (D.asked disk.old)
         → IfOk result (λ kept. IsKept (string_bytes new.now.path) (string_bytes kept.path)
         bytes.now (D.asked disk.new)) }
+    ensures named_new { D.discloses → (folder : List ℕ)
+        → IsNewIn folder (D.opened new.now.file) (string_bytes new.now.path) (D.asked disk.old)
+        → IfOk result (λ kept.
+        WasNamed (string_bytes kept.path) (D.asked disk.old) (D.asked disk.new)) }
     ensures named { IfOk result (λ kept. IsNameOf names.entry (string_bytes kept.path)) }
     ensures next { IfOk result (λ kept.
         IsNameBefore names.entry kept.next (string_bytes kept.path)) }

@@ -53,13 +53,56 @@ pub(crate) fn tidy_doubt<D: FolderDisk>(
     if has_one_name(disk, doubt.as_str())? {
         return Ok(());
     }
-    match second_in(disk, alloc, station, Folder::Sent, name, doubt.as_str())? {
-        Some(kept) => {
-            drop_name(disk, kept.as_str(), doubt.as_str())?;
+    if tidy_counted(disk, alloc, station, name, name)? {
+        return Ok(());
+    }
+    match without_number(alloc, name)? {
+        Some(base) => {
+            tidy_counted(disk, alloc, station, base, name)?;
             Ok(())
         }
         None => Ok(()),
     }
+}
+
+/// Takes a name in doubt/ away, where its file has one in sent/ too that is this one, as it is or with a number. Whether it has.
+fn tidy_counted<D: FolderDisk>(
+    disk: &mut D,
+    alloc: Global,
+    station: &str,
+    base: &str,
+    name: &str,
+) -> io::Result<bool>
+    requires { IsNumbered base.now name.now }
+    ensures { D.discloses → Adds (MayTidy D.are_one station.now)
+        (D.asked disk.old) (D.asked disk.new) }
+{
+    let doubt = Folder::Doubt.path(alloc, station, name)?;
+    match second_in(disk, alloc, station, Folder::Sent, base, doubt.as_str())? {
+        Some(kept) => {
+            drop_name(disk, kept.as_str(), doubt.as_str())?;
+            Ok(true)
+        }
+        None => Ok(false),
+    }
+}
+
+/// A name without the number at its end, where it has one.
+fn without_number(alloc: Global, name: &str) -> io::Result<Option<&str>>
+    ensures { IfOk result (λ base. IfSome base (λ base. IsNumbered base.now name.now)) }
+{
+    let Some((base, number)) = name.rsplit_once('.') else {
+        return Ok(None);
+    };
+    let Ok(number) = number.parse::<u32>() else {
+        return Ok(None);
+    };
+    let again = FileNames::Of(base).name(alloc, number)?;
+    Ok(if again.as_str() == name {
+        Some(base)
+    } else {
+        None
+    })
 }
 
 /// Whether the file of a path has no other name, or is there no more.

@@ -163,7 +163,8 @@ impl<'a> InHand<'a> {
 
     /// Goes on with the transmission in hand until something comes of it that the day is told: the other end's transmission begins, which leaves
     /// its own in hand, or either ends, or the connection is over. Then what is left of its jobs is settled, and a job that was cut is kept.
-    /// It leaves the other end's transmission after so many hearings in a row that brought nothing, and the line after a billion turns.
+    /// It leaves the other end's transmission after so many hearings in a row that brought nothing, and the line where
+    /// the spool says so, or after a billion turns.
     pub fn go_on<L: Line, S: Spool>(
         &mut self,
         line: &mut L,
@@ -212,7 +213,9 @@ impl<'a> InHand<'a> {
         let mut has_listened = at_once;
         let mut quiet: u32 = 0;
         for _ in 0..MAX_TURNS {
-            self.show(spool);
+            if !self.show(spool) {
+                return Ok(Event::Disconnected);
+            }
             if let Some(event) = self.came_of_it(was_receiving) {
                 return Ok(event);
             }
@@ -232,11 +235,11 @@ impl<'a> InHand<'a> {
         Ok(Event::Disconnected)
     }
 
-    /// Lets the spool look on.
-    fn show<S: Spool>(&self, spool: &mut S)
+    /// Lets the spool look on. Whether the transmission goes on.
+    fn show<S: Spool>(&self, spool: &mut S) -> bool
         ensures { S.discloses → S.ledger spool.new ≡ S.ledger spool.old }
     {
-        spool.look_on(&self.station);
+        spool.look_on(&self.station)
     }
 
     /// What came of the turns so far, if anything.

@@ -10,6 +10,7 @@ mod settling;
 mod spool;
 mod stay_fault;
 mod steps;
+mod tally;
 mod terms;
 
 pub use connection::{MAX_TRANSMISSIONS, stay};
@@ -17,4 +18,5 @@ pub use in_hand::{InHand, MAX_TURNS};
 pub use spool::Spool;
 pub use stay_fault::StayFault;
 pub use steps::Steps;
+pub use tally::Tally;
 pub use terms::Terms;

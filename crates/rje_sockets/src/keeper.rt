@@ -14,10 +14,10 @@ ghost use Rattle.rje_sockets.specs.NamedFiles.{NamesWritten};
 ghost use Rattle.rje_stores.specs.Store.{FileMap, Discloses, IsSame, Sets};
 
 use crate::kept_file::KeptFile;
-use crate::tally::Tally;
 use rje_commands::{CommandFault, WriteCause, extend_file, write_file, write_grown};
 use rje_files::{entries_of, growth_of, write_entries};
 use rje_jobs::{Job, Jobs};
+use rje_session::Tally;
 use rje_stores::{MAX_INPUT, Place, Store};
 use rje_text::TextFault;
 use std::alloc::Global;
@@ -85,7 +85,7 @@ impl<'a> Keeper<'a> {
         ensures same { OnErr result (Discloses (S.files store.old) (S.files store.new) IsSame) }
     {
         let tally = self.tally.after(jobs);
-        if tally.is_too_much() {
+        if tally.is_too_much_for_one(MAX_INPUT) {
             return Err(CommandFault::CannotWrite(self.file.into.jobs, WriteCause::TooMuch));
         }
         if self.file.place == Place::Growing && self.kept < jobs.len() && jobs[self.kept].whole {

@@ -29,7 +29,6 @@ mod sent_blocks;
 mod socket_commands;
 mod socket_line;
 mod steps;
-mod tally;
 mod tracer;
 mod watch;
 

@@ -1,3 +1,4 @@
 pub mod Given
 pub mod GivenFiles
 pub mod OneEntry
+pub mod Backed

@@ -3,3 +3,4 @@ pub mod Paper
 pub mod GivenFile
 pub mod GivenFiles
 pub mod Keeping
+pub mod Backed

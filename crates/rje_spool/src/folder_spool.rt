@@ -1,375 +1,128 @@
 //! The spool of a station's folder.
-ghost use Rattle.std.specs.Prelude.{◌≡◌, [], IfOk, string_bytes};
-ghost use Rattle.rje_spool.specs.Keeping.{IsKeptIn};
-ghost use Rattle.rje_spool.specs.Paper.{HasPaper};
+ghost use Rattle.std.specs.Prelude.{◌≡◌, [], string_bytes};
+ghost use Rattle.rje_spool.specs.Backed.{AreBacked};
 
+use crate::book::{Book, NoBook};
 use crate::console::Console;
-use crate::given_files::GivenFiles;
-use crate::notice::{JobLabel, Notice};
-use crate::outgoing::{Outgoing, outgoing_of};
-use crate::paper::{paper_of, place_of_paper, received_file};
-use crate::refused_file::RefusedFile;
+use crate::notice::Notice;
 use crate::spool_fault::SpoolFault;
-use crate::watching::Watching;
+use crate::spool_files::SpoolFiles;
 use rje_day::{Disposition, Seen};
-use rje_folders::{Folder, FolderDisk, FolderFault, StationFolder};
-use rje_jobs::{DeckFault, FileFault, Job};
+use rje_folders::{FolderDisk, StationFolder};
+use rje_jobs::Job;
 use rje_session::Spool;
 use rje_station::Station;
-use rje_stores::MAX_INPUT;
 use std::alloc::Global;
 use std::io::Write;
+use std::marker::Model;
 use std::time::Clock;
 
-/// A transmission that has so many jobs is given no more files.
-const MANY_JOBS: usize = 64;
-
-/// The same of so many bytes of files.
-const MANY_BYTES: usize = 1_048_576;
-
 /// The spool of a station's folder: what lies in out/ goes to sent/, doubt/ or refused/, and what comes goes to in/, print/, punch/ and cut/. The
-/// operator is told on a console.
+/// operator is told on a console, and what is done is entered in a book.
 #[derive(Drop)]
-pub struct FolderSpool<D: FolderDisk + Drop, C, W, L> {
-    alloc: Global,
-    folder: StationFolder<D>,
-    console: Console<C, W, L>,
-    // The names that lie ready as far as is known, the last one first.
-    ready: Vec<String>,
-    // The names that were found to be of no use to the station, and can't be put aside.
-    passed: Vec<String>,
-    // How many names that are no text the operator was told of.
-    unreadable: usize,
-    // The files of the transmission that was begun last.
-    given: GivenFiles,
-    // The time of what was kept last, and the number that comes next with it.
-    stamp: String,
-    number: u32,
-    watching: Watching,
+pub struct FolderSpool<D: FolderDisk + Drop, C, W, L, B: Book + Drop = NoBook> {
+    files: SpoolFiles<D, C, W, L>,
+    book: B,
 }
 
-impl<D: FolderDisk + Drop, C: Clock, W: Write, L: Write> FolderSpool<D, C, W, L> {
-    /// The spool of this folder, with this console.
+impl<D: FolderDisk + Drop, C, W, L, B: Book + Drop> Model for FolderSpool<D, C, W, L, B> {
+    ghost use Rattle.std.specs.Prelude.{string_bytes};
+    ghost use Rattle.rje_spool.specs.Backed.{AreBacked, Spooled};
+
+    ghost Value = { Spooled };
+
+    ghost view = { λ s. record { station = string_bytes s.files.folder.path; entries = B.entries s.book; asked = D.asked s.files.folder.disk } };
+
+    ghost invariant = { λ s. D.discloses → B.discloses → AreBacked (string_bytes s.files.folder.path) (B.entries s.book) (D.asked s.files.folder.disk) };
+}
+
+impl<D: FolderDisk + Drop, C: Clock, W: Write, L: Write, B: Book + Drop> FolderSpool<
+    D,
+    C,
+    W,
+    L,
+    B,
+> {
+    /// The spool of this folder, with this console. Nothing is entered yet.
     pub fn new(
         alloc: Global,
         folder: StationFolder<D>,
         console: Console<C, W, L>,
-    ) -> FolderSpool<D, C, W, L> {
+    ) -> FolderSpool<D, C, W, L, B>
+        ensures station { result.station ≡ string_bytes folder.path }
+        ensures none { B.discloses → result.entries ≡ [] }
+    {
         FolderSpool {
-            alloc,
-            folder,
-            console,
-            ready: Vec::new(alloc),
-            passed: Vec::new(alloc),
-            unreadable: 0,
-            given: GivenFiles::new(alloc),
-            stamp: String::new(alloc),
-            number: 1,
-            watching: Watching::new(),
+            files: SpoolFiles::new(alloc, folder, console),
+            book: B::new(),
         }
+    }
+
+    /// Each job that is entered as kept was put into in/, and each that was cut into cut/: in a file of its own, which was on disk, as was its name.
+    pub fn kept_jobs_are_on_disk(&self)
+        ensures backed { D.discloses → B.discloses
+            → AreBacked self.now.station self.now.entries self.now.asked }
+    {
+        let _ = &self.book;
     }
 
     /// Tells the operator this.
     pub fn tell(&mut self, notice: Notice) {
-        self.console.tell(notice);
+        self.files.tell(notice);
     }
 
     /// All jobs of the last transmission are in doubt, those that were counted too: answers came out of step.
     pub fn doubt_all(&mut self) -> Result<(), SpoolFault> {
-        for job in 0..self.given.jobs() {
-            self.doubt(job)?;
+        for job in 0..self.files.jobs() {
+            self.settle(job, Disposition::InDoubt)?;
         }
         Ok(())
-    }
-
-    /// Something lies ready. Where the list of names is used up, the folder is read anew.
-    fn has_ready(&mut self) -> bool {
-        if self.ready.is_empty() {
-            self.ready = self.names_anew();
-            self.tell_unreadable();
-        }
-        !self.ready.is_empty()
-    }
-
-    /// The names that lie ready, the last one first, but for those that are passed over. None where the folder can't be read.
-    fn names_anew(&self) -> Vec<String> {
-        let Ok(mut names) = self.folder.names_ready() else {
-            return Vec::new(self.alloc);
-        };
-        names.retain(|name| !self.is_passed(name.as_str()));
-        names.reverse();
-        names
-    }
-
-    /// Tells of the names in out/ that are no text, where they are more than was told.
-    fn tell_unreadable(&mut self) {
-        let count = self.folder.unreadable_names().unwrap_or(self.unreadable);
-        if count > self.unreadable {
-            if let Ok(text) = format!(in self.alloc; "out: names that are no text: {count}") {
-                self.console.tell(Notice::Failed(text.as_str()));
-            }
-        }
-        self.unreadable = count;
-    }
-
-    /// Whether a name was found to be of no use.
-    fn is_passed(&self, name: &str) -> bool {
-        self.passed.iter().any(|passed| passed.as_str() == name)
-    }
-
-    /// Takes the next files that lie ready for a transmission, and gives their jobs. A file that can't be sent is put aside.
-    fn take_files(&mut self) -> Result<Vec<Job>, SpoolFault> {
-        let mut jobs = Vec::new(self.alloc);
-        let mut bytes: usize = 0;
-        for _ in 0..MANY_JOBS {
-            if jobs.len() >= MANY_JOBS || bytes >= MANY_BYTES {
-                break;
-            }
-            let Some(name) = self.ready.pop() else {
-                break;
-            };
-            bytes = bytes.saturating_add(self.take_file(name, &mut jobs)?);
-        }
-        Ok(jobs)
-    }
-
-    /// Takes this file for a transmission that has these jobs, and adds its own. How many bytes it has.
-    fn take_file(&mut self, name: String, jobs: &mut Vec<Job>) -> Result<usize, SpoolFault> {
-        let file = match self.folder.read(name.as_str(), MAX_INPUT as u64) {
-            Ok(file) => file,
-            Err(FolderFault::OutOfMemory) => return Err(SpoolFault::OutOfMemory),
-            Err(FolderFault::TooLarge(_)) => {
-                self.refuse(name, RefusedFile::TooLong)?;
-                return Ok(0);
-            }
-            Err(fault) => {
-                self.pass_over(name, &fault)?;
-                return Ok(0);
-            }
-        };
-        match outgoing_of(self.alloc, name.as_str(), file.as_slice()) {
-            Ok(outgoing) => {
-                self.give(name, outgoing, jobs)?;
-                Ok(file.len())
-            }
-            Err(why) if is_want_of_memory(why) => Err(SpoolFault::OutOfMemory),
-            Err(why) => {
-                self.refuse(name, why)?;
-                Ok(0)
-            }
-        }
-    }
-
-    /// The jobs of this file are in the transmission.
-    fn give(
-        &mut self,
-        name: String,
-        outgoing: Outgoing,
-        jobs: &mut Vec<Job>,
-    ) -> Result<(), SpoolFault> {
-        let Outgoing { jobs: more, places } = outgoing;
-        self.given.add(name, more.len(), places)?;
-        for job in more.into_vec() {
-            push(jobs, job)?;
-        }
-        Ok(())
-    }
-
-    /// Puts a file aside that can't be sent.
-    fn refuse(&mut self, name: String, why: RefusedFile) -> Result<(), SpoolFault> {
-        match self.put_aside(name.as_str(), why) {
-            Ok(()) => {
-                self.console.tell(Notice::Refused(name.as_str(), why));
-                Ok(())
-            }
-            Err(fault) => self.pass_over(name, &fault),
-        }
-    }
-
-    fn put_aside(&mut self, name: &str, why: RefusedFile) -> Result<(), FolderFault> {
-        let path = self.folder.refuse(name)?;
-        match format!(in self.alloc; "{why}\n") {
-            Ok(text) => {
-                self.folder.explain(path.as_str(), text.as_str())?;
-                Ok(())
-            }
-            Err(_) => Err(FolderFault::OutOfMemory),
-        }
-    }
-
-    /// Leaves a file alone that is of no use, and can't be put aside.
-    fn pass_over(&mut self, name: String, why: &FolderFault) -> Result<(), SpoolFault> {
-        if let Ok(text) = format!(in self.alloc; "{name}: {why}") {
-            self.console.tell(Notice::Failed(text.as_str()));
-        }
-        push(&mut self.passed, name)
-    }
-
-    /// A job may have arrived, or nobody knows: its file stands in doubt/.
-    fn doubt(&mut self, job: usize) -> Result<(), SpoolFault> {
-        if self.given.is_doubted(job, &mut self.folder)? {
-            self.tell_doubt(job);
-        }
-        Ok(())
-    }
-
-    /// Tells that the file of a job stands in doubt/.
-    fn tell_doubt(&mut self, job: usize) {
-        let Some(file) = self.given.of(job) else {
-            return;
-        };
-        if let Some(path) = file.doubt_path() {
-            self.console.tell(Notice::Doubt(file.name.as_str(), path));
-        }
-    }
-
-    /// A job was counted.
-    fn count(&mut self, job: usize) -> Result<(), SpoolFault> {
-        self.given.is_counted(job, &mut self.folder)?;
-        if let Some(file) = self.given.of(job) {
-            self.console.tell(Notice::Sent(file.name.as_str()));
-        }
-        Ok(())
-    }
-
-    /// A job lies ready still. The folder is read anew, since its file comes before those that were to be next.
-    fn take_back(&mut self, job: usize) -> Result<(), SpoolFault> {
-        self.ready = Vec::new(self.alloc);
-        self.given.lies_ready(job, &mut self.folder)?;
-        Ok(())
-    }
-
-    /// The number of what is kept next, with its time.
-    fn number_anew(&mut self) -> Result<(), SpoolFault>
-        ensures folder { self.new.folder ≡ self.old.folder }
-    {
-        let stamp = self.console.stamps().stamp()?;
-        if stamp.as_str() != self.stamp.as_str() {
-            self.stamp = stamp;
-            self.number = 1;
-        }
-        Ok(())
-    }
-
-    /// Keeps a job in a folder, as a job file of it alone, under the time and the number that comes next. Its path. On disk when it returns.
-    fn keep_in(&mut self, folder: Folder, job: &Job) -> Result<String, SpoolFault>
-        ensures kept { D.discloses → IfOk result (λ path.
-            IsKeptIn (string_bytes self.old.folder.path) folder job.now (string_bytes path)
-            (D.asked self.new.folder.disk)) }
-        ensures path { self.new.folder.path ≡ self.old.folder.path }
-    {
-        self.number_anew()?;
-        let file = received_file(self.alloc, job)?;
-        let kept = self.folder.keep(
-            folder,
-            self.stamp.as_str(),
-            self.number,
-            ".job",
-            file.as_slice(),
-        )?;
-        self.number = kept.next;
-        Ok(kept.path)
-    }
-
-    /// Keeps the paper of a job, under the time and the number of the job itself. Its path. On disk when it returns.
-    fn keep_paper(&mut self, job: &Job) -> Result<String, SpoolFault>
-        ensures paper { D.discloses → IfOk result (λ path.
-            HasPaper (string_bytes self.old.folder.path) job.now (string_bytes path)
-            (D.asked self.new.folder.disk)) }
-        ensures path { self.new.folder.path ≡ self.old.folder.path }
-    {
-        let Ok(paper) = paper_of(self.alloc, job) else {
-            return Err(SpoolFault::OutOfMemory);
-        };
-        let (folder, ending) = place_of_paper(job);
-        let number = self.number.saturating_sub(1);
-        let kept = self.folder.keep(
-            folder,
-            self.stamp.as_str(),
-            number,
-            ending,
-            paper.as_slice(),
-        )?;
-        Ok(kept.path)
     }
 }
 
-/// Adds an item.
-fn push<T: Drop>(items: &mut Vec<T>, item: T) -> Result<(), SpoolFault> {
-    match items.push(item) {
-        Ok(()) => Ok(()),
-        Err(_) => Err(SpoolFault::OutOfMemory),
-    }
-}
-
-/// Whether a file isn't sent for want of memory alone.
-fn is_want_of_memory(why: RefusedFile) -> bool {
-    matches!(
-        why,
-        RefusedFile::OutOfMemory
-            | RefusedFile::Deck(DeckFault::OutOfMemory)
-            | RefusedFile::File(FileFault::OutOfMemory)
-    )
-}
-
-impl<D: FolderDisk + Drop, C: Clock, W: Write, L: Write> Spool for FolderSpool<D, C, W, L> {
+impl<D: FolderDisk + Drop, C: Clock, W: Write, L: Write, B: Book + Drop> Spool
+    for FolderSpool<D, C, W, L, B> {
     type Fault = SpoolFault;
 
-    ghost discloses = { ⊥ };
+    ghost discloses = { B.discloses };
 
-    ghost ledger = { λ _. [] };
+    ghost ledger = { λ s. s.entries };
 
     fn seen(&mut self) -> Seen {
-        // What can't be looked at is taken for held: nothing is sent then.
-        let held = self.folder.is_held().unwrap_or(true);
-        Seen {
-            ready: !held && self.has_ready(),
-            held,
-            drained: self.folder.is_drained().unwrap_or(false),
-            call_due: false,
-        }
+        self.files.seen()
     }
 
     fn next(&mut self, alloc: Global) -> Result<Vec<Job>, SpoolFault> {
-        self.given = GivenFiles::new(alloc);
-        self.watching = Watching::new();
-        self.take_files()
+        let jobs = self.files.next(alloc)?;
+        self.book.enter_given(jobs.as_slice());
+        Ok(jobs)
     }
 
-    fn look_on<'a>(&mut self, station: &Station<'a>) {
-        self.watching
-            .look_on(station, &self.given, &mut self.console);
+    fn look_on<'a>(&mut self, station: &Station<'a>) -> bool {
+        self.files.look_on(station)
     }
 
     fn goes_out(&mut self, job: usize) -> Result<(), SpoolFault> {
-        self.given.goes_out(job, &mut self.folder)?;
+        self.files.goes_out(job)?;
+        self.book.enter_out(job);
         Ok(())
     }
 
     fn settle(&mut self, job: usize, what: Disposition) -> Result<(), SpoolFault> {
-        match what {
-            Disposition::Sent => self.count(job),
-            Disposition::InDoubt => self.doubt(job),
-            Disposition::Ready => self.take_back(job),
-        }
+        self.files.settle(job, what)?;
+        self.book.enter_settled(job, what);
+        Ok(())
     }
 
     fn keep(&mut self, job: &Job) -> Result<(), SpoolFault> {
-        let path = self.keep_in(Folder::In, job)?;
-        self.console
-            .tell(Notice::Received(path.as_str(), JobLabel::of(job)));
-        if let Err(fault) = self.keep_paper(job) {
-            if let Ok(text) = format!(in self.alloc; "no paper of {path}: {fault}") {
-                self.console.tell(Notice::Failed(text.as_str()));
-            }
-        }
+        self.files.keep(job)?;
+        self.book.enter_kept(job);
         Ok(())
     }
 
     fn keep_cut(&mut self, job: &Job) -> Result<(), SpoolFault> {
-        let path = self.keep_in(Folder::Cut, job)?;
-        self.console
-            .tell(Notice::Cut(path.as_str(), JobLabel::of(job)));
+        self.files.keep_cut(job)?;
+        self.book.enter_kept_cut(job);
         Ok(())
     }
 }

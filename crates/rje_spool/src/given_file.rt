@@ -3,6 +3,7 @@ ghost use Rattle.std.specs.Prelude.{◌≡◌, IfOk, OnOk, false, string_bytes};
 ghost use Rattle.rje_stores.specs.Replacing.{Adds};
 ghost use Rattle.rje_folders.specs.Promising.{MayPromise, MaySettle};
 ghost use Rattle.rje_spool.specs.declared.given_file.Place.TheVariants.{Promised, Ready};
+ghost use Rattle.rje_spool.specs.Backed.{GoesOn};
 ghost use Rattle.rje_spool.specs.GivenFile.{HasSecondName, HasSent, IsDoubted, IsInSent, IsUnsettled, OfPromised, StaysInDoubt};
 ghost use Rattle.rje_spool.specs.GivenFiles.{HasBeenCounted, HasGoneOut, is_last_of, is_of};
 
@@ -71,6 +72,8 @@ impl GivenFile {
         ensures second { OnOk result (IsUnsettled self.old.place
             → HasSecondName self.new.place) }
         ensures rest { self.new ≡ record self.old { place = self.new.place } }
+        ensures on { D.discloses
+            → GoesOn (D.asked folder.old.disk) (D.asked folder.new.disk) }
         ensures path { folder.new.path ≡ folder.old.path }
     {
         if let Place::Ready = self.place {
@@ -90,6 +93,8 @@ impl GivenFile {
         ensures ready { OnOk result (is_last_of job self.old ≡ false
             → HasSecondName self.old.place → self.new.place ≡ Ready) }
         ensures rest { self.new ≡ record self.old { place = self.new.place } }
+        ensures on { D.discloses
+            → GoesOn (D.asked folder.old.disk) (D.asked folder.new.disk) }
         ensures path { folder.new.path ≡ folder.old.path }
     {
         self.set_mark(job, folder)?;
@@ -106,6 +111,8 @@ impl GivenFile {
         job: usize,
         folder: &mut StationFolder<D>,
     ) -> Result<(), FolderFault>
+        ensures on { D.discloses
+            → GoesOn (D.asked folder.old.disk) (D.asked folder.new.disk) }
         ensures path { folder.new.path ≡ folder.old.path }
     {
         if let (Place::Promised(doubt), Some(mark)) = (&self.place, self.mark_of(job)) {
@@ -129,6 +136,8 @@ impl GivenFile {
             → HasSent (string_bytes folder.old.path) (string_bytes self.old.name)
             (string_bytes doubt) self.new.place (D.asked folder.old.disk) (D.asked folder.new.disk)) }
         ensures rest { self.new ≡ record self.old { place = self.new.place } }
+        ensures on { D.discloses
+            → GoesOn (D.asked folder.old.disk) (D.asked folder.new.disk) }
         ensures path { folder.new.path ≡ folder.old.path }
     {
         if let Place::Promised(doubt) = &self.place {
@@ -148,6 +157,8 @@ impl GivenFile {
             (string_bytes folder.old.path) (string_bytes self.old.name) doubt Disposition.Ready)
             self.old.place) (D.asked folder.old.disk) (D.asked folder.new.disk) }
         ensures rest { self.new ≡ record self.old { place = self.new.place } }
+        ensures on { D.discloses
+            → GoesOn (D.asked folder.old.disk) (D.asked folder.new.disk) }
         ensures path { folder.new.path ≡ folder.old.path }
     {
         if let Place::Promised(doubt) = &self.place {
@@ -164,6 +175,8 @@ impl GivenFile {
     ) -> Result<bool, FolderFault>
         ensures doubted { OnOk result (IsDoubted self.new.place) }
         ensures rest { self.new ≡ record self.old { place = self.new.place } }
+        ensures on { D.discloses
+            → GoesOn (D.asked folder.old.disk) (D.asked folder.new.disk) }
         ensures path { folder.new.path ≡ folder.old.path }
     {
         match &self.place {
@@ -193,6 +206,8 @@ impl GivenFile {
         ensures stays { D.discloses → StaysInDoubt self.old.place
             (D.asked folder.old.disk) (D.asked folder.new.disk) }
         ensures rest { self.new ≡ record self.old { place = self.new.place } }
+        ensures on { D.discloses
+            → GoesOn (D.asked folder.old.disk) (D.asked folder.new.disk) }
         ensures path { folder.new.path ≡ folder.old.path }
     {
         if let Place::Promised(doubt) = &self.place {

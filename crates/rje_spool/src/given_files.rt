@@ -2,6 +2,7 @@
 ghost use Rattle.std.specs.Prelude.{◌≡◌, ◌++◌, ◌∷◌, false, [], position, option_copied, string_bytes, OnOk, OnErr};
 ghost use Rattle.rje_spool.specs.declared.given_file.GivenFile.{GivenFile as Item};
 ghost use Rattle.rje_spool.specs.declared.given_file.Place.TheVariants.{Ready};
+ghost use Rattle.rje_spool.specs.Backed.{GoesOn};
 ghost use Rattle.rje_spool.specs.GivenFile.{HasSecondName, IsDoubted};
 ghost use Rattle.rje_spool.specs.GivenFiles.{HasBeenCounted, HasGoneOut, IsNext, OfFile, file_of, is_last_of, is_of, jobs_of};
 
@@ -82,6 +83,9 @@ impl GivenFiles {
             (λ file now. HasGoneOut (string_bytes folder.old.path) file now
             (D.asked folder.old.disk) (D.asked folder.new.disk))
             self.old.files.items self.new.files.items) }
+        ensures on { D.discloses
+            → GoesOn (D.asked folder.old.disk) (D.asked folder.new.disk) }
+        ensures path { folder.new.path ≡ folder.old.path }
     {
         match self.place_of(job) {
             Some(place) => self.files[place].goes_out(folder),
@@ -101,6 +105,9 @@ impl GivenFiles {
         ensures ready { OnOk result (OfFile job (λ file now. is_last_of job file ≡ false
             → HasSecondName file.place → now.place ≡ Ready)
             self.old.files.items self.new.files.items) }
+        ensures on { D.discloses
+            → GoesOn (D.asked folder.old.disk) (D.asked folder.new.disk) }
+        ensures path { folder.new.path ≡ folder.old.path }
     {
         match self.place_of(job) {
             Some(place) => self.files[place].was_counted(job, folder),
@@ -117,6 +124,9 @@ impl GivenFiles {
         ensures ready { OnOk result (OfFile job
             (λ file now. HasSecondName file.place → now.place ≡ Ready)
             self.old.files.items self.new.files.items) }
+        ensures on { D.discloses
+            → GoesOn (D.asked folder.old.disk) (D.asked folder.new.disk) }
+        ensures path { folder.new.path ≡ folder.old.path }
     {
         match self.place_of(job) {
             Some(place) => self.files[place].lies_ready(folder),
@@ -132,6 +142,9 @@ impl GivenFiles {
     ) -> Result<bool, FolderFault>
         ensures doubted { OnOk result (OfFile job (λ file now. IsDoubted now.place)
             self.old.files.items self.new.files.items) }
+        ensures on { D.discloses
+            → GoesOn (D.asked folder.old.disk) (D.asked folder.new.disk) }
+        ensures path { folder.new.path ≡ folder.old.path }
     {
         match self.place_of(job) {
             Some(place) => self.files[place].is_doubted(folder),

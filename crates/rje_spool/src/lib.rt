@@ -1,6 +1,7 @@
 //! The spool of a station that stays on the line: the jobs of its folder, and what its operator is told.
 #![tactic(auto)]
 
+mod book;
 mod console;
 mod folder_spool;
 mod given_file;
@@ -10,9 +11,11 @@ mod outgoing;
 mod paper;
 mod refused_file;
 mod spool_fault;
+mod spool_files;
 mod stamps;
 mod watching;
 
+pub use book::{Book, NoBook};
 pub use console::Console;
 pub use folder_spool::FolderSpool;
 pub use notice::{JobLabel, Notice};

@@ -9,7 +9,7 @@ use Rattle.std.proofs.Math.Seq.{drop-append_seam, drop-append-add, take-append_s
 use Rattle.rje_text.specs.declared.action.Action.{Action}
 use Rattle.rje_text.specs.declared.extent.Extent.{Extent}
 use Rattle.rje_text.specs.declared.record.Record.{Record}
-use Rattle.rje_text.specs.Inside.Packed.{IsWithin, record_of_extent, records_of_extents, moved}
+use Rattle.rje_text.specs.Packed.{IsWithin, record_of_extent, records_of_extents, moved}
 use Rattle.rje_text.specs.Records.{record_of_data}
 
 kept_one : (bytes more : List ℕ) (e : Extent) → IsWithin bytes e → record_of_extent (bytes ++ more) e ≡ record_of_extent bytes e

@@ -1,4 +1,3 @@
 -- What private functions cite; no promise rests on it.
 pub mod RecordText
-pub mod Packed
 pub mod Words

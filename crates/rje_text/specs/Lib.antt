@@ -3,6 +3,8 @@ pub mod Spelling
 pub mod Reading
 pub mod TextFault
 pub mod Records
+pub mod Packed
+pub mod Held
 pub mod Inside
 pub mod PackFault
 pub mod Cut

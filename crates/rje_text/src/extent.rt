@@ -1,13 +1,13 @@
 //! Where one of several records stands.
 ghost use Rattle.std.specs.Prelude.{◌≡◌, ◌≤◌, length, take, drop};
-ghost use Rattle.rje_text.specs.Inside.Packed.{IsWithin, record_of_extent};
+ghost use Rattle.rje_text.specs.Packed.{IsWithin, record_of_extent};
 
 use crate::spelling::append;
 use crate::{Action, Record};
 use arrayvec::ArrayVec;
 
 /// Where the data of one of several records stand in the bytes that hold them all, and its action.
-#[derive(Clone, Copy, Debug)]
+#[derive(Clone, Copy)]
 pub(crate) struct Extent {
     pub(crate) start: usize,
     pub(crate) length: u8,

@@ -1,62 +1,62 @@
 //! Records in order.
-ghost use Rattle.std.specs.Prelude.{◌≡◌, ◌⊎◌, None, ◌==◌, ◌+◌, ◌<◌, ◌≤◌, ◌^◌, ◌∷◌, [], ◌++◌, length, drop, map, IfOk, OnOk, OnErr};
-ghost use Rattle.std.specs.List.{All, AllByRecursion};
+ghost use Rattle.std.specs.Prelude.{◌≡◌, ◌⊎◌, None, ◌==◌, ◌<◌, ◌≤◌, ◌∷◌, [], ◌++◌, length, drop, IfOk, OnOk, OnErr};
+ghost use Rattle.std.specs.List.{AllByRecursion};
 ghost use Rattle.rje_text.specs.PackFault.{pack_fault};
 ghost use Rattle.rje_text.specs.NextBlock.{IsNextBlock, IsSendable};
-ghost use Rattle.rje_text.specs.Inside.Packed.{IsWithin, moved};
 ghost use Rattle.rje_text.specs.Records.{record_at, record_of_data};
 
 use crate::block_at::next_block_of;
-use crate::extent::Extent;
+use crate::held::Held;
+use crate::packed_records::PackedRecords;
+use crate::short_record::{MAX_SHORT, ShortRecord};
 use crate::{Action, MAX_RECORD, Mode, Record, RecordsIter, Select};
 use bsc_codes::Block;
 use std::alloc::{AllocError, Global};
+use std::fmt;
 use std::marker::Model;
 
-/// Records in order. Their data stand one after another in memory, so that each record takes but 16 bytes more than its data.
-#[derive(Debug, Drop)]
+/// Records in order. Their data stand one after another in memory, so that each record takes but 16 bytes more than its data. A record
+/// alone of at most 24 bytes takes no memory beside this value.
+#[derive(Drop)]
 pub struct Records {
-    bytes: Vec<u8>,
-    extents: Vec<Extent>,
+    held: Held,
 }
 
 impl Model for Records {
     ghost use Rattle.std.specs.Prelude.{List};
-    ghost use Rattle.std.specs.List.{All};
     ghost use Rattle.rje_text.specs.declared.record.Record.{Record as Item};
-    ghost use Rattle.rje_text.specs.Inside.Packed.{IsWithin, records_of_extents};
+    ghost use Rattle.rje_text.specs.Held.{records_held};
 
     ghost Value = { List Item };
 
-    ghost view = { λ r. records_of_extents r.bytes.items r.extents.items };
-
-    ghost invariant = { λ r. All (IsWithin r.bytes.items) r.extents.items };
+    ghost view = { λ r. records_held r.held };
 }
 
 impl Records {
     /// No records yet. Takes no memory.
     pub fn new(alloc: Global) -> Self
-        ensures { result ≡ [] }
+        ensures empty { result ≡ [] }
     {
         Records {
-            bytes: Vec::new(alloc),
-            extents: Vec::new(alloc),
+            held: Held::Packed(PackedRecords::new(alloc)),
         }
     }
 
     /// No records yet, with memory for this many of so many bytes of data in all.
     pub fn with_capacity(alloc: Global, records: usize, bytes: usize) -> Result<Self, AllocError>
-        ensures { IfOk result (λ records. records ≡ []) }
+        ensures empty { IfOk result (λ records. records ≡ []) }
     {
+        if records <= 1 && bytes <= MAX_SHORT {
+            return Ok(Records::new(alloc));
+        }
         Ok(Records {
-            bytes: Vec::with_capacity(alloc, bytes)?,
-            extents: Vec::with_capacity(alloc, records)?,
+            held: Held::Packed(PackedRecords::with_capacity(alloc, records, bytes)?),
         })
     }
 
     /// These records.
     pub fn of(alloc: Global, items: &[Record]) -> Result<Self, AllocError>
-        ensures { IfOk result (λ records. records ≡ items.now) }
+        ensures records { IfOk result (λ records. records ≡ items.now) }
     {
         let mut records = Records::new(alloc);
         for item in items {
@@ -67,9 +67,9 @@ impl Records {
 
     /// These records in a vector.
     pub fn to_vec(&self) -> Result<Vec<Record>, AllocError>
-        ensures { IfOk result (λ vector. vector.items ≡ self.now) }
+        ensures records { IfOk result (λ vector. vector.items ≡ self.now) }
     {
-        let mut vector = Vec::with_capacity(*self.bytes.allocator(), self.len())?;
+        let mut vector = Vec::with_capacity(self.alloc(), self.len())?;
         for item in self.iter() {
             vector.push(item)?;
         }
@@ -86,17 +86,19 @@ impl Records {
 
     /// Adds a record of this action and these data after these. Without memory for it nothing changes.
     pub fn push_data(&mut self, action: Action, items: &[u8]) -> Result<(), AllocError>
-        requires { length items.now ≤ MAX_RECORD }
+        requires limit { length items.now ≤ MAX_RECORD }
         ensures ok { OnOk result (self.new ≡ self.old ++ record_of_data action items.now ∷ []) }
         ensures err { OnErr result (self.new ≡ self.old) }
     {
-        let extent = Extent {
-            start: self.bytes.len(),
-            length: items.len() as u8,
-            action,
-        };
-        self.bytes.extend_from_slice(items)?;
-        self.extents.push(extent)?;
+        match &mut self.held {
+            Held::Short(short) => self.held = Held::Packed(short.with(action, items)?),
+            Held::Packed(packed) => {
+                if MAX_SHORT < items.len() || !packed.is_bare() {
+                    return packed.push_data(action, items);
+                }
+                self.held = Held::Short(ShortRecord::of(packed.alloc(), action, items));
+            }
+        }
         Ok(())
     }
 
@@ -105,30 +107,64 @@ impl Records {
         ensures ok { OnOk result (self.new ≡ self.old ++ others) }
         ensures err { OnErr result (self.new ≡ self.old) }
     {
-        let before = self.bytes.len();
-        let Records { bytes, mut extents } = others;
-        self.bytes.extend_from_slice(bytes.as_slice())?;
-        move_extents(extents.as_mut_slice(), before);
-        self.extents.append(&mut extents)?;
-        Ok(())
+        if self.is_empty() {
+            *self = others;
+            return Ok(());
+        }
+        match others.held {
+            Held::Short(short) => {
+                let (action, items) = short.data();
+                self.push_data(action, items)
+            }
+            Held::Packed(more) => self.append_packed(more),
+        }
+    }
+
+    /// Adds others that are in memory.
+    fn append_packed(&mut self, more: PackedRecords) -> Result<(), AllocError>
+        ensures ok { OnOk result (self.new ≡ self.old ++ more) }
+        ensures err { OnErr result (self.new ≡ self.old) }
+    {
+        match &mut self.held {
+            Held::Short(short) => {
+                let mut packed = short.packed()?;
+                packed.append(more)?;
+                self.held = Held::Packed(packed);
+                Ok(())
+            }
+            Held::Packed(packed) => packed.append(more),
+        }
+    }
+
+    /// The allocator of the memory for more.
+    fn alloc(&self) -> Global {
+        match &self.held {
+            Held::Short(short) => short.alloc(),
+            Held::Packed(packed) => packed.alloc(),
+        }
     }
 
     /// The action and the data of the record at a place, counted from 0.
     pub(crate) fn data_at(&self, place: usize) -> (Action, &[u8])
-        requires { place < length self.now }
+        requires place { place < length self.now }
         ensures limit { length result.1.now ≤ 144 }
         ensures record { record_of_data result.0 result.1.now ≡ record_at self.now place }
     {
-        let extent = &self.extents[place];
-        (extent.action, extent.data(self.bytes.as_slice()))
+        match &self.held {
+            Held::Short(short) => short.data(),
+            Held::Packed(packed) => packed.data_at(place),
+        }
     }
 
     /// The record at a place, counted from 0.
     pub fn at(&self, place: usize) -> Record
-        requires { place < length self.now }
-        ensures { result ≡ record_at self.now place }
+        requires place { place < length self.now }
+        ensures record { result ≡ record_at self.now place }
     {
-        self.extents[place].record(self.bytes.as_slice())
+        match &self.held {
+            Held::Short(short) => short.record(),
+            Held::Packed(packed) => packed.at(place),
+        }
     }
 
     /// The block of the canonical cut that begins at a record, and the place after its last record, as `next_block` gives them. Takes no
@@ -144,42 +180,36 @@ impl Records {
 
     /// The records, one after another.
     pub fn iter(&self) -> RecordsIter<'_>
-        ensures { result ≡ self.now }
+        ensures records { result ≡ self.now }
     {
-        RecordsIter::new(self.bytes.as_slice(), self.extents.as_slice())
+        self.iter_from(0)
     }
 
     /// The records from a place on, counted from 0; none where there are no more before it.
     pub fn iter_from(&self, place: usize) -> RecordsIter<'_>
-        ensures { result ≡ drop place self.now }
+        ensures rest { result ≡ drop place self.now }
     {
-        let extents = self.extents.as_slice();
-        let (_, rest) = extents.split_at(place.min(extents.len()));
-        RecordsIter::new(self.bytes.as_slice(), rest)
+        match &self.held {
+            Held::Short(short) => short.iter_from(place),
+            Held::Packed(packed) => packed.iter_from(place),
+        }
     }
 
     /// How many records there are.
     pub fn len(&self) -> usize
-        ensures { result ≡ length self.now }
+        ensures count { result ≡ length self.now }
     {
-        self.extents.len()
+        match &self.held {
+            Held::Short(_) => 1,
+            Held::Packed(packed) => packed.len(),
+        }
     }
 
     /// Whether there is no record.
     pub fn is_empty(&self) -> bool
-        ensures { result ≡ (length self.now == 0) }
+        ensures none { result ≡ (length self.now == 0) }
     {
-        self.extents.is_empty()
-    }
-}
-
-/// Counts the places of these extents from a place that stands `more` bytes further in front.
-fn move_extents(extents: &mut [Extent], more: usize)
-    requires { All (λ e. more + e.start < 2 ^ 64) extents.old }
-    ensures { extents.new ≡ map (moved more) extents.old }
-{
-    for extent in extents.iter_mut() {
-        extent.start = more + extent.start;
+        self.len() == 0
     }
 }
 
@@ -188,9 +218,17 @@ impl Clone for Records {
     ghost is_clone = { λ records copy. copy ≡ records };
 
     fn clone(&self) -> Result<Self, AllocError> {
-        Ok(Records {
-            bytes: self.bytes.clone()?,
-            extents: self.extents.clone()?,
-        })
+        let held = match &self.held {
+            Held::Short(short) => Held::Short(short.clone()?),
+            Held::Packed(packed) => Held::Packed(packed.clone()?),
+        };
+        Ok(Records { held })
+    }
+}
+
+/// Shows the records as a list.
+impl fmt::Debug for Records {
+    fn fmt<W: fmt::Write>(&self, f: &mut fmt::Formatter<W>) -> fmt::Result {
+        f.debug_list().entries(self.iter()).finish()
     }
 }

@@ -1,7 +1,7 @@
 //! Records, one after another.
 ghost use Rattle.std.specs.Prelude.{◌≡◌, length};
 ghost use Rattle.std.specs.List.{All};
-ghost use Rattle.rje_text.specs.Inside.Packed.{IsWithin, records_of_extents};
+ghost use Rattle.rje_text.specs.Packed.{IsWithin, records_of_extents};
 
 use crate::Record;
 use crate::extent::Extent;
@@ -18,7 +18,7 @@ impl<'a> Model for RecordsIter<'a> {
     ghost use Rattle.std.specs.Prelude.{List};
     ghost use Rattle.std.specs.List.{All};
     ghost use Rattle.rje_text.specs.declared.record.Record.{Record as Item};
-    ghost use Rattle.rje_text.specs.Inside.Packed.{IsWithin, records_of_extents};
+    ghost use Rattle.rje_text.specs.Packed.{IsWithin, records_of_extents};
 
     ghost Value = { List Item };
 

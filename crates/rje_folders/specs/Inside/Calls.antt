@@ -1,5 +1,5 @@
 -- What is asked step by step, and what names come to.
-use Rattle.std.specs.Prelude.{◌≡◌, ◌≢◌, ◌⊎◌, ℕ, List, [], ◌∷◌, length, Some, None, true}
+use Rattle.std.specs.Prelude.{◌≡◌, ◌≢◌, ◌⊎◌, ℕ, List, [], ◌∷◌, ◌++◌, length, Some, None, true}
 use Rattle.rje_stores.specs.Disk.{Asked, Call, Opened, Done, Create, Fill, Sync, Link, Remove, standing, bytes_of, is_synced, has_synced_name}
 use Rattle.rje_stores.specs.Replacing.{IsOnDisk}
 use Rattle.rje_stores.specs.Inside.Filling.{AddsSync}
@@ -12,6 +12,7 @@ pub record KeepsFiles (before after : List Asked) : Type 0 where
   pub stands : (name : List ℕ) → standing name after ≡ standing name before
   pub has : (number : ℕ) → bytes_of number after ≡ bytes_of number before
   pub is : (number : ℕ) → is_synced number after ≡ is_synced number before
+  pub on : (calls : List Asked) × (after ≡ calls ++ before)
 
 -- the last call gave the file of one name another, which no file had, and those before it left all files as they were
 abbrev pub HasLinked : (from to : List ℕ) → List Asked → List Asked → Type 0

@@ -2,6 +2,7 @@
 use super::failing_disk::FailingDisk;
 use rje_day::Disposition;
 use rje_folders::{Folder, FolderFault, StationFolder};
+use rje_stores::Disk;
 use std::alloc::Global;
 use std::io;
 use std::process::Abort;
@@ -199,5 +200,18 @@ fn what_cannot_be_sent_is_refused(rt: HostRuntime) -> Result<(), Fail> {
     let disk = station.close();
     assert!(rt; disk.file_of("s/refused/A.deck") == Some(1));
     assert!(rt; disk.count() == 2);
+    Ok(())
+}
+
+#[test]
+fn a_numbered_name_of_a_job_that_was_counted_is_taken_away(rt: HostRuntime) -> Result<(), Fail> {
+    let mut disk = FailingDisk::new(rt.alloc(), 0, false);
+    let other = disk.put("s/doubt/A.deck")?;
+    let file = disk.put("s/sent/A.deck")?;
+    disk.link("s/sent/A.deck", "s/doubt/A.deck.2")?;
+    let disk = tidied(&rt, rt.alloc(), disk);
+    assert!(rt; disk.file_of("s/sent/A.deck") == Some(file));
+    assert!(rt; disk.file_of("s/doubt/A.deck.2").is_none());
+    assert!(rt; disk.file_of("s/doubt/A.deck") == Some(other));
     Ok(())
 }

@@ -31,6 +31,8 @@ pub(super) struct Book {
     failing: u32,
     calls: u32,
     notes: ArrayVec<Note, 16>,
+    /// So many turns go on.
+    turns: u32,
 }
 
 /// Why the spool failed.
@@ -46,12 +48,18 @@ impl Book {
             failing,
             calls: 0,
             notes: ArrayVec::new(),
+            turns: u32::MAX,
         }
     }
 
     /// The operator holds back what lies ready.
     pub(super) fn hold(&mut self) {
         self.held = true;
+    }
+
+    /// The turn after so many doesn't go on.
+    pub(super) fn leave_after(&mut self, turns: u32) {
+        self.turns = turns;
     }
 
     /// What was entered, the oldest first.
@@ -92,7 +100,11 @@ impl Spool for Book {
         Ok(mem::replace(&mut self.jobs, Vec::new(alloc)))
     }
 
-    fn look_on<'a>(&mut self, _station: &Station<'a>) {}
+    fn look_on<'a>(&mut self, _station: &Station<'a>) -> bool {
+        let goes_on = self.turns > 0;
+        self.turns = self.turns.saturating_sub(1);
+        goes_on
+    }
 
     fn goes_out(&mut self, job: usize) -> Result<(), Broken> {
         self.enter(Note::MayArrive(job))

@@ -19,6 +19,9 @@ const ACK1: [u8; 5] = [0x32, 0x32, 0x10, 0x61, 0xFF];
 /// The block of the record C1 that ends its job.
 const BLOCK: [u8; 9] = [0x32, 0x32, 0x02, 0xC1, 0x1E, 0x03, 0x18, 0x5D, 0xFF];
 
+/// The block of the record C1 that more blocks follow.
+const MORE: [u8; 9] = [0x32, 0x32, 0x02, 0xC1, 0x1E, 0x26, 0xD9, 0x86, 0xFF];
+
 const EOT: [u8; 4] = [0x32, 0x32, 0x37, 0xFF];
 
 /// The third bytes of a bid, a block, EOT and an acknowledgement.
@@ -83,6 +86,16 @@ fn one_job_is_received(rt: HostRuntime) {
     let mut spool = book(&rt, 0, 2, 0);
     assert!(rt; stays(&rt, Rank::Primary, &mut line, &mut spool));
     assert!(rt; spool.notes() == [Note::Kept].as_slice());
+    assert!(rt; line.said() == [SAID_ACK, SAID_ACK].as_slice());
+}
+
+#[test]
+fn a_transmission_that_does_not_go_on_is_left(rt: HostRuntime) {
+    let mut line = Script::new(&[&ENQ, &MORE, &MORE, &MORE], 0);
+    let mut spool = book(&rt, 0, 9, 0);
+    spool.leave_after(1);
+    assert!(rt; stays(&rt, Rank::Primary, &mut line, &mut spool));
+    assert!(rt; spool.notes() == [Note::KeptCut].as_slice());
     assert!(rt; line.said() == [SAID_ACK, SAID_ACK].as_slice());
 }
 

@@ -1,10 +1,12 @@
 use Rattle.std.proofs.Common.{inl}
 use Rattle.std.specs.Prelude.{string_bytes}
-use Rattle.rje_stores.specs.Disk.{Remove}
+use Rattle.rje_stores.specs.Disk.{Remove, came_to}
 use Rattle.rje_stores.proofs.Replacing.{added_call, added_twice}
 use Rattle.rje_folders.specs.declared.keeping.Kept.{Kept}
 use Rattle.rje_folders.specs.Keeping.{MayKeep}
 use Rattle.rje_folders.specs.FileNames.{IsNameOf}
+use Rattle.rje_folders.specs.Inside.Calls.{MayCreate}
+use Rattle.rje_folders.proofs.Linked.{named_where_ok}
 use Rattle.rje_folders.proofs.NewFile.{create_keeps, kept_on_disk, new_temporary}
 use Rattle.rje_folders.proofs.keeping.keep.Goals as goal
 
@@ -25,3 +27,9 @@ returns-clause-on_disk g c = λ told.
     let folder = c.args.folder.now in
     let new = c.in_ok-new.ensures.new told in
     kept_on_disk (λ (kept : Kept). string_bytes kept.path) c.keep_new-kept.result c.remove.result (string_bytes c.in_ok-new.new.path) c.args.bytes.now _ _ (rw c.as_str.ensures.value at (c.remove.ensures told)) (c.keep_new-kept.ensures.kept told folder new)
+
+pub returns-clause-named_new : goal.returns-clause-named_new
+returns-clause-named_new g c = λ told.
+    let folder = c.args.folder.now in
+    named_where_ok (λ (kept : Kept). string_bytes kept.path) (MayCreate folder) c.keep_new-kept.result (came_to c.remove.result (Remove (string_bytes c.in_ok-new.new.path))) _ _ _ _
+    (c.create_new.ensures.asks told) (c.keep_new-kept.ensures.named_new told folder (c.in_ok-new.ensures.new told)) (rw c.as_str.ensures.value at (c.remove.ensures told))

@@ -1,5 +1,7 @@
 use Rattle.std.specs.Prelude.{string_bytes}
 use Rattle.rje_folders.specs.FileNames.{IsNameOf}
+use Rattle.rje_folders.specs.Inside.Calls.{MayWrite}
+use Rattle.rje_folders.proofs.Linked.{named_after, named_before_one, named_by_link}
 use Rattle.rje_folders.proofs.NewFile.{kept_is, link_kept, new_is_empty, sync_kept, unkept, write_keeps, written_whole}
 use Rattle.rje_folders.proofs.keeping.keep_new.Goals as goal
 
@@ -40,3 +42,10 @@ returns-in-Err-clause-asks g c = λ told folder new.
     unkept c.remove.result folder file from to c.args.bytes.now (IsNameOf c.args.names) _ _ _ _ _ new (c.fill_new.ensures.asks told (new_is_empty folder file _ _ new)) (c.in_ok-fill_new.ensures.filled told)
     (rw c.as_str.ensures.value at (c.link_free.ensures.asks told)) (rw c.as_str.ensures.value at (c.in_ok-kept.ensures.linked told)) c.in_ok-kept.ensures.named
     (rw (c.in_ok-kept.ensures.folder told) at (c.sync_names.ensures.asks told)) (rw c.as_str-in-Err.ensures.value at (c.remove.ensures told))
+
+pub returns-in-Ok-clause-named_new : goal.returns-in-Ok-clause-named_new
+returns-in-Ok-clause-named_new g c = λ told folder new.
+    let file = g.D.Disk.opened c.args.new.now.file in
+    let to = string_bytes c.in_ok-kept.kept.path in
+    let (asked, is, which) = c.sync_names.ensures.asks told in
+    named_before_one to _ _ _ asked (named_after (MayWrite file) to _ _ _ (c.fill_new.ensures.asks told (new_is_empty folder file _ _ new)) (named_by_link c.as_str.result.now to _ _ (c.in_ok-kept.ensures.linked told))) is

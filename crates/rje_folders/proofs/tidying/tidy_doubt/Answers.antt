@@ -1,25 +1,9 @@
-use Rattle.std.proofs.Common.{inr, ◌∙◌}
-use Rattle.std.specs.Prelude.{string_bytes}
-use Rattle.rje_stores.proofs.Replacing.{added_weaker}
-use Rattle.rje_folders.specs.declared.folder.Folder.{Folder}
-use Rattle.rje_folders.specs.FileNames.{IsNumbered}
-use Rattle.rje_folders.specs.Folder.{path_in}
-use Rattle.rje_folders.specs.Moving.{MayDrop}
+use Rattle.rje_stores.proofs.Replacing.{added_twice}
 use Rattle.rje_folders.specs.Promising.{MayTidy}
 use Rattle.rje_folders.proofs.tidying.tidy_doubt.Goals as goal
 
-pub returns-in_err-drop_name-in-Some : goal.returns-in_err-drop_name-in-Some
-returns-in_err-drop_name-in-Some g c = λ told.
-    let kept = string_bytes c.in-Some.kept in
-    let named : IsNumbered (path_in c.args.station.now Folder.Sent c.args.name.now) kept = rw c.in-Some.is at c.in_ok-kept.ensures in
-    added_weaker (MayDrop g.D.FolderDisk.are_one kept (path_in c.args.station.now Folder.Doubt c.args.name.now)) (MayTidy g.D.FolderDisk.are_one c.args.station.now)
-    (λ call before may. inr (c.args.name.now, kept, named, may)) _ _
-    (rw (c.as_str-in-Some.ensures.value, c.as_str-in-Some-2.ensures.value ∙ c.in_ok-doubt.ensures) at (c.drop_name.ensures.asks told))
+pub returns-in_err-tidy_counted-in-Some : goal.returns-in_err-tidy_counted-in-Some
+returns-in_err-tidy_counted-in-Some g c = λ told. added_twice (MayTidy g.D.FolderDisk.are_one c.args.station.now) _ _ _ (c.tidy_counted.ensures told) (c.tidy_counted-in-Some.ensures told)
 
 pub returns-in-Some : goal.returns-in-Some
-returns-in-Some g c = λ told.
-    let kept = string_bytes c.in-Some.kept in
-    let named : IsNumbered (path_in c.args.station.now Folder.Sent c.args.name.now) kept = rw c.in-Some.is at c.in_ok-kept.ensures in
-    added_weaker (MayDrop g.D.FolderDisk.are_one kept (path_in c.args.station.now Folder.Doubt c.args.name.now)) (MayTidy g.D.FolderDisk.are_one c.args.station.now)
-    (λ call before may. inr (c.args.name.now, kept, named, may)) _ _
-    (rw (c.as_str-in-Some.ensures.value, c.as_str-in-Some-2.ensures.value ∙ c.in_ok-doubt.ensures) at (c.drop_name.ensures.asks told))
+returns-in-Some g c = λ told. added_twice (MayTidy g.D.FolderDisk.are_one c.args.station.now) _ _ _ (c.tidy_counted.ensures told) (c.tidy_counted-in-Some.ensures told)

@@ -7,7 +7,7 @@ use Rattle.rje_text.proofs.unpacking.collect.Goals as goal
 pub loop-start-init : goal.loop-start-init
 loop-start-init c =
     let (rs, read, many) = c.requires in
-    record { within = omega arith; rest = (rs, read, read ∙ ap (λ zs. Some (zs ++ rs)) (sym c.in_ok-records.ensures)) }
+    record { within = omega arith; rest = (rs, read, read ∙ ap (λ zs. Some (zs ++ rs)) (sym c.in_ok-records.ensures.empty)) }
 
 pub record_from-requires : goal.record_from-requires
 record_from-requires c =

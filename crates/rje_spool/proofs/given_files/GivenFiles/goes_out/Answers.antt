@@ -10,4 +10,6 @@ returns-in-Some g c = record {
       (λ file now. HasGoneOut (string_bytes c.args.folder.now.path) file now (g.D.Disk.asked c.args.folder.now.disk) (g.D.Disk.asked c.goes_out.new.folder.disk))
       c.args.self.now.files.items c.in-Some.place c.index_mut.result.now c.goes_out.new.self
       (sym c.place_of.ensures ∙ c.in-Some.is) c.index_mut.ensures.value (c.goes_out.ensures.gone told);
+  on = c.goes_out.ensures.on;
+  path = c.goes_out.ensures.path;
 }

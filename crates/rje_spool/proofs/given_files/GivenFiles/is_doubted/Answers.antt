@@ -8,4 +8,6 @@ returns-in-Some g c = record {
   doubted =
       of_found_ok c.is_doubted.result c.args.job (λ file now. IsDoubted now.place) c.args.self.now.files.items c.in-Some.place c.index_mut.result.now c.is_doubted.new.self
       (sym c.place_of.ensures ∙ c.in-Some.is) c.index_mut.ensures.value c.is_doubted.ensures.doubted;
+  on = c.is_doubted.ensures.on;
+  path = c.is_doubted.ensures.path;
 }

@@ -9,4 +9,6 @@ returns-in-Some g c = record {
   ready =
       of_found_ok c.lies_ready.result c.args.job (λ file now. HasSecondName file.place → now.place ≡ Place.Ready) c.args.self.now.files.items c.in-Some.place c.index_mut.result.now c.lies_ready.new.self
       (sym c.place_of.ensures ∙ c.in-Some.is) c.index_mut.ensures.value c.lies_ready.ensures.ready;
+  on = c.lies_ready.ensures.on;
+  path = c.lies_ready.ensures.path;
 }

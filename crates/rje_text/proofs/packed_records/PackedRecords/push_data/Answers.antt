@@ -2,7 +2,7 @@ use Rattle.std.specs.Vec.{vec_len}
 use Rattle.std.proofs.Common.{rules, length, ◌≡◌, ◌++◌, ◌∷◌, [], ◌∙◌, ap}
 use Rattle.rje_text.specs.Records.{record_of_data}
 use Rattle.rje_text.proofs.PackedRecords.{kept, pushed, after_error}
-use Rattle.rje_text.proofs.records.Records.push_data.Goals as goal
+use Rattle.rje_text.proofs.packed_records.PackedRecords.push_data.Goals as goal
 
 pub returns-in_err-push-clause-err : goal.returns-in_err-push-clause-err
 returns-in_err-push-clause-err c =

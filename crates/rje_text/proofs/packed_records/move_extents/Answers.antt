@@ -3,8 +3,8 @@ use Rattle.std.proofs.lemmas.List.{get_or_default}
 use Rattle.std.proofs.lemmas.List.Edits.{map_over_more}
 use Rattle.rje_text.specs.declared.action.Action.TheVariants.{Plain}
 use Rattle.rje_text.specs.declared.extent.Extent.{Extent}
-use Rattle.rje_text.specs.Inside.Packed.{moved}
-use Rattle.rje_text.proofs.records.move_extents.Goals as goal
+use Rattle.rje_text.specs.Packed.{moved}
+use Rattle.rje_text.proofs.packed_records.move_extents.Goals as goal
 
 pub loop-extent-preserved : goal.loop-extent-preserved
 loop-extent-preserved c =

@@ -1,4 +1,4 @@
--- Records behind one another in memory: a device of the proofs; no promise rests on this file.
+-- How records stand in memory: their data one after another, and beside them where each begins (own profile).
 use Rattle.std.specs.Prelude.{◌≤◌, ◌+◌, ℕ, List, length, take, drop, map}
 use Rattle.rje_text.specs.declared.extent.Extent.{Extent}
 use Rattle.rje_text.specs.declared.record.Record.{Record}

@@ -1,9 +1,9 @@
 use Rattle.std.specs.Vec.{vec_len}
 use Rattle.std.proofs.lemmas.List.{length-map}
-use Rattle.rje_text.specs.Inside.Packed.{moved, records_of_extents}
+use Rattle.rje_text.specs.Packed.{moved, records_of_extents}
 use Rattle.std.proofs.Common.{rules, length, map, ◌≡◌, ◌++◌, ◌∙◌, ap}
 use Rattle.rje_text.proofs.PackedRecords.{kept, appended, appended_within, after_error, written_back}
-use Rattle.rje_text.proofs.records.Records.append.Goals as goal
+use Rattle.rje_text.proofs.packed_records.PackedRecords.append.Goals as goal
 
 pub returns-in_err-append-clause-err : goal.returns-in_err-append-clause-err
 returns-in_err-append-clause-err c =

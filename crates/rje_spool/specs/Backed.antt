@@ -1,0 +1,33 @@
+-- What stands behind the ledger of a station's spool: what is entered as kept was put on disk (own profile).
+use Rattle.std.specs.Prelude.{◌≡◌, ℕ, List, [], ◌∷◌, ◌++◌, ⊤}
+use Rattle.rje_folders.specs.declared.folder.Folder.{Folder}
+use Rattle.rje_folders.specs.Keeping.{WasNamed}
+use Rattle.rje_jobs.specs.declared.job.Job.{Job}
+use Rattle.rje_session.specs.Ledger.{Entry, Kept, KeptCut}
+use Rattle.rje_stores.specs.Disk.{Asked}
+use Rattle.rje_spool.specs.Keeping.{IsKeptIn}
+
+-- what contracts see of the spool of a station's folder
+pub record Spooled : Type 0 where
+  -- the path of the folder
+  pub station : List ℕ
+  -- what is entered, the newest first
+  pub entries : List Entry
+  -- what its disk was asked, the newest first
+  pub asked : List Asked
+
+-- more was asked of a disk, or nothing
+abbrev pub GoesOn : (before after : List Asked) → Type 0
+GoesOn before after = (calls : List Asked) × (after ≡ calls ++ before)
+
+-- the job was put into a folder of the station after the calls that came before: as a file whose name no file had, whole and on disk
+abbrev pub WasPut : (station : List ℕ) → Folder → Job → (before asked : List Asked) → Type 0
+WasPut station folder job before asked = (path : List ℕ) × (after : List Asked) × GoesOn after asked × WasNamed path before after × IsKeptIn station folder job path after
+
+-- Something stands behind each entry: a job that is entered as kept was put into in/, and one that was cut into cut/, each after those that are entered
+-- before it.
+abbrev pub AreBacked : (station : List ℕ) → List Entry → List Asked → Type 0
+AreBacked station [] asked = ⊤
+AreBacked station (Kept job ∷ past) asked = (before : List Asked) × WasPut station Folder.In job before asked × AreBacked station past before
+AreBacked station (KeptCut job ∷ past) asked = (before : List Asked) × WasPut station Folder.Cut job before asked × AreBacked station past before
+AreBacked station (_ ∷ past) asked = AreBacked station past asked
