@@ -60,10 +60,12 @@ fn put_frame(alloc: Global, line: &mut MemoryLine, frame: &Frame) -> Result<(), 
     Ok(())
 }
 
-/// A block of one record of this one byte.
+/// A block of one record of this byte 25 times, for which a job takes memory.
 fn block_of(rt: &impl Abort, byte: u8, closing: Closing) -> Frame {
+    let mut text = [byte; 26];
+    text[25] = 0x1E;
     Frame::Block(Block {
-        text: buffer(rt, &[byte, 0x1E]),
+        text: buffer(rt, &text),
         closing,
         transparent: false,
     })
@@ -115,7 +117,7 @@ fn a_receiver_without_memory_answers_nak_and_keeps_its_jobs(rt: HostRuntime) {
     }
 }
 
-/// A job that came: whether it is whole, and the one byte of each of its records.
+/// A job that came: whether it is whole, and the byte of each of its records.
 type Came = (bool, &'static [u8]);
 
 /// A block of one record, the reply to it, the jobs before and after it, and what is said to the script where it found no memory at first.
@@ -166,12 +168,12 @@ fn assert_came(rt: &impl Abort, jobs: &[Job], came: &[Came]) {
     }
 }
 
-/// The records of the job are of these bytes, one each.
+/// The records of the job are of these bytes, 25 times each.
 fn assert_records(rt: &impl Abort, job: &Job, bytes: &[u8]) {
     assert!(rt; job.records.len() == bytes.len());
     for (place, record) in job.records.iter().enumerate() {
         assert!(rt; record.action == Action::Plain);
-        assert!(rt; record.bytes.as_slice() == [bytes[place]].as_slice());
+        assert!(rt; record.bytes.as_slice() == [bytes[place]; 25].as_slice());
     }
 }
 
