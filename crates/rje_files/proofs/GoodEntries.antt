@@ -52,7 +52,7 @@ all_of_version : (v : FileVersion) (es : List Entry) → AllByRecursion (FitsFie
 all_of_version v [] fit = tt
 all_of_version v (e ∷ es) fit = (of_version v e fit.0.2, all_of_version v es fit.1)
 
-good_sent : (e : Entry) → IsGoodEntry e → e.job.whole ≡ true → IsGoodEntry (record e { state = Sent })
+pub good_sent : (e : Entry) → IsGoodEntry e → e.job.whole ≡ true → IsGoodEntry (record e { state = Sent })
 good_sent e good whole = rw ((both (is_job_name e.name) (agrees e.state e.job.whole) good).0, whole) refl
 
 all_sent : (n : ℕ) (es : List Entry) → AllByRecursion CanPass es → AreGood es → AreGood (with_sent n es)

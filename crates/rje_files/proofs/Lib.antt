@@ -13,5 +13,6 @@ pub mod Names
 pub mod OneMore
 pub mod Marking
 pub mod GoodEntries
+pub mod MarkedCopy
 pub mod Skips
 pub mod Stored

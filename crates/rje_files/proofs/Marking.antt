@@ -11,7 +11,7 @@ use Rattle.rje_files.specs.declared.entry.Entry.{Entry}
 use Rattle.rje_files.specs.declared.job_file.version.FileVersion.{FileVersion}
 use Rattle.rje_files.specs.declared.job_file.version.FileVersion.TheVariants.{First, Second}
 use Rattle.rje_files.specs.Entry.{is_job_name, agrees}
-use Rattle.rje_files.specs.JobFile.{HasEntries, IsOfVersion, FitsFields, AreForFile, entry_bytes, records_bytes, state_byte, select_byte, mode_byte, file_of, head, version_byte}
+use Rattle.rje_files.specs.JobFile.{HasEntries, IsOfVersion, FitsFields, AreForFile, entry_bytes, record_bytes, records_bytes, state_byte, select_byte, mode_byte, file_of, head, version_byte}
 use Rattle.rje_files.specs.Unsent.{CanPass, IsSentFile, is_sent, unsent, with_sent}
 use Rattle.rje_files.specs.Marks.{AreMarks, AreStatePlaces}
 use Rattle.rje_files.proofs.OneFile.{one_file}
@@ -77,7 +77,7 @@ stands (x ∷ before) after e start left = go (is_sent x.state) (stands before a
 spelled : (e : Entry) → entry_bytes Second e ≡ e.name ++ (state_byte e.state ∷ behind e)
 spelled e = append_assoc e.name (state_byte e.state ∷ select_byte e.job.select ∷ mode_byte e.job.mode ∷ []) (records_bytes e.job.records)
 
-as_long : (e : Entry) → length (entry_bytes Second (marked e)) ≡ length (entry_bytes Second e)
+pub as_long : (e : Entry) → length (entry_bytes Second (marked e)) ≡ length (entry_bytes Second e)
 as_long e = ap length (spelled (marked e)) ∙ length-append e.name (1 ∷ behind e) ∙ sym (length-append e.name (state_byte e.state ∷ behind e)) ∙ sym (ap length (spelled e))
 
 -- an entry after some bytes and before others
@@ -89,13 +89,13 @@ parts front rest e =
     ap (λ (xs : List ℕ). front ++ (xs ++ rest)) (spelled e) ∙ ap (λ (xs : List ℕ). front ++ xs) (append_assoc e.name (state_byte e.state ∷ behind e) rest)
     ∙ sym (append_assoc front e.name (state_byte e.state ∷ (behind e ++ rest)))
 
-here : (front rest : List ℕ) (e : Entry) (place : ℕ) → length e.name ≡ 8 → place ≡ length front + 8 → set (between front e rest) place 1 ≡ between front (marked e) rest
+pub here : (front rest : List ℕ) (e : Entry) (place : ℕ) → length e.name ≡ 8 → place ≡ length front + 8 → set (between front e rest) place 1 ≡ between front (marked e) rest
 here front rest e place eight is =
     let at : place ≡ length (front ++ e.name) = omega (arith, is, eight, length-append front e.name) in
     ap (λ (xs : List ℕ). set xs place 1) (parts front rest e) ∙ ap (λ (n : ℕ). set ((front ++ e.name) ++ (state_byte e.state ∷ (behind e ++ rest))) n 1) at
     ∙ set-append_seam (front ++ e.name) (state_byte e.state) (behind e ++ rest) 1 ∙ sym (parts front rest (marked e))
 
-inside : (front rest : List ℕ) (e : Entry) (place : ℕ) → length e.name ≡ 8 → place ≡ length front + 8 → place < length (between front e rest)
+pub inside : (front rest : List ℕ) (e : Entry) (place : ℕ) → length e.name ≡ 8 → place ≡ length front + 8 → place < length (between front e rest)
 inside front rest e place eight is =
     omega (arith, is, eight, ap length (parts front rest e), length-append (front ++ e.name) (state_byte e.state ∷ (behind e ++ rest)), length-append front e.name)
 
@@ -150,6 +150,18 @@ marks (suc n) place front (e ∷ es) names at = elim (cases_Bool (is_sent e.stat
       (subst (λ (k : ℕ). slice_get (marks_from k es) n ≡ Some place) (sym (longer front (marked e) _ (as_long e))) (left_at (suc n) place (length front) e es left at)))
 ]
 
+-- how many bytes an entry has whose records have so many
+pub entry_long : (e : Entry) (n : ℕ) → length e.name ≡ 8 → n ≡ length (flat_map record_bytes e.job.records) → 19 + n ≡ length (entry_bytes Second e)
+entry_long e n eight is =
+    omega (
+      arith,
+      eight,
+      is,
+      ap length (spelled e),
+      length-append e.name (state_byte e.state ∷ behind e),
+      length-append (bytes_high_first 8 (length e.job.records)) (flat_map record_bytes e.job.records),
+    )
+
 -- THE FILE
 
 pub many : (n : ℕ) (es : List Entry) → length (with_sent n es) ≡ length es
@@ -189,7 +201,7 @@ all_named : (v : FileVersion) (es : List Entry) → AllByRecursion (FitsFields v
 all_named v [] fit = tt
 all_named v (e ∷ es) fit = (eight_bytes v e fit.0.2, all_named v es fit.1)
 
-abbrev front_of : ℕ → List ℕ
+abbrev pub front_of : ℕ → List ℕ
 front_of n = head ++ (version_byte Second ∷ bytes_high_first 8 n)
 
 file_parts : (n : ℕ) (es : List Entry) → file_of Second (with_sent n es) ≡ front_of (length es) ++ bytes_of (with_sent n es)

@@ -1,6 +1,6 @@
 -- The records that stand in a file are those that it spells.
-use Rattle.std.proofs.Common.{◌≡◌, ℕ, zero, suc, List, [], ◌∷◌, ◌++◌, length, take, drop, get_or, refl, ap, sym, ◌∙◌, subst, arith}
-use Rattle.std.proofs.lemmas.List.{append_assoc, length-take, take-append-drop}
+use Rattle.std.proofs.Common.{◌≡◌, ℕ, zero, suc, ◌+◌, List, [], ◌∷◌, ◌++◌, length, take, drop, get_or, refl, ap, sym, ◌∙◌, subst, arith}
+use Rattle.std.proofs.lemmas.List.{append_assoc, length-append, length-take, take-append-drop}
 use Rattle.std.specs.List.{flat_map, AllByRecursion}
 use Rattle.rje_text.specs.declared.record.Record.{Record}
 use Rattle.rje_files.specs.JobFile.{record_bytes, action_byte, HasRoom}
@@ -66,3 +66,10 @@ collected_more n m xs rs all e h =
 
 pub one_passed : (n m : ℕ) (xs : List ℕ) → n ≡ suc m → behind_records n xs ≡ behind_records m (behind_record xs)
 one_passed n m xs e = ap (λ (k : ℕ). behind_records k xs) e
+
+-- how many bytes they have
+pub records_long : (n : ℕ) (xs behind : List ℕ) → AreRecordsHere n xs → behind ≡ behind_records n xs
+    → length xs ≡ length (flat_map record_bytes (records_in n xs)) + length behind
+records_long n xs behind h is =
+    ap length (records_spelled n xs h) ∙ length-append (flat_map record_bytes (records_in n xs)) (behind_records n xs)
+    ∙ ap (λ (ys : List ℕ). length (flat_map record_bytes (records_in n xs)) + length ys) (sym is)

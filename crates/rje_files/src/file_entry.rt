@@ -1,8 +1,11 @@
 //! A job as it stands in a job file.
-ghost use Rattle.std.specs.Prelude.{◌≡◌, ◌↔◌, IfOk, IsTrue};
+ghost use Rattle.std.specs.Prelude.{◌≡◌, ◌↔◌, length, IfOk, IsTrue};
 ghost use Rattle.rje_jobs.specs.Fitting.{AreSent, JobFits};
+ghost use Rattle.rje_files.specs.declared.job_file.version.FileVersion.{FileVersion};
+ghost use Rattle.rje_files.specs.JobFile.{entry_bytes};
 
 use crate::entry::whole_in;
+use crate::marks::FIELDS;
 use crate::{Entry, FileRecords, JobName, State};
 use rje_jobs::{Job, heading_fits, record_fits};
 use rje_text::{Mode, Select};
@@ -88,8 +91,16 @@ impl<'a> FileEntry<'a> {
         self.mode
     }
 
+    /// How many bytes the entry has in a version 2 file.
+    pub(crate) fn len(&self) -> usize
+        requires { length self.now.name ≡ 8 }
+        ensures { result ≡ length (entry_bytes FileVersion.Second self.now) }
+    {
+        FIELDS + self.records.byte_len()
+    }
+
     /// Whether the job is there to its end.
-    fn is_whole(&self) -> bool
+    pub(crate) fn is_whole(&self) -> bool
         ensures { result ≡ self.now.job.whole }
     {
         whole_in(self.state)

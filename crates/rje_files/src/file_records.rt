@@ -1,5 +1,7 @@
 //! The records of a job as they stand in a job file.
-ghost use Rattle.std.specs.Prelude.{◌≡◌, ◌≤◌, length, take, drop, slice_index, IfOk};
+ghost use Rattle.std.specs.Prelude.{◌≡◌, ◌≤◌, ◌<◌, ◌^◌, length, take, drop, slice_index, IfOk};
+ghost use Rattle.std.specs.List.{flat_map};
+ghost use Rattle.rje_files.specs.JobFile.{record_bytes};
 ghost use Rattle.rje_files.specs.Inside.Reading.Stored.{AreRecordsHere, IsRecordHere, behind_record, behind_records, record_in, records_in, action_in};
 
 use arrayvec::ArrayVec;
@@ -47,6 +49,15 @@ impl<'a> FileRecords<'a> {
         self.left
     }
 
+    /// How many bytes they have in the file.
+    pub(crate) fn byte_len(&self) -> usize
+        ensures bytes { result ≡ length (flat_map record_bytes self.now) }
+        ensures limit { result < 2 ^ 63 }
+    {
+        let behind = behind_records_at(self.rest, self.left);
+        self.rest.len() - behind.len()
+    }
+
     /// The same records, from the same place on.
     pub(crate) fn again(&self) -> Self
         ensures { result ≡ self.now }
@@ -73,12 +84,7 @@ impl<'a> FileRecords<'a> {
 
     /// How many bytes of data the records have that are left.
     fn data_length(&self) -> usize {
-        let behind = behind_records_at(self.rest, self.left);
-        let heads = self.left.saturating_mul(2);
-        self.rest
-            .len()
-            .saturating_sub(behind.len())
-            .saturating_sub(heads)
+        self.byte_len().saturating_sub(self.left.saturating_mul(2))
     }
 }
 

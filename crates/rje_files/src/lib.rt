@@ -7,6 +7,7 @@ mod file_records;
 mod growth;
 mod job_file;
 mod laws;
+mod marked_copy;
 mod marks;
 mod name;
 mod unsent;

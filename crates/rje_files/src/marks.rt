@@ -14,13 +14,13 @@ use std::alloc::{AllocError, Global};
 pub const MARK: u8 = 1;
 
 /// What stands in a file before its first entry: the head, the version and the number of entries.
-const FRONT: usize = 14;
+pub(crate) const FRONT: usize = 14;
 
 /// What stands in an entry before its state: its name.
-const NAME: usize = 8;
+pub(crate) const NAME: usize = 8;
 
 /// What stands in an entry before its records: its name, its state, its selection and its mode, each of a byte, and the number of records.
-const FIELDS: usize = 19;
+pub(crate) const FIELDS: usize = 19;
 
 /// What stands in a record before its data: its action and their length.
 const RECORD: usize = 2;

@@ -5,6 +5,7 @@ use crate::disk::{Disk, FileStatus};
 use std::alloc::Global;
 use std::fs::{self, File, OpenOptions, Permissions, TryLockError};
 use std::io::{self, Seek, SeekFrom, Write};
+use std::os::unix::fs::FileExt;
 use std::rt::Files;
 
 /// What the runtime reaches. It discloses nothing that it is asked.
@@ -123,9 +124,8 @@ impl<'a, R: Files<File = File>> Disk for SystemDisk<'a, R> {
         file.write_all(bytes)
     }
 
-    fn write_at(&mut self, mut file: &File, place: u64, bytes: &[u8]) -> io::Result<()> {
-        file.seek(SeekFrom::Start(place))?;
-        file.write_all(bytes)
+    fn write_at(&mut self, file: &File, place: u64, bytes: &[u8]) -> io::Result<()> {
+        file.write_all_at(bytes, place)
     }
 
     fn sync(&mut self, file: &File) -> io::Result<()> {

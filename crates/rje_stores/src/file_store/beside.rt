@@ -152,8 +152,13 @@ pub(super) fn create_beside<D: Disk>(
     Err(io::Error::from(ErrorKind::AlreadyExists))
 }
 
-/// A second name, beside the first, for the file that is there.
-pub(super) fn link_beside<D: Disk>(disk: &mut D, alloc: Global, path: &str) -> io::Result<String>
+/// A second name, beside the first, for the file that is there; not the one that is said to be taken, for which the system isn't asked.
+pub(super) fn link_beside<D: Disk>(
+    disk: &mut D,
+    alloc: Global,
+    path: &str,
+    taken: &str,
+) -> io::Result<String>
     ensures asks { D.discloses → Adds (MayLink path.now) (D.asked disk.old) (D.asked disk.new) }
     ensures keeps { D.discloses → KeepsNames (D.asked disk.old) (D.asked disk.new) }
     ensures second { D.discloses → IfOk result (λ second. IsSecond path.now
@@ -161,10 +166,13 @@ pub(super) fn link_beside<D: Disk>(disk: &mut D, alloc: Global, path: &str) -> i
 {
     for number in 0..MAX_NAMES {
         let beside = name_beside(alloc, path, number)?;
-        match disk.link(path, beside.as_str()) {
-            Ok(()) => return Ok(beside),
-            Err(error) if error.kind() == ErrorKind::AlreadyExists => {}
-            Err(error) => return Err(error),
+        let name = beside.as_str();
+        if name != taken {
+            match disk.link(path, name) {
+                Ok(()) => return Ok(beside),
+                Err(error) if error.kind() == ErrorKind::AlreadyExists => {}
+                Err(error) => return Err(error),
+            }
         }
     }
     Err(io::Error::from(ErrorKind::AlreadyExists))

@@ -323,7 +323,7 @@ fn put_in_place<D: Disk>(
         IsSecond path.now (string_bytes name) (D.asked disk.old) (D.asked disk.new))) }
     ensures own { IfOk result (λ second. IfSome second (λ _. own ≡ true)) }
 {
-    let second = second_name(disk, alloc, path, own);
+    let second = second_name(disk, alloc, path, beside, own);
     match rename_on_disk(disk, folder, beside, path) {
         Ok(()) => Ok(second),
         Err(fault) => {
@@ -333,8 +333,14 @@ fn put_in_place<D: Disk>(
     }
 }
 
-/// A second name for the file, where it is our own and can have one.
-fn second_name<D: Disk>(disk: &mut D, alloc: Global, path: &str, own: bool) -> Option<String>
+/// A second name for the file, where it is our own and can have one; another than the copy beside it has.
+fn second_name<D: Disk>(
+    disk: &mut D,
+    alloc: Global,
+    path: &str,
+    beside: &str,
+    own: bool,
+) -> Option<String>
     ensures asks { D.discloses → Adds (MayLink path.now) (D.asked disk.old) (D.asked disk.new) }
     ensures keeps { D.discloses → KeepsNames (D.asked disk.old) (D.asked disk.new) }
     ensures second { D.discloses → IfSome result (λ second. IsSecond path.now
@@ -342,7 +348,7 @@ fn second_name<D: Disk>(disk: &mut D, alloc: Global, path: &str, own: bool) -> O
     ensures own { IfSome result (λ _. own ≡ true) }
 {
     if own {
-        link_beside(disk, alloc, path).ok()
+        link_beside(disk, alloc, path, beside).ok()
     } else {
         None
     }

@@ -106,7 +106,7 @@ fn a_file_grows_by_way_of_a_copy(rt: HostRuntime) {
     files.settle();
     assert!(rt;
         files.disk().asked()
-            == b"open a.job\ncreate a.job.rje-0\nmode of a.job.rje-0\ngo on with a.job.rje-0 as a.job and s\nwrite to a.job.rje-0: 2\nsync a.job.rje-0\nrename a.job.rje-0 to a.job\nsync folder of a.job\ncreate a.job.rje-0\nmode of a.job.rje-0\ngo on with a.job.rje-0 as a.job.rje-0 and t\nwrite to a.job.rje-0: 3\nsync a.job.rje-0\nlink a.job as a.job.rje-0\nrename a.job.rje-0 to a.job\nsync folder of a.job\nremove a.job.rje-0\n".as_slice()
+            == b"open a.job\ncreate a.job.rje-0\nmode of a.job.rje-0\ngo on with a.job.rje-0 as a.job and s\nwrite to a.job.rje-0: 2\nsync a.job.rje-0\nrename a.job.rje-0 to a.job\nsync folder of a.job\ncreate a.job.rje-0\nmode of a.job.rje-0\ngo on with a.job.rje-0 as a.job.rje-0 and t\nwrite to a.job.rje-0: 3\nsync a.job.rje-0\nlink a.job as a.job.rje-1\nrename a.job.rje-0 to a.job\nsync folder of a.job\nremove a.job.rje-1\n".as_slice()
     );
 }
 
@@ -185,7 +185,7 @@ fn a_growth_that_fails_leaves_nothing_beside_the_file(rt: HostRuntime) {
     assert!(rt; files.extend(alloc, "a.job", b"3", b"t") == Err(FULL));
     assert!(rt;
         files.disk().asked().ends_with(
-            b"link a.job as a.job.rje-0\nrename a.job.rje-0 to a.job\nremove a.job.rje-0\nremove a.job.rje-0\n"
+            b"link a.job as a.job.rje-1\nrename a.job.rje-0 to a.job\nremove a.job.rje-1\nremove a.job.rje-0\n"
         )
     );
 
@@ -196,7 +196,7 @@ fn a_growth_that_fails_leaves_nothing_beside_the_file(rt: HostRuntime) {
     assert!(rt; files.extend(alloc, "a.job", b"4", b"u") == Err(FULL));
     assert!(rt;
         files.disk().asked().ends_with(
-            b"sync folder of a.job\nremove a.job.rje-0\ncreate a.job.rje-0\n"
+            b"sync folder of a.job\nremove a.job.rje-1\ncreate a.job.rje-0\n"
         )
     );
 }

@@ -1,7 +1,7 @@
 //! Where jobs are marked, worked out from the tables of job files.
 use super::record;
 use rje_files::{Entry, MARK, NO_NAME, State, mark_places, sent_file, write_entries};
-use rje_jobs::Job;
+use rje_jobs::{FileFault, Job};
 use rje_text::{Action, Mode, Records, Select};
 use std::process::Abort;
 use std::test::Fail;
@@ -58,5 +58,32 @@ fn each_mark_makes_one_more_job_sent(rt: HostRuntime) -> Result<(), Fail> {
         assert!(rt; marked.as_slice() == sent.as_slice());
     }
     assert!(rt; places.len() == 3);
+    Ok(())
+}
+
+#[test]
+fn a_job_that_was_cut_is_not_marked(rt: HostRuntime) -> Result<(), Fail> {
+    let mut entries = four_jobs(&rt)?;
+    entries.push(entry(&rt, State::Cut, &[b"A"])?)?;
+    let file = write_entries(rt.alloc(), entries.as_slice())?;
+    // Three of the four before it were not sent.
+    assert!(rt; sent_file(rt.alloc(), file.as_slice(), 3).is_ok());
+    let told = sent_file(rt.alloc(), file.as_slice(), 4).err();
+    assert!(rt; told == Some(FileFault::BadEntry(5)));
+    Ok(())
+}
+
+#[test]
+fn jobs_of_version_1_are_marked_in_version_2(rt: HostRuntime) -> Result<(), Fail> {
+    // Two whole jobs without records.
+    let old = b"RJ37\x00\x01\x00\x00\x00\x00\x00\x00\x00\x02\
+        \x00\x00\x01\x00\x00\x00\x00\x00\x00\x00\x00\
+        \x01\x00\x01\x00\x00\x00\x00\x00\x00\x00\x00";
+    // The first is Sent, the second Whole.
+    let new = b"RJ37\x00\x02\x00\x00\x00\x00\x00\x00\x00\x02\
+        \x20\x20\x20\x20\x20\x20\x20\x20\x01\x00\x00\x00\x00\x00\x00\x00\x00\x00\x00\
+        \x20\x20\x20\x20\x20\x20\x20\x20\x02\x01\x00\x00\x00\x00\x00\x00\x00\x00\x00";
+    let sent = sent_file(rt.alloc(), old.as_slice(), 1)?;
+    assert!(rt; sent.as_slice() == new.as_slice());
     Ok(())
 }
