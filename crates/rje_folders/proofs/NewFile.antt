@@ -1,12 +1,12 @@
 -- How bytes become a new file: call after call.
-use Rattle.std.proofs.Common.{◌≡◌, ◌≢◌, ℕ, inl, inr, List, [], ◌∷◌, ◌++◌, Option, Some, None, Result, Ok, Err, IfOk, Bool, true, false, if◌then◌else◌, refl, sym, ◌∙◌, ap, subst}
+use Rattle.std.proofs.Common.{◌≡◌, ◌≢◌, ℕ, ◌≤◌, inl, inr, List, [], ◌∷◌, ◌++◌, length, Option, Some, None, Result, Ok, Err, IfOk, Bool, true, false, if◌then◌else◌, refl, sym, ◌∙◌, ap, subst}
 use Rattle.std.specs.Prelude.{bytes_eq}
 use Rattle.std.specs.declared.io.Error.{Error}
 use Rattle.rje_stores.specs.Disk.{Asked, Call, Opened, Done, Refused, Failed, Create, Remove, call_of, came_to, standing, bytes_of, is_synced, has_synced_name}
 use Rattle.rje_stores.specs.Replacing.{Adds, Each, IsOnDisk, IsWhole}
 use Rattle.rje_stores.specs.Inside.Filling.{AddsSync, Fills, MayFill}
 use Rattle.rje_stores.proofs.Replacing.{added_call, added_twice, added_weaker, call_came, filled_keeps, new_bytes, new_name, whatever_came, whole_synced}
-use Rattle.rje_folders.specs.Keeping.{IsTemporary, MayKeep}
+use Rattle.rje_folders.specs.Keeping.{IsTemporary, MayKeep, WasMade}
 use Rattle.rje_folders.specs.Moving.{MayLink}
 use Rattle.rje_folders.specs.Inside.Calls.{HasLinked, IsKept, IsNewIn, MayCreate, MayWrite}
 use Rattle.rje_folders.proofs.Linked.{linked_stands}
@@ -141,3 +141,31 @@ pub kept_on_disk : {A K : Type 0} (path : K → List ℕ) (kept : Result K Error
     → IfOk kept (λ k. IsKept temporary (path k) bytes a) → IfOk kept (λ k. IsOnDisk (path k) bytes b)
 kept_on_disk path (Ok k) result temporary bytes a b removed kept = removed_on_disk result temporary (path k) bytes a b removed kept
 kept_on_disk path (Err _) result temporary bytes a b removed kept = tt
+
+-- THE FILE UNDER ITS NAME
+
+-- to put names on disk changes none
+sync_stands : (name folder : List ℕ) (a b : List Asked) → AddsSync folder a b → standing name b ≡ standing name a
+sync_stands name folder a b (asked, made, call) =
+    let Stays : Call → Type 0 = λ c. (standing name (Done c ∷ a) ≡ standing name a) × (standing name (Refused c ∷ a) ≡ standing name a) × (standing name (Failed c ∷ a) ≡ standing name a) in
+    let parts : Stays (call_of asked) = subst Stays (sym call) (refl, refl, refl) in
+    subst (λ (l : List Asked). standing name l ≡ standing name a) (sym made) (whatever_came (λ x. standing name (x ∷ a) ≡ standing name a) asked parts.0 parts.1 parts.2)
+
+-- to take another name away leaves this one
+removed_stands : {A : Type 0} (result : Result A Error) (temporary name : List ℕ) (a b : List Asked) → name ≢ temporary → b ≡ came_to result (Remove temporary) ∷ a → standing name b ≡ standing name a
+removed_stands result temporary name a b differ made =
+    let no : bytes_eq name temporary ≡ false = other_name name temporary differ in
+    let Stays : Call → Type 0 = λ c. (standing name (Done c ∷ a) ≡ standing name a) × (standing name (Refused c ∷ a) ≡ standing name a) × (standing name (Failed c ∷ a) ≡ standing name a) in
+    let parts : Stays (call_of (came_to result (Remove temporary))) = subst Stays (sym (call_came result (Remove temporary))) (rw no refl, rw no refl, rw no refl) in
+    subst (λ (l : List Asked). standing name l ≡ standing name a) (sym made) (whatever_came (λ x. standing name (x ∷ a) ≡ standing name a) (came_to result (Remove temporary)) parts.0 parts.1 parts.2)
+
+-- it is the new file
+pub kept_stands : (folder : List ℕ) (file : Opened) (from to : List ℕ) (a b c d : List Asked) → IsNewIn folder file from a → Adds (MayWrite file) a b → HasLinked from to b c → AddsSync to c d
+    → standing to d ≡ Some file.number
+kept_stands folder file from to a b c d new writes linked sync =
+    sync_stands to to c d sync ∙ linked_stands from to b c linked ∙ filled_keeps file from a b (write_fills file a b writes) ∙ new_stands folder file from a new
+
+pub made_kept : {A K : Type 0} (path : K → List ℕ) (kept : Result K Error) (result : Result A Error) (temporary bytes : List ℕ) (number : ℕ) (old a b : List Asked) → length old ≤ number
+    → b ≡ came_to result (Remove temporary) ∷ a → IfOk kept (λ k. IsKept temporary (path k) bytes a) → IfOk kept (λ k. standing (path k) a ≡ Some number) → IfOk kept (λ k. WasMade (path k) old b)
+made_kept path (Ok k) result temporary bytes number old a b since removed (differ, disk) stands = (number, since, removed_stands result temporary (path k) a b differ removed ∙ stands)
+made_kept path (Err _) result temporary bytes number old a b since removed kept stands = tt

@@ -1,6 +1,6 @@
 -- How bytes become a new file of a folder, which is never in the place of another.
-use Rattle.std.specs.Prelude.{◌≡◌, ◌⊎◌, ℕ, List, [], ◌∷◌, ◌++◌, Some, ⊤, codes, decimal}
-use Rattle.rje_stores.specs.Disk.{Asked, Call, Done, Create, Fill, Sync, Link, Remove, SyncFolder, bytes_of}
+use Rattle.std.specs.Prelude.{◌≡◌, ◌⊎◌, ℕ, ◌≤◌, List, [], ◌∷◌, ◌++◌, length, Some, ⊤, codes, decimal}
+use Rattle.rje_stores.specs.Disk.{Asked, Call, Done, Create, Fill, Sync, Link, Remove, SyncFolder, bytes_of, standing}
 use Rattle.rje_stores.specs.Replacing.{IsWhole}
 
 -- the name of a new file of a folder as long as it is written; it begins with a dot, so that whoever reads the folder leaves it alone
@@ -22,3 +22,7 @@ MayKeep folder IsNew bytes _ before = ⊥
 -- among the calls that came after those before, a file got this name, which no file had
 abbrev pub WasNamed : (name : List ℕ) → (before after : List Asked) → Type 0
 WasNamed name before after = (from : List ℕ) × (earlier later : List Asked) × (after ≡ later ++ (Done (Link from name) ∷ (earlier ++ before)))
+
+-- the file under this name was made after these calls, so it is none of the files that there were before
+abbrev pub WasMade : (name : List ℕ) → (before after : List Asked) → Type 0
+WasMade name before after = (number : ℕ) × (length before ≤ number) × (standing name after ≡ Some number)

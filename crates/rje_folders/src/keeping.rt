@@ -1,10 +1,10 @@
 //! How bytes become a new file, which is never in the place of another.
-ghost use Rattle.std.specs.Prelude.{◌≡◌, ℕ, List, [], IfOk, OnOk, string_bytes};
-ghost use Rattle.rje_stores.specs.Disk.{bytes_of};
+ghost use Rattle.std.specs.Prelude.{◌≡◌, ◌≤◌, ℕ, List, [], length, Some, IfOk, OnOk, string_bytes};
+ghost use Rattle.rje_stores.specs.Disk.{bytes_of, standing};
 ghost use Rattle.rje_stores.specs.Replacing.{Adds, IsOnDisk};
 ghost use Rattle.rje_stores.specs.Inside.Filling.{Fills};
 ghost use Rattle.rje_folders.specs.FileNames.{IsNameBefore, IsNameOf};
-ghost use Rattle.rje_folders.specs.Keeping.{IsTemporary, MayKeep, WasNamed};
+ghost use Rattle.rje_folders.specs.Keeping.{IsTemporary, MayKeep, WasMade, WasNamed};
 ghost use Rattle.rje_folders.specs.Inside.Calls.{IsKept, IsNewIn, MayCreate, MayWrite};
 
 use crate::file_names::FileNames;
@@ -45,6 +45,8 @@ pub fn keep<D: Disk>(
         (D.asked disk.old) (D.asked disk.new) }
     ensures on_disk { D.discloses → IfOk result (λ kept.
         IsOnDisk (string_bytes kept.path) bytes.now (D.asked disk.new)) }
+    ensures made { D.discloses → IfOk result (λ kept.
+        WasMade (string_bytes kept.path) (D.asked disk.old) (D.asked disk.new)) }
     ensures named_new { D.discloses → IfOk result (λ kept.
         WasNamed (string_bytes kept.path) (D.asked disk.old) (D.asked disk.new)) }
     ensures named { IfOk result (λ kept. IsNameOf names.entry (string_bytes kept.path)) }
@@ -63,6 +65,8 @@ fn create_new<D: Disk>(disk: &mut D, alloc: Global, folder: &str) -> io::Result<
         → Adds (MayCreate folder.now) (D.asked disk.old) (D.asked disk.new) }
     ensures new { D.discloses → IfOk result (λ new. IsNewIn folder.now (D.opened new.file)
         (string_bytes new.path) (D.asked disk.new)) }
+    ensures made { D.discloses → IfOk result (λ new.
+        length (D.asked disk.old) ≤ (D.opened new.file).number) }
 {
     for number in 0..MAX_NAMES {
         let path = temporary_name(alloc, folder, number)?;
@@ -98,6 +102,10 @@ fn keep_new<D: Disk>(
         → IsNewIn folder (D.opened new.now.file) (string_bytes new.now.path) (D.asked disk.old)
         → IfOk result (λ kept. IsKept (string_bytes new.now.path) (string_bytes kept.path)
         bytes.now (D.asked disk.new)) }
+    ensures stands { D.discloses → (folder : List ℕ)
+        → IsNewIn folder (D.opened new.now.file) (string_bytes new.now.path) (D.asked disk.old)
+        → IfOk result (λ kept. standing (string_bytes kept.path) (D.asked disk.new)
+        ≡ Some (D.opened new.now.file).number) }
     ensures named_new { D.discloses → (folder : List ℕ)
         → IsNewIn folder (D.opened new.now.file) (string_bytes new.now.path) (D.asked disk.old)
         → IfOk result (λ kept.

@@ -3,7 +3,7 @@ ghost use Rattle.std.specs.Prelude.{◌≡◌, IfOk, string_bytes};
 ghost use Rattle.rje_stores.specs.Replacing.{Adds, IsOnDisk};
 ghost use Rattle.rje_folders.specs.FileNames.{IsBetween, IsBetweenFrom, IsNumbered};
 ghost use Rattle.rje_folders.specs.Folder.{path_in, path_of, why_path};
-ghost use Rattle.rje_folders.specs.Keeping.{MayKeep, WasNamed};
+ghost use Rattle.rje_folders.specs.Keeping.{MayKeep, WasMade, WasNamed};
 ghost use Rattle.rje_folders.specs.Moving.{IsMoved, MayMove};
 
 use crate::file_names::FileNames;
@@ -50,6 +50,8 @@ pub(crate) fn keep_in<D: FolderDisk>(
         (D.asked disk.old) (D.asked disk.new) }
     ensures on_disk { D.discloses → IfOk result (λ kept.
         IsOnDisk (string_bytes kept.path) bytes.now (D.asked disk.new)) }
+    ensures made { D.discloses → IfOk result (λ kept.
+        WasMade (string_bytes kept.path) (D.asked disk.old) (D.asked disk.new)) }
     ensures named_new { D.discloses → IfOk result (λ kept.
         WasNamed (string_bytes kept.path) (D.asked disk.old) (D.asked disk.new)) }
     ensures named { IfOk result (λ kept. IsBetweenFrom

@@ -4,7 +4,7 @@ ghost use Rattle.rje_stores.specs.Disk.{has_synced_name};
 ghost use Rattle.rje_stores.specs.Replacing.{Adds, IsOnDisk};
 ghost use Rattle.rje_folders.specs.FileNames.{IsBetween, IsBetweenFrom, IsNumbered};
 ghost use Rattle.rje_folders.specs.Folder.{path_in, path_of, why_path};
-ghost use Rattle.rje_folders.specs.Keeping.{MayKeep, WasNamed};
+ghost use Rattle.rje_folders.specs.Keeping.{MayKeep, WasMade, WasNamed};
 ghost use Rattle.rje_folders.specs.Marking.{IsMarked, MayMark};
 ghost use Rattle.rje_folders.specs.Moving.{IsGone, IsMoved, IsSecond, MayMove};
 ghost use Rattle.rje_folders.specs.Promising.{IsSent, IsSettled, MayOpen, MayPromise, MaySettle};
@@ -229,6 +229,8 @@ impl<D: FolderDisk + Drop> StationFolder<D> {
             bytes.now) (D.asked self.old.disk) (D.asked self.new.disk) }
         ensures on_disk { D.discloses → IfOk result (λ kept.
             IsOnDisk (string_bytes kept.path) bytes.now (D.asked self.new.disk)) }
+        ensures made { D.discloses → IfOk result (λ kept. WasMade
+            (string_bytes kept.path) (D.asked self.old.disk) (D.asked self.new.disk)) }
         ensures named_new { D.discloses → IfOk result (λ kept. WasNamed
             (string_bytes kept.path) (D.asked self.old.disk) (D.asked self.new.disk)) }
         ensures named { IfOk result (λ kept. IsBetweenFrom

@@ -11,7 +11,7 @@ pub goes_on_twice : (a b c : List Asked) → GoesOn a b → GoesOn b c → GoesO
 goes_on_twice a b c (first, is) (more, more_is) = (more ++ first, more_is ∙ ap (λ (asked : List Asked). more ++ asked) is ∙ sym (append_assoc more first a))
 
 pub was_put : (station : List ℕ) (folder : Folder) (job : Job) (before a b : List Asked) → GoesOn a b → WasPut station folder job before a → WasPut station folder job before b
-was_put station folder job before a b on (path, after, to, named, kept) = (path, after, goes_on_twice after a b to on, named, kept)
+was_put station folder job before a b on (path, after, to, made, named, kept) = (path, after, goes_on_twice after a b to on, made, named, kept)
 
 pub are_backed : (station : List ℕ) (entries : List Entry) (a b : List Asked) → GoesOn a b → AreBacked station entries a → AreBacked station entries b
 are_backed station [] a b on t = t

@@ -1,9 +1,10 @@
 -- What stands behind the ledger of a station's spool: what is entered as kept was put on disk (own profile).
-use Rattle.std.specs.Prelude.{◌≡◌, ℕ, List, [], ◌∷◌, ◌++◌, ⊤}
+use Rattle.std.specs.Prelude.{◌≡◌, ℕ, zero, suc, List, [], ◌∷◌, ◌++◌, ⊤}
+use Rattle.rje_day.specs.declared.disposition.Disposition.TheVariants.{InDoubt}
 use Rattle.rje_folders.specs.declared.folder.Folder.{Folder}
-use Rattle.rje_folders.specs.Keeping.{WasNamed}
+use Rattle.rje_folders.specs.Keeping.{WasMade, WasNamed}
 use Rattle.rje_jobs.specs.declared.job.Job.{Job}
-use Rattle.rje_session.specs.Ledger.{Entry, Kept, KeptCut}
+use Rattle.rje_session.specs.Ledger.{Entry, Settled, Kept, KeptCut}
 use Rattle.rje_stores.specs.Disk.{Asked}
 use Rattle.rje_spool.specs.Keeping.{IsKeptIn}
 
@@ -13,6 +14,8 @@ pub record Spooled : Type 0 where
   pub station : List ℕ
   -- what is entered, the newest first
   pub entries : List Entry
+  -- how many jobs the last transmission was given
+  pub given : ℕ
   -- what its disk was asked, the newest first
   pub asked : List Asked
 
@@ -20,9 +23,10 @@ pub record Spooled : Type 0 where
 abbrev pub GoesOn : (before after : List Asked) → Type 0
 GoesOn before after = (calls : List Asked) × (after ≡ calls ++ before)
 
--- the job was put into a folder of the station after the calls that came before: as a file whose name no file had, whole and on disk
+-- the job was put into a folder of the station after the calls that came before: as a file that was made after them, under a name that no file had,
+-- whole and on disk
 abbrev pub WasPut : (station : List ℕ) → Folder → Job → (before asked : List Asked) → Type 0
-WasPut station folder job before asked = (path : List ℕ) × (after : List Asked) × GoesOn after asked × WasNamed path before after × IsKeptIn station folder job path after
+WasPut station folder job before asked = (path : List ℕ) × (after : List Asked) × GoesOn after asked × WasMade path before after × WasNamed path before after × IsKeptIn station folder job path after
 
 -- Something stands behind each entry: a job that is entered as kept was put into in/, and one that was cut into cut/, each after those that are entered
 -- before it.
@@ -31,3 +35,8 @@ AreBacked station [] asked = ⊤
 AreBacked station (Kept job ∷ past) asked = (before : List Asked) × WasPut station Folder.In job before asked × AreBacked station past before
 AreBacked station (KeptCut job ∷ past) asked = (before : List Asked) × WasPut station Folder.Cut job before asked × AreBacked station past before
 AreBacked station (_ ∷ past) asked = AreBacked station past asked
+
+-- each of so many jobs is entered as in doubt, one after another
+abbrev pub with_doubted : ℕ → List Entry → List Entry
+with_doubted zero entries = entries
+with_doubted (suc n) entries = Settled n InDoubt ∷ with_doubted n entries

@@ -1,6 +1,6 @@
 //! The spool of a station's folder.
-ghost use Rattle.std.specs.Prelude.{◌≡◌, [], string_bytes};
-ghost use Rattle.rje_spool.specs.Backed.{AreBacked};
+ghost use Rattle.std.specs.Prelude.{◌≡◌, [], OnOk, string_bytes};
+ghost use Rattle.rje_spool.specs.Backed.{AreBacked, with_doubted};
 
 use crate::book::{Book, NoBook};
 use crate::console::Console;
@@ -28,10 +28,11 @@ pub struct FolderSpool<D: FolderDisk + Drop, C, W, L, B: Book + Drop = NoBook> {
 impl<D: FolderDisk + Drop, C, W, L, B: Book + Drop> Model for FolderSpool<D, C, W, L, B> {
     ghost use Rattle.std.specs.Prelude.{string_bytes};
     ghost use Rattle.rje_spool.specs.Backed.{AreBacked, Spooled};
+    ghost use Rattle.rje_spool.specs.GivenFiles.{jobs_of};
 
     ghost Value = { Spooled };
 
-    ghost view = { λ s. record { station = string_bytes s.files.folder.path; entries = B.entries s.book; asked = D.asked s.files.folder.disk } };
+    ghost view = { λ s. record { station = string_bytes s.files.folder.path; entries = B.entries s.book; given = jobs_of s.files.given.files.items; asked = D.asked s.files.folder.disk } };
 
     ghost invariant = { λ s. D.discloses → B.discloses → AreBacked (string_bytes s.files.folder.path) (B.entries s.book) (D.asked s.files.folder.disk) };
 }
@@ -58,7 +59,8 @@ impl<D: FolderDisk + Drop, C: Clock, W: Write, L: Write, B: Book + Drop> FolderS
         }
     }
 
-    /// Each job that is entered as kept was put into in/, and each that was cut into cut/: in a file of its own, which was on disk, as was its name.
+    /// Each job that is entered as kept was put into in/, and each that was cut into cut/: in a file of its own, made after those of the jobs that
+    /// are entered before it, which was on disk, as was its name.
     pub fn kept_jobs_are_on_disk(&self)
         ensures backed { D.discloses → B.discloses
             → AreBacked self.now.station self.now.entries self.now.asked }
@@ -72,7 +74,10 @@ impl<D: FolderDisk + Drop, C: Clock, W: Write, L: Write, B: Book + Drop> FolderS
     }
 
     /// All jobs of the last transmission are in doubt, those that were counted too: answers came out of step.
-    pub fn doubt_all(&mut self) -> Result<(), SpoolFault> {
+    pub fn doubt_all(&mut self) -> Result<(), SpoolFault>
+        ensures doubted { B.discloses → OnOk result
+            (self.new.entries ≡ with_doubted self.old.given self.old.entries) }
+    {
         for job in 0..self.files.jobs() {
             self.settle(job, Disposition::InDoubt)?;
         }

@@ -1,7 +1,8 @@
 //! The files of a station's spool, and its console.
 ghost use Rattle.std.specs.Prelude.{◌≡◌, IfOk, OnOk, string_bytes};
-ghost use Rattle.rje_folders.specs.Keeping.{WasNamed};
+ghost use Rattle.rje_folders.specs.Keeping.{WasMade, WasNamed};
 ghost use Rattle.rje_spool.specs.Backed.{GoesOn, WasPut};
+ghost use Rattle.rje_spool.specs.GivenFiles.{jobs_of};
 ghost use Rattle.rje_spool.specs.Keeping.{IsKeptIn};
 ghost use Rattle.rje_spool.specs.Paper.{HasPaper};
 
@@ -87,7 +88,9 @@ impl<D: FolderDisk + Drop, C: Clock, W: Write, L: Write> SpoolFiles<D, C, W, L> 
     }
 
     /// How many jobs the last transmission was given.
-    pub(crate) fn jobs(&self) -> usize {
+    pub(crate) fn jobs(&self) -> usize
+        ensures { result ≡ jobs_of self.now.given.files.items }
+    {
         self.given.jobs()
     }
 
@@ -421,6 +424,8 @@ impl<D: FolderDisk + Drop, C: Clock, W: Write, L: Write> SpoolFiles<D, C, W, L> 
         ensures kept { D.discloses → IfOk result (λ path.
             IsKeptIn (string_bytes self.old.folder.path) folder job.now (string_bytes path)
             (D.asked self.new.folder.disk)) }
+        ensures made { D.discloses → IfOk result (λ path. WasMade (string_bytes path)
+            (D.asked self.old.folder.disk) (D.asked self.new.folder.disk)) }
         ensures named { D.discloses → IfOk result (λ path. WasNamed (string_bytes path)
             (D.asked self.old.folder.disk) (D.asked self.new.folder.disk)) }
         ensures on { D.discloses

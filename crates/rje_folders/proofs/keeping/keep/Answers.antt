@@ -7,7 +7,7 @@ use Rattle.rje_folders.specs.Keeping.{MayKeep}
 use Rattle.rje_folders.specs.FileNames.{IsNameOf}
 use Rattle.rje_folders.specs.Inside.Calls.{MayCreate}
 use Rattle.rje_folders.proofs.Linked.{named_where_ok}
-use Rattle.rje_folders.proofs.NewFile.{create_keeps, kept_on_disk, new_temporary}
+use Rattle.rje_folders.proofs.NewFile.{create_keeps, kept_on_disk, made_kept, new_temporary}
 use Rattle.rje_folders.proofs.keeping.keep.Goals as goal
 
 pub returns-in_err-new-clause-asks : goal.returns-in_err-new-clause-asks
@@ -33,3 +33,10 @@ returns-clause-named_new g c = λ told.
     let folder = c.args.folder.now in
     named_where_ok (λ (kept : Kept). string_bytes kept.path) (MayCreate folder) c.keep_new-kept.result (came_to c.remove.result (Remove (string_bytes c.in_ok-new.new.path))) _ _ _ _
     (c.create_new.ensures.asks told) (c.keep_new-kept.ensures.named_new told folder (c.in_ok-new.ensures.new told)) (rw c.as_str.ensures.value at (c.remove.ensures told))
+
+pub returns-clause-made : goal.returns-clause-made
+returns-clause-made g c = λ told.
+    let folder = c.args.folder.now in
+    let new = c.in_ok-new.ensures.new told in
+    made_kept (λ (kept : Kept). string_bytes kept.path) c.keep_new-kept.result c.remove.result (string_bytes c.in_ok-new.new.path) c.args.bytes.now (g.D.Disk.opened c.in_ok-new.new.file).number _ _ _
+    (c.in_ok-new.ensures.made told) (rw c.as_str.ensures.value at (c.remove.ensures told)) (c.keep_new-kept.ensures.kept told folder new) (c.keep_new-kept.ensures.stands told folder new)

@@ -2,7 +2,7 @@ use Rattle.std.specs.Prelude.{string_bytes}
 use Rattle.rje_folders.specs.FileNames.{IsNameOf}
 use Rattle.rje_folders.specs.Inside.Calls.{MayWrite}
 use Rattle.rje_folders.proofs.Linked.{named_after, named_before_one, named_by_link}
-use Rattle.rje_folders.proofs.NewFile.{kept_is, link_kept, new_is_empty, sync_kept, unkept, write_keeps, written_whole}
+use Rattle.rje_folders.proofs.NewFile.{kept_is, kept_stands, link_kept, new_is_empty, sync_kept, unkept, write_keeps, written_whole}
 use Rattle.rje_folders.proofs.keeping.keep_new.Goals as goal
 
 pub returns-in_err-fill_new-clause-asks : goal.returns-in_err-fill_new-clause-asks
@@ -49,3 +49,11 @@ returns-in-Ok-clause-named_new g c = λ told folder new.
     let to = string_bytes c.in_ok-kept.kept.path in
     let (asked, is, which) = c.sync_names.ensures.asks told in
     named_before_one to _ _ _ asked (named_after (MayWrite file) to _ _ _ (c.fill_new.ensures.asks told (new_is_empty folder file _ _ new)) (named_by_link c.as_str.result.now to _ _ (c.in_ok-kept.ensures.linked told))) is
+
+pub returns-in-Ok-clause-stands : goal.returns-in-Ok-clause-stands
+returns-in-Ok-clause-stands g c = λ told folder new.
+    let file = g.D.Disk.opened c.args.new.now.file in
+    let from = string_bytes c.args.new.now.path in
+    let to = string_bytes c.in_ok-kept.kept.path in
+    kept_stands folder file from to _ _ _ _ new (c.fill_new.ensures.asks told (new_is_empty folder file _ _ new)) (rw c.as_str.ensures.value at (c.in_ok-kept.ensures.linked told))
+    (rw (c.in_ok-kept.ensures.folder told) at (c.sync_names.ensures.asks told))
