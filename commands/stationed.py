@@ -101,14 +101,15 @@ class Relay:
 class Station:
     """One of the two: its folder, its process, and what was put into its out/."""
 
-    def __init__(self, program, folder, *words):
-        self.program, self.folder, self.words, self.process = program, folder, words, None
+    def __init__(self, program, folder, *words, timeout=TIMEOUT):
+        self.program, self.folder, self.process = program, folder, None
+        self.words = [*words, "--timeout", timeout]
         self.decks = {}
         os.mkdir(folder)
 
     def start(self):
         self.errors = open(f"{self.folder}.err", "ab")
-        words = [self.program, "station", self.folder, *self.words, "--timeout", TIMEOUT]
+        words = [self.program, "station", self.folder, *self.words]
         self.process = subprocess.Popen(words, stdin=subprocess.DEVNULL, stdout=subprocess.DEVNULL, stderr=self.errors)
 
     def kill(self, how=signal.SIGKILL):
@@ -402,6 +403,61 @@ def callers(checks, program, folder):
     checks.check(("hung up on 127.0.0.1:" not in told or "called by 127.0.0.2:" not in told or not told.endswith("ended")) and f"it told {told}")
 
 
+def late_answer(checks, program, folder):
+    """The first answer comes late, as of one who has to take the call first: the pause after EOT is short all the same."""
+    with socket.socket() as door:
+        door.bind(("127.0.0.1", 0))
+        door.listen()
+        station = Station(program, f"{folder}/late", "--to", f"127.0.0.1:{door.getsockname()[1]}", timeout="3000")
+        os.makedirs(station.at("out"))
+        # One file more than a transmission takes.
+        for number in range(65):
+            station.put(f"{number:02}.deck", ["PAY"])
+        station.start()
+        peer = Peer(door.accept()[0])
+        checks.check(not peer.hears(ENQ) and "it doesn't bid")
+        time.sleep(1)
+        peer.says(ACK0)
+        for number in range(64):
+            peer.hears(b"\xFF")
+            peer.says(ACK0 if number % 2 else ACK1)
+        checks.check(not peer.hears(EOT) and "it doesn't end")
+        began = time.time()
+        checks.check(not peer.hears(ENQ) and "it doesn't bid again")
+        took = time.time() - began
+        checks.check(took > 1 and f"after EOT it pauses for {took:.1f} s")
+        station.kill()
+        peer.close()
+
+
+def own_turn(checks, program, folder):
+    """One that is called and has something to send bids once the other end has said EOT, and again once it has said EOT itself."""
+    port = free_port()
+    station = Station(program, f"{folder}/turns", "--listen", f"127.0.0.1:{port}", timeout="3000")
+    os.makedirs(station.at("out"))
+    for number in range(65):
+        station.put(f"{number:02}.deck", ["PAY"])
+    station.start()
+    checks.check(not waits_for(lambda: os.path.exists(station.at("log")) and "listening" in open(station.at("log")).read()) and "it doesn't listen")
+    peer = Peer(socket.create_connection(("127.0.0.1", port)))
+    peer.says(ENQ)
+    checks.check(not peer.hears(ACK0) and "it grants no bid")
+    for turn in ("other's", "own"):
+        if turn == "other's":
+            peer.says(EOT)
+        began = time.time()
+        checks.check(not peer.hears(ENQ) and f"after the {turn} EOT it doesn't bid")
+        took = time.time() - began
+        checks.check(took > 1 and f"after the {turn} EOT it bids {took:.1f} s later")
+        peer.says(ACK0)
+        for number in range(64 if turn == "other's" else 1):
+            peer.hears(b"\xFF")
+            peer.says(ACK0 if number % 2 else ACK1)
+        checks.check(not peer.hears(EOT) and "it doesn't end")
+    station.kill()
+    peer.close()
+
+
 def main():
     program = os.path.abspath(sys.argv[1])
     decks, kills, seed = (int(word) for word in (sys.argv[2:] + ["30", "12", "1"][len(sys.argv) - 2:]))
@@ -409,6 +465,8 @@ def main():
     with tempfile.TemporaryDirectory() as folder:
         one_station(checks, program, folder)
         callers(checks, program, folder)
+        late_answer(checks, program, folder)
+        own_turn(checks, program, folder)
         port = free_port()
         relay = Relay(port, random.Random(seed + 1))
         near = Station(program, f"{folder}/near", "--listen", f"127.0.0.1:{port}")
