@@ -458,6 +458,25 @@ def own_turn(checks, program, folder):
     peer.close()
 
 
+def names_again(checks, program, folder):
+    """After a power failure a file may have names again that were taken away: those in out/ and doubt/ go where it has one in sent/."""
+    station = Station(program, f"{folder}/again", "--to", f"127.0.0.1:{free_port()}")
+    for place in ("out", "doubt", "sent"):
+        os.makedirs(station.at(place))
+    for sent, *others in (("sent/a.deck", "doubt/a.deck"), ("sent/b.deck", "doubt/b.deck", "out/b.deck"), ("sent/c.deck.2", "doubt/c.deck"), ("sent/d.deck", "out/d.deck")):
+        with open(station.at(sent), "w") as file:
+            file.write("PAY\n")
+        for name in others:
+            os.link(station.at(sent), station.at(name))
+    with open(station.at("doubt", "e.deck"), "w") as file:
+        file.write("PAY\n")
+    station.start()
+    checks.check(not waits_for(lambda: os.path.exists(station.at("log")) and "can't connect" in open(station.at("log")).read()) and "it calls nobody")
+    told = [station.names(place) for place in ("out", "doubt", "sent")]
+    checks.check(told != [[], ["e.deck"], ["a.deck", "b.deck", "c.deck.2", "d.deck"]] and f"out/, doubt/ and sent/ have {told}")
+    station.kill()
+
+
 def main():
     program = os.path.abspath(sys.argv[1])
     decks, kills, seed = (int(word) for word in (sys.argv[2:] + ["30", "12", "1"][len(sys.argv) - 2:]))
@@ -467,6 +486,7 @@ def main():
         callers(checks, program, folder)
         late_answer(checks, program, folder)
         own_turn(checks, program, folder)
+        names_again(checks, program, folder)
         port = free_port()
         relay = Relay(port, random.Random(seed + 1))
         near = Station(program, f"{folder}/near", "--listen", f"127.0.0.1:{port}")

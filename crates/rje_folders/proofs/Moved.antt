@@ -6,9 +6,9 @@ use Rattle.rje_stores.specs.Replacing.{Adds}
 use Rattle.rje_stores.specs.Inside.Filling.{AddsSync}
 use Rattle.rje_stores.proofs.Replacing.{added_twice, added_weaker}
 use Rattle.rje_folders.specs.Moving.{IsMoved, IsSecond, MayAdd, MayDrop, MayLink, MayMove}
-use Rattle.rje_folders.specs.Inside.Calls.{HasLinked, HasTaken}
+use Rattle.rje_folders.specs.Inside.Calls.{HasLinked, HasRemoved, IsChanged}
 use Rattle.rje_folders.proofs.Linked.{linked_stands}
-use Rattle.rje_folders.proofs.Taken.{sync_dropped, sync_kept, sync_keeps_standing, taken_gone, taken_kept, taken_standing}
+use Rattle.rje_folders.proofs.Taken.{removed_gone, removed_kept, removed_standing, sync_dropped, sync_kept, sync_keeps_names, sync_keeps_standing}
 
 -- what is asked to move a file: a link, and the old name is taken away
 pub link_moves : (are_one : List Asked → List ℕ → List ℕ → Type 0) (from : List ℕ) (IsNew : List ℕ → Type 0) (a b : List Asked) → Adds (MayLink from IsNew) a b → Adds (MayMove are_one from IsNew) a b
@@ -48,13 +48,23 @@ pub all_adds : (are_one : List Asked → List ℕ → List ℕ → Type 0) (name
 all_adds are_one name second IsNew a b c d named adds sync drops =
     added_twice (MayAdd are_one name IsNew) a c d (link_sync_adds are_one name second IsNew a b c named adds sync) (drop_adds are_one name second IsNew c d named drops)
 
--- a file that was moved
-pub moved_is : (from to : List ℕ) (a b c d : List Asked) → HasLinked from to a b → AddsSync to b c → has_synced_name to c ≡ true → HasTaken to from c d → IsMoved from to a d
-moved_is from to a b c d linked sync synced taken = (
-  taken_standing to from c d taken ∙ sync_keeps_standing to to b c sync ∙ linked_stands from to a b linked,
-  taken_kept to from c d taken synced,
-  taken_gone to from c d taken,
+-- a file that has another name
+pub changed_is : (from to : List ℕ) (a b c d : List Asked) → HasLinked from to a b → AddsSync to b c → has_synced_name to c ≡ true → HasRemoved to from c d → IsChanged from to a d
+changed_is from to a b c d linked sync synced removed = (
+  removed_standing to from c d removed ∙ sync_keeps_standing to to b c sync ∙ linked_stands from to a b linked,
+  removed_kept to from c d removed synced,
+  removed_gone to from c d removed,
 )
+
+-- once that the old one is gone is on disk too
+pub moved_is : (from to : List ℕ) (a b c : List Asked) → IsChanged from to a b → AddsSync from b c → has_synced_name from c ≡ true → IsMoved from to a c
+moved_is from to a b c (stands, named, none) sync synced =
+    (sync_keeps_standing from to b c sync ∙ stands, sync_keeps_names from to b c sync named, (sync_keeps_standing from from b c sync ∙ none, synced))
+
+-- what was asked for that
+pub change_sync_moves : (are_one : List Asked → List ℕ → List ℕ → Type 0) (from to : List ℕ) (IsNew : List ℕ → Type 0) (a b c : List Asked) → IsNew to → Adds (MayMove are_one from IsNew) a b → AddsSync from b c → Adds (MayMove are_one from IsNew) a c
+change_sync_moves are_one from to IsNew a b c named moves sync =
+    added_twice (MayMove are_one from IsNew) a b c moves (drop_moves are_one from to IsNew b c named (sync_dropped are_one to from b c sync))
 
 either_way : (b : Bool) (x : Option ℕ) → (if b then x else x) ≡ x
 either_way true x = refl

@@ -7,8 +7,9 @@ use Rattle.rje_stores.proofs.Replacing.{added_twice, added_weaker}
 use Rattle.rje_folders.specs.declared.folder.Folder.{Folder}
 use Rattle.rje_folders.specs.FileNames.{IsNumbered}
 use Rattle.rje_folders.specs.Folder.{path_in}
-use Rattle.rje_folders.specs.Moving.{IsMoved, MayDrop, MayMove}
+use Rattle.rje_folders.specs.Moving.{MayDrop, MayMove}
 use Rattle.rje_folders.specs.Promising.{IsSent, MaySettle}
+use Rattle.rje_folders.specs.Inside.Calls.{IsChanged}
 use Rattle.rje_folders.proofs.Taken.{drop_standing, drop_stays}
 
 pub move_settles : (are_one : List Asked → List ℕ → List ℕ → Type 0) (station name doubt : List ℕ) (a b : List Asked) → Adds (MayMove are_one doubt (IsNumbered (path_in station Folder.Sent name))) a b
@@ -22,10 +23,10 @@ drop_settles are_one station name doubt sent a b c moves named drops = added_twi
     (added_weaker (MayDrop are_one sent (path_in station Folder.Out name)) (MaySettle are_one station name doubt Disposition.Sent) (λ call before may. inr (sent, named, may)) b c drops)
 
 -- the file is in sent/ then
-pub sent_is : (are_one : List Asked → List ℕ → List ℕ → Type 0) (station name doubt sent : List ℕ) (a b c : List Asked) → IsMoved doubt sent a b → IsNumbered (path_in station Folder.Sent name) sent → Adds (MayDrop are_one sent (path_in station Folder.Out name)) b c
+pub sent_is : (are_one : List Asked → List ℕ → List ℕ → Type 0) (station name doubt sent : List ℕ) (a b c : List Asked) → IsChanged doubt sent a b → IsNumbered (path_in station Folder.Sent name) sent → Adds (MayDrop are_one sent (path_in station Folder.Out name)) b c
     → IsSent station name doubt sent a c
-sent_is are_one station name doubt sent a b c moved named drops = (
+sent_is are_one station name doubt sent a b c changed named drops = (
   named,
-  drop_standing are_one sent (path_in station Folder.Out name) b c drops ∙ moved.0,
-  drop_stays are_one sent (path_in station Folder.Out name) b c drops moved.1,
+  drop_standing are_one sent (path_in station Folder.Out name) b c drops ∙ changed.0,
+  drop_stays are_one sent (path_in station Folder.Out name) b c drops changed.1,
 )

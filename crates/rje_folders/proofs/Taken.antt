@@ -1,5 +1,5 @@
 -- Calls that take a name away from a file.
-use Rattle.std.proofs.Common.{◌≡◌, ◌≢◌, ℕ, inl, inr, List, [], ◌∷◌, ◌++◌, Bool, true, false, if◌then◌else◌, refl, sym, ◌∙◌, ap, subst}
+use Rattle.std.proofs.Common.{◌≡◌, ◌≢◌, ℕ, inl, inr, List, [], ◌∷◌, ◌++◌, None, Bool, true, false, if◌then◌else◌, refl, sym, ◌∙◌, ap, subst}
 use Rattle.std.specs.Prelude.{bytes_eq}
 use Rattle.std.proofs.lemmas.Slice.Eq.{bytes_eq-Decides}
 use Rattle.std.proofs.lemmas.Bool.{false_from_ne_true}
@@ -8,7 +8,7 @@ use Rattle.rje_stores.specs.Replacing.{Adds, Each}
 use Rattle.rje_stores.specs.Inside.Filling.{AddsSync}
 use Rattle.rje_stores.proofs.Replacing.{same_name, synced_keeps, whatever_came}
 use Rattle.rje_folders.specs.Moving.{IsGone, MayDrop}
-use Rattle.rje_folders.specs.Inside.Calls.{HasTaken}
+use Rattle.rje_folders.specs.Inside.Calls.{HasRemoved, HasTaken}
 
 -- names that differ
 pub other_name : (name other : List ℕ) → name ≢ other → bytes_eq name other ≡ false
@@ -44,6 +44,16 @@ sync_kept are_one kept name a b (asked, made, call) = (asked ∷ [], made, (inl 
 
 pub sync_dropped : (are_one : List Asked → List ℕ → List ℕ → Type 0) (kept name : List ℕ) (a b : List Asked) → AddsSync name a b → Adds (MayDrop are_one kept name) a b
 sync_dropped are_one kept name a b (asked, made, call) = (asked ∷ [], made, (inr (inl call), tt))
+
+-- a name that was taken away stands for nothing; the other one is on disk as it was, and stands for what it stood for
+pub removed_gone : (kept name : List ℕ) (a b : List Asked) → HasRemoved kept name a b → standing name b ≡ None
+removed_gone kept name a b (differ, made) = ap (standing name) made ∙ rw (same_name name) refl
+
+pub removed_kept : (kept name : List ℕ) (a b : List Asked) → HasRemoved kept name a b → has_synced_name kept a ≡ true → has_synced_name kept b ≡ true
+removed_kept kept name a b (differ, made) h = ap (has_synced_name kept) made ∙ rw (other_name kept name differ) h
+
+pub removed_standing : (kept name : List ℕ) (a b : List Asked) → HasRemoved kept name a b → standing kept b ≡ standing kept a
+removed_standing kept name a b (differ, made) = ap (standing kept) made ∙ rw (other_name kept name differ) refl
 
 -- a name that was taken away is gone; the other one is on disk as it was
 pub taken_gone : (kept name : List ℕ) (a b : List Asked) → HasTaken kept name a b → IsGone name b

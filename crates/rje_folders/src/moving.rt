@@ -4,7 +4,7 @@ ghost use Rattle.rje_stores.specs.Disk.{has_synced_name};
 ghost use Rattle.rje_stores.specs.Replacing.{Adds};
 ghost use Rattle.rje_folders.specs.FileNames.{IsNameOf};
 ghost use Rattle.rje_folders.specs.Moving.{IsGone, IsMoved, IsSecond, MayAdd, MayDrop, MayMove};
-ghost use Rattle.rje_folders.specs.Inside.Calls.{HasTaken};
+ghost use Rattle.rje_folders.specs.Inside.Calls.{HasRemoved, HasTaken, IsChanged};
 
 use crate::file_names::FileNames;
 use crate::folder_disk::FolderDisk;
@@ -28,9 +28,29 @@ pub fn move_file<D: FolderDisk>(
     ensures named { IfOk result (λ to. IsNameOf names.entry (string_bytes to)) }
 {
     let old_folder = disk.open_folder(from)?;
+    let path = change_name(disk, alloc, from, names)?;
+    sync_names(disk, &old_folder)?;
+    Ok(path)
+}
+
+/// Moves a file as `move_file` does, but that the name it had is gone is left to the next sync of its folder: where the power fails before that,
+/// the file may have both.
+pub(crate) fn change_name<D: FolderDisk>(
+    disk: &mut D,
+    alloc: Global,
+    from: &str,
+    names: FileNames<'_>,
+) -> io::Result<String>
+    ensures asks { D.discloses
+        → Adds (MayMove D.are_one from.now (IsNameOf names.entry))
+        (D.asked disk.old) (D.asked disk.new) }
+    ensures changed { D.discloses → IfOk result (λ to. IsChanged from.now (string_bytes to)
+        (D.asked disk.old) (D.asked disk.new)) }
+    ensures named { IfOk result (λ to. IsNameOf names.entry (string_bytes to)) }
+{
     let second = link_free(disk, alloc, from, names)?;
     sync_names(disk, &second.folder)?;
-    if take_away(disk, second.path.as_str(), from, &old_folder)? {
+    if remove_spare(disk, second.path.as_str(), from)? {
         Ok(second.path)
     } else {
         Err(io::Error::from(ErrorKind::ResourceBusy))
@@ -78,8 +98,8 @@ pub fn drop_name<D: FolderDisk>(disk: &mut D, kept: &str, name: &str) -> io::Res
     take_away(disk, kept, name, &folder)
 }
 
-/// Takes a name away, whose folder is open, where its file has this other one, which is on disk.
-fn take_away<D: FolderDisk>(
+/// Takes a name away, whose folder is open, where its file has this other one, which is on disk. `false` where it hasn't.
+pub(crate) fn take_away<D: FolderDisk>(
     disk: &mut D,
     kept: &str,
     name: &str,
@@ -92,10 +112,24 @@ fn take_away<D: FolderDisk>(
     ensures taken { D.discloses → IfOk result (λ taken.
         taken ≡ true → HasTaken kept.now name.now (D.asked disk.old) (D.asked disk.new)) }
 {
+    if !remove_spare(disk, kept, name)? {
+        return Ok(false);
+    }
+    sync_names(disk, folder)?;
+    Ok(true)
+}
+
+/// Takes a name away where its file has this other one, which is on disk. `false` where it hasn't.
+fn remove_spare<D: FolderDisk>(disk: &mut D, kept: &str, name: &str) -> io::Result<bool>
+    requires kept { D.discloses → has_synced_name kept.now (D.asked disk.old) ≡ true }
+    ensures asks { D.discloses
+        → Adds (MayDrop D.are_one kept.now name.now) (D.asked disk.old) (D.asked disk.new) }
+    ensures removed { D.discloses → IfOk result (λ removed.
+        removed ≡ true → HasRemoved kept.now name.now (D.asked disk.old) (D.asked disk.new)) }
+{
     if kept == name || !disk.is_one_file(kept, name)? {
         return Ok(false);
     }
     disk.remove(name)?;
-    sync_names(disk, folder)?;
     Ok(true)
 }

@@ -9,7 +9,7 @@ ghost use Rattle.rje_folders.specs.Promising.{IsSent, IsSettled, MayPromise, May
 use crate::file_names::FileNames;
 use crate::folder::Folder;
 use crate::folder_disk::FolderDisk;
-use crate::moving::{add_name, drop_name, move_file};
+use crate::moving::{add_name, change_name, drop_name, move_file, take_away};
 use rje_day::Disposition;
 use std::alloc::Global;
 use std::io;
@@ -62,7 +62,8 @@ pub(crate) fn settle<D: FolderDisk>(
     }
 }
 
-/// The job was counted: its file is moved from doubt/ to sent/, and the name in out/ is taken away. Its path in sent/.
+/// The job was counted: its file is moved from doubt/ to sent/, and the name in out/ is taken away. Its path in sent/. That the name in out/ is gone is
+/// on disk then; the one in doubt/ may be there again after a power failure, and is taken away when the station is started.
 fn put_in_sent<D: FolderDisk>(
     disk: &mut D,
     alloc: Global,
@@ -81,8 +82,9 @@ fn put_in_sent<D: FolderDisk>(
 {
     let ready = Folder::Out.path(alloc, station, name)?;
     let sent = Folder::Sent.path(alloc, station, name)?;
-    let kept = move_file(disk, alloc, doubt, FileNames::Of(sent.as_str()))?;
-    drop_name(disk, kept.as_str(), ready.as_str())?;
+    let out = disk.open_folder(ready.as_str())?;
+    let kept = change_name(disk, alloc, doubt, FileNames::Of(sent.as_str()))?;
+    take_away(disk, kept.as_str(), ready.as_str(), &out)?;
     Ok(kept)
 }
 

@@ -18,6 +18,14 @@ pub record KeepsFiles (before after : List Asked) : Type 0 where
 abbrev pub HasLinked : (from to : List ℕ) → List Asked → List Asked → Type 0
 HasLinked from to before after = (between : List Asked) × (after ≡ Done (Link from to) ∷ between) × KeepsFiles before between × (standing to between ≡ None)
 
+-- the last call took a name away, which isn't the one that is kept
+abbrev pub HasRemoved : (kept name : List ℕ) → List Asked → List Asked → Type 0
+HasRemoved kept name before after = (kept ≢ name) × (after ≡ Done (Remove name) ∷ before)
+
+-- the file that stood under one name stands under another, on disk, and nothing under the first, if that may not be on disk
+abbrev pub IsChanged : (from to : List ℕ) → List Asked → List Asked → Type 0
+IsChanged from to before after = (standing to after ≡ standing from before) × (has_synced_name to after ≡ true) × (standing from after ≡ None)
+
 -- the last calls took a name away, and put that on disk; the name isn't the one that is kept
 abbrev pub HasTaken : (kept name : List ℕ) → List Asked → List Asked → Type 0
 HasTaken kept name before after = (kept ≢ name) × AddsSync name (Done (Remove name) ∷ before) after × (has_synced_name name after ≡ true)

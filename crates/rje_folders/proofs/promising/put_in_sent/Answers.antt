@@ -5,23 +5,23 @@ use Rattle.rje_folders.proofs.promising.put_in_sent.Goals as goal
 
 pub returns-in_err-kept-clause-asks : goal.returns-in_err-kept-clause-asks
 returns-in_err-kept-clause-asks g c = λ told. move_settles g.D.FolderDisk.are_one c.args.station.now c.args.name.now c.args.doubt.now _ _
-    (rw (c.as_str.ensures.value ∙ c.in_ok-sent.ensures) at (c.move_file.ensures.asks told))
+    (rw (c.as_str-2.ensures.value ∙ c.in_ok-sent.ensures) at (c.change_name.ensures.asks told))
 
-pub returns-in_err-drop_name-clause-asks : goal.returns-in_err-drop_name-clause-asks
-returns-in_err-drop_name-clause-asks g c = λ told. drop_settles g.D.FolderDisk.are_one c.args.station.now c.args.name.now c.args.doubt.now (string_bytes c.in_ok-kept.kept) _ _ _
-    (rw (c.as_str.ensures.value ∙ c.in_ok-sent.ensures) at (c.move_file.ensures.asks told))
-    (rw (c.as_str.ensures.value ∙ c.in_ok-sent.ensures) at c.in_ok-kept.ensures.named)
-    (rw (c.as_str-2.ensures.value, c.as_str-3.ensures.value ∙ c.in_ok-ready.ensures) at (c.drop_name.ensures.asks told))
+pub returns-in_err-take_away-clause-asks : goal.returns-in_err-take_away-clause-asks
+returns-in_err-take_away-clause-asks g c = λ told. drop_settles g.D.FolderDisk.are_one c.args.station.now c.args.name.now c.args.doubt.now (string_bytes c.in_ok-kept.kept) _ _ _
+    (rw (c.as_str-2.ensures.value ∙ c.in_ok-sent.ensures) at (c.change_name.ensures.asks told))
+    (rw (c.as_str-2.ensures.value ∙ c.in_ok-sent.ensures) at c.in_ok-kept.ensures.named)
+    (rw (c.as_str-3.ensures.value, c.as_str-4.ensures.value ∙ c.in_ok-ready.ensures) at (c.take_away.ensures.asks told))
 
 pub returns-clause-asks : goal.returns-clause-asks
 returns-clause-asks g c = λ told. drop_settles g.D.FolderDisk.are_one c.args.station.now c.args.name.now c.args.doubt.now (string_bytes c.in_ok-kept.kept) _ _ _
-    (rw (c.as_str.ensures.value ∙ c.in_ok-sent.ensures) at (c.move_file.ensures.asks told))
-    (rw (c.as_str.ensures.value ∙ c.in_ok-sent.ensures) at c.in_ok-kept.ensures.named)
-    (rw (c.as_str-2.ensures.value, c.as_str-3.ensures.value ∙ c.in_ok-ready.ensures) at (c.drop_name.ensures.asks told))
+    (rw (c.as_str-2.ensures.value ∙ c.in_ok-sent.ensures) at (c.change_name.ensures.asks told))
+    (rw (c.as_str-2.ensures.value ∙ c.in_ok-sent.ensures) at c.in_ok-kept.ensures.named)
+    (rw (c.as_str-3.ensures.value, c.as_str-4.ensures.value ∙ c.in_ok-ready.ensures) at (c.take_away.ensures.asks told))
 
 pub returns-clause-sent : goal.returns-clause-sent
 returns-clause-sent g c = λ told. sent_is g.D.FolderDisk.are_one c.args.station.now c.args.name.now c.args.doubt.now (string_bytes c.in_ok-kept.kept)
-    (g.D.Disk.asked c.args.disk.now) (g.D.Disk.asked c.move_file.new.disk) (g.D.Disk.asked c.drop_name.new.disk)
-    (c.in_ok-kept.ensures.moved told)
-    (rw (c.as_str.ensures.value ∙ c.in_ok-sent.ensures) at c.in_ok-kept.ensures.named)
-    (rw (c.as_str-2.ensures.value, c.as_str-3.ensures.value ∙ c.in_ok-ready.ensures) at (c.drop_name.ensures.asks told))
+    (g.D.Disk.asked c.args.disk.now) (g.D.Disk.asked c.change_name.new.disk) (g.D.Disk.asked c.take_away.new.disk)
+    (c.in_ok-kept.ensures.changed told)
+    (rw (c.as_str-2.ensures.value ∙ c.in_ok-sent.ensures) at c.in_ok-kept.ensures.named)
+    (rw (c.as_str-3.ensures.value, c.as_str-4.ensures.value ∙ c.in_ok-ready.ensures) at (c.take_away.ensures.asks told))
