@@ -20,6 +20,8 @@ sys.path.insert(0, os.path.dirname(os.path.abspath(__file__)))
 from connected import ACK0, ACK1, ENQ, EOT, Checks, check_of, figures  # noqa: E402
 
 TIMEOUT = "200"
+# How many jobs of files that lie ready a transmission takes at most (docs/FORMATS.md).
+MANY_JOBS = 256
 ENDINGS = (".deck", ".printer.deck", ".punch.deck", ".transparent.deck", ".job")
 
 
@@ -411,14 +413,14 @@ def late_answer(checks, program, folder):
         station = Station(program, f"{folder}/late", "--to", f"127.0.0.1:{door.getsockname()[1]}", timeout="3000")
         os.makedirs(station.at("out"))
         # One file more than a transmission takes.
-        for number in range(65):
-            station.put(f"{number:02}.deck", ["PAY"])
+        for number in range(MANY_JOBS + 1):
+            station.put(f"{number:03}.deck", ["PAY"])
         station.start()
         peer = Peer(door.accept()[0])
         checks.check(not peer.hears(ENQ) and "it doesn't bid")
         time.sleep(1)
         peer.says(ACK0)
-        for number in range(64):
+        for number in range(MANY_JOBS):
             peer.hears(b"\xFF")
             peer.says(ACK0 if number % 2 else ACK1)
         checks.check(not peer.hears(EOT) and "it doesn't end")
@@ -435,8 +437,8 @@ def own_turn(checks, program, folder):
     port = free_port()
     station = Station(program, f"{folder}/turns", "--listen", f"127.0.0.1:{port}", timeout="3000")
     os.makedirs(station.at("out"))
-    for number in range(65):
-        station.put(f"{number:02}.deck", ["PAY"])
+    for number in range(MANY_JOBS + 1):
+        station.put(f"{number:03}.deck", ["PAY"])
     station.start()
     checks.check(not waits_for(lambda: os.path.exists(station.at("log")) and "listening" in open(station.at("log")).read()) and "it doesn't listen")
     peer = Peer(socket.create_connection(("127.0.0.1", port)))
@@ -450,12 +452,33 @@ def own_turn(checks, program, folder):
         took = time.time() - began
         checks.check(took > 1 and f"after the {turn} EOT it bids {took:.1f} s later")
         peer.says(ACK0)
-        for number in range(64 if turn == "other's" else 1):
+        for number in range(MANY_JOBS if turn == "other's" else 1):
             peer.hears(b"\xFF")
             peer.says(ACK0 if number % 2 else ACK1)
         checks.check(not peer.hears(EOT) and "it doesn't end")
     station.kill()
     peer.close()
+
+
+def listing(checks, program, folder):
+    """The listing of a job is made while the other end takes the acknowledgement, and not only when it speaks again."""
+    port = free_port()
+    station = Station(program, f"{folder}/listing", "--listen", f"127.0.0.1:{port}", timeout="3000")
+    station.start()
+    checks.check(not waits_for(lambda: os.path.exists(station.at("log")) and "listening" in open(station.at("log")).read()) and "it doesn't listen")
+    peer = Peer(socket.create_connection(("127.0.0.1", port)))
+    peer.says(ENQ)
+    checks.check(not peer.hears(ACK0) and "it grants no bid")
+    for number, answer in enumerate((ACK1, ACK0), 1):
+        peer.says(block(b"\xC8\xC9", last=True))
+        checks.check(not peer.hears(answer) and f"it acknowledges no block {number}")
+        checks.check(not waits_for(lambda: len(station.names("print")) == number, 1) and f"no listing {number} a second after its job was acknowledged")
+    # The third one is acknowledged, and the line is gone.
+    peer.says(block(b"\xC8\xC9", last=True))
+    checks.check(not peer.hears(ACK1) and "it acknowledges no block 3")
+    peer.close()
+    checks.check(not waits_for(lambda: len(station.names("print")) == 3, 1) and "no listing of the job after which the line was gone")
+    station.kill()
 
 
 def names_again(checks, program, folder):
@@ -486,6 +509,7 @@ def main():
         callers(checks, program, folder)
         late_answer(checks, program, folder)
         own_turn(checks, program, folder)
+        listing(checks, program, folder)
         names_again(checks, program, folder)
         port = free_port()
         relay = Relay(port, random.Random(seed + 1))

@@ -2,3 +2,4 @@ pub mod Given
 pub mod GivenFiles
 pub mod OneEntry
 pub mod Backed
+pub mod Due

@@ -1,5 +1,5 @@
 -- What is made of a job that came (own profile).
-use Rattle.std.specs.Prelude.{ℕ, List, codes}
+use Rattle.std.specs.Prelude.{◌≡◌, ℕ, List, codes}
 use Rattle.rje_text.specs.declared.mode.Mode.{Mode}
 use Rattle.rje_text.specs.declared.select.Select.{Select}
 use Rattle.rje_folders.specs.declared.folder.Folder.{Folder}
@@ -11,6 +11,7 @@ use Rattle.rje_jobs.specs.Listing.{listing}
 use Rattle.rje_jobs.specs.Punch.{punched}
 use Rattle.rje_stores.specs.Disk.{Asked}
 use Rattle.rje_stores.specs.Replacing.{IsOnDisk}
+use Rattle.rje_spool.specs.declared.due_paper.DuePaper.{DuePaper}
 
 -- of a job for the punch its cards, as they are where it is transparent; of any other its listing
 abbrev pub paper_for : Select → Mode → Job → List ℕ
@@ -30,6 +31,10 @@ abbrev pub paper_ending : Select → Mode → List ℕ
 paper_ending Select.Punch Mode.Transparent = codes ".cards"
 paper_ending Select.Punch Mode.Normal = codes ".deck"
 paper_ending _ mode = codes ".txt"
+
+-- what is to be put into its folder is the paper of this job
+abbrev pub IsPaperOf : Job → DuePaper → Type 0
+IsPaperOf job due = (due.folder ≡ paper_folder job.select) × (due.ending.now ≡ paper_ending job.select job.mode) × (due.bytes.items ≡ paper job)
 
 -- the job has its paper: the file of this path, which has its name from a time and a number, has just that; it is on disk, and so is its name
 pub record HasPaper (station : List ℕ) (job : Job) (path : List ℕ) (after : List Asked) : Type 0 where

@@ -70,6 +70,7 @@ impl<D: FolderDisk + Drop, C: Clock, W: Write, L: Write, B: Book + Drop> FolderS
 
     /// Tells the operator this.
     pub fn tell(&mut self, notice: Notice) {
+        self.files.make_paper();
         self.files.tell(notice);
     }
 
@@ -94,16 +95,19 @@ impl<D: FolderDisk + Drop, C: Clock, W: Write, L: Write, B: Book + Drop> Spool
     ghost ledger = { λ s. s.entries };
 
     fn seen(&mut self) -> Seen {
+        self.files.make_paper();
         self.files.seen()
     }
 
     fn next(&mut self, alloc: Global) -> Result<Vec<Job>, SpoolFault> {
+        self.files.make_paper();
         let jobs = self.files.next(alloc)?;
         self.book.enter_given(jobs.as_slice());
         Ok(jobs)
     }
 
     fn look_on<'a>(&mut self, station: &Station<'a>) -> bool {
+        self.files.make_paper();
         self.files.look_on(station)
     }
 
@@ -120,12 +124,14 @@ impl<D: FolderDisk + Drop, C: Clock, W: Write, L: Write, B: Book + Drop> Spool
     }
 
     fn keep(&mut self, job: &Job) -> Result<(), SpoolFault> {
+        self.files.make_paper();
         self.files.keep(job)?;
         self.book.enter_kept(job);
         Ok(())
     }
 
     fn keep_cut(&mut self, job: &Job) -> Result<(), SpoolFault> {
+        self.files.make_paper();
         self.files.keep_cut(job)?;
         self.book.enter_kept_cut(job);
         Ok(())

@@ -3,6 +3,7 @@
 
 mod book;
 mod console;
+mod due_paper;
 mod folder_spool;
 mod given_file;
 mod given_files;

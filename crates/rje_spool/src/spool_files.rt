@@ -4,13 +4,13 @@ ghost use Rattle.rje_folders.specs.Keeping.{WasMade, WasNamed};
 ghost use Rattle.rje_spool.specs.Backed.{GoesOn, WasPut};
 ghost use Rattle.rje_spool.specs.GivenFiles.{jobs_of};
 ghost use Rattle.rje_spool.specs.Keeping.{IsKeptIn};
-ghost use Rattle.rje_spool.specs.Paper.{HasPaper};
 
 use crate::console::Console;
+use crate::due_paper::DuePaper;
 use crate::given_files::GivenFiles;
 use crate::notice::{JobLabel, Notice};
 use crate::outgoing::{Outgoing, outgoing_of};
-use crate::paper::{paper_of, place_of_paper, received_file};
+use crate::paper::received_file;
 use crate::refused_file::RefusedFile;
 use crate::spool_fault::SpoolFault;
 use crate::watching::Watching;
@@ -25,10 +25,10 @@ use std::io::Write;
 use std::time::Clock;
 
 /// A transmission that has so many jobs is given no more files.
-const MANY_JOBS: usize = 64;
+const MANY_JOBS: usize = 256;
 
 /// The same of so many bytes of files.
-const MANY_BYTES: usize = 1_048_576;
+const MANY_BYTES: usize = 2_097_152;
 
 /// More than the records of one block take in a job file: their blanks are counted in its text.
 const LONGEST_BLOCK: usize = 16_384;
@@ -51,6 +51,8 @@ pub(crate) struct SpoolFiles<D: FolderDisk + Drop, C, W, L> {
     // The time of what was kept last, and the number that comes next with it.
     stamp: String,
     number: u32,
+    // The paper that is still to be made of the job that was kept last, and that job's path.
+    due: Option<(String, DuePaper)>,
     watching: Watching,
     // How much has come of the transmission in hand.
     tally: Tally,
@@ -75,6 +77,7 @@ impl<D: FolderDisk + Drop, C: Clock, W: Write, L: Write> SpoolFiles<D, C, W, L> 
             given: GivenFiles::new(alloc),
             stamp: String::new(alloc),
             number: 1,
+            due: None,
             watching: Watching::new(),
             tally: Tally::after_file(0),
         }
@@ -151,7 +154,7 @@ impl<D: FolderDisk + Drop, C: Clock, W: Write, L: Write> SpoolFiles<D, C, W, L> 
         }
     }
 
-    /// Keeps a job that came whole in in/, and its paper. On disk when it returns, but for the paper.
+    /// Keeps a job that came whole in in/, on disk when it returns. Its paper is due then.
     pub(crate) fn keep(&mut self, job: &Job) -> Result<(), SpoolFault>
         ensures kept { D.discloses → OnOk result (WasPut
             (string_bytes self.old.folder.path) Folder.In job.now
@@ -163,20 +166,34 @@ impl<D: FolderDisk + Drop, C: Clock, W: Write, L: Write> SpoolFiles<D, C, W, L> 
         let path = self.keep_in(Folder::In, job)?;
         self.console
             .tell(Notice::Received(path.as_str(), JobLabel::of(job)));
-        self.make_paper(path.as_str(), job);
+        let number = self.number.saturating_sub(1);
+        match DuePaper::of(self.alloc, job, self.stamp.as_str(), number) {
+            Ok(due) => self.due = Some((path, due)),
+            Err(fault) => self.tell_no_paper(path.as_str(), &fault),
+        }
         Ok(())
     }
 
-    /// Makes the paper of a job that is kept under this path. It is told where that can't be.
-    fn make_paper(&mut self, path: &str, job: &Job)
+    /// Makes the paper that is due, if one is. It is told where that can't be.
+    pub(crate) fn make_paper(&mut self)
         ensures on { D.discloses
             → GoesOn (D.asked self.old.folder.disk) (D.asked self.new.folder.disk) }
         ensures path { self.new.folder.path ≡ self.old.folder.path }
     {
-        if let Err(fault) = self.keep_paper(job) {
-            if let Ok(text) = format!(in self.alloc; "no paper of {path}: {fault}") {
-                self.console.tell(Notice::Failed(text.as_str()));
-            }
+        let Some((path, due)) = self.due.take() else {
+            return;
+        };
+        if let Err(fault) = due.put_into(&mut self.folder) {
+            self.tell_no_paper(path.as_str(), &SpoolFault::from(fault));
+        }
+    }
+
+    /// The job that is kept under this path has no paper.
+    fn tell_no_paper(&mut self, path: &str, why: &SpoolFault)
+        ensures folder { self.new.folder ≡ self.old.folder }
+    {
+        if let Ok(text) = format!(in self.alloc; "no paper of {path}: {why}") {
+            self.console.tell(Notice::Failed(text.as_str()));
         }
     }
 
@@ -442,30 +459,6 @@ impl<D: FolderDisk + Drop, C: Clock, W: Write, L: Write> SpoolFiles<D, C, W, L> 
             file.as_slice(),
         )?;
         self.number = kept.next;
-        Ok(kept.path)
-    }
-
-    /// Keeps the paper of a job, under the time and the number of the job itself. Its path. On disk when it returns.
-    fn keep_paper(&mut self, job: &Job) -> Result<String, SpoolFault>
-        ensures paper { D.discloses → IfOk result (λ path.
-            HasPaper (string_bytes self.old.folder.path) job.now (string_bytes path)
-            (D.asked self.new.folder.disk)) }
-        ensures on { D.discloses
-            → GoesOn (D.asked self.old.folder.disk) (D.asked self.new.folder.disk) }
-        ensures path { self.new.folder.path ≡ self.old.folder.path }
-    {
-        let Ok(paper) = paper_of(self.alloc, job) else {
-            return Err(SpoolFault::OutOfMemory);
-        };
-        let (folder, ending) = place_of_paper(job);
-        let number = self.number.saturating_sub(1);
-        let kept = self.folder.keep(
-            folder,
-            self.stamp.as_str(),
-            number,
-            ending,
-            paper.as_slice(),
-        )?;
         Ok(kept.path)
     }
 }

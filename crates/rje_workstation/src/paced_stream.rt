@@ -10,7 +10,7 @@ use std::time::{Clock, Duration, Instant};
 const MIN_PAUSE: u64 = 20;
 
 /// How long a station hears before it bids where EOT was the last that was said, in milliseconds: it is through before a pause is.
-const TURN: u64 = 5;
+const TURN: u64 = 1;
 
 /// How long a read waits.
 #[derive(Clone, Copy, PartialEq, Eq)]
