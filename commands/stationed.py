@@ -20,8 +20,8 @@ sys.path.insert(0, os.path.dirname(os.path.abspath(__file__)))
 from connected import ACK0, ACK1, ENQ, EOT, Checks, check_of, figures  # noqa: E402
 
 TIMEOUT = "200"
-# How many jobs of files that lie ready a transmission takes at most (docs/FORMATS.md).
-MANY_JOBS = 256
+# How many jobs of files that lie ready the first transmission takes at most (docs/FORMATS.md).
+FIRST_JOBS = 64
 ENDINGS = (".deck", ".printer.deck", ".punch.deck", ".transparent.deck", ".job")
 
 
@@ -249,6 +249,22 @@ class Peer:
         for piece in pieces:
             self.connection.sendall(piece)
 
+    def takes(self):
+        """Grants a bid that was heard, and acknowledges each block. How many jobs the transmission has."""
+        self.says(ACK0)
+        jobs, blocks, heard = 0, 0, b""
+        while EOT not in heard:
+            piece = self.connection.recv(4096)
+            if not piece:
+                break
+            heard += piece
+            # (nothing in the text of a deck of letters reads as its end; two check bytes and a pad follow)
+            end = re.search(rb"[\x03\x26]", heard)
+            if end and len(heard) >= end.end() + 3:
+                jobs, blocks, heard = jobs + (end.group() == b"\x03"), blocks + 1, b""
+                self.says(ACK1 if blocks % 2 else ACK0)
+        return jobs
+
     def is_hung_up(self):
         """Whether the station hangs up, whatever it says before."""
         try:
@@ -413,14 +429,14 @@ def late_answer(checks, program, folder):
         station = Station(program, f"{folder}/late", "--to", f"127.0.0.1:{door.getsockname()[1]}", timeout="3000")
         os.makedirs(station.at("out"))
         # One file more than a transmission takes.
-        for number in range(MANY_JOBS + 1):
+        for number in range(FIRST_JOBS + 1):
             station.put(f"{number:03}.deck", ["PAY"])
         station.start()
         peer = Peer(door.accept()[0])
         checks.check(not peer.hears(ENQ) and "it doesn't bid")
         time.sleep(1)
         peer.says(ACK0)
-        for number in range(MANY_JOBS):
+        for number in range(FIRST_JOBS):
             peer.hears(b"\xFF")
             peer.says(ACK0 if number % 2 else ACK1)
         checks.check(not peer.hears(EOT) and "it doesn't end")
@@ -437,7 +453,7 @@ def own_turn(checks, program, folder):
     port = free_port()
     station = Station(program, f"{folder}/turns", "--listen", f"127.0.0.1:{port}", timeout="3000")
     os.makedirs(station.at("out"))
-    for number in range(MANY_JOBS + 1):
+    for number in range(FIRST_JOBS + 1):
         station.put(f"{number:03}.deck", ["PAY"])
     station.start()
     checks.check(not waits_for(lambda: os.path.exists(station.at("log")) and "listening" in open(station.at("log")).read()) and "it doesn't listen")
@@ -452,12 +468,41 @@ def own_turn(checks, program, folder):
         took = time.time() - began
         checks.check(took > 1 and f"after the {turn} EOT it bids {took:.1f} s later")
         peer.says(ACK0)
-        for number in range(MANY_JOBS if turn == "other's" else 1):
+        for number in range(FIRST_JOBS if turn == "other's" else 1):
             peer.hears(b"\xFF")
             peer.says(ACK0 if number % 2 else ACK1)
         checks.check(not peer.hears(EOT) and "it doesn't end")
     station.kill()
     peer.close()
+
+
+def longer_turns(checks, program, folder):
+    """A transmission of as many jobs as it may have is followed by one of twice as many where it takes less than a second; 100 cards count as a job."""
+    short, long = ["PAY"], ["PAY"] * 1000
+    for name, first, decks, transmissions in (("few", 1, [short] * 201, [1, 64, 128, 8]), ("long", 25, [long] * 25, [7, 13, 5])):
+        with socket.socket() as door:
+            door.bind(("127.0.0.1", 0))
+            door.listen()
+            station = Station(program, f"{folder}/{name}", "--to", f"127.0.0.1:{door.getsockname()[1]}", timeout="300")
+            os.makedirs(station.at("out"))
+            for number, deck in enumerate(decks[:first]):
+                station.put(f"{number:03}.deck", deck)
+            station.start()
+            peer = Peer(door.accept()[0])
+            counted, quick = [], True
+            while sum(counted) < len(decks) and quick:
+                began = time.time()
+                checks.check(not peer.hears(ENQ) and f"{name}: it doesn't bid")
+                counted.append(peer.takes())
+                quick = time.time() - began < 0.8 or counted == [1]
+                if counted == [first]:
+                    open(station.at("hold"), "w").close()
+                    for number, deck in enumerate(decks[first:], first):
+                        station.put(f"{number:03}.deck", deck)
+                    os.remove(station.at("hold"))
+            checks.check(counted != transmissions[:len(counted)] and f"{name}: transmissions of {counted} jobs")
+            station.kill()
+            peer.close()
 
 
 def listing(checks, program, folder):
@@ -509,6 +554,7 @@ def main():
         callers(checks, program, folder)
         late_answer(checks, program, folder)
         own_turn(checks, program, folder)
+        longer_turns(checks, program, folder)
         listing(checks, program, folder)
         names_again(checks, program, folder)
         port = free_port()

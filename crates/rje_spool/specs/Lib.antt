@@ -1,4 +1,5 @@
 pub mod Outgoing
+pub mod Pace
 pub mod Paper
 pub mod GivenFile
 pub mod GivenFiles

@@ -3,7 +3,7 @@ use Rattle.std.specs.Prelude.{◌≡◌, ℕ, List, codes}
 use Rattle.rje_text.specs.declared.mode.Mode.{Mode}
 use Rattle.rje_text.specs.declared.select.Select.{Select}
 use Rattle.rje_folders.specs.declared.folder.Folder.{Folder}
-use Rattle.rje_folders.specs.FileNames.{IsBetween}
+use Rattle.rje_folders.specs.FileNames.{IsBetweenFrom}
 use Rattle.rje_folders.specs.Folder.{path_in}
 use Rattle.rje_jobs.specs.declared.job.Job.{Job}
 use Rattle.rje_jobs.specs.declared.punch.Form.{Form}
@@ -36,8 +36,8 @@ paper_ending _ mode = codes ".txt"
 abbrev pub IsPaperOf : Job → DuePaper → Type 0
 IsPaperOf job due = (due.folder ≡ paper_folder job.select) × (due.ending.now ≡ paper_ending job.select job.mode) × (due.bytes.items ≡ paper job)
 
--- the job has its paper: the file of this path, which has its name from a time and a number, has just that; it is on disk, and so is its name
-pub record HasPaper (station : List ℕ) (job : Job) (path : List ℕ) (after : List Asked) : Type 0 where
-  pub stamp : List ℕ
-  pub named : IsBetween (path_in station (paper_folder job.select) stamp) (paper_ending job.select job.mode) path
+-- the job has its paper: the file of this path, which has its name from this time and a number from this one on, has just that; it is on disk, and so is its name
+pub record HasPaper (station stamp : List ℕ) (number : ℕ) (job : Job) (path : List ℕ) (after : List Asked) : Type 0 where
+  pub next : ℕ
+  pub named : IsBetweenFrom (path_in station (paper_folder job.select) stamp) (paper_ending job.select job.mode) number next path
   pub on_disk : IsOnDisk path (paper job) after

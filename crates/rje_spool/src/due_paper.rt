@@ -30,6 +30,8 @@ impl DuePaper {
         number: u32,
     ) -> Result<DuePaper, SpoolFault>
         ensures of { IfOk result (IsPaperOf job.now) }
+        ensures stamp { IfOk result (λ due. string_bytes due.stamp ≡ stamp.now) }
+        ensures number { IfOk result (λ due. due.number ≡ number) }
     {
         let Ok(bytes) = paper_of(alloc, job) else {
             return Err(SpoolFault::OutOfMemory);
@@ -51,8 +53,8 @@ impl DuePaper {
     ) -> Result<String, FolderFault>
         ensures paper { D.discloses → IfOk result (λ path.
             (job : KeptJob) → IsPaperOf job self.now
-            → HasPaper (string_bytes folder.old.path) job (string_bytes path)
-            (D.asked folder.new.disk)) }
+            → HasPaper (string_bytes folder.old.path) (string_bytes self.now.stamp) self.now.number
+            job (string_bytes path) (D.asked folder.new.disk)) }
         ensures on { D.discloses
             → GoesOn (D.asked folder.old.disk) (D.asked folder.new.disk) }
         ensures path { folder.new.path ≡ folder.old.path }

@@ -9,6 +9,7 @@ mod given_file;
 mod given_files;
 mod notice;
 mod outgoing;
+mod pace;
 mod paper;
 mod refused_file;
 mod spool_fault;

@@ -10,6 +10,7 @@ use crate::due_paper::DuePaper;
 use crate::given_files::GivenFiles;
 use crate::notice::{JobLabel, Notice};
 use crate::outgoing::{Outgoing, outgoing_of};
+use crate::pace::{MOST_JOBS, Pace};
 use crate::paper::received_file;
 use crate::refused_file::RefusedFile;
 use crate::spool_fault::SpoolFault;
@@ -23,12 +24,6 @@ use rje_stores::MAX_INPUT;
 use std::alloc::Global;
 use std::io::Write;
 use std::time::Clock;
-
-/// A transmission that has so many jobs is given no more files.
-const MANY_JOBS: usize = 256;
-
-/// The same of so many bytes of files.
-const MANY_BYTES: usize = 2_097_152;
 
 /// More than the records of one block take in a job file: their blanks are counted in its text.
 const LONGEST_BLOCK: usize = 16_384;
@@ -48,6 +43,8 @@ pub(crate) struct SpoolFiles<D: FolderDisk + Drop, C, W, L> {
     unreadable: usize,
     // The files of the transmission that was begun last.
     given: GivenFiles,
+    // How much a transmission is given.
+    pace: Pace,
     // The time of what was kept last, and the number that comes next with it.
     stamp: String,
     number: u32,
@@ -75,6 +72,7 @@ impl<D: FolderDisk + Drop, C: Clock, W: Write, L: Write> SpoolFiles<D, C, W, L> 
             passed: Vec::new(alloc),
             unreadable: 0,
             given: GivenFiles::new(alloc),
+            pace: Pace::new(),
             stamp: String::new(alloc),
             number: 1,
             due: None,
@@ -275,20 +273,22 @@ impl<D: FolderDisk + Drop, C: Clock, W: Write, L: Write> SpoolFiles<D, C, W, L> 
         ensures path { self.new.folder.path ≡ self.old.folder.path }
     {
         let mut jobs = Vec::new(self.alloc);
-        let mut bytes: usize = 0;
-        for _ in 0..MANY_JOBS {
-            if jobs.len() >= MANY_JOBS || bytes >= MANY_BYTES {
+        let mut cards: usize = 0;
+        for _ in 0..MOST_JOBS {
+            if self.pace.is_full(jobs.len(), cards) {
                 break;
             }
             let Some(name) = self.ready.pop() else {
                 break;
             };
-            bytes = bytes.saturating_add(self.take_file(name, &mut jobs)?);
+            cards = cards.saturating_add(self.take_file(name, &mut jobs)?);
         }
+        self.pace
+            .begin(self.console.stamps().clock(), jobs.len(), cards);
         Ok(jobs)
     }
 
-    /// Takes this file for a transmission that has these jobs, and adds its own. How many bytes it has.
+    /// Takes this file for a transmission that has these jobs, and adds its own. How many cards they have.
     fn take_file(&mut self, name: String, jobs: &mut Vec<Job>) -> Result<usize, SpoolFault>
         ensures on { D.discloses
             → GoesOn (D.asked self.old.folder.disk) (D.asked self.new.folder.disk) }
@@ -307,10 +307,7 @@ impl<D: FolderDisk + Drop, C: Clock, W: Write, L: Write> SpoolFiles<D, C, W, L> 
             }
         };
         match outgoing_of(self.alloc, name.as_str(), file.as_slice()) {
-            Ok(outgoing) => {
-                self.give(name, outgoing, jobs)?;
-                Ok(file.len())
-            }
+            Ok(outgoing) => self.give(name, outgoing, jobs),
             Err(why) if is_want_of_memory(why) => Err(SpoolFault::OutOfMemory),
             Err(why) => {
                 self.refuse(name, why)?;
@@ -319,21 +316,23 @@ impl<D: FolderDisk + Drop, C: Clock, W: Write, L: Write> SpoolFiles<D, C, W, L> 
         }
     }
 
-    /// The jobs of this file are in the transmission.
+    /// The jobs of this file are in the transmission. How many cards they have.
     fn give(
         &mut self,
         name: String,
         outgoing: Outgoing,
         jobs: &mut Vec<Job>,
-    ) -> Result<(), SpoolFault>
+    ) -> Result<usize, SpoolFault>
         ensures folder { self.new.folder ≡ self.old.folder }
     {
         let Outgoing { jobs: more, places } = outgoing;
         self.given.add(name, more.len(), places)?;
+        let mut cards: usize = 0;
         for job in more.into_vec() {
+            cards = cards.saturating_add(job.records.len());
             push(jobs, job)?;
         }
-        Ok(())
+        Ok(cards)
     }
 
     /// Puts a file aside that can't be sent.
@@ -409,6 +408,9 @@ impl<D: FolderDisk + Drop, C: Clock, W: Write, L: Write> SpoolFiles<D, C, W, L> 
         self.given.is_counted(job, &mut self.folder)?;
         if let Some(file) = self.given.of(job) {
             self.console.tell(Notice::Sent(file.name.as_str()));
+        }
+        if job.saturating_add(1) == self.given.jobs() {
+            self.pace.end(self.console.stamps().clock());
         }
         Ok(())
     }
