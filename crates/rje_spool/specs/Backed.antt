@@ -6,6 +6,7 @@ use Rattle.rje_folders.specs.Keeping.{WasMade, WasNamed}
 use Rattle.rje_jobs.specs.declared.job.Job.{Job}
 use Rattle.rje_session.specs.Ledger.{Entry, Settled, Kept, KeptCut}
 use Rattle.rje_stores.specs.Disk.{Asked}
+use Rattle.rje_spool.specs.declared.given_file.GivenFile.{GivenFile}
 use Rattle.rje_spool.specs.Keeping.{IsKeptIn}
 
 -- what contracts see of the spool of a station's folder
@@ -14,7 +15,9 @@ pub record Spooled : Type 0 where
   pub station : List ℕ
   -- what is entered, the newest first
   pub entries : List Entry
-  -- how many jobs the last transmission was given
+  -- the files that the last transmission was given
+  pub files : List GivenFile
+  -- how many jobs they have
   pub given : ℕ
   -- what its disk was asked, the newest first
   pub asked : List Asked

@@ -1,10 +1,12 @@
 -- The files of out/ whose jobs are in a transmission, in the order of their jobs (own profile). A job goes by its number there, from 0.
 use Rattle.std.specs.Prelude.{◌≡◌, ◌≢◌, ℕ, ◌+◌, ◌-◌, ◌==◌, Bool, true, ◌&&◌, List, length, min, position, slice_get, slice_set, nat_lt, nat_le, Option, Some, option_and_then, string_bytes}
 use Rattle.std.specs.Option.{option_map_or}
+use Rattle.rje_day.specs.declared.disposition.Disposition.{Disposition}
+use Rattle.rje_day.specs.declared.disposition.Disposition.TheVariants as disposition
 use Rattle.rje_stores.specs.Disk.{Asked}
 use Rattle.rje_spool.specs.declared.given_file.GivenFile.{GivenFile}
 use Rattle.rje_spool.specs.declared.given_file.Place.{Place}
-use Rattle.rje_spool.specs.GivenFile.{HasSecondName, IsInSent, IsPromised}
+use Rattle.rje_spool.specs.GivenFile.{HasSecondName, IsDoubted, IsInSent, IsPromised}
 
 -- the job is one of the file's
 abbrev pub is_of : ℕ → GivenFile → Bool
@@ -43,3 +45,9 @@ pub record HasGoneOut (station : List ℕ) (file now : GivenFile) (before after 
 abbrev pub HasBeenCounted : (job : ℕ) → (station : List ℕ) → (file now : GivenFile) → (after : List Asked) → Type 0
 HasBeenCounted job station file now after =
     is_last_of job file ≡ true → HasSecondName file.place → IsInSent station (string_bytes file.name) now.place after
+
+-- what becomes of the file of a job that is settled so: counted, as above; in doubt, it stands in doubt/; and where it lies ready, and had a name in doubt/, it has that no more
+abbrev pub IsSettledSo : (job : ℕ) → Disposition → (station : List ℕ) → (after : List Asked) → (file now : GivenFile) → Type 0
+IsSettledSo job disposition.Sent station after file now = HasBeenCounted job station file now after
+IsSettledSo job disposition.InDoubt station after file now = IsDoubted now.place
+IsSettledSo job disposition.Ready station after file now = HasSecondName file.place → now.place ≡ Place.Ready

@@ -1,6 +1,9 @@
 //! The spool of a station's folder.
-ghost use Rattle.std.specs.Prelude.{◌≡◌, [], OnOk, string_bytes};
+ghost use Rattle.std.specs.Prelude.{◌≡◌, List, [], ◌∷◌, length, IfOk, OnErr, OnOk, string_bytes};
+ghost use Rattle.rje_jobs.specs.declared.job.Job.{Job as Item};
 ghost use Rattle.rje_spool.specs.Backed.{AreBacked, with_doubted};
+ghost use Rattle.rje_spool.specs.GivenFiles.{HasGoneOut, IsSettledSo, OfFile};
+ghost use Rattle.rje_session.specs.Ledger.{Given, IsEntered, MayArrive, MayBeEntered, Settled};
 
 use crate::book::{Book, NoBook};
 use crate::console::Console;
@@ -32,7 +35,7 @@ impl<D: FolderDisk + Drop, C, W, L, B: Book + Drop> Model for FolderSpool<D, C, 
 
     ghost Value = { Spooled };
 
-    ghost view = { λ s. record { station = string_bytes s.files.folder.path; entries = B.entries s.book; given = jobs_of s.files.given.files.items; asked = D.asked s.files.folder.disk } };
+    ghost view = { λ s. record { station = string_bytes s.files.folder.path; entries = B.entries s.book; files = s.files.given.files.items; given = jobs_of s.files.given.files.items; asked = D.asked s.files.folder.disk } };
 
     ghost invariant = { λ s. D.discloses → B.discloses → AreBacked (string_bytes s.files.folder.path) (B.entries s.book) (D.asked s.files.folder.disk) };
 }
@@ -99,9 +102,16 @@ impl<D: FolderDisk + Drop, C: Clock, W: Write, L: Write, B: Book + Drop> Spool
         self.files.seen()
     }
 
-    fn next(&mut self, alloc: Global) -> Result<Vec<Job>, SpoolFault> {
+    fn next(&mut self, _alloc: Global) -> Result<Vec<Job>, SpoolFault>
+        ensures given { B.discloses → IfOk result (λ jobs.
+            self.new.entries ≡ Given jobs.items ∷ self.old.entries) }
+        ensures failed { B.discloses → OnErr result ((jobs : List Item)
+            × MayBeEntered (Given jobs) self.old.entries self.new.entries) }
+        // A job's number in the transmission is its number among those of the files.
+        ensures numbered { IfOk result (λ jobs. self.new.given ≡ length jobs.items) }
+    {
         self.files.make_paper();
-        let jobs = self.files.next(alloc)?;
+        let jobs = self.files.next()?;
         self.book.enter_given(jobs.as_slice());
         Ok(jobs)
     }
@@ -111,13 +121,27 @@ impl<D: FolderDisk + Drop, C: Clock, W: Write, L: Write, B: Book + Drop> Spool
         self.files.look_on(station)
     }
 
-    fn goes_out(&mut self, job: usize) -> Result<(), SpoolFault> {
+    fn goes_out(&mut self, job: usize) -> Result<(), SpoolFault>
+        ensures entered { B.discloses
+            → IsEntered result (MayArrive job) self.old.entries self.new.entries }
+        // The job's file has a name in doubt/, on disk.
+        ensures out { D.discloses → OnOk result (OfFile job
+            (λ file now. HasGoneOut self.old.station file now self.old.asked self.new.asked)
+            self.old.files self.new.files) }
+    {
         self.files.goes_out(job)?;
         self.book.enter_out(job);
         Ok(())
     }
 
-    fn settle(&mut self, job: usize, what: Disposition) -> Result<(), SpoolFault> {
+    fn settle(&mut self, job: usize, what: Disposition) -> Result<(), SpoolFault>
+        ensures entered { B.discloses
+            → IsEntered result (Settled job what) self.old.entries self.new.entries }
+        // The job's file stands where it belongs then.
+        ensures stands { D.discloses → OnOk result (OfFile job
+            (IsSettledSo job what self.old.station self.new.asked)
+            self.old.files self.new.files) }
+    {
         self.files.settle(job, what)?;
         self.book.enter_settled(job, what);
         Ok(())

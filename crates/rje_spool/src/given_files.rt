@@ -1,5 +1,5 @@
 //! The files whose jobs are in a transmission.
-ghost use Rattle.std.specs.Prelude.{◌≡◌, ◌++◌, ◌∷◌, false, [], position, option_copied, string_bytes, OnOk, OnErr};
+ghost use Rattle.std.specs.Prelude.{◌≡◌, ◌+◌, ◌++◌, ◌∷◌, false, [], min, position, option_copied, string_bytes, OnOk, OnErr};
 ghost use Rattle.rje_spool.specs.declared.given_file.GivenFile.{GivenFile as Item};
 ghost use Rattle.rje_spool.specs.declared.given_file.Place.TheVariants.{Ready};
 ghost use Rattle.rje_spool.specs.Backed.{GoesOn};
@@ -46,6 +46,8 @@ impl GivenFiles {
         ensures added { OnOk result ((file : Item) × (self.new.files.items
             ≡ self.old.files.items ++ file ∷ []) × IsNext self.old.files.items count file
             × (file.name ≡ name) × (file.places ≡ places)) }
+        ensures jobs { OnOk result (jobs_of self.new.files.items
+            ≡ min (jobs_of self.old.files.items + count) 18446744073709551615) }
         ensures kept { OnErr result (self.new.files.items ≡ self.old.files.items) }
     {
         let file = GivenFile {

@@ -1,8 +1,10 @@
 //! The files of a station's spool, and its console.
-ghost use Rattle.std.specs.Prelude.{◌≡◌, IfOk, OnOk, string_bytes};
+ghost use Rattle.std.specs.Prelude.{◌≡◌, length, IfOk, OnOk, string_bytes};
 ghost use Rattle.rje_folders.specs.Keeping.{WasMade, WasNamed};
 ghost use Rattle.rje_spool.specs.Backed.{GoesOn, WasPut};
-ghost use Rattle.rje_spool.specs.GivenFiles.{jobs_of};
+ghost use Rattle.rje_spool.specs.declared.given_file.Place.TheVariants.{Ready};
+ghost use Rattle.rje_spool.specs.GivenFile.{HasSecondName, IsDoubted};
+ghost use Rattle.rje_spool.specs.GivenFiles.{HasBeenCounted, HasGoneOut, IsSettledSo, OfFile, jobs_of};
 ghost use Rattle.rje_spool.specs.Keeping.{IsKeptIn};
 
 use crate::console::Console;
@@ -110,12 +112,13 @@ impl<D: FolderDisk + Drop, C: Clock, W: Write, L: Write> SpoolFiles<D, C, W, L> 
     }
 
     /// The jobs of the next transmission: those of the first files that lie ready.
-    pub(crate) fn next(&mut self, alloc: Global) -> Result<Vec<Job>, SpoolFault>
+    pub(crate) fn next(&mut self) -> Result<Vec<Job>, SpoolFault>
+        ensures numbered { IfOk result (λ jobs.
+            jobs_of self.new.given.files.items ≡ length jobs.items) }
         ensures on { D.discloses
             → GoesOn (D.asked self.old.folder.disk) (D.asked self.new.folder.disk) }
         ensures path { self.new.folder.path ≡ self.old.folder.path }
     {
-        self.given = GivenFiles::new(alloc);
         self.watching = Watching::new();
         self.take_files()
     }
@@ -131,6 +134,10 @@ impl<D: FolderDisk + Drop, C: Clock, W: Write, L: Write> SpoolFiles<D, C, W, L> 
 
     /// The last block of this job goes out next: from now on its file has a name in doubt/, on disk.
     pub(crate) fn goes_out(&mut self, job: usize) -> Result<(), SpoolFault>
+        ensures out { D.discloses → OnOk result (OfFile job
+            (λ file now. HasGoneOut (string_bytes self.old.folder.path) file now
+            (D.asked self.old.folder.disk) (D.asked self.new.folder.disk))
+            self.old.given.files.items self.new.given.files.items) }
         ensures on { D.discloses
             → GoesOn (D.asked self.old.folder.disk) (D.asked self.new.folder.disk) }
         ensures path { self.new.folder.path ≡ self.old.folder.path }
@@ -141,6 +148,10 @@ impl<D: FolderDisk + Drop, C: Clock, W: Write, L: Write> SpoolFiles<D, C, W, L> 
 
     /// What became of this job.
     pub(crate) fn settle(&mut self, job: usize, what: Disposition) -> Result<(), SpoolFault>
+        ensures stands { D.discloses → OnOk result (OfFile job
+            (IsSettledSo job what (string_bytes self.old.folder.path)
+            (D.asked self.new.folder.disk))
+            self.old.given.files.items self.new.given.files.items) }
         ensures on { D.discloses
             → GoesOn (D.asked self.old.folder.disk) (D.asked self.new.folder.disk) }
         ensures path { self.new.folder.path ≡ self.old.folder.path }
@@ -268,10 +279,13 @@ impl<D: FolderDisk + Drop, C: Clock, W: Write, L: Write> SpoolFiles<D, C, W, L> 
 
     /// Takes the next files that lie ready for a transmission, and gives their jobs. A file that can't be sent is put aside.
     fn take_files(&mut self) -> Result<Vec<Job>, SpoolFault>
+        ensures numbered { IfOk result (λ jobs.
+            jobs_of self.new.given.files.items ≡ length jobs.items) }
         ensures on { D.discloses
             → GoesOn (D.asked self.old.folder.disk) (D.asked self.new.folder.disk) }
         ensures path { self.new.folder.path ≡ self.old.folder.path }
     {
+        self.given = GivenFiles::new(self.alloc);
         let mut jobs = Vec::new(self.alloc);
         let mut cards: usize = 0;
         for _ in 0..MOST_JOBS {
@@ -290,6 +304,8 @@ impl<D: FolderDisk + Drop, C: Clock, W: Write, L: Write> SpoolFiles<D, C, W, L> 
 
     /// Takes this file for a transmission that has these jobs, and adds its own. How many cards they have.
     fn take_file(&mut self, name: String, jobs: &mut Vec<Job>) -> Result<usize, SpoolFault>
+        ensures numbered { OnOk result (jobs_of self.old.given.files.items ≡ length jobs.old.items
+            → jobs_of self.new.given.files.items ≡ length jobs.new.items) }
         ensures on { D.discloses
             → GoesOn (D.asked self.old.folder.disk) (D.asked self.new.folder.disk) }
         ensures path { self.new.folder.path ≡ self.old.folder.path }
@@ -324,19 +340,20 @@ impl<D: FolderDisk + Drop, C: Clock, W: Write, L: Write> SpoolFiles<D, C, W, L> 
         jobs: &mut Vec<Job>,
     ) -> Result<usize, SpoolFault>
         ensures folder { self.new.folder ≡ self.old.folder }
+        ensures numbered { OnOk result (jobs_of self.old.given.files.items ≡ length jobs.old.items
+            → jobs_of self.new.given.files.items ≡ length jobs.new.items) }
     {
         let Outgoing { jobs: more, places } = outgoing;
+        let cards = cards_of(more.as_slice());
         self.given.add(name, more.len(), places)?;
-        let mut cards: usize = 0;
-        for job in more.into_vec() {
-            cards = cards.saturating_add(job.records.len());
-            push(jobs, job)?;
-        }
+        let mut more = more.into_vec();
+        jobs.append(&mut more)?;
         Ok(cards)
     }
 
     /// Puts a file aside that can't be sent.
     fn refuse(&mut self, name: String, why: RefusedFile) -> Result<(), SpoolFault>
+        ensures given { self.new.given ≡ self.old.given }
         ensures on { D.discloses
             → GoesOn (D.asked self.old.folder.disk) (D.asked self.new.folder.disk) }
         ensures path { self.new.folder.path ≡ self.old.folder.path }
@@ -351,6 +368,7 @@ impl<D: FolderDisk + Drop, C: Clock, W: Write, L: Write> SpoolFiles<D, C, W, L> 
     }
 
     fn put_aside(&mut self, name: &str, why: RefusedFile) -> Result<(), FolderFault>
+        ensures given { self.new.given ≡ self.old.given }
         ensures on { D.discloses
             → GoesOn (D.asked self.old.folder.disk) (D.asked self.new.folder.disk) }
         ensures path { self.new.folder.path ≡ self.old.folder.path }
@@ -368,6 +386,7 @@ impl<D: FolderDisk + Drop, C: Clock, W: Write, L: Write> SpoolFiles<D, C, W, L> 
     /// Leaves a file alone that is of no use, and can't be put aside.
     fn pass_over(&mut self, name: String, why: &FolderFault) -> Result<(), SpoolFault>
         ensures folder { self.new.folder ≡ self.old.folder }
+        ensures given { self.new.given ≡ self.old.given }
     {
         if let Ok(text) = format!(in self.alloc; "{name}: {why}") {
             self.console.tell(Notice::Failed(text.as_str()));
@@ -377,6 +396,8 @@ impl<D: FolderDisk + Drop, C: Clock, W: Write, L: Write> SpoolFiles<D, C, W, L> 
 
     /// A job may have arrived, or nobody knows: its file stands in doubt/.
     fn doubt(&mut self, job: usize) -> Result<(), SpoolFault>
+        ensures doubted { OnOk result (OfFile job (λ file now. IsDoubted now.place)
+            self.old.given.files.items self.new.given.files.items) }
         ensures on { D.discloses
             → GoesOn (D.asked self.old.folder.disk) (D.asked self.new.folder.disk) }
         ensures path { self.new.folder.path ≡ self.old.folder.path }
@@ -390,6 +411,7 @@ impl<D: FolderDisk + Drop, C: Clock, W: Write, L: Write> SpoolFiles<D, C, W, L> 
     /// Tells that the file of a job stands in doubt/.
     fn tell_doubt(&mut self, job: usize)
         ensures folder { self.new.folder ≡ self.old.folder }
+        ensures given { self.new.given ≡ self.old.given }
     {
         let Some(file) = self.given.of(job) else {
             return;
@@ -401,22 +423,37 @@ impl<D: FolderDisk + Drop, C: Clock, W: Write, L: Write> SpoolFiles<D, C, W, L> 
 
     /// A job was counted.
     fn count(&mut self, job: usize) -> Result<(), SpoolFault>
+        ensures sent { D.discloses → OnOk result (OfFile job
+            (λ file now. HasBeenCounted job (string_bytes self.old.folder.path) file now
+            (D.asked self.new.folder.disk))
+            self.old.given.files.items self.new.given.files.items) }
         ensures on { D.discloses
             → GoesOn (D.asked self.old.folder.disk) (D.asked self.new.folder.disk) }
         ensures path { self.new.folder.path ≡ self.old.folder.path }
     {
         self.given.is_counted(job, &mut self.folder)?;
+        self.tell_sent(job);
+        Ok(())
+    }
+
+    /// Tells that a job was counted, and where it is the last one of the transmission notes how long that took.
+    fn tell_sent(&mut self, job: usize)
+        ensures folder { self.new.folder ≡ self.old.folder }
+        ensures given { self.new.given ≡ self.old.given }
+    {
         if let Some(file) = self.given.of(job) {
             self.console.tell(Notice::Sent(file.name.as_str()));
         }
         if job.saturating_add(1) == self.given.jobs() {
             self.pace.end(self.console.stamps().clock());
         }
-        Ok(())
     }
 
     /// A job lies ready still. The folder is read anew, since its file comes before those that were to be next.
     fn take_back(&mut self, job: usize) -> Result<(), SpoolFault>
+        ensures ready { OnOk result (OfFile job
+            (λ file now. HasSecondName file.place → now.place ≡ Ready)
+            self.old.given.files.items self.new.given.files.items) }
         ensures on { D.discloses
             → GoesOn (D.asked self.old.folder.disk) (D.asked self.new.folder.disk) }
         ensures path { self.new.folder.path ≡ self.old.folder.path }
@@ -463,6 +500,13 @@ impl<D: FolderDisk + Drop, C: Clock, W: Write, L: Write> SpoolFiles<D, C, W, L> 
         self.number = kept.next;
         Ok(kept.path)
     }
+}
+
+/// How many cards these jobs have.
+fn cards_of(jobs: &[Job]) -> usize {
+    jobs.iter()
+        .map(|job| job.records.len())
+        .fold(0, usize::saturating_add)
 }
 
 /// Adds an item.

@@ -1,3 +1,5 @@
+use Rattle.rje_spool.specs.Backed.{Spooled}
+use Rattle.std.proofs.Common.{ap}
 use Rattle.std.specs.Prelude.{string_bytes}
 use Rattle.rje_spool.proofs.Backed.{are_backed}
 use Rattle.rje_spool.proofs.folder_spool.FolderSpoolSpool.settle.Goals as goal
@@ -9,3 +11,6 @@ invariant_of-self g c = λ told kept. rw c.settle.ensures.path (are_backed (stri
 pub invariant_of-self-2 : goal.invariant_of-self-2
 invariant_of-self-2 g c = λ told kept. rw (c.settle.ensures.path, c.enter_settled.ensures.entered kept) (are_backed (string_bytes c.self.inside.files.folder.path) (g.B.Book.entries c.self.inside.book) (g.D.Disk.asked c.self.inside.files.folder.disk) (g.D.Disk.asked c.settle.new.self.folder.disk)
     (c.settle.ensures.on told) (c.self.invariant told kept))
+
+pub returns-clause-stands : goal.returns-clause-stands
+returns-clause-stands g c = λ told. rw (ap (λ (s : Spooled). s.files) c.self.view_is, ap (λ (s : Spooled). s.station) c.self.view_is) at (c.in_ok-settle.ensures.stands told)
