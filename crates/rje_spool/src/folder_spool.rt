@@ -107,7 +107,7 @@ impl<D: FolderDisk + Drop, C: Clock, W: Write, L: Write, B: Book + Drop> Spool
             self.new.entries ≡ Given jobs.items ∷ self.old.entries) }
         ensures failed { B.discloses → OnErr result ((jobs : List Item)
             × MayBeEntered (Given jobs) self.old.entries self.new.entries) }
-        // A job's number in the transmission is its number among those of the files.
+        // The files have as many jobs as are given.
         ensures numbered { IfOk result (λ jobs. self.new.given ≡ length jobs.items) }
     {
         self.files.make_paper();
