@@ -2,6 +2,7 @@ pub mod Bytes
 pub mod Body
 pub mod Transmission
 pub mod Heard
+pub mod FrameKind
 pub mod Written
 pub mod FrameFault
 pub mod Laws

@@ -1,25 +1,25 @@
 //! The listener.
-ghost use Rattle.std.specs.Prelude.{◌≡◌, ◌≢◌, ◌≤◌, ℕ, List, [], ◌++◌, length, take, IfSome, IfNone, OnSome};
+ghost use Rattle.std.specs.Prelude.{◌≡◌, ◌≢◌, ◌≤◌, false, ℕ, List, [], ◌++◌, length, take, IfSome, IfNone, OnSome};
 ghost use Rattle.bsc_frame.specs.Transmission.{Transmission, HasNoFrame};
 ghost use Rattle.bsc_frame.specs.Heard.{IsHeard};
+ghost use Rattle.bsc_frame.specs.FrameKind.{frame_of, is_block};
 ghost use Rattle.bsc_frame.specs.Listener.{HasTaken};
 
+mod bytes;
 mod data;
-mod frame_kind;
 mod stage;
 mod step;
 mod sync;
 mod text;
 
-use crate::{Fed, Frame, Heard};
+use crate::{Fed, FedKind, Frame, Heard};
 use arrayvec::ArrayVec;
 use bsc_check::Check;
 use bsc_codes::MAX_TEXT;
+use bytes::{put_text, take_bytes};
 pub(crate) use data::in_front_of_dle;
-use data::keep_data;
 use stage::{Stage, heard_in};
 use std::marker::Model;
-use step::step;
 
 /// Hears frames in bytes that come in any pieces. It keeps what has come of one transmission, at most 512 data bytes of it, and their
 /// running check; no call takes memory. Bytes that can no longer become a transmission are taken until `quiet` or `reset`.
@@ -80,30 +80,42 @@ impl Listener {
         ensures on { IfNone result.frame ((bytes : List ℕ) → HasTaken self.old bytes
             → HasTaken self.new (bytes ++ piece.now)) }
     {
-        // Locals stay in registers from byte to byte.
-        let mut stage = self.stage;
-        let mut check = self.check;
-        let mut used = 0;
-        while used < piece.len() {
-            let kept = keep_data(stage, &mut self.text, &mut check, &piece[used..]);
-            used += kept;
-            if kept == 0 {
-                let byte = piece[used];
-                used += 1;
-                if let Some(kind) = step(&mut stage, &mut self.text, &mut check, byte) {
-                    self.stage = Stage::Pads;
-                    return Fed {
-                        used,
-                        frame: Some(kind.into_frame(&mut self.text)),
-                    };
-                }
-            }
-        }
-        self.stage = stage;
-        self.check = check;
+        let (used, kind) = take_bytes(&mut self.stage, &mut self.text, &mut self.check, piece);
+        let Some(kind) = kind else {
+            return Fed { used, frame: None };
+        };
         Fed {
-            used: piece.len(),
-            frame: None,
+            used,
+            frame: Some(kind.into_frame(&mut self.text)),
+        }
+    }
+
+    /// Does what `feed` does, and gives the frame's kind alone: a block's text takes the place of what the room held. Nothing of a block's
+    /// size is given back.
+    #[tactic(auto, using(crate::proofs::Feeding::taken_none))]
+    pub fn feed_into(&mut self, piece: &[u8], room: &mut ArrayVec<u8, MAX_TEXT>) -> FedKind
+        ensures used { result.used ≤ length piece.now }
+        // A frame is that of the transmission that ends with the last byte that was used.
+        ensures frame { IfSome result.kind (λ kind. (bytes : List ℕ) → HasTaken self.old bytes
+            → Transmission (frame_of kind room.new.items) (bytes ++ take result.used piece.now)) }
+        ensures kept { IfSome result.kind (λ kind. is_block kind ≡ false → room.new ≡ room.old) }
+        ensures as_new { OnSome result.kind (HasTaken self.new []) }
+        // Without a frame all bytes were used, and no prefix of what was taken is a transmission.
+        ensures whole { IfNone result.kind ((result.used ≡ length piece.now)
+            × (room.new ≡ room.old)) }
+        ensures none { IfNone result.kind ((bytes : List ℕ) → HasTaken self.old bytes
+            → HasNoFrame (bytes ++ piece.now)) }
+        ensures on { IfNone result.kind ((bytes : List ℕ) → HasTaken self.old bytes
+            → HasTaken self.new (bytes ++ piece.now)) }
+    {
+        let (used, kind) = take_bytes(&mut self.stage, &mut self.text, &mut self.check, piece);
+        let Some(kind) = kind else {
+            return FedKind { used, kind: None };
+        };
+        put_text(kind, &self.text, room);
+        FedKind {
+            used,
+            kind: Some(kind),
         }
     }
 

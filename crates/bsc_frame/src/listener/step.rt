@@ -3,10 +3,10 @@ ghost use Rattle.std.specs.Prelude.{◌≡◌};
 ghost use Rattle.bsc_frame.specs.Inside.Listening.HeardSoFar.{next};
 ghost use Rattle.bsc_frame.specs.Inside.Listening.Stage.{so_far_of, progress_of, CheckRuns};
 
-use super::frame_kind::FrameKind;
 use super::stage::Stage;
 use super::sync::{after_no_sync, after_one_syn, after_pads, at_body, at_dle};
 use super::text::{at_normal, at_second_check, at_text_dle, at_transparent};
+use crate::FrameKind;
 use arrayvec::ArrayVec;
 use bsc_check::Check;
 use bsc_codes::MAX_TEXT;

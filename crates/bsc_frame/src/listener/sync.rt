@@ -3,8 +3,8 @@ ghost use Rattle.std.specs.Prelude.{◌≡◌, ℕ, List};
 ghost use Rattle.bsc_frame.specs.Inside.Listening.HeardSoFar.{next, Pads, OneSyn, Syns, Dle, On, is_pad as is_pad_of, after_no_sync as no_sync};
 ghost use Rattle.bsc_frame.specs.Inside.Listening.Stage.{so_far_of, progress_of, CheckRuns};
 
-use super::frame_kind::FrameKind;
 use super::stage::Stage;
+use crate::FrameKind;
 use crate::frame::{ACK0, ACK1, LEADING_PAD, RVI, WACK};
 use arrayvec::ArrayVec;
 use bsc_check::Check;

@@ -13,10 +13,11 @@ ghost use Rattle.bsc_frame.specs.Inside.Listening.HeardSoFar.{
   closed,
   frame_of_enq,
 };
-ghost use Rattle.bsc_frame.specs.Inside.Listening.Stage.{so_far_of, frame_of, progress_of, CheckRuns};
+ghost use Rattle.bsc_frame.specs.Inside.Listening.Stage.{so_far_of, progress_of, CheckRuns};
+ghost use Rattle.bsc_frame.specs.FrameKind.{frame_of};
 
-use super::frame_kind::FrameKind;
 use super::stage::Stage;
+use crate::FrameKind;
 use crate::closing::closing_byte;
 use crate::normal_text::is_normal;
 use arrayvec::ArrayVec;

@@ -1,10 +1,10 @@
 //! Worked transmissions, cuttings, refusals and damage.
 use arrayvec::{ArrayString, ArrayVec};
 use bsc_check::Check;
-use bsc_codes::{Block, Closing};
+use bsc_codes::{Block, Closing, MAX_TEXT};
 use bsc_frame::{
-    Fed, Frame, FrameFault, Heard, Listener, every_hearing, one_hearing, one_transmission,
-    write_frame, written_is_transmission,
+    Fed, FedKind, Frame, FrameFault, FrameKind, Heard, Listener, every_hearing, one_hearing,
+    one_transmission, write_frame, written_is_transmission,
 };
 use std::fmt::Write;
 
@@ -204,6 +204,22 @@ fn fill_aborts_and_long_eot_are_heard_in_every_cutting(rt: HostRuntime) {
         assert!(rt; is_heard_at_last(frame, bytes));
     }
     one_transmission();
+}
+
+#[test]
+fn a_blocks_text_takes_the_place_of_what_its_room_held(rt: HostRuntime) {
+    let mut listener = Listener::new();
+    let mut room: ArrayVec<u8, MAX_TEXT> = ArrayVec::new();
+    room.push(0x07);
+    let FedKind { used, kind } = listener.feed_into(&[0x32, 0x32, 0x10, 0x70, 0xFF], &mut room);
+    assert!(rt; used == 4 && kind == Some(FrameKind::Ack0));
+    let front = [0x32, 0x32, 0x02, 0xC1, 0x32, 0x1E, 0x03, 0x18];
+    let FedKind { used, kind } = listener.feed_into(&front, &mut room);
+    assert!(rt; used == 8 && kind.is_none());
+    assert!(rt; room.as_slice() == [0x07].as_slice());
+    let FedKind { used, kind } = listener.feed_into(&[0x5D, 0xFF], &mut room);
+    assert!(rt; used == 1 && kind == Some(FrameKind::Block(false, Closing::Etx)));
+    assert!(rt; room.as_slice() == [0xC1, 0x1E].as_slice());
 }
 
 #[test]

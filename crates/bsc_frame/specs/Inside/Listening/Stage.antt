@@ -2,10 +2,8 @@
 -- What the listener's fields mean in its words.
 use Rattle.std.specs.Prelude.{ℕ, Option, Some, None, List}
 use Rattle.bsc_check.specs.Check.{IsCheckOf}
-use Rattle.bsc_frame.specs.declared.frame.Frame.{Frame}
-use Rattle.bsc_frame.specs.declared.frame.Frame.TheVariants as frame
-use Rattle.bsc_frame.specs.declared.listener.frame_kind.FrameKind.{FrameKind}
-use Rattle.bsc_frame.specs.declared.listener.frame_kind.FrameKind.TheVariants as kind
+use Rattle.bsc_frame.specs.declared.frame_kind.FrameKind.{FrameKind}
+use Rattle.bsc_frame.specs.FrameKind.{frame_of}
 use Rattle.bsc_frame.specs.declared.listener.stage.Stage.{Stage}
 use Rattle.bsc_frame.specs.declared.listener.stage.Stage.TheVariants as stage
 use Rattle.bsc_frame.specs.Body.{covered}
@@ -24,19 +22,6 @@ so_far_of (stage.AwaitsSecondCheck transparent closing first) text = AwaitsSecon
 so_far_of stage.BadText text = BadText
 so_far_of stage.OnlyPads text = OnlyPads
 so_far_of stage.OnlyNoise text = OnlyNoise
-
--- the frame of a kind; a block has these data bytes
-abbrev pub frame_of : FrameKind → List ℕ → Frame
-frame_of kind.Enq text = frame.Enq
-frame_of kind.Ack0 text = frame.Ack0
-frame_of kind.Ack1 text = frame.Ack1
-frame_of kind.Nak text = frame.Nak
-frame_of kind.Wack text = frame.Wack
-frame_of kind.Rvi text = frame.Rvi
-frame_of kind.Ttd text = frame.Ttd
-frame_of kind.Abort text = frame.Abort
-frame_of kind.Eot text = frame.Eot
-frame_of (kind.Block transparent closing) text = frame.Block (block_of transparent text closing)
 
 -- a frame of this kind is whole, or what has come, with these data bytes
 abbrev pub progress_of : Option FrameKind → Stage → List ℕ → Progress

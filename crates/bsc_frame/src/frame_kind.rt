@@ -1,14 +1,15 @@
 //! Which frame became whole.
-ghost use Rattle.std.specs.Prelude.{◌≡◌};
-ghost use Rattle.bsc_frame.specs.Inside.Listening.Stage.{frame_of};
+ghost use Rattle.std.specs.Prelude.{◌≡◌, true, false, []};
+ghost use Rattle.bsc_frame.specs.FrameKind.{frame_of, is_block};
 
 use crate::Frame;
 use arrayvec::ArrayVec;
 use bsc_codes::{Block, Closing, MAX_TEXT};
 
-/// Which frame became whole, without the data bytes of a block. It is small, so that a byte that makes no frame whole costs little.
-#[derive(Clone, Copy)]
-pub(crate) enum FrameKind {
+/// Which frame became whole, each by the name that it has as a `Frame`, but without the data bytes of a block: it is small, and costs little
+/// to give back.
+#[derive(Clone, Copy, Debug, PartialEq, Eq)]
+pub enum FrameKind {
     Enq,
     Ack0,
     Ack1,
@@ -18,14 +19,16 @@ pub(crate) enum FrameKind {
     Ttd,
     Abort,
     Eot,
-    /// A block: whether it is transparent, and what closed it.
+    /// A block: whether its text is transparent, and what ends it.
     Block(bool, Closing),
 }
 
 impl FrameKind {
-    /// The frame of this kind. A block takes the text with it.
-    pub(crate) fn into_frame(self, text: &mut ArrayVec<u8, MAX_TEXT>) -> Frame
-        ensures { result ≡ frame_of self text.old.items }
+    /// The frame of this kind. A block takes the text with it; another frame leaves it.
+    pub fn into_frame(self, text: &mut ArrayVec<u8, MAX_TEXT>) -> Frame
+        ensures frame { result ≡ frame_of self text.old.items }
+        ensures taken { is_block self ≡ true → text.new.items ≡ [] }
+        ensures kept { is_block self ≡ false → text.new ≡ text.old }
     {
         match self {
             FrameKind::Enq => Frame::Enq,
