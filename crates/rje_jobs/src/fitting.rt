@@ -1,17 +1,16 @@
 //! Which jobs can be sent.
 ghost use Rattle.std.specs.Prelude.{◌≡◌, ◌≤◌, ◌↔◌, true, length, IsTrue, None};
 ghost use Rattle.rje_text.specs.PackFault.{pack_fault};
-ghost use Rattle.rje_jobs.specs.Fitting.{JobFits, AreSent};
+ghost use Rattle.rje_jobs.specs.Fitting.{JobFits};
 
 use crate::Job;
-use rje_text::{MAX_RECORD, Mode, PackFault, Record, RecordsIter, Select};
+use rje_text::{MAX_RECORD, Mode, PackFault, Record, Select};
 
 /// Whether the job can be sent: it is whole, each of its records can be sent, and a transparent job is for the punch.
 pub fn job_fits(job: &Job) -> bool
     ensures fits { IsTrue result ↔ JobFits job.now }
 {
-    heading_fits(job.select, job.mode, job.whole)
-        && are_sent(job.records.iter(), job.select, job.mode)
+    heading_fits(job.select, job.mode, job.whole) && job.records.can_be_sent(job.select, job.mode)
 }
 
 /// Whether a job of this selection and mode can be sent if its records can: it is whole, and a transparent job is for the punch.
@@ -20,18 +19,6 @@ pub fn heading_fits(select: Select, mode: Mode, whole: bool) -> bool
         × (mode ≡ Mode.Transparent → select ≡ Select.Punch)) }
 {
     whole && (mode != Mode::Transparent || select == Select::Punch)
-}
-
-/// Whether each of these records can be sent in a job of this selection and mode.
-fn are_sent(records: RecordsIter, select: Select, mode: Mode) -> bool
-    ensures { IsTrue result ↔ AreSent select mode records.entry }
-{
-    for item in records {
-        if !record_fits(&item, select, mode) {
-            return false;
-        }
-    }
-    true
 }
 
 /// Whether the record can be sent in a job of this selection and mode.

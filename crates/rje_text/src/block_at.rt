@@ -12,7 +12,7 @@ use crate::packer::{closing_of, is_transparent, select_device, take, take_record
 use crate::spelling::{TextInHand, append};
 use crate::{Mode, Record, Records, Select};
 use arrayvec::ArrayVec;
-use bsc_codes::Block;
+use bsc_codes::{Block, Closing};
 
 /// The block of the canonical cut that begins at a record, and the place after its last record. The records before that place are whole
 /// blocks of the cut; a block begins at the first record, also where there is none. Takes no memory.
@@ -35,17 +35,18 @@ pub fn next_block(records: &[Record], from: usize, select: Select, mode: Mode) -
     (closed(&in_hand, mode, place == records.len()), place)
 }
 
-/// The same block, of records that stand one after another in memory.
-pub(crate) fn next_block_of(
+/// Puts the same block, of records that stand one after another in memory, in place of another one: the place after its last record.
+pub(crate) fn put_next_block(
     records: &Records,
     from: usize,
     select: Select,
     mode: Mode,
-) -> (Block, usize)
+    block: &mut Block,
+) -> usize
     requires sent { AllByRecursion (λ r. pack_fault select mode r ≡ None) records.now }
     requires within { (from < length records.now) ⊎ ((from ≡ 0) × (length records.now ≡ 0)) }
-    ensures next { IsNextBlock select mode records.now from result.0 result.1 }
-    ensures sendable { IsSendable result.0 }
+    ensures next { IsNextBlock select mode records.now from block.new result }
+    ensures sendable { IsSendable block.new }
 {
     let mut in_hand = ArrayVec::new();
     if from == 0 {
@@ -55,8 +56,8 @@ pub(crate) fn next_block_of(
     while place < records.len() && take_at(&mut in_hand, mode, records, place) {
         place += 1;
     }
-    let block = closed(&in_hand, mode, place == records.len());
-    (block, place)
+    close(&in_hand, mode, place == records.len(), block);
+    place
 }
 
 /// Appends the record at a place to a text as it stands there, if there is room for it; else the text stays as it was.
@@ -81,11 +82,29 @@ fn closed(in_hand: &TextInHand, mode: Mode, last: bool) -> Block
     ensures closing { result.closing ≡ (if last then Etx else Etb) }
     ensures form { result.transparent ≡ transparent mode }
 {
-    let mut text = ArrayVec::new();
-    append(&mut text, in_hand.as_slice());
+    let mut block = empty_block();
+    close(in_hand, mode, last, &mut block);
+    block
+}
+
+/// A block without text.
+pub(crate) fn empty_block() -> Block {
     Block {
-        text,
-        closing: closing_of(last),
-        transparent: is_transparent(mode),
+        text: ArrayVec::new(),
+        closing: Closing::Etx,
+        transparent: false,
     }
+}
+
+/// Puts this text, and what it says of its job, in place of a block.
+fn close(in_hand: &TextInHand, mode: Mode, last: bool, block: &mut Block)
+    requires { length in_hand.now.items ≤ 510 }
+    ensures text { block.new.text.items ≡ in_hand.now.items }
+    ensures closing { block.new.closing ≡ (if last then Etx else Etb) }
+    ensures form { block.new.transparent ≡ transparent mode }
+{
+    block.text.clear();
+    append(&mut block.text, in_hand.as_slice());
+    block.closing = closing_of(last);
+    block.transparent = is_transparent(mode);
 }

@@ -1,5 +1,6 @@
 //! Why a record can't be sent.
 ghost use Rattle.std.specs.Prelude.{◌≡◌, not, position};
+ghost use Rattle.rje_text.specs.Records.{record_of_data};
 ghost use Rattle.std.specs.List.{list_any};
 ghost use Rattle.rje_text.specs.PackFault.{
   pack_fault,
@@ -32,10 +33,21 @@ impl PackFault {
     pub fn of(item: &Record, select: Select, mode: Mode) -> Option<PackFault>
         ensures { result ≡ pack_fault select mode item.now }
     {
-        let bytes = item.bytes.as_slice();
-        let length = card_length(bytes.len(), select, mode);
-        let action = action_here(item.action, is_of_cards(select, mode));
-        bad_byte(bytes, mode).or(length.or(action))
+        PackFault::of_data(item.action, item.bytes.as_slice(), select, mode)
+    }
+
+    /// The same of a record of this action and these data.
+    pub(crate) fn of_data(
+        action: Action,
+        items: &[u8],
+        select: Select,
+        mode: Mode,
+    ) -> Option<PackFault>
+        ensures { result ≡ pack_fault select mode (record_of_data action items.now) }
+    {
+        let length = card_length(items.len(), select, mode);
+        let action = action_here(action, is_of_cards(select, mode));
+        bad_byte(items, mode).or(length.or(action))
     }
 }
 

@@ -1,15 +1,15 @@
 //! Records in order.
-ghost use Rattle.std.specs.Prelude.{◌≡◌, ◌⊎◌, None, ◌==◌, ◌<◌, ◌≤◌, ◌∷◌, [], ◌++◌, length, drop, IfOk, OnOk, OnErr};
+ghost use Rattle.std.specs.Prelude.{◌≡◌, ◌↔◌, IsTrue, ◌⊎◌, None, ◌==◌, ◌<◌, ◌≤◌, ◌∷◌, [], ◌++◌, length, drop, IfOk, OnOk, OnErr};
 ghost use Rattle.std.specs.List.{AllByRecursion};
 ghost use Rattle.rje_text.specs.PackFault.{pack_fault};
 ghost use Rattle.rje_text.specs.NextBlock.{IsNextBlock, IsSendable};
 ghost use Rattle.rje_text.specs.Records.{record_at, record_of_data};
 
-use crate::block_at::next_block_of;
+use crate::block_at::{empty_block, put_next_block};
 use crate::held::Held;
 use crate::packed_records::PackedRecords;
 use crate::short_record::{MAX_SHORT, ShortRecord};
-use crate::{Action, MAX_RECORD, Mode, Record, RecordsIter, Select};
+use crate::{Action, MAX_RECORD, Mode, PackFault, Record, RecordsIter, Select};
 use bsc_codes::Block;
 use std::alloc::{AllocError, Global};
 use std::fmt;
@@ -175,7 +175,40 @@ impl Records {
         ensures next { IsNextBlock select mode self.now from result.0 result.1 }
         ensures sendable { IsSendable result.0 }
     {
-        next_block_of(self, from, select, mode)
+        let mut block = empty_block();
+        let place = self.put_next_block(from, select, mode, &mut block);
+        (block, place)
+    }
+
+    /// Puts the same block in place of another one: the place after its last record. Takes no memory, and moves no block.
+    pub fn put_next_block(
+        &self,
+        from: usize,
+        select: Select,
+        mode: Mode,
+        block: &mut Block,
+    ) -> usize
+        requires sent { AllByRecursion (λ r. pack_fault select mode r ≡ None) self.now }
+        requires within { (from < length self.now) ⊎ ((from ≡ 0) × (length self.now ≡ 0)) }
+        ensures next { IsNextBlock select mode self.now from block.new result }
+        ensures sendable { IsSendable block.new }
+    {
+        put_next_block(self, from, select, mode, block)
+    }
+
+    /// Whether each record can be sent in a job of this selection and mode. No record is copied for it.
+    pub fn can_be_sent(&self, select: Select, mode: Mode) -> bool
+        ensures sent { IsTrue result
+            ↔ (AllByRecursion (λ r. length r.bytes.items ≤ 144) self.now
+            × AllByRecursion (λ r. pack_fault select mode r ≡ None) self.now) }
+    {
+        for place in 0..self.len() {
+            let (action, items) = self.data_at(place);
+            if PackFault::of_data(action, items, select, mode).is_some() {
+                return false;
+            }
+        }
+        true
     }
 
     /// The records, one after another.

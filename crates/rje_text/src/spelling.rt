@@ -8,6 +8,7 @@ ghost use Rattle.rje_text.specs.Records.{record_of_data};
 ghost use Rattle.rje_text.specs.Inside.Words.{AreWords, IsAlone};
 
 use crate::packer::MAX_TEXT_SENT;
+use crate::searching::first_place;
 use crate::{Action, Mode};
 use arrayvec::ArrayVec;
 use bsc_codes::{BLANK, ESC, IGS, IRS};
@@ -86,8 +87,13 @@ fn words_in_front(bytes: &[u8]) -> usize
     ensures at { result < length bytes.now → slice_index bytes.now result ≡ BLANK }
 {
     let mut place = 0;
-    while place < bytes.len() && !ends_words(bytes, place) {
-        place += 1;
+    while place < bytes.len() {
+        let (_, rest) = bytes.split_at(place);
+        let blank = place + first_place(BLANK, rest);
+        if blank == bytes.len() || ends_words(bytes, blank) {
+            return blank;
+        }
+        place = blank + 1;
     }
     place
 }

@@ -198,11 +198,13 @@ fn blocks_are_made_on_demand(rt: HostRuntime) -> Result<(), AllocError> {
     assert!(rt; job_fits(&job));
     let records = &job.records;
     assert!(rt; records.len() == 1000);
-    let (first, place) = records.next_block(0, job.select, job.mode);
+    let (mut first, place) = records.next_block(0, job.select, job.mode);
     assert!(rt; first.text.len() == 486);
     assert!(rt; first.closing == Closing::Etb);
     assert!(rt; place == 6);
     assert_last_four(&rt, records.next_block(996, job.select, job.mode));
+    let place = records.put_next_block(996, job.select, job.mode, &mut first);
+    assert_last_four(&rt, (first, place));
     let vector = records.to_vec()?;
     assert_last_four(&rt, next_block(&vector, 996, job.select, job.mode));
     Ok(())

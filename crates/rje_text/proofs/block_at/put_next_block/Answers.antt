@@ -3,7 +3,7 @@ use Rattle.std.proofs.lemmas.List.{get_or_default}
 use Rattle.rje_text.specs.Spelling.{spelling}
 use Rattle.rje_text.specs.Records.{record_at}
 use Rattle.rje_text.proofs.NextBlocks.{packed_on}
-use Rattle.rje_text.proofs.block_at.next_block_of.Goals as goal
+use Rattle.rje_text.proofs.block_at.put_next_block.Goals as goal
 
 pub loop-place-preserved : goal.loop-place-preserved
 loop-place-preserved c =

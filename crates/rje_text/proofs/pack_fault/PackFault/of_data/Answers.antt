@@ -1,11 +1,12 @@
-use Rattle.std.proofs.Common.{◌≡◌, ℕ, Bool, List, length, Option, ap, ap₂, ◌∙◌}
+use Rattle.std.proofs.Common.{◌≡◌, ℕ, Bool, List, length, Option, refl, ap, ap₂, ◌∙◌}
 use Rattle.std.specs.Option.{option_or}
 use Rattle.rje_text.specs.declared.mode.Mode.{Mode}
 use Rattle.rje_text.specs.declared.select.Select.{Select}
 use Rattle.rje_text.specs.declared.record.Record.{Record}
 use Rattle.rje_text.specs.declared.pack_fault.PackFault.{PackFault}
+use Rattle.rje_text.specs.Records.{record_of_data}
 use Rattle.rje_text.specs.PackFault.{pack_fault, bad_byte, card_length, is_of_cards, action_here}
-use Rattle.rje_text.proofs.pack_fault.PackFault.of.Goals as goal
+use Rattle.rje_text.proofs.pack_fault.PackFault.of_data.Goals as goal
 
 by_parts : (select : Select) (mode : Mode) (r : Record) (bytes : List ℕ) (of_cards : Bool) (bad length_fault action later all : Option PackFault)
     → bytes ≡ r.bytes.items → of_cards ≡ is_of_cards select mode → bad ≡ bad_byte mode bytes → length_fault ≡ card_length select mode (length bytes)
@@ -17,5 +18,5 @@ by_parts select mode r bytes of_cards bad length_fault action later all same car
 
 pub returns : goal.returns
 returns c =
-    by_parts c.args.select c.args.mode c.args.item.now c.as_slice-bytes.result.now _ _ _ _ _ _
-    c.as_slice-bytes.ensures.value c.is_of_cards.ensures c.bad_byte.ensures c.card_length-length.ensures c.action_here-action.ensures c.or.ensures c.or-2.ensures
+    by_parts c.args.select c.args.mode (record_of_data c.args.action c.args.items.now) c.args.items.now _ _ _ _ _ _
+    refl c.is_of_cards.ensures c.bad_byte.ensures c.card_length-length.ensures c.action_here-action.ensures c.or.ensures c.or-2.ensures
