@@ -1,5 +1,5 @@
 -- Why a file of a name isn't read, or not written (own profile).
-use Rattle.std.specs.Prelude.{◌≡◌, ◌≢◌, ◌⊎◌, ℕ, List, Option, ⊤}
+use Rattle.std.specs.Prelude.{◌≡◌, ◌≢◌, ℕ, List, Option, ⊤}
 use Rattle.rje_files.specs.FileFault.{IsFileFault}
 use Rattle.rje_files.specs.JobFile.{IsEntryFile}
 use Rattle.rje_commands.specs.declared.command_fault.CommandFault.{CommandFault}

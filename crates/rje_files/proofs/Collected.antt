@@ -1,17 +1,19 @@
 -- What a job file holds, collected from the front.
-use Rattle.std.proofs.Common.{◌≡◌, ℕ, zero, suc, ◌+◌, ◌≤◌, List, [], ◌∷◌, ◌++◌, length, map, drop, get_or, refl, ap, sym, ◌∙◌, subst, arith}
-use Rattle.std.proofs.lemmas.List.{append-nil, append_assoc, length-append}
+use Rattle.std.proofs.Common.{◌≡◌, ℕ, zero, suc, ◌+◌, ◌<◌, ◌≤◌, ◌^◌, Some, List, [], ◌∷◌, ◌++◌, length, map, drop, get_or, refl, ap, sym, ◌∙◌, subst, arith}
+use Rattle.std.proofs.lemmas.List.{append-nil, append_assoc, length-append, map-append}
 use Rattle.std.specs.Int.{bytes_high_first}
 use Rattle.rje_jobs.specs.declared.job.Job.{Job}
 use Rattle.std.specs.List.{flat_map, AllByRecursion}
 use Rattle.std.proofs.lemmas.Grind.{flat_map-append}
 use Rattle.rje_files.specs.declared.entry.Entry.{Entry}
 use Rattle.rje_files.specs.declared.job_file.version.FileVersion.{FileVersion}
-use Rattle.rje_files.specs.declared.job_file.version.FileVersion.TheVariants.{First, Second}
-use Rattle.rje_files.specs.Entry.{entry_of}
-use Rattle.rje_files.specs.JobFile.{head, version_byte, entry_bytes, file_of, FitsFields}
-use Rattle.rje_files.specs.Inside.Reading.Grammar.{AnyBytes, Records}
+use Rattle.rje_files.specs.declared.job_file.version.FileVersion.TheVariants.{First}
+use Rattle.rje_files.specs.Entry.{entry_of, jobs_in}
+use Rattle.rje_files.specs.JobFile.{head, version_byte, entry_bytes, file_of, FitsFields, IsEntryFileOf, IsFileOf}
+use Rattle.rje_files.specs.Inside.Reading.Grammar.{AnyBytes, Records, Entries, version_read}
+use Rattle.rje_files.specs.Inside.Reading.Collecting.{AreJobsOf}
 use Rattle.rje_files.specs.Inside.Reading.Stored.{IsRecordHere}
+use Rattle.rje_files.proofs.Grammar.{only_first}
 
 any_rest : (n : ℕ) (Rest : List ℕ → Type 0) (xs : List ℕ) → AnyBytes n Rest xs → (n ≤ length xs) × Rest (drop n xs)
 any_rest zero Rest xs h = (omega arith, h)
@@ -49,34 +51,6 @@ pub mapped_length : (js : List Job) → length (map entry_of js) ≡ length js
 mapped_length [] = refl
 mapped_length (j ∷ js) = ap suc (mapped_length js)
 
-abbrev pub job_bytes : Job → List ℕ
-job_bytes j = entry_bytes First (entry_of j)
-
-abbrev pub FitsJob : Job → Type 0
-FitsJob j = FitsFields First (entry_of j)
-
-pub mapped_bytes : (js : List Job) → flat_map job_bytes js ≡ flat_map (entry_bytes First) (map entry_of js)
-mapped_bytes [] = refl
-mapped_bytes (j ∷ js) = ap (λ (ys : List ℕ). job_bytes j ++ ys) (mapped_bytes js)
-
-pub mapped_fit : (js : List Job) → AllByRecursion FitsJob js → AllByRecursion (FitsFields First) (map entry_of js)
-mapped_fit [] h = tt
-mapped_fit (j ∷ js) h = (h.0, mapped_fit js h.1)
-
-pub jobs_whole : (xs items rest : List ℕ) (count : ℕ) (js : List Job) → xs ≡ head ++ (version_byte First ∷ (bytes_high_first 8 count ++ items))
-    → items ≡ flat_map job_bytes js ++ rest → length js ≡ count → rest ≡ [] → file_of First (map entry_of js) ≡ xs
-jobs_whole xs items rest count js e ej many er =
-    file_whole First xs items rest count (map entry_of js) e (ej ∙ ap (λ (ys : List ℕ). ys ++ rest) (mapped_bytes js)) (mapped_length js ∙ many) er
-
--- the entry of a version 1 file is spelled as its job
-pub job_spelled : (v : FileVersion) (bytes rest : List ℕ) (e : Entry) → v ≡ First → bytes ≡ entry_bytes v e ++ rest → bytes ≡ job_bytes e.job ++ rest
-job_spelled First bytes rest e first h = h
-job_spelled Second bytes rest e first h = cc
-
-pub job_fits : (v : FileVersion) (e : Entry) → v ≡ First → FitsFields v e → FitsJob e.job
-job_fits First e first h = (h.0, h.1, refl)
-job_fits Second e first h = cc
-
 pub all_longer : {X : Type 0} (P : X → Type 0) (xs ys : List X) (x : X) → ys ≡ xs ++ x ∷ [] → AllByRecursion P xs → P x → AllByRecursion P ys
 all_longer P xs ys x e all one = subst (λ (zs : _). AllByRecursion P zs) (sym e) (grown xs all)
   where
@@ -86,3 +60,48 @@ all_longer P xs ys x e all one = subst (λ (zs : _). AllByRecursion P zs) (sym e
 
 pub one_longer : {X : Type 0} (xs ys : List X) (x : X) (n : ℕ) → ys ≡ xs ++ x ∷ [] → length xs ≡ n → length ys ≡ n + 1
 one_longer xs ys x n e l = omega (arith, ap length e, length-append xs (x ∷ []), l)
+
+-- so many jobs were collected of a file's entries, and these bytes are left
+pub record CollectedSo (v : FileVersion) (bytes rest : List ℕ) (left count : ℕ) (jobs : List Job) : Type 0 where
+  pub entries : List Entry
+  pub jobs_are : jobs ≡ jobs_in entries
+  pub many : length entries ≡ count
+  pub spelled : bytes ≡ flat_map (entry_bytes v) entries ++ rest
+  pub fit : AllByRecursion (FitsFields v) entries
+  pub more : Entries v left rest
+
+-- one job more
+pub collected_more : (v : FileVersion) (bytes rest behind : List ℕ) (left next count : ℕ) (jobs longer : List Job) (e : Entry) → CollectedSo v bytes rest left count jobs
+    → rest ≡ entry_bytes v e ++ behind → FitsFields v e → Entries v next behind → longer ≡ jobs ++ e.job ∷ [] → CollectedSo v bytes behind next (count + 1) longer
+collected_more v bytes rest behind left next count jobs longer e so spelled fits more grown =
+    record {
+      entries = so.entries ++ e ∷ [];
+      jobs_are = grown ∙ ap (λ (js : List Job). js ++ e.job ∷ []) so.jobs_are ∙ sym (map-append (λ (x : Entry). x.job) so.entries (e ∷ []));
+      many = one_longer so.entries (so.entries ++ e ∷ []) e count refl so.many;
+      spelled = more_items (entry_bytes v) bytes rest behind so.entries (so.entries ++ e ∷ []) e refl so.spelled spelled;
+      fit = all_longer (FitsFields v) so.entries (so.entries ++ e ∷ []) e refl so.fit fits;
+      more = more;
+    }
+
+-- all of them
+pub collected_all : (newest v : FileVersion) (xs items rest : List ℕ) (count : ℕ) (jobs : List Job) → version_read newest (version_byte v) ≡ Some v
+    → xs ≡ head ++ (version_byte v ∷ (bytes_high_first 8 count ++ items)) → count < 2 ^ 64 → CollectedSo v items rest 0 count jobs → AreJobsOf newest jobs xs
+collected_all newest v xs items rest count jobs known spelled fits so =
+    record {
+      version = v;
+      known = known;
+      entries = so.entries;
+      file = ((omega (arith, so.many, fits), so.fit), file_whole v xs items rest count so.entries spelled so.spelled so.many so.more);
+      jobs_are = so.jobs_are;
+    }
+
+-- entries of version 1 are those of their jobs
+pub entries_of_jobs : (es : List Entry) → AllByRecursion (FitsFields First) es → es ≡ map entry_of (jobs_in es)
+entries_of_jobs [] h = refl
+entries_of_jobs (e ∷ es) h = ap (λ (x : Entry). x ∷ es) h.0.2 ∙ ap (λ (xs : List Entry). entry_of e.job ∷ xs) (entries_of_jobs es h.1)
+
+pub jobs_of_first : (jobs : List Job) (xs : List ℕ) → AreJobsOf First jobs xs → IsFileOf jobs xs
+jobs_of_first jobs xs so =
+    let file : IsEntryFileOf First so.entries xs = subst (λ (v : FileVersion). IsEntryFileOf v so.entries xs) (only_first so.version _ so.known) so.file in
+    let same : so.entries ≡ map entry_of jobs = entries_of_jobs so.entries file.0.1 ∙ ap (λ (js : List Job). map entry_of js) (sym so.jobs_are) in
+    subst (λ (es : List Entry). IsEntryFileOf First es xs) same file

@@ -16,7 +16,7 @@
 ghost use Rattle.std.specs.Prelude.{◌≡◌, ◌<◌, ◌-◌, ◌^◌, ◌∷◌, [], length, IfOk, IfErr};
 ghost use Rattle.rje_files.specs.Entry.{entry_of, entry_of_cards};
 ghost use Rattle.rje_files.specs.Growth.{GrowsBy};
-ghost use Rattle.rje_files.specs.JobFile.{IsFileOf, IsEntryFileOf, IsJobFile, IsEntryFile, HasEntries};
+ghost use Rattle.rje_files.specs.JobFile.{IsFileOf, IsEntryFileOf, IsJobFile, IsEntryFile, HasEntries, HasJobs};
 ghost use Rattle.rje_files.specs.FileFault.{IsFileFault, IsEntryFault};
 
 mod checking;
@@ -110,7 +110,22 @@ pub fn read_jobs(alloc: Global, bytes: &[u8]) -> Result<Jobs, FileFault>
 {
     match first_fault(FileVersion::First, bytes) {
         Some(fault) => Err(fault),
-        None => match collect_jobs(alloc, bytes) {
+        None => match collect_jobs(alloc, FileVersion::First, bytes) {
+            Ok(jobs) => Ok(Jobs::from(jobs)),
+            Err(_) => Err(FileFault::OutOfMemory),
+        },
+    }
+}
+
+/// The jobs of the entries whose file these bytes are, of either version. All bytes are checked before any memory is taken, so none is set
+/// aside by counts that don't hold.
+pub fn read_entry_jobs(alloc: Global, bytes: &[u8]) -> Result<Jobs, FileFault>
+    ensures file { IfOk result (λ jobs. HasJobs jobs bytes.now) }
+    ensures told { IfErr result (λ fault. IsFileFault IsEntryFile bytes.now fault) }
+{
+    match first_fault(FileVersion::Second, bytes) {
+        Some(fault) => Err(fault),
+        None => match collect_jobs(alloc, FileVersion::Second, bytes) {
             Ok(jobs) => Ok(Jobs::from(jobs)),
             Err(_) => Err(FileFault::OutOfMemory),
         },

@@ -17,7 +17,8 @@ pub use file_entry::FileEntry;
 pub use file_records::FileRecords;
 pub use growth::Growth;
 pub use job_file::{
-    entries_in, growth_of, read_entries, read_jobs, write_deck, write_entries, write_jobs,
+    entries_in, growth_of, read_entries, read_entry_jobs, read_jobs, write_deck, write_entries,
+    write_jobs,
 };
 pub use laws::{
     entries_are_of_one_list, file_is_of_one_list, names_are_padded, one_entry_fault,

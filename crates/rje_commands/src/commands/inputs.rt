@@ -6,7 +6,7 @@ ghost use Rattle.rje_commands.specs.NamedFile.{IsReadFault, IsReadFaultOf, IsInp
 ghost use Rattle.rje_stores.specs.Store.{Discloses, IsSame};
 
 use crate::command_fault::CommandFault;
-use rje_files::{Entry, jobs_of, read_entries};
+use rje_files::{Entry, read_entries, read_entry_jobs};
 use rje_jobs::Jobs;
 use rje_orders::STANDARD_INPUT;
 use rje_stores::{Store, StoreFault, read_all};
@@ -80,8 +80,8 @@ pub fn read_job_file<'a, S: Store>(
     ensures fault { IfErr result (IsInputFault name.entry.now (S.files store.old)) }
     ensures same { Discloses (S.files store.old) (S.files store.new) IsSame }
 {
-    let entries = read_entry_file(alloc, name, store)?;
-    Ok(jobs_of(alloc, entries)?)
+    let bytes = read_file(alloc, name, store)?;
+    Ok(read_entry_jobs(alloc, bytes.as_slice())?)
 }
 
 /// Why the input of this name isn't read.

@@ -10,7 +10,7 @@ use crate::command_fault::CommandFault;
 use crate::commands::inputs::read_file;
 use crate::commands::output::put;
 use line_world::run;
-use rje_files::{jobs_of, read_entries};
+use rje_files::read_entry_jobs;
 use rje_orders::TryOrder;
 use rje_print::{read_script, run_text};
 use rje_stores::Store;
@@ -42,9 +42,8 @@ fn run_files<'a>(alloc: Global, file: Vec<u8>, script: Vec<u8>) -> Result<Vec<u8
     ensures text { IfOk result (λ text. IsRunText file.items script.items text.items) }
     ensures fault { IfErr result (IsTryFault file.items script.items) }
 {
-    let entries = read_entries(alloc, file.as_slice())?;
+    let jobs = read_entry_jobs(alloc, file.as_slice())?;
     drop(file);
-    let jobs = jobs_of(alloc, entries)?;
     let turns = read_script(alloc, script.as_slice())?;
     drop(script);
     let report = run(alloc, jobs.as_slice(), turns.as_slice())?;

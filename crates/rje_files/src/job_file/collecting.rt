@@ -1,10 +1,10 @@
 //! The jobs and entries of a job file, once its bytes were checked: the counts in it hold, and so much memory is taken as they say.
 ghost use Rattle.std.specs.Prelude.{◌≡◌, ◌++◌, ◌<◌, suc, IfOk};
 ghost use Rattle.byteorder.specs.Endian.{big_bytes};
-ghost use Rattle.rje_files.specs.JobFile.{IsFileOf, IsEntryFileOf, IsOfVersion, fields, select_byte, mode_byte, state_byte};
+ghost use Rattle.rje_files.specs.JobFile.{IsEntryFileOf, IsOfVersion, fields, select_byte, mode_byte, state_byte};
 ghost use Rattle.rje_files.specs.declared.job_file.version.FileVersion.{FileVersion as Versions};
 ghost use Rattle.rje_files.specs.Inside.Reading.Grammar.{File, Entries, Records, Number};
-ghost use Rattle.rje_files.specs.Inside.Reading.Collecting.{AnyRest, AreFields, IsFront, IsRecords, IsFirst, width};
+ghost use Rattle.rje_files.specs.Inside.Reading.Collecting.{AnyRest, AreFields, AreJobsOf, IsFront, IsRecords, IsFirst, width};
 
 use super::version::FileVersion;
 use crate::entry::received_state;
@@ -15,12 +15,16 @@ use rje_jobs::Job;
 use rje_text::{Mode, Select};
 use std::alloc::{AllocError, Global};
 
-/// The jobs of a version 1 file.
-pub(super) fn collect_jobs(alloc: Global, bytes: &[u8]) -> Result<Vec<Job>, AllocError>
-    requires { File FileVersion.First bytes.now }
-    ensures { IfOk result (λ v. IsFileOf v.items bytes.now) }
+/// The jobs of a file of this version or an older one.
+pub(super) fn collect_jobs(
+    alloc: Global,
+    newest: FileVersion,
+    bytes: &[u8],
+) -> Result<Vec<Job>, AllocError>
+    requires { File newest bytes.now }
+    ensures { IfOk result (λ v. AreJobsOf newest v.items bytes.now) }
 {
-    let (version, count, items) = front_at(FileVersion::First, bytes);
+    let (version, count, items) = front_at(newest, bytes);
     let mut jobs = Vec::with_capacity(alloc, count as usize)?;
     let mut rest = items;
     for i in 0..count {

@@ -2,8 +2,8 @@
 use super::record;
 use rje_files::{
     Entry, FileEntry, JobName, NO_NAME, State, entries_in, entries_of, first_unsendable, growth_of,
-    jobs_of, mark_sent, name_of, read_entries, read_jobs, sent_file, unsent_jobs, write_entries,
-    write_jobs,
+    jobs_of, mark_sent, name_of, read_entries, read_entry_jobs, read_jobs, sent_file, unsent_jobs,
+    write_entries, write_jobs,
 };
 use rje_jobs::{FileFault, Job};
 use rje_text::{Action, Mode, Records, Select};
@@ -48,6 +48,7 @@ fn entry(
 fn fault_of(rt: &(impl Abort + AllocGlobal), bytes: &[u8]) -> Option<FileFault> {
     let fault = read_entries(rt.alloc(), bytes).err();
     assert!(rt; entries_in(rt.alloc(), bytes).err() == fault);
+    assert!(rt; read_entry_jobs(rt.alloc(), bytes).err() == fault);
     fault
 }
 
@@ -86,6 +87,10 @@ fn an_entry_has_one_file(rt: HostRuntime) -> Result<(), Fail> {
     assert!(rt; read[0].job.whole);
     let again = write_entries(rt.alloc(), read.as_slice())?;
     assert!(rt; again.as_slice() == FILE.as_slice());
+    let jobs = read_entry_jobs(rt.alloc(), &FILE)?;
+    assert!(rt; jobs.len() == 1);
+    assert!(rt; jobs.as_slice()[0].whole);
+    assert!(rt; jobs.as_slice()[0].records.len() == 1);
     Ok(())
 }
 

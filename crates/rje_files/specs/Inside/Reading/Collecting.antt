@@ -4,10 +4,12 @@ use Rattle.std.specs.Prelude.{◌≡◌, ℕ, ◌∷◌, ◌++◌, Some, List, [
 use Rattle.std.specs.List.{flat_map, AllByRecursion}
 use Rattle.byteorder.specs.Endian.{big_bytes}
 use Rattle.rje_text.specs.declared.record.Record.{Record}
+use Rattle.rje_jobs.specs.declared.job.Job.{Job}
 use Rattle.rje_files.specs.declared.entry.Entry.{Entry}
+use Rattle.rje_files.specs.Entry.{jobs_in}
 use Rattle.rje_files.specs.declared.job_file.version.FileVersion.{FileVersion}
 use Rattle.rje_files.specs.declared.job_file.version.FileVersion.TheVariants.{First, Second}
-use Rattle.rje_files.specs.JobFile.{head, version_byte, record_bytes, entry_bytes, HasRoom, FitsFields}
+use Rattle.rje_files.specs.JobFile.{head, version_byte, record_bytes, entry_bytes, HasRoom, FitsFields, IsEntryFileOf}
 use Rattle.rje_files.specs.Inside.Reading.Grammar.{version_read, Fields, Entries}
 
 -- whatever follows
@@ -19,6 +21,14 @@ pub record IsFront (newest : FileVersion) (bytes : List ℕ) (version : FileVers
   pub known : version_read newest (version_byte version) ≡ Some version
   pub spelled : bytes ≡ head ++ (version_byte version ∷ (big_bytes 8 count ++ rest))
   pub entries : Entries version count rest
+
+-- these bytes are a file of this version or an older one, of entries with these jobs
+pub record AreJobsOf (newest : FileVersion) (jobs : List Job) (bytes : List ℕ) : Type 0 where
+  pub version : FileVersion
+  pub known : version_read newest (version_byte version) ≡ Some version
+  pub entries : List Entry
+  pub file : IsEntryFileOf version entries bytes
+  pub jobs_are : jobs ≡ jobs_in entries
 
 -- these are the first records, and the entries left stand in rest
 pub record IsRecords (version : FileVersion) (bytes : List ℕ) (count left : ℕ) (records : List Record) (rest : List ℕ) : Type 0 where
