@@ -4,6 +4,8 @@ use Rattle.std.specs.List.{AllByRecursion}
 use Rattle.bsc_codes.specs.declared.block.Block.{Block}
 use Rattle.bsc_codes.specs.declared.block.Closing.{Closing}
 use Rattle.bsc_codes.specs.declared.block.Closing.TheVariants.{Etb, Etx}
+use Rattle.bsc_frame.specs.declared.frame.Frame.{Frame}
+use Rattle.bsc_frame.specs.declared.frame.Frame.TheVariants as frame
 use Rattle.bsc_link.specs.declared.next.Next.TheVariants as Next
 use Rattle.rje_text.specs.declared.mode.Mode.{Mode}
 use Rattle.rje_text.specs.declared.record.Record.{Record}
@@ -15,7 +17,7 @@ use Rattle.rje_jobs.specs.declared.job.Job.{Job}
 use Rattle.rje_jobs.specs.Blocks.{blocks, blocks_of_job}
 use Rattle.rje_jobs.specs.Fitting.{JobFits}
 use Rattle.rje_station.specs.Sending.{next_after}
-use Rattle.rje_station.specs.Inside.Uncounted.{more_in, IsPlace}
+use Rattle.rje_station.specs.Inside.Uncounted.{rest_in, more_in, IsPlace, IsOutstanding}
 
 -- ---- Cuts are never empty.
 
@@ -75,6 +77,11 @@ next_done (j ∷ k ∷ js) closing place h e l = absurd (omega (arith, l))
 
 pub begins : (js rest : List Job) (j : Job) (b : Block) (to : ℕ) → js ≡ j ∷ rest → IsNextBlock j.select j.mode j.records 0 b to → b ∷ more_in js b.closing to ≡ blocks js
 begins js rest j b to e n = rw e (ap (λ x. x ++ blocks rest) (sym (cut_is j ∙ n.first)))
+
+-- .. as it stands with the outstanding block
+pub begins_with : (js rest : List Job) (j : Job) (f : Frame) (to : ℕ) → js ≡ j ∷ rest → IsOutstanding j 0 f to → rest_in js f to ≡ blocks js
+begins_with js rest j (frame.Block b) to e n = begins js rest j b to e n.0
+begins_with js rest j _ to e n = absurd n
 
 pub more_etx : (jobs : List Job) (at : ℕ) (place : ℕ) → IsPlace (drop at jobs) Etx place → blocks (drop (suc at) jobs) ≡ more_in (drop at jobs) Etx place
 more_etx [] zero place h = absurd h

@@ -2,10 +2,14 @@
 ghost use Rattle.std.specs.Prelude.{◌≡◌, ◌≤◌, IfOk, IfErr};
 ghost use Rattle.rje_station.specs.Line.{Passes, Ages, MayNotHear, Fails};
 ghost use Rattle.rje_station.specs.Hearing.{IsLost, Hearing, Babbling};
+ghost use Rattle.rje_station.specs.Inside.Hearing.{heard_of};
 
 use crate::hear_fault::HearFault;
+use crate::heard_kind::HeardKind;
 use crate::{Came, Line};
-use bsc_frame::{Fed, Heard, Listener};
+use arrayvec::ArrayVec;
+use bsc_codes::MAX_TEXT;
+use bsc_frame::{FedKind, Listener};
 
 /// The most bytes that are looked at in one hearing.
 pub const MAX_HEARD: usize = 8192;
@@ -15,6 +19,8 @@ pub const MAX_HEARD: usize = 8192;
 pub(crate) struct Ear {
     listener: Listener,
     piece: [u8; 512],
+    // The text of the last block that was heard.
+    pub(crate) text: ArrayVec<u8, MAX_TEXT>,
 }
 
 impl Ear {
@@ -23,16 +29,17 @@ impl Ear {
         Ear {
             listener: Listener::new(),
             piece: [0; 512],
+            text: ArrayVec::new(),
         }
     }
 
     /// Listens until a frame came or the line is quiet. Each piece goes to the listener as it comes, and bytes after a frame are dropped.
-    pub(crate) fn hear<L: Line>(&mut self, line: &mut L) -> Result<Heard, HearFault>
+    pub(crate) fn hear<L: Line>(&mut self, line: &mut L) -> Result<HeardKind, HearFault>
         ensures grows { L.failures line.old ≤ L.failures line.new }
         ensures none { L.transmissions line.new ≡ L.transmissions line.old }
         ensures ages { Ages (L.may_fail line.old) (L.may_fail line.new) }
         ensures heard { IfOk result (λ h. Passes (L.talk line.old) (L.talk line.new)
-            (λ t u. Hearing t u h)) }
+            (λ t u. Hearing t u (heard_of h self.new.text.items))) }
         ensures lost { IfErr result (λ fault.
             IsLost (Fails (MayNotHear (L.may_fail line.old)) (L.failures line.old)
             (L.failures line.new) (L.last_fault line.new))
@@ -42,12 +49,13 @@ impl Ear {
         let mut room = MAX_HEARD;
         loop {
             match line.listen(&mut self.piece).map_err(HearFault::Lost)? {
-                Came::Quiet => return Ok(self.listener.quiet()),
+                Came::Quiet => return Ok(HeardKind::without_frame(self.listener.quiet())),
                 Came::Bytes(n) => {
                     let fed = n.min(room);
-                    let Fed { used: _, frame } = self.listener.feed(&self.piece[..fed]);
-                    if let Some(frame) = frame {
-                        return Ok(Heard::Frame(frame));
+                    let heard = &self.piece[..fed];
+                    let FedKind { used: _, kind } = self.listener.feed_into(heard, &mut self.text);
+                    if let Some(kind) = kind {
+                        return Ok(HeardKind::Frame(kind));
                     }
                     if room < n {
                         return Err(HearFault::Babble);

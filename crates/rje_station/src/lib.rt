@@ -6,6 +6,7 @@ mod came;
 mod ear;
 mod event;
 mod hear_fault;
+mod heard_kind;
 mod laws;
 mod line;
 mod line_fault;

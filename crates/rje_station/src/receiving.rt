@@ -38,6 +38,8 @@ pub struct ReceivingStation {
     trace: Trace,
     // The bytes of the last block that was heard; contracts don't see it.
     length: usize,
+    // Where a reply is written.
+    out: Transmission,
 }
 
 impl Model for ReceivingStation {
@@ -75,6 +77,7 @@ impl ReceivingStation {
             refusal: None,
             trace,
             length: 0,
+            out: Transmission::new(),
         })
     }
 
@@ -99,6 +102,7 @@ impl ReceivingStation {
             refusal: _,
             trace: _,
             length: _,
+            out: _,
         } = self;
         jobs.into_vec()
     }
@@ -186,7 +190,8 @@ impl ReceivingStation {
             return Err(StationFault::Over);
         }
         match self.ear.hear(line) {
-            Ok(heard) => {
+            Ok(kind) => {
+                let heard = kind.into_heard(&mut self.ear.text);
                 if let Heard::Frame(Frame::Block(block)) = &heard {
                     self.length = block.text.len();
                 }
@@ -242,9 +247,8 @@ impl ReceivingStation {
         let Some(reply) = self.due else {
             return Ok(None);
         };
-        let mut out = Transmission::new();
-        write(&frame_of(reply), &mut out);
-        if let Err(fault) = line.transmit(out.as_slice()) {
+        write(&frame_of(reply), &mut self.out);
+        if let Err(fault) = line.transmit(self.out.as_slice()) {
             self.fail();
             return Err(StationFault::Line(fault));
         }

@@ -1,5 +1,5 @@
 //! The sending station.
-ghost use Rattle.std.specs.Prelude.{◌≡◌, ◌++◌, ◌∷◌, false, drop, IfOk, IfErr, OnOk};
+ghost use Rattle.std.specs.Prelude.{◌≡◌, ◌≢◌, [], ◌++◌, ◌∷◌, false, drop, IfOk, IfErr, OnOk};
 ghost use Rattle.std.specs.List.{AllByRecursion};
 ghost use Rattle.bsc_link.specs.Sender.{say_in, sender_yielded};
 ghost use Rattle.rje_jobs.specs.Fitting.{JobFits};
@@ -16,7 +16,6 @@ mod uncounted;
 
 use crate::ear::Ear;
 use crate::hear_fault::HearFault;
-use crate::sound_heard::sound_of;
 use crate::writing::{Transmission, write};
 use crate::{Event, Line, StationFault, Trace};
 use bsc_frame::Frame;
@@ -35,6 +34,8 @@ pub struct SendingStation<'a> {
     ear: Ear,
     over: bool,
     trace: Trace,
+    // Where what is sent is written.
+    out: Transmission,
 }
 
 impl<'a> Model for SendingStation<'a> {
@@ -68,6 +69,7 @@ impl<'a> SendingStation<'a> {
             ear: Ear::new(),
             over: jobs.is_empty(),
             trace,
+            out: Transmission::new(),
         })
     }
 
@@ -160,9 +162,8 @@ impl<'a> SendingStation<'a> {
             return Err(StationFault::Over);
         }
         let say = self.core.say();
-        let mut out = Transmission::new();
-        self.write_due(say, &mut out);
-        if let Err(fault) = line.transmit(out.as_slice()) {
+        write_due(say, &self.blocks, &mut self.out);
+        if let Err(fault) = line.transmit(self.out.as_slice()) {
             self.fail();
             return Err(StationFault::Line(fault));
         }
@@ -192,7 +193,7 @@ impl<'a> SendingStation<'a> {
         }
         match self.ear.hear(line) {
             Ok(heard) => {
-                let sound = sound_of(&heard);
+                let sound = heard.sound();
                 self.step(sound, pause);
                 Ok(sound)
             }
@@ -204,21 +205,6 @@ impl<'a> SendingStation<'a> {
                 self.fail();
                 Err(StationFault::Babble)
             }
-        }
-    }
-
-    /// Writes the transmission of what is due.
-    fn write_due(&self, say: Say, out: &mut Transmission)
-        requires live { self.now.over ≡ false }
-        requires due { say ≡ say_in self.now.core.place }
-        ensures { IsWrittenOf say self.now.rest out.new.items }
-    {
-        match say {
-            Say::Bid | Say::Ask => write(&Frame::Enq, out),
-            Say::Delay => write(&Frame::Ttd, out),
-            Say::End => write(&Frame::Eot, out),
-            Say::Block | Say::Again => self.blocks.write(out),
-            Say::Nothing => unreachable!(),
         }
     }
 
@@ -263,6 +249,21 @@ impl<'a> SendingStation<'a> {
     {
         self.over = true;
         self.trace.note(Event::Over);
+    }
+}
+
+/// Writes the transmission of what is due.
+fn write_due(say: Say, blocks: &Uncounted<'_>, out: &mut Transmission)
+    requires live { say ≢ Say.Nothing }
+    requires some { blocks.now.rest ≡ [] → say ≡ Say.End }
+    ensures { IsWrittenOf say blocks.now.rest out.new.items }
+{
+    match say {
+        Say::Bid | Say::Ask => write(&Frame::Enq, out),
+        Say::Delay => write(&Frame::Ttd, out),
+        Say::End => write(&Frame::Eot, out),
+        Say::Block | Say::Again => blocks.write(out),
+        Say::Nothing => unreachable!(),
     }
 }
 

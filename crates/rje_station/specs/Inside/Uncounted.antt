@@ -6,7 +6,7 @@ use Rattle.bsc_codes.specs.declared.block.Block.{Block}
 use Rattle.bsc_codes.specs.declared.block.Closing.{Closing}
 use Rattle.bsc_frame.specs.declared.frame.Frame.{Frame}
 use Rattle.bsc_frame.specs.declared.frame.Frame.TheVariants as frame
-use Rattle.rje_text.specs.NextBlock.{blocks_after, IsEnd, IsSendable}
+use Rattle.rje_text.specs.NextBlock.{blocks_after, IsEnd, IsNextBlock, IsSendable}
 use Rattle.rje_jobs.specs.declared.job.Job.{Job}
 use Rattle.rje_jobs.specs.Blocks.{blocks}
 use Rattle.rje_jobs.specs.Fitting.{JobFits}
@@ -46,6 +46,11 @@ IsPlace (j ∷ js) closing place = IsEnd closing place (length j.records)
 abbrev pub StandsAt : List Job → Frame → ℕ → Type 0
 StandsAt jobs (frame.Block b) place = IsPlace jobs b.closing place × IsSendable b
 StandsAt jobs _ place = Unit {0}
+
+-- the block of a job that begins at this record, and goes on to that one, is outstanding
+abbrev pub IsOutstanding : Job → ℕ → Frame → ℕ → Type 0
+IsOutstanding j from (frame.Block b) to = IsNextBlock j.select j.mode j.records from b to × IsSendable b
+IsOutstanding j from _ to = ⊥
 
 -- what the fields stand for
 abbrev pub remaining_in : Inside → Remaining

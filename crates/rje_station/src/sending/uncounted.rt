@@ -1,10 +1,11 @@
 //! The blocks that aren't counted yet.
-ghost use Rattle.std.specs.Prelude.{◌≡◌, ◌≢◌, ◌==◌, [], length, drop};
+ghost use Rattle.std.specs.Prelude.{◌≡◌, ◌≢◌, ◌⊎◌, ◌<◌, ◌==◌, [], length, drop, None};
 ghost use Rattle.std.specs.List.{AllByRecursion};
 ghost use Rattle.rje_jobs.specs.Blocks.{blocks};
 ghost use Rattle.rje_jobs.specs.Fitting.{JobFits};
+ghost use Rattle.rje_text.specs.PackFault.{pack_fault};
 ghost use Rattle.rje_station.specs.Sending.{next_in, counted_by, first_length, GoesOnAt, IsFirstWritten};
-ghost use Rattle.rje_station.specs.Inside.Uncounted.{rest_in, more_in, StandsAt, IsPlace, all_uncounted, after_count};
+ghost use Rattle.rje_station.specs.Inside.Uncounted.{rest_in, more_in, StandsAt, IsPlace, IsOutstanding, all_uncounted, after_count};
 
 use crate::writing::{Transmission, write};
 use bsc_codes::Closing;
@@ -42,7 +43,8 @@ impl<'a> Uncounted<'a> {
         requires fit { AllByRecursion JobFits jobs.now }
         ensures { result ≡ all_uncounted jobs.now }
     {
-        let (outstanding, place) = begin_job(jobs, 0);
+        let mut outstanding = Frame::Eot;
+        let place = begin_job(jobs, 0, &mut outstanding);
         Uncounted {
             jobs,
             counted: 0,
@@ -113,54 +115,72 @@ impl<'a> Uncounted<'a> {
             return;
         }
         if let Frame::Block(block) = &self.outstanding {
-            let (outstanding, place, jobs) = after_block(
+            let closing = block.closing;
+            let (place, jobs) = after_block(
                 self.jobs,
                 self.counted,
-                block.closing,
+                closing,
                 self.place,
+                &mut self.outstanding,
             );
-            self.outstanding = outstanding;
             self.place = place;
             self.counted = jobs;
         }
     }
 }
 
-/// The first block of a job and the place after its last record; EOT where there is no such job.
-fn begin_job(jobs: &[Job], at: usize) -> (Frame, usize)
+/// Makes the first block of a job outstanding, or EOT where there is no such job: the place after its last record.
+fn begin_job(jobs: &[Job], at: usize, outstanding: &mut Frame) -> usize
     requires fit { AllByRecursion JobFits jobs.now }
-    ensures rest { rest_in (drop at jobs.now) result.0 result.1 ≡ blocks (drop at jobs.now) }
-    ensures at { StandsAt (drop at jobs.now) result.0 result.1 }
+    ensures rest { rest_in (drop at jobs.now) outstanding.new result ≡ blocks (drop at jobs.now) }
+    ensures at { StandsAt (drop at jobs.now) outstanding.new result }
 {
     if at < jobs.len() {
-        let job = &jobs[at];
-        let (block, place) = job.records.next_block(0, job.select, job.mode);
-        (Frame::Block(block), place)
+        put_block(&jobs[at], 0, outstanding)
     } else {
-        (Frame::Eot, 0)
+        *outstanding = Frame::Eot;
+        0
     }
 }
 
-/// What becomes outstanding after a block that is counted: the block, the place after its last record, and its job.
-fn after_block(jobs: &[Job], at: usize, closing: Closing, place: usize) -> (Frame, usize, usize)
+/// Makes outstanding what comes after a block that is counted: the place after its last record, and its job.
+fn after_block(
+    jobs: &[Job],
+    at: usize,
+    closing: Closing,
+    place: usize,
+    outstanding: &mut Frame,
+) -> (usize, usize)
     requires fit { AllByRecursion JobFits jobs.now }
     requires within { IsPlace (drop at jobs.now) closing place }
-    ensures rest { rest_in (drop result.2 jobs.now) result.0 result.1
+    ensures rest { rest_in (drop result.1 jobs.now) outstanding.new result.0
         ≡ more_in (drop at jobs.now) closing place }
-    ensures at { StandsAt (drop result.2 jobs.now) result.0 result.1 }
-    ensures counted { result.2 ≡ counted_by closing at }
+    ensures at { StandsAt (drop result.1 jobs.now) outstanding.new result.0 }
+    ensures counted { result.1 ≡ counted_by closing at }
 {
     match closing {
-        Closing::Etx => {
-            let (frame, place) = begin_job(jobs, at + 1);
-            (frame, place, at + 1)
-        }
-        Closing::Etb => {
-            let job = &jobs[at];
-            let (block, place) = job.records.next_block(place, job.select, job.mode);
-            (Frame::Block(block), place, at)
-        }
+        Closing::Etx => (begin_job(jobs, at + 1, outstanding), at + 1),
+        Closing::Etb => (put_block(&jobs[at], place, outstanding), at),
     }
+}
+
+/// Makes outstanding the block of a job that begins at a record: the place after its last record. A block that was outstanding gives it its
+/// room.
+fn put_block(job: &Job, from: usize, outstanding: &mut Frame) -> usize
+    requires sent { AllByRecursion (λ r. pack_fault job.now.select job.now.mode r ≡ None)
+        job.now.records }
+    requires within { (from < length job.now.records) ⊎ ((from ≡ 0)
+        × (length job.now.records ≡ 0)) }
+    ensures next { IsOutstanding job.now from outstanding.new result }
+{
+    if let Frame::Block(block) = outstanding {
+        return job
+            .records
+            .put_next_block(from, job.select, job.mode, block);
+    }
+    let (block, place) = job.records.next_block(from, job.select, job.mode);
+    *outstanding = Frame::Block(block);
+    place
 }
 
 /// What follows the outstanding block.

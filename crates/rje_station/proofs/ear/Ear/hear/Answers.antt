@@ -1,4 +1,5 @@
-use Rattle.std.proofs.Common.{rules, refl}
+use Rattle.std.proofs.Common.{rules, refl, sym}
+use Rattle.bsc_frame.specs.FrameKind.{frame_of}
 use Rattle.rje_station.specs.declared.came.Came.TheVariants.{Bytes, Quiet}
 use Rattle.rje_station.specs.Line.{Passes, Hears}
 use Rattle.rje_station.proofs.Ages.{ages_more}
@@ -8,16 +9,16 @@ use Rattle.rje_station.proofs.ear.Ear.hear.Goals as goal
 pub returns-in-Quiet-clause-heard : goal.returns-in-Quiet-clause-heard
 returns-in-Quiet-clause-heard g c =
     let told : Passes (g.L.Line.talk c.loop-self.line) (g.L.Line.talk c.listen.new.self) (Hears Quiet c.listen.new.piece) = search rules in
-    passes-on _ _ _ (λ t u. FedSo c.loop-self.self.listener c.loop-self.room t u) (Hears Quiet c.listen.new.piece) _
+    rw (sym (c.without_frame.ensures c.loop-self.self.text.items)) (passes-on _ _ _ (λ t u. FedSo c.loop-self.self.listener c.loop-self.room t u) (Hears Quiet c.listen.new.piece) _
     (λ t u v s q. quiet_heard c.loop-self.self.listener c.loop-self.room c.listen.new.piece c.quiet.result t u v s q c.quiet.ensures.heard c.quiet.ensures.never)
-    c.loop-self.invariant.1 told
+    c.loop-self.invariant.1 told)
 
 pub returns-in-Some-clause-heard : goal.returns-in-Some-clause-heard
 returns-in-Some-clause-heard g c =
     let told : Passes (g.L.Line.talk c.loop-self.line) (g.L.Line.talk c.listen.new.self) (Hears (Bytes c.in-Bytes.n) c.listen.new.piece) = search rules in
-    let found = rw c.in-Some.is at c.feed-frame.ensures.frame in
+    let found = rw c.in-Some.is at c.feed_into-kind.ensures.frame in
     passes-on _ _ _ (λ t u. FedSo c.loop-self.self.listener c.loop-self.room t u) (Hears (Bytes c.in-Bytes.n) c.listen.new.piece) _
-    (λ t u v s q. frame_heard c.loop-self.self.listener c.loop-self.room c.in-Bytes.n c.min-fed.result c.feed-frame.result.used c.listen.new.piece _ c.in-Some.frame t u v s q refl (search rules) (search rules) found)
+    (λ t u v s q. frame_heard c.loop-self.self.listener c.loop-self.room c.in-Bytes.n c.min-fed.result c.feed_into-kind.result.used c.listen.new.piece _ (frame_of c.in-Some.kind c.feed_into-kind.new.room.items) t u v s q refl (search rules) (search rules) found)
     c.loop-self.invariant.1 told
 
 pub returns-then-room-n-clause-lost : goal.returns-then-room-n-clause-lost
@@ -44,7 +45,7 @@ loop-self-preserved g c =
     let told : Passes (g.L.Line.talk c.loop-self.line) (g.L.Line.talk c.listen.new.self) (Hears (Bytes c.in-Bytes.n) c.listen.new.piece) = search rules in (
       search rules,
       passes-on _ _ _ (λ t u. FedSo c.loop-self.self.listener c.loop-self.room t u) (Hears (Bytes c.in-Bytes.n) c.listen.new.piece) _
-          (λ t u v s q. fed_more c.loop-self.self.listener c.feed-frame.new.self c.loop-self.room c.in-Bytes.n c.min-fed.result c.listen.new.piece _ t u v s q refl (search rules) (search rules) (search rules) (search rules))
+          (λ t u v s q. fed_more c.loop-self.self.listener c.feed_into-kind.new.self c.loop-self.room c.in-Bytes.n c.min-fed.result c.listen.new.piece _ t u v s q refl (search rules) (search rules) (search rules) (search rules))
           c.loop-self.invariant.1 told,
       search rules,
       ages_more (g.L.Line.may_fail c.args.line.now) (g.L.Line.may_fail c.loop-self.line) (g.L.Line.may_fail c.listen.new.self) c.loop-self.invariant.3 c.listen.ensures.ages,
