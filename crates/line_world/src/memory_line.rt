@@ -8,7 +8,6 @@ use bsc_frame::MAX_TRANSMISSION;
 use rje_station::{Came, Line, LineFault};
 use std::alloc::{AllocError, Global};
 use std::marker::Model;
-use std::mem::replace;
 
 /// A line in memory: the bytes that come are handed in, and the last transmission is kept. No call takes memory.
 #[derive(Drop)]
@@ -65,21 +64,20 @@ impl MemoryLine {
         self.given = 0;
     }
 
-    /// Hands in bytes that come in one piece, in place of what wasn't given yet. They take the room of a piece that came before, where there is
-    /// one.
+    /// Hands in bytes that come in one piece, in place of what wasn't given yet. They take the room of a piece that came alone before.
     pub(crate) fn put_whole(&mut self, alloc: Global, bytes: &[u8]) -> Result<(), AllocError>
         ensures put { OnOk result (self.new ≡ after_put (bytes.now ∷ []) self.old) }
         ensures calm { self.new.until_failure ≡ self.old.until_failure }
     {
-        let mut piece = match self.pieces.pop() {
-            Some(piece) => piece,
-            None => Vec::new(alloc),
-        };
-        piece.clear();
-        piece.extend_from_slice(bytes)?;
-        let mut pieces = replace(&mut self.pieces, Vec::new(alloc));
-        pieces.clear();
-        pieces.push(piece)?;
+        if let [piece] = self.pieces.as_mut_slice() {
+            piece.clear();
+            piece.extend_from_slice(bytes)?;
+            self.piece = 0;
+            self.given = 0;
+            return Ok(());
+        }
+        let mut pieces = Vec::new(alloc);
+        pieces.push(Vec::from_slice(alloc, bytes)?)?;
         self.put(pieces);
         Ok(())
     }
