@@ -205,9 +205,14 @@ def words_for(name, known, line, so_far):
 
 
 def mode_after(name, known, so_far):
-    """Whether the job's earlier blocks are transparent, after what was heard; None where the next block is its job's first."""
+    """Whether the job's earlier blocks are transparent, after what was heard; None where the next block is its job's first. A block that isn't
+    read is none of its job's, since a receiver refuses it."""
     if name == "block":
-        transparent, _, closing = known
+        transparent, data, closing = known
+        try:
+            unpacked(data, transparent, so_far)
+        except Unread:
+            return so_far
         return transparent if closing == ETB else None
     return None if name == "eot" else so_far
 

@@ -7,3 +7,4 @@ pub mod TextRuns
 pub mod Outcomes
 pub mod ReasonsHold
 pub mod ItemsRead
+pub mod ModesLeft

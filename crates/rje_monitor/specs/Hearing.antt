@@ -1,7 +1,8 @@
 -- What is heard of bytes, one thing after another, and the words for it (what is heard by GA27-3004 and bsc_frame, the words own profile).
-use Rattle.std.specs.Prelude.{◌≡◌, ℕ, ◌==◌, ◌||◌, Bool, List, [], ◌++◌, drop, Option, Some, None, codes}
+use Rattle.std.specs.Prelude.{◌≡◌, ℕ, ◌==◌, ◌&&◌, ◌||◌, Bool, true, false, if◌then◌else◌, List, [], ◌++◌, drop, Option, Some, None, is_some, codes}
 use Rattle.std.specs.List.{prefix_len}
 use Rattle.bsc_codes.specs.Bytes.{PAD}
+use Rattle.bsc_codes.specs.declared.block.Block.{Block}
 use Rattle.bsc_codes.specs.declared.block.Closing.{Closing}
 use Rattle.bsc_frame.specs.declared.frame.Frame.{Frame}
 use Rattle.bsc_frame.specs.declared.heard.Heard.{Heard}
@@ -9,7 +10,7 @@ use Rattle.bsc_frame.specs.Bytes.{LEADING_PAD}
 use Rattle.bsc_frame.specs.Heard.{IsHeard}
 use Rattle.bsc_frame.specs.Transmission.{Transmission}
 use Rattle.rje_text.specs.declared.mode.Mode.{Mode}
-use Rattle.rje_text.specs.Reading.{mode_of}
+use Rattle.rje_text.specs.Reading.{mode_of, reading}
 use Rattle.rje_monitor.specs.declared.reason.Reason.{Reason}
 use Rattle.rje_monitor.specs.Reasons.{IsReason, reason_name}
 use Rattle.rje_monitor.specs.Words.{hex}
@@ -27,9 +28,24 @@ abbrev pub mode_left : Closing → Bool → Option Mode
 mode_left Closing.Etb transparent = Some (mode_of transparent)
 mode_left Closing.Etx transparent = None
 
+-- a mode is that of the job's earlier blocks; a job's first block may have either
+abbrev pub agrees : Option Mode → Mode → Bool
+agrees None mode = true
+agrees (Some Mode.Normal) Mode.Normal = true
+agrees (Some Mode.Transparent) Mode.Transparent = true
+agrees (Some earlier) mode = false
+
+-- the block is read: its text stands for something, in its job's mode
+abbrev pub is_read : Option Mode → Block → Bool
+is_read so_far block = is_some (reading block so_far) && agrees so_far (mode_of block.transparent)
+
+-- the mode of the job's earlier blocks after a block; one that isn't read is none of them, as a receiver refuses it
+abbrev pub mode_after_block : Option Mode → Block → Option Mode
+mode_after_block so_far block = if is_read so_far block then mode_left block.closing block.transparent else so_far
+
 -- the mode of the job's earlier blocks after a frame; an EOT ends the job too
 abbrev pub mode_after_frame : Option Mode → Frame → Option Mode
-mode_after_frame so_far (Frame.Block block) = mode_left block.closing block.transparent
+mode_after_frame so_far (Frame.Block block) = mode_after_block so_far block
 mode_after_frame so_far Frame.Eot = None
 mode_after_frame so_far Frame.Enq = so_far
 mode_after_frame so_far Frame.Ack0 = so_far

@@ -1,10 +1,10 @@
 //! What is heard of bytes.
 ghost use Rattle.std.specs.Prelude.{◌≡◌, ◌≤◌, length, take, drop};
-ghost use Rattle.rje_monitor.specs.Hearing.{IsHeardFirst, mode_left as left_by, mode_after_frame, mode_after as mode_after_of};
+ghost use Rattle.rje_monitor.specs.Hearing.{IsHeardFirst, mode_left as left_by, mode_after_block, mode_after_frame, mode_after as mode_after_of};
 
 use bsc_codes::{Block, Closing};
 use bsc_frame::{Fed, Frame, Heard, Listener};
-use rje_text::Mode;
+use rje_text::{Mode, count_records, one_fault};
 
 /// What is heard first of some bytes.
 #[derive(Debug, PartialEq, Eq, Drop)]
@@ -45,7 +45,7 @@ fn after_frame(so_far: Option<Mode>, frame: &Frame) -> Option<Mode>
     ensures { result ≡ mode_after_frame so_far frame.now }
 {
     match frame {
-        Frame::Block(block) => mode_left(block),
+        Frame::Block(block) => after_block(so_far, block),
         Frame::Eot => None,
         Frame::Enq
         | Frame::Ack0
@@ -55,6 +55,18 @@ fn after_frame(so_far: Option<Mode>, frame: &Frame) -> Option<Mode>
         | Frame::Rvi
         | Frame::Ttd
         | Frame::Abort => so_far,
+    }
+}
+
+/// The mode after a block: one that isn't read, which a receiver refuses, leaves it as it was.
+#[tactic(auto, using(crate::proofs::ModesLeft::read_counted, crate::proofs::ModesLeft::unread_refused))]
+fn after_block(so_far: Option<Mode>, block: &Block) -> Option<Mode>
+    ensures { result ≡ mode_after_block so_far block.now }
+{
+    one_fault();
+    match count_records(block, so_far) {
+        Ok(_) => mode_left(block),
+        Err(_) => so_far,
     }
 }
 

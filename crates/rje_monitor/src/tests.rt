@@ -63,6 +63,28 @@ fn turns_have_their_text(rt: HostRuntime) {
     assert!(rt; matches!(&nothing, Ok(text) if text.is_empty()));
 }
 
+/// A job of each mode, with a block of the other one among its own, which a receiver refuses.
+const MIXED_LINES: &[u8] = b"32 32 10 02 10 26 81 DA FF
+32 32 02 C1 1E 03 18 5D FF
+32 32 10 02 10 03 40 01 FF
+32 32 02 C1 1E 26 D9 86 FF
+32 32 10 02 10 26 81 DA FF
+32 32 02 1E 03 49 A1 FF";
+
+const MIXED: &[u8] = b"1 block ETB transparent 0 punch 0 records
+2 block ETX normal 2 unread another mode than the job's earlier blocks
+3 block ETX transparent 0 0 records
+4 block ETB normal 2 unset 1 records |A|
+5 block ETB transparent 0 unread another mode than the job's earlier blocks
+6 block ETX normal 1 1 records ||
+";
+
+#[test]
+fn a_block_that_is_not_read_is_none_of_its_job(rt: HostRuntime) {
+    let text = turns_text(rt.alloc(), MIXED_LINES);
+    assert!(rt; matches!(&text, Ok(text) if text.as_slice() == MIXED));
+}
+
 /// Texts that are no transmission: cut off in the data, behind a DLE, in the check; a wrong check, also where bytes follow it; spoiled ones,
 /// one by the first byte of a check; and a block that is whole.
 const BAD_LINES: &[u8] = b"32 32 02
