@@ -7,6 +7,7 @@ use crate::write_cause::WriteCause;
 use line_world::WorldFault;
 use rje_jobs::{DeckFault, FileFault};
 use rje_monitor::HexFault;
+use rje_names::PrintedName;
 use rje_print::ScriptFault;
 use rje_station::StationFault;
 use rje_stores::StoreFault;
@@ -32,7 +33,7 @@ pub enum CommandFault<'a> {
     BadJob(usize),
     /// There is no job of this number, from 1, in the job file.
     #[error("there is no job {0}")]
-    NoJob(u32),
+    NoJob(u64),
     /// The line of this number, from 1, of a capture isn't bytes in hexadecimal digits.
     #[error("capture line {0} is not hexadecimal")]
     NotHex(usize),
@@ -46,7 +47,7 @@ pub enum CommandFault<'a> {
     #[error("turn {0} has a bad cut")]
     BadCut(usize),
     /// The file of this name holds jobs, and the order keeps those.
-    #[error("{0} holds jobs")]
+    #[error("{} holds jobs", PrintedName(.0))]
     HoldsJobs(&'a str),
     /// The words ask for a command that isn't served here: one over sockets, or one over files.
     #[error("no command")]
@@ -64,16 +65,16 @@ pub enum CommandFault<'a> {
     #[error("answers out of step")]
     OutOfStep,
     /// The file of this name can't be read, and why. Two lines.
-    #[error("{0}: {1}\nrje: can't read {0}")]
+    #[error("{}: {}\nrje: can't read {}", PrintedName(.0), .1, PrintedName(.0))]
     CannotRead(&'a str, StoreFault),
     /// The file of this name can't be written, and why. Two lines.
-    #[error("{0}: {1}\nrje: can't write {0}")]
+    #[error("{}: {}\nrje: can't write {}", PrintedName(.0), .1, PrintedName(.0))]
     CannotWrite(&'a str, WriteCause),
     /// It can't be written since another process has it. Two lines.
-    #[error("{0} is in use\nrje: can't write {0}")]
+    #[error("{} is in use\nrje: can't write {}", PrintedName(.0), PrintedName(.0))]
     InUse(&'a str),
     /// The file of this name is written, and its folder couldn't be put on disk.
-    #[error("{0} is written, but the disk may not have it")]
+    #[error("{} is written, but the disk may not have it", PrintedName(.0))]
     Unsynced(&'a str),
     /// Standard output can't be written, and why. Two lines.
     #[error("standard output: {0}\nrje: can't write standard output")]

@@ -43,7 +43,7 @@ impl Devices {
 #[derive(Clone, Copy, Debug, PartialEq, Eq)]
 pub struct Choice {
     /// The number of the one job, from 1. `None` for all of them.
-    pub job: Option<u32>,
+    pub job: Option<u64>,
     /// The devices that the jobs are for.
     pub devices: Devices,
 }
@@ -54,7 +54,7 @@ impl Choice {
         ensures taken { result ≡ takes self.now number select }
     {
         let is_it = match self.job {
-            Some(job) => job as usize == number,
+            Some(job) => job == number as u64,
             None => true,
         };
         is_it && self.devices.are_of(select)

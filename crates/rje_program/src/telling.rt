@@ -8,6 +8,7 @@ use clap::Error;
 use clap::error::ErrorKind;
 use rje_commands::{CommandFault, tell};
 use rje_jobs::FileFault;
+use rje_names::PrintedName;
 use rje_words::WordsFault;
 use std::io::Write;
 
@@ -45,7 +46,7 @@ pub fn tell_of<E: Write>(fault: &CommandFault, jobs: Option<&str>, err: &mut E) 
     ensures quiet { result ≡ 141 → err.new ≡ err.old }
 {
     if let (Some(jobs), CommandFault::File(FileFault::NotJobFile)) = (jobs, fault) {
-        let _ = writeln!(err, "rje: {jobs}: no job file");
+        let _ = writeln!(err, "rje: {}: no job file", PrintedName(jobs));
     }
     tell(fault, err)
 }

@@ -42,7 +42,7 @@ module _ (E : Type 0) (gives : Text → Result ℕ E → Type 0) (bits usual : �
   given_read (Some t) (Some n) none value = λ numeral small. (parses t (Ok n) (value t refl)).1
   given_read (Some t) None none value = let error = value t refl in λ numeral small. absurd (parses t (Err error.0) error.1 (numeral, small))
 
-module _ (E : Type 0) (gives : Text → Result ℕ E → Type 0) (parses : (text : Text) (r : Result ℕ E) → gives text r → ParsesUnsigned 32 10 text r) where
+module _ (E : Type 0) (gives : Text → Result ℕ E → Type 0) (parses : (text : Text) (r : Result ℕ E) → gives text r → ParsesUnsigned 64 10 text r) where
   pub number_read : (o : Option Text) (r : Option ℕ) → (o ≡ None → r ≡ None) → ((t : Text) → o ≡ Some t → ReadsOne gives t r) → IsNumberOf o r
   number_read None r none value = none refl
   number_read (Some t) (Some n) none value = λ numeral small. ap (λ x. Some x) (parses t (Ok n) (value t refl)).1

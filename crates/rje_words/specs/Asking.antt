@@ -84,7 +84,7 @@ IsCardsFaultOf rows _ = ⊥
 -- none was found
 abbrev pub IsNumberOf : Option Text → Option ℕ → Type 0
 IsNumberOf (Some text) job =
-    let digits = without_leading_plus text in IsNumeral 10 digits → digits_value 10 digits < 2 ^ 32 → job ≡ Some (digits_value 10 digits)
+    let digits = without_leading_plus text in IsNumeral 10 digits → digits_value 10 digits < 2 ^ 64 → job ≡ Some (digits_value 10 digits)
 IsNumberOf None job = job ≡ None
 
 -- the order has the job file and the number of the one job that were found, whatever its device, and shows records where that option was

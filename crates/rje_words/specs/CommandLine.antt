@@ -60,7 +60,7 @@ quiet_rule = flag_rule (codes "quiet")
 
 -- the option for the number of the one job, from 1
 abbrev pub number_rule : Rule
-number_rule = record (value_rule (codes "job")) { parser = Some (parser.Signed (pos 1) (pos 4294967295)) }
+number_rule = record (value_rule (codes "job")) { parser = Some (parser.Unsigned 1 18446744073709551615) }
 
 -- a command of this name with one file
 abbrev pub file_app : Text → Text → App

@@ -139,10 +139,10 @@ fn print_order<'a>(matches: &ArgMatches<'a>) -> PrintOrder<'a>
 }
 
 /// The number of the one job, where one was found: clap tests the range.
-fn number_in(matches: &ArgMatches) -> Option<u32>
+fn number_in(matches: &ArgMatches) -> Option<u64>
     ensures { IsNumberOf (one_of (codes "job") (rows_of (found_of matches.now))) result }
 {
-    matches.get_one::<u32>("job")
+    matches.get_one::<u64>("job")
 }
 
 fn monitor_order<'a>(matches: &ArgMatches<'a>) -> MonitorOrder<'a>

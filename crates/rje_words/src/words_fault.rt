@@ -3,6 +3,7 @@ ghost use Rattle.std.specs.Prelude.{◌≡◌};
 ghost use Rattle.rje_words.specs.WordsFault.{IsWantOfMemory};
 ghost use Rattle.rje_words.specs.declared.words_fault.WordsFault.TheVariants.{Refused};
 
+use rje_names::PrintedName;
 use std::alloc::AllocError;
 use thiserror::Error;
 
@@ -16,13 +17,13 @@ pub enum WordsFault<'a> {
     #[error("choose one device")]
     TwoDevices,
     /// A name for a deck's job that isn't one to eight of A to Z and 0 to 9. Two lines.
-    #[error("{0}: not one to eight of A to Z and 0 to 9\nrje: bad name")]
+    #[error("{}: not one to eight of A to Z and 0 to 9\nrje: bad name", PrintedName(.0))]
     BadName(&'a str),
     /// Not an address. Two lines.
-    #[error("{0}: not four numbers and a port\nrje: bad address")]
+    #[error("{}: not four numbers and a port\nrje: bad address", PrintedName(.0))]
     BadAddress(&'a str),
     /// Not where another end can be called. Two lines.
-    #[error("{0}: not a host and a port\nrje: bad address")]
+    #[error("{}: not a host and a port\nrje: bad address", PrintedName(.0))]
     BadHost(&'a str),
     /// Both of the options for an address, or none of them.
     #[error("choose --to or --listen")]
@@ -31,7 +32,7 @@ pub enum WordsFault<'a> {
     #[error("--from goes with --listen")]
     CallersCalled,
     /// Not the addresses of callers. Two lines.
-    #[error("{0}: not addresses of four numbers with commas between\nrje: bad address")]
+    #[error("{}: not addresses of four numbers with commas between\nrje: bad address", PrintedName(.0))]
     BadCallers(&'a str),
     /// It is to wait for a call that brings something, but it calls by itself.
     #[error("--wait goes with --listen")]

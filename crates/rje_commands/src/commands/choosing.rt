@@ -19,7 +19,7 @@ pub(super) fn entries_beside<'a, 'f>(
 {
     let entries = entries_in(alloc, file)?;
     match choice.job {
-        Some(job) if entries.len() < job as usize => Err(CommandFault::NoJob(job)),
+        Some(job) if (entries.len() as u64) < job => Err(CommandFault::NoJob(job)),
         _ => Ok(entries),
     }
 }

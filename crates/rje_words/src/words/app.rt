@@ -408,7 +408,7 @@ fn number<'a>(alloc: Global, help: &'a str) -> Arg<'a>
         .long("job")
         .value_name("K")
         .action(ArgAction::Set)
-        .value_parser(value_parser!(u32).range(1..))
+        .value_parser(value_parser!(u64).range(1..))
         .help(help)
 }
 

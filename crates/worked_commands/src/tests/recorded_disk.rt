@@ -1,7 +1,7 @@
 //! A disk of the tests' own that records what it is asked to change, and fails at one of these calls.
 ghost use Rattle.std.specs.Prelude.{[]};
 
-use rje_stores::{Disk, FileKind, FileStatus};
+use rje_stores::{ChangeTime, Disk, FileKind, FileStatus};
 use std::alloc::Global;
 use std::cell::Cell;
 use std::fs::{Permissions, TryLockError};
@@ -101,6 +101,10 @@ impl RecordedDisk {
                 device,
                 inode: 1,
                 links: self.links.get(),
+                changed: ChangeTime {
+                    seconds: 0,
+                    nanoseconds: 0,
+                },
             }),
             None => Err(io::Error::from(ErrorKind::NotFound)),
         }

@@ -7,9 +7,9 @@ use Rattle.rje_words.specs.Asking.{IsNumberOf}
 use Rattle.rje_words.proofs.Found.{number_read}
 use Rattle.rje_words.proofs.words.number_in.Goals as goal
 
--- how a text is read as a number of 32 bits
+-- how a text is read as a number of 64 bits
 abbrev gives : Text → Result ℕ ParseIntError → Type 0
-gives text r = ParsesUnsigned 32 10 text r × ExplainsUnsignedError 10 text r × HasUnsignedDigitsIfOk text r
+gives text r = ParsesUnsigned 64 10 text r × ExplainsUnsignedError 10 text r × HasUnsignedDigitsIfOk text r
 
 pub returns : goal.returns
 returns c =
