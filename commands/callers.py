@@ -87,24 +87,43 @@ def endless_fault(program):
     return fault or (None if ending == (0, wire.handed(1), "") else f"it ends with {ending}")
 
 
+# What is no word of the line: nothing, pads, SYN, and noise, a little and more than is kept of it.
+NO_WORDS = (b"", b"\xff", b"\x32\x32", b"\xff" * 300, b"\x00", b"GET / HTTP/1.0\r\n\r\n", b"\x32\x32\x01" + b"\xc1" * 300)
+
+
+def was_left(stranger):
+    """Whether the other end hangs up, and says nothing before."""
+    try:
+        return stranger.recv(1) == b""
+    except ConnectionResetError:
+        return True
+
+
 def waiting_faults(program):
-    """A receiver that is to wait passes over callers that say nothing, with its file as it was, and takes what the first one says that speaks."""
+    """A receiver that is to wait passes over callers that say nothing, or no word of the line, with its file as it was, and takes what the first
+    one says that speaks: after a pad, and in pieces."""
     port, had = free_port(), wire.kept([wire.PRINTED])
     words = ["receive", "got", "--listen", "%TO", "--wait", "--timeout", "50", "--patience", "4"]
     command = wire.Command(program, words, f"127.0.0.1:{port}")
     with open(command.at("got"), "wb") as file:
         file.write(had)
     told = ""
-    for hangs_up in (True, False):
-        with command.connection(port) as stranger:
-            told += "rje: hung up on %s:%d\n" % stranger.getsockname()
-            if hangs_up:
-                continue
-            stranger.settimeout(wire.PATIENCE)
-            yield None if stranger.recv(1) == b"" else "a silent stranger is answered"
+    for said in NO_WORDS:
+        for hangs_up in (True, False):
+            with command.connection(port) as stranger:
+                told += "rje: hung up on %s:%d\n" % stranger.getsockname()
+                stranger.sendall(said)
+                if hangs_up:
+                    time.sleep(0.05)
+                    continue
+                stranger.settimeout(wire.PATIENCE)
+                yield None if was_left(stranger) else f"a stranger is answered that says {said[:8].hex()}"
     with open(command.at("got"), "rb") as file:
         yield None if file.read() == had else "its file changes for a stranger"
     with command.connection(port) as caller:
+        for piece in b"\xff", b"\x32", b"\x32":
+            caller.sendall(piece)
+            time.sleep(0.01)
         yield wire.Peer(caller).fault_of(CAME)
     ending = command.ended()
     yield None if ending == (0, wire.handed(1), told) else f"it ends with {ending}"

@@ -21,8 +21,9 @@ pub record Books : Type 0 where
   pub kept : ℕ
   pub entered : List Entry
 
+-- as the session has it in hand; whether it was answered, and broke, is no matter of what it enters
 abbrev pub in_hand : Contending → Books → Carried
-in_hand s b = record { station = s; may_have_come = b.may_have_come; kept = b.kept }
+in_hand s b = record { station = s; may_have_come = b.may_have_come; kept = b.kept; answered = false; broken = false }
 
 -- before it speaks: where the last block of a job goes out, that the job may arrive
 abbrev pub announced : Contending → Books → Books

@@ -13,14 +13,19 @@ pub record DayState : Type 0 where
   pub place : DayPlace
   -- its own transmission was the last, and the other end hasn't had a hearing to bid in since
   pub others_turn : Bool
-  -- on this connection: whether the other end has said a word, and how many more hearings without one it has patience for
+  -- on this connection: whether the other end has said a word
   pub has_spoken : Bool
+  -- how many more hearings without a word it has patience for
   pub patience : ℕ
   -- its last attempt failed: no connection could be had, or it is gone without a word or in the middle of a transmission, or its own last
   -- transmission there ended before all jobs were counted
   pub failed : Bool
   -- a connection is over on which the other end said a word
   pub served : Bool
+  -- a connection broke, a transmission in hand, and none has ended well since
+  pub broke : Bool
+  -- the last connection was the first that did: it calls again at once, if it is one that calls
+  pub redials : Bool
 
 -- as the day begins
 abbrev pub first_day_state : Settings → DayState
@@ -32,6 +37,8 @@ first_day_state settings = record {
   patience = settings.patience;
   failed = false;
   served = false;
+  broke = false;
+  redials = false;
 }
 
 -- THE TABLE OF WHAT IS NEXT
@@ -44,13 +51,13 @@ may_send seen = seen.ready && not seen.held
 abbrev pub is_done : DayState → Seen → Bool
 is_done d seen = seen.drained || (d.settings.once && d.served)
 
--- the time to call again has come; or something may be sent, and the last attempt didn't fail
+-- the time to call again has come; or it calls again after a connection that broke; or something may be sent, and the last attempt didn't fail
 abbrev pub is_to_call : DayState → Seen → Bool
-is_to_call d seen = seen.call_due || (may_send seen && not d.failed)
+is_to_call d seen = seen.call_due || (d.redials || (may_send seen && not d.failed))
 
--- it has been drained; or the other end has said nothing for as long as it has patience
+-- it has been drained; or the line is wanted; or the other end has said nothing for as long as it has patience
 abbrev pub is_to_hang_up : DayState → Seen → Bool
-is_to_hang_up d seen = seen.drained || (not d.has_spoken && d.patience == 0)
+is_to_hang_up d seen = seen.drained || (seen.line_wanted || d.patience == 0)
 
 -- no connection
 abbrev pub duty_apart : DayState → Seen → Duty
@@ -83,6 +90,15 @@ abbrev pub is_free : DayPlace → Bool
 is_free DayPlace.Free = true
 is_free _ = false
 
+-- its own transmission is in hand
+abbrev pub is_sending : DayPlace → Bool
+is_sending DayPlace.Sending = true
+is_sending _ = false
+
+-- a transmission is in hand
+abbrev pub is_in_hand : DayPlace → Bool
+is_in_hand place = is_connected place && not (is_free place)
+
 -- where an event can come
 abbrev pub can_come : Event → DayPlace → Bool
 can_come Event.Connected place = not (is_connected place)
@@ -97,27 +113,34 @@ can_come Event.OtherEnded DayPlace.Receiving = true
 can_come Event.Disconnected place = is_connected place
 can_come _ _ = false
 
+-- where the other end said a word, patience with it begins anew
+abbrev pub with_word : Bool → DayState → DayState
+with_word said d = if said then record d { has_spoken = true; patience = d.settings.patience } else d
+
 -- what an event comes to where it can come
 abbrev pub coming_of : Event → DayState → DayState
-coming_of Event.Connected d = record d { place = DayPlace.Free; failed = false }
-coming_of Event.NoConnection d = record d { failed = true }
+coming_of Event.Connected d = record d { place = DayPlace.Free; failed = false; redials = false }
+coming_of Event.NoConnection d = record d { failed = true; redials = false }
 -- a hearing, in which the other end could have bid
 coming_of Event.Quiet d = record d { others_turn = false; patience = d.patience - 1 }
-coming_of Event.Heard d = record d { others_turn = false; has_spoken = true }
+coming_of Event.Heard d = record (with_word true d) { others_turn = false }
 coming_of Event.OwnBegan d = record d { place = DayPlace.Sending }
-coming_of Event.OtherBegan d = record d { place = DayPlace.Receiving; others_turn = false; has_spoken = true }
+coming_of Event.OtherBegan d = record (with_word true d) { place = DayPlace.Receiving; others_turn = false }
 -- then it is the other end's turn to bid
-coming_of (Event.OwnEnded how) d = record d {
+coming_of (Event.OwnEnded how) d = record (with_word (was_answered how) d) {
   place = DayPlace.Free;
   others_turn = true;
-  has_spoken = d.has_spoken || was_answered how;
   failed = not (all_counted how);
+  broke = d.broke && not (all_counted how);
 }
-coming_of Event.OtherEnded d = record d { place = DayPlace.Free }
--- the next connection begins as the first one did
+coming_of Event.OtherEnded d = record (with_word true d) { place = DayPlace.Free; broke = false }
+-- The next connection begins as the first one did, but where this one broke in its own transmission the other end has its turn first.
 coming_of Event.Disconnected d = record (first_day_state d.settings) {
+  others_turn = is_sending d.place;
   failed = d.failed || not (d.has_spoken && is_free d.place);
   served = d.served || d.has_spoken;
+  broke = d.broke || is_in_hand d.place;
+  redials = is_in_hand d.place && not d.broke;
 }
 
 -- an event that can't come changes nothing

@@ -5,9 +5,9 @@ use Rattle.rje_day.specs.declared.duty.Duty.{Duty}
 use Rattle.rje_day.specs.declared.event.Event.{Event}
 use Rattle.rje_day.specs.declared.seen.Seen.{Seen}
 use Rattle.rje_day.specs.declared.settings.Settings.{Settings}
-use Rattle.rje_day.specs.Day.{DayState, after, can_come, duty_of, first_day_state}
+use Rattle.rje_day.specs.Day.{DayState, after, can_come, duty_of, first_day_state, is_in_hand}
 use Rattle.rje_day.specs.Duties.{makes_stations}
-use Rattle.rje_day.specs.Ended.{was_answered}
+use Rattle.rje_day.specs.Ended.{all_counted, was_answered}
 
 -- one moment of a day: what was seen as the station asked what is next, and what happened when it did that
 pub record Moment : Type 0 where
@@ -72,24 +72,41 @@ stands_after (m ∷ past) = elim m.event [
   | _ ↦ stands_after past
 ]
 
--- the other end has said a word on this connection: something that was heard, a bid, or the answers of a transmission
+-- the other end has said a word on this connection: something that was heard, a bid, the EOT of its transmission, or the answers of one of the
+-- station's own
 abbrev pub has_word : History → Bool
 has_word [] = false
 has_word (m ∷ past) = elim m.event [
   | Event.Heard ↦ true
   | Event.OtherBegan ↦ true
+  | Event.OtherEnded ↦ true
   | Event.OwnEnded how ↦ has_word past || was_answered how
   | Event.Disconnected ↦ false
   | _ ↦ has_word past
 ]
 
--- how many hearings on this connection brought nothing
+-- how many hearings brought nothing since the other end said a word on this connection, or since it began
 abbrev pub quiet_hearings : History → ℕ
 quiet_hearings [] = 0
 quiet_hearings (m ∷ past) = elim m.event [
   | Event.Quiet ↦ quiet_hearings past + 1
+  | Event.Heard ↦ 0
+  | Event.OtherBegan ↦ 0
+  | Event.OwnEnded how ↦ if was_answered how then 0 else quiet_hearings past
+  | Event.OtherEnded ↦ 0
   | Event.Disconnected ↦ 0
   | _ ↦ quiet_hearings past
+]
+
+-- how many connections broke, a transmission in hand, since a transmission ended well: one of its own with all jobs counted, or one of the
+-- other end's
+abbrev pub breaks : History → ℕ
+breaks [] = 0
+breaks (m ∷ past) = elim m.event [
+  | Event.OwnEnded how ↦ if all_counted how then 0 else breaks past
+  | Event.OtherEnded ↦ 0
+  | Event.Disconnected ↦ breaks past + (if is_in_hand (stands_after past) then 1 else 0)
+  | _ ↦ breaks past
 ]
 
 -- a connection is over on which the other end said a word

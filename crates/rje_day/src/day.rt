@@ -6,9 +6,9 @@
 //! |---|---|---|
 //! | Apart | drained; or its one connection is over | End |
 //! | Apart | it is called | Listen |
-//! | Apart | the time to call again has come; or something may be sent, and the last attempt didn't fail | Call |
+//! | Apart | the time to call again has come; or it calls again after a connection that broke; or something may be sent, and the last attempt didn't fail | Call |
 //! | Apart | else | Wait |
-//! | Free | drained; or the other end hasn't said a word and patience is over | HangUp |
+//! | Free | drained; or the line is wanted for another call; or patience is over | HangUp |
 //! | Free | something may be sent, and it isn't the other end's turn | Bid |
 //! | Free | else | Hear |
 //! | Sending, Receiving | any | GoOn |
@@ -22,12 +22,14 @@
 //! | Quiet | Free, Sending, Receiving | one hearing of patience less; it isn't the other end's turn any more |
 //! | Heard | Free, Sending, Receiving | a word was said; it isn't the other end's turn any more |
 //! | OwnBegan | Free | Sending |
-//! | OtherBegan | Free, Sending | Receiving; a word was said |
-//! | OwnEnded | Sending | Free; it is the other end's turn; a word was said if a job was counted or is in doubt; the attempt failed but for Done |
-//! | OtherEnded | Receiving | Free |
+//! | OtherBegan | Free, Sending | Receiving; a word was said; it isn't the other end's turn any more |
+//! | OwnEnded | Sending | Free; it is the other end's turn; a word was said if a job was counted or is in doubt; the attempt failed except after Done |
+//! | OtherEnded | Receiving | Free; a word was said |
 //! | Disconnected | Free, Sending, Receiving | Apart, as the day began; the attempt failed where no word was said or a transmission was in hand |
 //!
-//! In every other place nothing changes.
+//! In every other place nothing changes. A word said begins patience anew. A connection broke where it ended with a transmission in hand: after
+//! the first that broke since a transmission ended well (OwnEnded with Done, OtherEnded) a station that calls calls again at once; and where its
+//! own transmission was in hand, it is the other end's turn first on the next connection.
 ghost use Rattle.std.specs.Prelude.{◌≡◌, ◌↔◌, true, false};
 
 use crate::{DayPlace, Duty, Ended, Event, Seen, Settings};
@@ -43,6 +45,8 @@ pub struct Day {
     patience: u32,
     failed: bool,
     served: bool,
+    broke: bool,
+    redials: bool,
 }
 
 impl Model for Day {
@@ -58,11 +62,13 @@ impl Model for Day {
       patience = d.patience;
       failed = d.failed;
       served = d.served;
+      broke = d.broke;
+      redials = d.redials;
     } };
 }
 
 impl Day {
-    ghost use Rattle.rje_day.specs.Day.{first_day_state, duty_of, duty_apart, duty_free, after, coming_of, can_come};
+    ghost use Rattle.rje_day.specs.Day.{first_day_state, duty_of, duty_apart, duty_free, after, coming_of, can_come, with_word};
     ghost use Rattle.rje_day.specs.Duties.{MustBid, MustCall, seeks_connection, IsInHand, MustHangUp, MustEnd};
 
     /// A day that begins, with no connection.
@@ -77,6 +83,8 @@ impl Day {
             patience: settings.patience,
             failed: false,
             served: false,
+            broke: false,
+            redials: false,
         }
     }
 
@@ -104,11 +112,11 @@ impl Day {
     {
         match (event, self.place) {
             (Event::Connected, DayPlace::Apart) => self.connected(),
-            (Event::NoConnection, DayPlace::Apart) => self.failed = true,
+            (Event::NoConnection, DayPlace::Apart) => self.not_connected(),
             (Event::OwnBegan, DayPlace::Free) => self.place = DayPlace::Sending,
             (Event::OtherBegan, DayPlace::Free | DayPlace::Sending) => self.other_began(),
             (Event::OwnEnded(how), DayPlace::Sending) => self.own_ended(how),
-            (Event::OtherEnded, DayPlace::Receiving) => self.place = DayPlace::Free,
+            (Event::OtherEnded, DayPlace::Receiving) => self.other_ended(),
             (_, DayPlace::Apart) => {}
             (Event::Quiet, _) => {
                 self.others_turn = false;
@@ -116,7 +124,7 @@ impl Day {
             }
             (Event::Heard, _) => {
                 self.others_turn = false;
-                self.has_spoken = true;
+                self.spoke();
             }
             (Event::Disconnected, _) => self.disconnected(),
             _ => {}
@@ -132,7 +140,7 @@ impl Day {
             Duty::End
         } else if !self.settings.calls {
             Duty::Listen
-        } else if seen.call_due || (may_send && !self.failed) {
+        } else if seen.call_due || self.redials || (may_send && !self.failed) {
             Duty::Call
         } else {
             Duty::Wait
@@ -144,7 +152,7 @@ impl Day {
         ensures { result ≡ duty_free self.now seen }
     {
         let may_send = seen.ready && !seen.held;
-        if seen.drained || (!self.has_spoken && self.patience == 0) {
+        if seen.drained || seen.line_wanted || self.patience == 0 {
             Duty::HangUp
         } else if may_send && !self.others_turn {
             Duty::Bid
@@ -158,6 +166,22 @@ impl Day {
     {
         self.place = DayPlace::Free;
         self.failed = false;
+        self.redials = false;
+    }
+
+    fn not_connected(&mut self)
+        ensures { self.new ≡ coming_of Event.NoConnection self.old }
+    {
+        self.failed = true;
+        self.redials = false;
+    }
+
+    /// The other end said a word: patience with it begins anew.
+    fn spoke(&mut self)
+        ensures { self.new ≡ with_word true self.old }
+    {
+        self.has_spoken = true;
+        self.patience = self.settings.patience;
     }
 
     fn other_began(&mut self)
@@ -165,7 +189,7 @@ impl Day {
     {
         self.place = DayPlace::Receiving;
         self.others_turn = false;
-        self.has_spoken = true;
+        self.spoke();
     }
 
     fn own_ended(&mut self, how: Ended)
@@ -173,17 +197,31 @@ impl Day {
     {
         self.place = DayPlace::Free;
         self.others_turn = true;
-        self.has_spoken |= how.was_answered();
+        if how.was_answered() {
+            self.spoke();
+        }
         self.failed = how != Ended::Done;
+        self.broke = self.broke && how != Ended::Done;
+    }
+
+    fn other_ended(&mut self)
+        ensures { self.new ≡ coming_of Event.OtherEnded self.old }
+    {
+        self.place = DayPlace::Free;
+        self.broke = false;
+        self.spoke();
     }
 
     fn disconnected(&mut self)
         ensures { self.new ≡ coming_of Event.Disconnected self.old }
     {
-        let well = self.has_spoken && self.place == DayPlace::Free;
+        let broke = self.place.is_in_hand();
         *self = Day {
-            failed: self.failed || !well,
+            others_turn: self.place == DayPlace::Sending,
+            failed: self.failed || !(self.has_spoken && self.place.is_free()),
             served: self.served || self.has_spoken,
+            broke: self.broke || broke,
+            redials: broke && !self.broke,
             ..Day::new(self.settings)
         };
     }

@@ -18,8 +18,9 @@ pub use duty::Duty;
 pub use ended::Ended;
 pub use event::Event;
 pub use laws::{
-    ends_after_one_connection, no_job_is_given_again, stations_carry_one_each_way,
-    the_silent_alone_are_hung_up,
+    calls_again_once_at_once, ends_after_one_connection, no_job_is_given_again,
+    stations_carry_one_each_way, the_idle_alone_are_hung_up,
+    transmissions_begin_where_none_is_in_hand,
 };
 pub use seen::Seen;
 pub use settings::Settings;

@@ -11,4 +11,6 @@ pub struct Seen {
     pub drained: bool,
     /// Whether the time to call again has come.
     pub call_due: bool,
+    /// Whether the connection is wanted no more: the other end calls again, or it has had the line for long and nothing was done.
+    pub line_wanted: bool,
 }

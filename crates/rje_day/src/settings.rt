@@ -7,6 +7,6 @@ pub struct Settings {
     pub calls: bool,
     /// Whether it ends after one connection on which the other end said something.
     pub once: bool,
-    /// After how many hearings on a connection on which the other end hasn't said a word it hangs up; with 0 at once.
+    /// After how many hearings in a row without a word it hangs up, where no transmission is in hand; with 0 at once.
     pub patience: u32,
 }

@@ -4,5 +4,4 @@ pub mod Moved
 pub mod NewFile
 pub mod Ready
 pub mod Marked
-pub mod Settled
-pub mod Numbered
+pub mod Settling

@@ -1,9 +1,10 @@
 -- What becomes of the file of a job while the job may have arrived, and after that: at each moment it has a name on disk that says so.
-use Rattle.std.specs.Prelude.{◌≡◌, ◌⊎◌, ℕ, List, ◌++◌, true, codes}
+use Rattle.std.specs.Prelude.{◌≡◌, ◌⊎◌, ℕ, List, ◌∷◌, ◌++◌, true, codes}
 use Rattle.rje_day.specs.declared.disposition.Disposition.{Disposition}
-use Rattle.rje_stores.specs.Disk.{Asked, Call, OpenLock, Remove, standing, has_synced_name}
+use Rattle.rje_stores.specs.Disk.{Asked, Call, Done, Link, OpenLock, Remove, standing, has_synced_name}
+use Rattle.rje_folders.specs.declared.file_identity.FileIdentity.{FileIdentity}
 use Rattle.rje_folders.specs.declared.folder.Folder.{Folder}
-use Rattle.rje_folders.specs.FileNames.{IsNumbered}
+use Rattle.rje_folders.specs.FileNames.{IsNamedAfter, IsNumbered}
 use Rattle.rje_folders.specs.Folder.{has_new_files, path_in, path_of}
 use Rattle.rje_folders.specs.Keeping.{IsTemporary}
 use Rattle.rje_folders.specs.Moving.{MayAdd, MayDrop, MayMove}
@@ -27,13 +28,13 @@ IsSent station name doubt sent before after = IsNumbered (path_in station Folder
 
 -- a path is one that a file of this name gets in sent/, doubt/ or refused/
 abbrev pub IsKeptElsewhere : (station name path : List ℕ) → Type 0
-IsKeptElsewhere station name path = IsNumbered (path_in station Folder.Sent name) path ⊎ IsNumbered (path_in station Folder.Doubt name) path ⊎ IsNumbered (path_in station Folder.Refused name) path
+IsKeptElsewhere station name path = IsNamedAfter (path_in station Folder.Sent name) path ⊎ IsNamedAfter (path_in station Folder.Doubt name) path ⊎ IsNamedAfter (path_in station Folder.Refused name) path
 
 -- What may be asked to bring to its end what was begun: to take the name in out/ away from a file that has one in sent/, doubt/ or refused/ too, once
 -- that is on disk; and the name in doubt/ from a file that has one in sent/ too, where both are of one name, with a number or without.
 abbrev pub MayTidy : (List Asked → List ℕ → List ℕ → Type 0) → (station : List ℕ) → Call → List Asked → Type 0
 MayTidy are_one station call before = ((name kept : List ℕ) × IsKeptElsewhere station name kept × MayDrop are_one kept (path_in station Folder.Out name) call before)
-    ⊎ ((name kept doubt : List ℕ) × IsNumbered (path_in station Folder.Sent name) kept × IsNumbered (path_in station Folder.Doubt name) doubt × MayDrop are_one kept doubt call before)
+    ⊎ ((name kept doubt : List ℕ) × IsNamedAfter (path_in station Folder.Sent name) kept × IsNamedAfter (path_in station Folder.Doubt name) doubt × MayDrop are_one kept doubt call before)
 
 -- The path that the file of a job has once that is done: one in sent/; the one in doubt/; or the one in out/, but the one in doubt/ still where another
 -- file has the name in out/.
@@ -49,6 +50,16 @@ lock_path station = station ++ codes "/lock"
 -- what may be asked to clear a folder in which a station makes new files: to take a name away under which one was made that was not done
 abbrev pub MayClear : (station : List ℕ) → Call → List Asked → Type 0
 MayClear station call before = (folder : Folder) × (has_new_files folder ≡ true) × ((name : List ℕ) × IsTemporary (path_of station folder) name × (call ≡ Remove name))
+
+-- What may be asked to see whether a file in out/ can get a second name: to give it one in refused/ that is left alone, and to take that away, which the
+-- call before gave to it.
+abbrev pub MayTry : (station name : List ℕ) → Call → List Asked → Type 0
+MayTry station name call before = (second : List ℕ) × IsTemporary (path_of station Folder.Refused) second
+    × ((call ≡ Link (path_in station Folder.Out name) second) ⊎ ((call ≡ Remove second) × ((earlier : List Asked) × (before ≡ Done (Link (path_in station Folder.Out name) second) ∷ earlier))))
+
+-- what may be asked to take a file of cut/ away: that, once the disk said that it is this one
+abbrev pub MayDropCut : (is_file : List Asked → List ℕ → FileIdentity → Type 0) → (path : List ℕ) → FileIdentity → Call → List Asked → Type 0
+MayDropCut is_file path file call before = (call ≡ Remove path) × is_file before path file
 
 -- what may be asked to have the folder of a station: to open the file that is locked, to clear the folders, and to tidy up
 abbrev pub MayOpen : (List Asked → List ℕ → List ℕ → Type 0) → (station : List ℕ) → Call → List Asked → Type 0

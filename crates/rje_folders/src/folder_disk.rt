@@ -1,8 +1,10 @@
 //! A disk with folders.
 ghost use Rattle.std.specs.Prelude.{◌≡◌, ℕ, List, true, IfOk};
+ghost use Rattle.rje_folders.specs.declared.file_identity.FileIdentity.{FileIdentity as Identity};
 ghost use Rattle.rje_stores.specs.Disk.{Asked};
 
-use rje_stores::{Disk, SystemDisk};
+use crate::file_identity::FileIdentity;
+use rje_stores::{Disk, FileStatus, SystemDisk};
 use std::alloc::Global;
 use std::fs::{self, File};
 use std::io::{self, ErrorKind};
@@ -13,10 +15,24 @@ pub trait FolderDisk: Disk {
     /// After these calls, the disk said that two names are of one file.
     ghost are_one: { List Asked → List ℕ → List ℕ → Type 0 };
 
+    /// After these calls, the disk said that this file stands under a name.
+    ghost is_file: { List Asked → List ℕ → Identity → Type 0 };
+
+    /// After these calls, the disk said that an open file is this one.
+    ghost is_open: { List Asked → Self.File → Identity → Type 0 };
+
     /// Whether two names are of one file. Not found where nothing stands under one of them.
     fn is_one_file(&self, one: &str, other: &str) -> io::Result<bool>
         ensures { IfOk result (λ is_one. is_one ≡ true
             → are_one (Self.asked self.now) one.now other.now) };
+
+    /// Which file stands under a name, itself and not what it leads to where it is a symbolic link.
+    fn identity(&self, name: &str) -> io::Result<FileIdentity>
+        ensures { IfOk result (λ file. is_file (Self.asked self.now) name.now file) };
+
+    /// Which file an open one is.
+    fn identity_of(&self, file: &Self::File) -> io::Result<FileIdentity>
+        ensures { IfOk result (λ is. is_open (Self.asked self.now) file.now is) };
 
     /// The names in a folder, in no order, but for those that are no text.
     fn names_in(&self, alloc: Global, folder: &str) -> io::Result<Vec<String>>;
@@ -32,10 +48,23 @@ pub trait FolderDisk: Disk {
 impl<'a, R: Files<File = File> + Alloc + Clone + Drop> FolderDisk for SystemDisk<'a, R> {
     ghost are_one = { λ _ _ _. Unit {0} };
 
+    ghost is_file = { λ _ _ _. Unit {0} };
+
+    ghost is_open = { λ _ _ _. Unit {0} };
+
     fn is_one_file(&self, one: &str, other: &str) -> io::Result<bool> {
         let found = self.status(one)?;
         let also = self.status(other)?;
         Ok(found.device == also.device && found.inode == also.inode)
+    }
+
+    fn identity(&self, name: &str) -> io::Result<FileIdentity> {
+        let found = self.runtime().symlink_metadata(name)?;
+        Ok(FileIdentity::of(&FileStatus::from(found)))
+    }
+
+    fn identity_of(&self, file: &File) -> io::Result<FileIdentity> {
+        Ok(FileIdentity::of(&self.status_of(file)?))
     }
 
     fn names_in(&self, alloc: Global, folder: &str) -> io::Result<Vec<String>> {

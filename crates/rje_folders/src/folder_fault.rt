@@ -22,6 +22,15 @@ pub enum FolderFault {
     /// A file there has more bytes than are read.
     #[error("{0}: too large")]
     TooLarge(Folder),
+    /// A file there was written to while it was read.
+    #[error("{0}: being written")]
+    BeingWritten(Folder),
+    /// Another file has the name of one that was read, or that one was written to.
+    #[error("replaced while it was being sent")]
+    Replaced,
+    /// A file can't get a second name, and why.
+    #[error("can't get a second name: {0}")]
+    NoSecondName(ErrorKind),
     /// The station's own files can't be used, by which it is locked, held and drained, and why.
     #[error("{0}")]
     Own(ErrorKind),

@@ -13,9 +13,6 @@ use rje_stores::Disk;
 use std::alloc::Global;
 use std::io::{self, ErrorKind};
 
-/// How many names are tried for a new file.
-const MAX_NAMES: u32 = 1000;
-
 /// Where a new file is kept.
 #[derive(Drop)]
 pub struct Kept {
@@ -68,7 +65,7 @@ fn create_new<D: Disk>(disk: &mut D, alloc: Global, folder: &str) -> io::Result<
     ensures made { D.discloses → IfOk result (λ new.
         length (D.asked disk.old) ≤ (D.opened new.file).number) }
 {
-    for number in 0..MAX_NAMES {
+    for number in 0..u32::MAX {
         let path = temporary_name(alloc, folder, number)?;
         match disk.create(path.as_str()) {
             Ok(file) => return Ok(NewFile { file, path }),

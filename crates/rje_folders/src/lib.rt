@@ -2,27 +2,35 @@
 #![tactic(auto)]
 
 mod clearing;
+mod file_identity;
 mod file_names;
 mod folder;
 mod folder_disk;
 mod folder_fault;
 mod keeping;
+mod kept_names;
 mod linking;
 mod marking;
 mod moving;
+mod naming;
 mod opening;
+mod probing;
 mod promising;
 mod reading;
 mod ready_file;
 mod receiving;
+mod settled;
 mod station_folder;
 mod tidying;
 
+pub use file_identity::FileIdentity;
 pub use file_names::FileNames;
 pub use folder::Folder;
 pub use folder_disk::FolderDisk;
 pub use folder_fault::FolderFault;
 pub use keeping::{Kept, keep};
 pub use moving::{add_name, drop_name, move_file};
+pub use reading::FileRead;
 pub use ready_file::{ReadyFile, is_left_alone, ready_names};
+pub use settled::{OutName, Settled};
 pub use station_folder::StationFolder;

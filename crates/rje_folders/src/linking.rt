@@ -12,9 +12,6 @@ use rje_stores::Disk;
 use std::alloc::Global;
 use std::io::{self, ErrorKind};
 
-/// How many names are tried for a file.
-const MAX_NAMES: u32 = 1000;
-
 /// A name that a file has got, whose folder is open.
 #[derive(Drop)]
 pub(crate) struct SecondName<F: Drop> {
@@ -42,7 +39,7 @@ pub(crate) fn link_free<D: Disk>(
         IsNameBefore names.entry second.next (string_bytes second.path)) }
 {
     let first = names.first();
-    for number in first..first.saturating_add(MAX_NAMES) {
+    for number in first..u32::MAX {
         let path = names.name(alloc, number)?;
         // Opened before the file gets the name, since one in a folder that can't be opened is not known to be on disk.
         let folder = disk.open_folder(path.as_str())?;

@@ -6,6 +6,7 @@ ghost use Rattle.rje_folders.specs.FileNames.{IsNameOf};
 ghost use Rattle.rje_folders.specs.Moving.{IsGone, IsMoved, IsSecond, MayAdd, MayDrop, MayMove};
 ghost use Rattle.rje_folders.specs.Inside.Calls.{HasRemoved, HasTaken, IsChanged};
 
+use crate::file_identity::FileIdentity;
 use crate::file_names::FileNames;
 use crate::folder_disk::FolderDisk;
 use crate::linking::{link_free, sync_names};
@@ -132,4 +133,15 @@ fn remove_spare<D: FolderDisk>(disk: &mut D, kept: &str, name: &str) -> io::Resu
     }
     disk.remove(name)?;
     Ok(true)
+}
+
+/// Whether this file stands under a name.
+pub(crate) fn is_this_file<D: FolderDisk>(
+    disk: &D,
+    name: &str,
+    file: FileIdentity,
+) -> io::Result<bool>
+    ensures { IfOk result (λ is. is ≡ true → D.is_file (D.asked disk.now) name.now file) }
+{
+    Ok(disk.identity(name)? == file)
 }

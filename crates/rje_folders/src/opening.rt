@@ -8,8 +8,9 @@ use crate::clearing::clear;
 use crate::folder::Folder;
 use crate::folder_disk::FolderDisk;
 use crate::folder_fault::FolderFault;
-use crate::ready_file::ready_names;
-use crate::tidying::{is_passed_over, tidy_doubt, tidy_ready};
+use crate::kept_names::KeptNames;
+use crate::ready_file::{is_left_alone, ready_names};
+use crate::tidying::{has_kept_name, names_of_file, tidy_doubt, tidy_ready};
 use std::alloc::Global;
 use std::fs::TryLockError;
 use std::io::{self, ErrorKind};
@@ -109,8 +110,10 @@ fn tidy_out<D: FolderDisk>(disk: &mut D, alloc: Global, station: &str) -> Result
         (D.asked disk.old) (D.asked disk.new) }
 {
     let names = names_of(disk, alloc, station, Folder::Out)?;
+    let kept = KeptNames::listed(disk, alloc, station);
+    let kept = kept.map_err(|error| FolderFault::of(Folder::Sent, &error))?;
     for name in &names {
-        let tidied = tidy_ready(disk, alloc, station, name.as_str());
+        let tidied = tidy_ready(disk, alloc, station, name.as_str(), &kept);
         tidied.map_err(|error| FolderFault::of(Folder::Out, &error))?;
     }
     Ok(())
@@ -122,15 +125,16 @@ fn tidy_doubts<D: FolderDisk>(disk: &mut D, alloc: Global, station: &str) -> Res
         (D.asked disk.old) (D.asked disk.new) }
 {
     let names = names_of(disk, alloc, station, Folder::Doubt)?;
+    let sent = names_of(disk, alloc, station, Folder::Sent)?;
     for name in &names {
-        let tidied = tidy_doubt(disk, alloc, station, name.as_str());
+        let tidied = tidy_doubt(disk, alloc, station, name.as_str(), sent.as_slice());
         tidied.map_err(|error| FolderFault::of(Folder::Doubt, &error))?;
     }
     Ok(())
 }
 
 /// The names in a folder of the station, in no order.
-fn names_of<D: FolderDisk>(
+pub(crate) fn names_of<D: FolderDisk>(
     disk: &D,
     alloc: Global,
     station: &str,
@@ -153,12 +157,53 @@ pub(crate) fn names_ready<D: FolderDisk>(
 {
     let path = Folder::Out.own_path(alloc, station)?;
     let mut ready = Vec::new(alloc);
+    // Listed once a file has a second name.
+    let mut kept = None;
     for name in disk.names_in(alloc, path.as_str())? {
-        if !is_passed_over(disk, alloc, station, name.as_str())? {
+        if !is_left_alone(name.as_str())
+            && !is_passed_over(disk, alloc, station, name.as_str(), &mut kept)?
+        {
             ready.push(name)?;
         }
     }
     Ok(ready_names(ready)?)
+}
+
+/// Whether a name in out/ is passed over: its file has one in sent/, doubt/ or refused/ too, is there no more, or can't be looked at. It fails for
+/// want of memory alone.
+fn is_passed_over<D: FolderDisk>(
+    disk: &D,
+    alloc: Global,
+    station: &str,
+    name: &str,
+    kept: &mut Option<KeptNames>,
+) -> io::Result<bool> {
+    match has_other_name(disk, alloc, station, name, kept) {
+        Err(error) if error.kind() != ErrorKind::OutOfMemory => Ok(true),
+        looked => looked,
+    }
+}
+
+/// Whether the file of a name in out/ has one in sent/, doubt/ or refused/ too, or is there no more. The names there are listed where they are asked for.
+fn has_other_name<D: FolderDisk>(
+    disk: &D,
+    alloc: Global,
+    station: &str,
+    name: &str,
+    kept: &mut Option<KeptNames>,
+) -> io::Result<bool> {
+    match names_of_file(disk, alloc, station, name)? {
+        0 => return Ok(true),
+        1 => return Ok(false),
+        _ => {}
+    }
+    if kept.is_none() {
+        *kept = Some(KeptNames::listed(disk, alloc, station)?);
+    }
+    match kept {
+        Some(kept) => has_kept_name(disk, alloc, station, name, kept),
+        None => Ok(false),
+    }
 }
 
 /// How many names in out/ are no text.

@@ -1,41 +1,81 @@
 //! What becomes of the file of a job while the job may have arrived, and after that.
-ghost use Rattle.std.specs.Prelude.{◌≡◌, ◌⊎◌, IfOk, string_bytes};
+ghost use Rattle.std.specs.Prelude.{◌≡◌, ◌≢◌, ◌⊎◌, Ok, true, IfOk, IfSome, string_bytes};
 ghost use Rattle.rje_stores.specs.Replacing.{Adds};
 ghost use Rattle.rje_folders.specs.FileNames.{IsNumbered};
 ghost use Rattle.rje_folders.specs.Folder.{path_in};
 ghost use Rattle.rje_folders.specs.Moving.{IsGone, IsMoved, IsSecond, MayMove};
+ghost use Rattle.rje_folders.specs.declared.settled.OutName.TheVariants.{TakenAway};
 ghost use Rattle.rje_folders.specs.Promising.{IsSent, IsSettled, MayPromise, MaySettle};
 
+use crate::file_identity::FileIdentity;
 use crate::file_names::FileNames;
 use crate::folder::Folder;
 use crate::folder_disk::FolderDisk;
-use crate::moving::{add_name, change_name, drop_name, move_file, take_away};
+use crate::folder_fault::FolderFault;
+use crate::moving::{add_name, change_name, drop_name, is_this_file, move_file, take_away};
+use crate::settled::{OutName, Settled};
 use rje_day::Disposition;
 use std::alloc::Global;
-use std::io;
+use std::io::{self, ErrorKind};
 
-/// Before the last block of a job is said: its file gets a second name, in doubt/, on disk. That name's path.
+/// Before the last block of a job is said: its file gets a second name, in doubt/, on disk. That name's path. Replaced where it isn't this file,
+/// and then the second name is taken away again, if it can be.
 pub(crate) fn promise<D: FolderDisk>(
     disk: &mut D,
     alloc: Global,
     station: &str,
     name: &str,
-) -> io::Result<String>
+    file: FileIdentity,
+) -> Result<String, FolderFault>
     ensures asks { D.discloses → Adds (MayPromise D.are_one station.now name.now)
         (D.asked disk.old) (D.asked disk.new) }
     ensures second { D.discloses → IfOk result (λ doubt. IsSecond
         (path_in station.now Folder.Out name.now) (string_bytes doubt)
         (D.asked disk.old) (D.asked disk.new)) }
+    ensures file { IfOk result (λ doubt. D.is_file (D.asked disk.new) (string_bytes doubt) file) }
     ensures named { IfOk result (λ doubt. IsNumbered
         (path_in station.now Folder.Doubt name.now) (string_bytes doubt)) }
 {
+    match name_in_doubt(disk, alloc, station, name, file) {
+        Ok(Some(doubt)) => Ok(doubt),
+        Ok(None) => Err(FolderFault::Replaced),
+        Err(error) => Err(FolderFault::of(Folder::Doubt, &error)),
+    }
+}
+
+/// Gives a file in out/ a second name, in doubt/, on disk. That name's path. Where it isn't this file the second name is taken away again, if it can
+/// be, and there is none.
+fn name_in_doubt<D: FolderDisk>(
+    disk: &mut D,
+    alloc: Global,
+    station: &str,
+    name: &str,
+    file: FileIdentity,
+) -> io::Result<Option<String>>
+    ensures asks { D.discloses → Adds (MayPromise D.are_one station.now name.now)
+        (D.asked disk.old) (D.asked disk.new) }
+    ensures second { D.discloses → IfOk result (λ doubt. IfSome doubt (λ doubt. IsSecond
+        (path_in station.now Folder.Out name.now) (string_bytes doubt)
+        (D.asked disk.old) (D.asked disk.new))) }
+    ensures file { IfOk result (λ doubt. IfSome doubt (λ doubt.
+        D.is_file (D.asked disk.new) (string_bytes doubt) file)) }
+    ensures named { IfOk result (λ doubt. IfSome doubt (λ doubt. IsNumbered
+        (path_in station.now Folder.Doubt name.now) (string_bytes doubt))) }
+{
     let ready = Folder::Out.path(alloc, station, name)?;
-    let doubt = Folder::Doubt.path(alloc, station, name)?;
-    add_name(disk, alloc, ready.as_str(), FileNames::Of(doubt.as_str()))
+    let second = Folder::Doubt.path(alloc, station, name)?;
+    let doubt = add_name(disk, alloc, ready.as_str(), FileNames::Of(second.as_str()))?;
+    let same = is_this_file(disk, doubt.as_str(), file);
+    if let Ok(true) = same {
+        return Ok(Some(doubt));
+    }
+    let _ = drop_name(disk, ready.as_str(), doubt.as_str());
+    same?;
+    Ok(None)
 }
 
 /// Once it is known what becomes of a job that was promised: where it was counted, its file is moved from doubt/ to sent/, and the name in out/ is
-/// taken away; where it is in doubt, that name alone is; where it lies ready still, the one in doubt/. The path that the file has then.
+/// taken away; where it is in doubt, that name alone is; where it lies ready still, the one in doubt/. Where the file stands then.
 pub(crate) fn settle<D: FolderDisk>(
     disk: &mut D,
     alloc: Global,
@@ -43,17 +83,19 @@ pub(crate) fn settle<D: FolderDisk>(
     name: &str,
     doubt: &str,
     disposition: Disposition,
-) -> io::Result<String>
+) -> io::Result<Settled>
     ensures asks { D.discloses
         → Adds (MaySettle D.are_one station.now name.now doubt.now disposition)
         (D.asked disk.old) (D.asked disk.new) }
-    ensures sent { D.discloses → disposition ≡ Disposition.Sent → IfOk result (λ path.
-        IsSent station.now name.now doubt.now (string_bytes path)
+    ensures sent { D.discloses → disposition ≡ Disposition.Sent → IfOk result (λ settled.
+        IsSent station.now name.now doubt.now (string_bytes settled.path)
         (D.asked disk.old) (D.asked disk.new)) }
-    ensures ready { D.discloses → disposition ≡ Disposition.Ready → IfOk result (λ path.
-        (string_bytes path ≡ doubt.now) ⊎ IsGone doubt.now (D.asked disk.new)) }
-    ensures settled { IfOk result (λ path.
-        IsSettled disposition station.now name.now doubt.now (string_bytes path)) }
+    ensures ready { D.discloses → disposition ≡ Disposition.Ready → IfOk result (λ settled.
+        (string_bytes settled.path ≡ doubt.now) ⊎ IsGone doubt.now (D.asked disk.new)) }
+    ensures out { D.discloses → IfOk result (λ settled. settled.out ≡ TakenAway
+        → IsGone (path_in station.now Folder.Out name.now) (D.asked disk.new)) }
+    ensures settled { IfOk result (λ settled.
+        IsSettled disposition station.now name.now doubt.now (string_bytes settled.path)) }
 {
     match disposition {
         Disposition::Sent => put_in_sent(disk, alloc, station, name, doubt),
@@ -62,73 +104,106 @@ pub(crate) fn settle<D: FolderDisk>(
     }
 }
 
-/// The job was counted: its file is moved from doubt/ to sent/, and the name in out/ is taken away. Its path in sent/. That the name in out/ is gone is
-/// on disk then; the one in doubt/ may be there again after a power failure, and is taken away when the station is started.
+/// The job was counted: its file is moved from doubt/ to sent/, and the name in out/ is taken away. That the name in out/ is gone is on disk then; the
+/// one in doubt/ may be there again after a power failure, and is taken away when the station is started.
 fn put_in_sent<D: FolderDisk>(
     disk: &mut D,
     alloc: Global,
     station: &str,
     name: &str,
     doubt: &str,
-) -> io::Result<String>
+) -> io::Result<Settled>
     ensures asks { D.discloses
         → Adds (MaySettle D.are_one station.now name.now doubt.now Disposition.Sent)
         (D.asked disk.old) (D.asked disk.new) }
-    ensures sent { D.discloses → IfOk result (λ path.
-        IsSent station.now name.now doubt.now (string_bytes path)
+    ensures sent { D.discloses → IfOk result (λ settled.
+        IsSent station.now name.now doubt.now (string_bytes settled.path)
         (D.asked disk.old) (D.asked disk.new)) }
-    ensures settled { IfOk result (λ path.
-        IsSettled Disposition.Sent station.now name.now doubt.now (string_bytes path)) }
+    ensures out { D.discloses → IfOk result (λ settled. settled.out ≡ TakenAway
+        → IsGone (path_in station.now Folder.Out name.now) (D.asked disk.new)) }
+    ensures settled { IfOk result (λ settled.
+        IsSettled Disposition.Sent station.now name.now doubt.now (string_bytes settled.path)) }
 {
     let ready = Folder::Out.path(alloc, station, name)?;
     let sent = Folder::Sent.path(alloc, station, name)?;
     let out = disk.open_folder(ready.as_str())?;
+    make_sent(disk, alloc, station)?;
     let kept = change_name(disk, alloc, doubt, FileNames::Of(sent.as_str()))?;
-    take_away(disk, kept.as_str(), ready.as_str(), &out)?;
-    Ok(kept)
+    let taken = take_away(disk, kept.as_str(), ready.as_str(), &out);
+    let out = out_name(disk, ready.as_str(), taken);
+    Ok(Settled { path: kept, out })
 }
 
-/// The job may have arrived: the name in out/ is taken away. The path in doubt/.
+/// Makes the folder of what was sent, where somebody took it away.
+fn make_sent<D: FolderDisk>(disk: &mut D, alloc: Global, station: &str) -> io::Result<()>
+    ensures { D.discloses → D.asked disk.new ≡ D.asked disk.old }
+{
+    let path = Folder::Sent.own_path(alloc, station)?;
+    disk.make_folder(path.as_str())
+}
+
+/// The job may have arrived: the name in out/ is taken away. It fails for want of memory alone.
 fn leave_in_doubt<D: FolderDisk>(
     disk: &mut D,
     alloc: Global,
     station: &str,
     name: &str,
     doubt: &str,
-) -> io::Result<String>
+) -> io::Result<Settled>
     ensures asks { D.discloses
         → Adds (MaySettle D.are_one station.now name.now doubt.now Disposition.InDoubt)
         (D.asked disk.old) (D.asked disk.new) }
-    ensures settled { IfOk result (λ path. string_bytes path ≡ doubt.now) }
+    ensures out { D.discloses → IfOk result (λ settled. settled.out ≡ TakenAway
+        → IsGone (path_in station.now Folder.Out name.now) (D.asked disk.new)) }
+    ensures settled { IfOk result (λ settled. string_bytes settled.path ≡ doubt.now) }
 {
     let ready = Folder::Out.path(alloc, station, name)?;
     let kept = String::from_str(alloc, doubt)?;
-    drop_name(disk, doubt, ready.as_str())?;
-    Ok(kept)
+    let taken = drop_name(disk, doubt, ready.as_str());
+    let out = out_name(disk, ready.as_str(), taken);
+    Ok(Settled { path: kept, out })
 }
 
-/// The job lies ready still: the name in doubt/ is taken away. The path in out/, or the one in doubt/ where another file has the name in out/.
+/// The job lies ready still: the name in doubt/ is taken away. The file stands in out/, or in doubt/ still where its name in out/ is gone or of another
+/// file.
 fn take_back<D: FolderDisk>(
     disk: &mut D,
     alloc: Global,
     station: &str,
     name: &str,
     doubt: &str,
-) -> io::Result<String>
+) -> io::Result<Settled>
     ensures asks { D.discloses → Adds
         (MaySettle D.are_one station.now name.now doubt.now Disposition.Ready)
         (D.asked disk.old) (D.asked disk.new) }
-    ensures ready { D.discloses → IfOk result (λ path.
-        (string_bytes path ≡ doubt.now) ⊎ IsGone doubt.now (D.asked disk.new)) }
-    ensures settled { IfOk result (λ path.
-        IsSettled Disposition.Ready station.now name.now doubt.now (string_bytes path)) }
+    ensures ready { D.discloses → IfOk result (λ settled.
+        (string_bytes settled.path ≡ doubt.now) ⊎ IsGone doubt.now (D.asked disk.new)) }
+    ensures out { IfOk result (λ settled. settled.out ≢ TakenAway) }
+    ensures settled { IfOk result (λ settled.
+        IsSettled Disposition.Ready station.now name.now doubt.now (string_bytes settled.path)) }
 {
     let ready = Folder::Out.path(alloc, station, name)?;
     let kept = String::from_str(alloc, doubt)?;
-    if drop_name(disk, ready.as_str(), doubt)? {
-        Ok(ready)
-    } else {
-        Ok(kept)
+    let (path, out) = match drop_name(disk, ready.as_str(), doubt) {
+        Ok(true) => (ready, OutName::Stands),
+        Ok(false) => (kept, OutName::OfAnother),
+        Err(error) if error.kind() == ErrorKind::NotFound => (kept, OutName::Missing),
+        Err(error) => return Err(error),
+    };
+    Ok(Settled { path, out })
+}
+
+/// What became of a name in out/ that was to be taken away.
+fn out_name<D: FolderDisk>(disk: &D, ready: &str, taken: io::Result<bool>) -> OutName
+    ensures { result ≡ TakenAway → taken ≡ Ok true }
+{
+    match taken {
+        Ok(true) => OutName::TakenAway,
+        Ok(false) => OutName::OfAnother,
+        Err(error) => match disk.identity(ready) {
+            Err(found) if found.kind() == ErrorKind::NotFound => OutName::Missing,
+            _ => OutName::Left(error.kind()),
+        },
     }
 }
 

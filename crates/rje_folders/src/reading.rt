@@ -1,9 +1,11 @@
 //! How a file is read.
-ghost use Rattle.std.specs.Prelude.{◌≡◌, ◌<◌, ◌≤◌, length, IfOk, IfSome, IsErrOf};
+ghost use Rattle.std.specs.Prelude.{◌≡◌, ◌≢◌, ◌<◌, ◌≤◌, length, IfErr, IfOk, IfSome, IsErrOf, OnOk};
+ghost use Rattle.std.specs.Io.KnownBytes.{IsAtEnd};
 ghost use Rattle.rje_folders.specs.Folder.{path_in};
-ghost use Rattle.rje_folders.specs.Reading.{IsLongerThan, IsReadOf};
+ghost use Rattle.rje_folders.specs.Reading.{IsLongerThan, IsReadOf, IsWholeRead};
 ghost use Rattle.rje_folders.specs.declared.folder_fault.FolderFault.TheVariants.{TooLarge};
 
+use crate::file_identity::FileIdentity;
 use crate::folder::Folder;
 use crate::folder_disk::FolderDisk;
 use crate::folder_fault::FolderFault;
@@ -14,17 +16,27 @@ use std::io::{self, ErrorKind, Read};
 /// How many bytes are read at once.
 const PIECE: usize = 65_536;
 
-/// The bytes of a file in out/. Too large where it has more than `most`.
+/// What was read of a file.
+#[derive(Debug, Drop)]
+pub struct FileRead {
+    /// All its bytes.
+    pub bytes: Vec<u8>,
+    /// Which file it is.
+    pub file: FileIdentity,
+}
+
+/// What there is to be read of a file in out/, and which file it is. Too large where it has more than `most`; being written where it was written
+/// to meanwhile.
 pub(crate) fn read_ready<D: FolderDisk>(
     disk: &D,
     alloc: Global,
     station: &str,
     name: &str,
     most: u64,
-) -> Result<Vec<u8>, FolderFault>
-    ensures all { D.discloses → IfOk result (λ bytes. IsReadOf D.opened D.File.remaining
-        (path_in station.now Folder.Out name.now) bytes.items) }
-    ensures limit { IfOk result (λ bytes. length bytes.items ≤ most) }
+) -> Result<FileRead, FolderFault>
+    ensures all { D.discloses → IfOk result (IsReadOf D.opened D.File.remaining
+        (D.is_open (D.asked disk.now)) (path_in station.now Folder.Out name.now)) }
+    ensures limit { IfOk result (λ read. length read.bytes.items ≤ most) }
     ensures long { D.discloses → IsErrOf result (TooLarge Folder.Out)
         → IsLongerThan D.opened D.File.remaining
         (path_in station.now Folder.Out name.now) most }
@@ -32,10 +44,56 @@ pub(crate) fn read_ready<D: FolderDisk>(
     match open_ready(disk, alloc, station, name) {
         Ok(file) => {
             let mut file = file;
-            read_all(alloc, Folder::Out, &mut file, most)
+            read_whole(disk, alloc, &mut file, most)
         }
         Err(error) => Err(FolderFault::of(Folder::Out, &error)),
     }
+}
+
+/// What there is to be read of an open file of out/, which is the same one before its first byte and behind its last.
+fn read_whole<D: FolderDisk>(
+    disk: &D,
+    alloc: Global,
+    file: &mut D::File,
+    most: u64,
+) -> Result<FileRead, FolderFault>
+    ensures all { IfOk result (IsWholeRead D.File.remaining (D.is_open (D.asked disk.now)) file.old) }
+    ensures limit { IfOk result (λ read. length read.bytes.items ≤ most) }
+    ensures long { IsErrOf result (TooLarge Folder.Out) → IfSome (D.File.remaining file.old)
+        (λ rest. most < length rest) }
+{
+    let before = identity_of(disk, file)?;
+    let bytes = read_all(alloc, Folder::Out, file, most)?;
+    let after = identity_of(disk, file)?;
+    if before == after {
+        Ok(FileRead { bytes, file: after })
+    } else {
+        Err(FolderFault::BeingWritten(Folder::Out))
+    }
+}
+
+/// Which file an open one of out/ is.
+fn identity_of<D: FolderDisk>(disk: &D, file: &D::File) -> Result<FileIdentity, FolderFault>
+    ensures is { IfOk result (λ is. D.is_open (D.asked disk.now) file.now is) }
+    ensures not_long { IfErr result (λ fault. (other : Folder) → fault ≢ TooLarge other) }
+{
+    match disk.identity_of(file) {
+        Ok(is) => Ok(is),
+        Err(error) => Err(FolderFault::of(Folder::Out, &error)),
+    }
+}
+
+/// Which file has this name in out/.
+pub(crate) fn identity<D: FolderDisk>(
+    disk: &D,
+    alloc: Global,
+    station: &str,
+    name: &str,
+) -> io::Result<FileIdentity>
+    ensures { IfOk result (D.is_file (D.asked disk.now) (path_in station.now Folder.Out name.now)) }
+{
+    let ready = Folder::Out.path(alloc, station, name)?;
+    disk.identity(ready.as_str())
 }
 
 /// A file in out/, open to be read. A symbolic link is refused, since its names in other folders can't be told from others, and so are a folder, a
@@ -69,6 +127,7 @@ fn read_all<I: Read>(
 ) -> Result<Vec<u8>, FolderFault>
     ensures all { IfOk result (λ bytes.
         IfSome (I.remaining input.old) (λ rest. bytes.items ≡ rest)) }
+    ensures ended { OnOk result (IsAtEnd (I.remaining input.new)) }
     ensures limit { IfOk result (λ bytes. length bytes.items ≤ most) }
     ensures long { IsErrOf result (TooLarge folder) → IfSome (I.remaining input.old)
         (λ rest. most < length rest) }

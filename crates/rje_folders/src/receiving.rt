@@ -1,26 +1,30 @@
 //! How what came is kept, and what can't be sent is put aside.
-ghost use Rattle.std.specs.Prelude.{◌≡◌, IfOk, string_bytes};
+ghost use Rattle.std.specs.Prelude.{◌≡◌, IfOk, IfSome, OnOk, string_bytes};
 ghost use Rattle.rje_stores.specs.Replacing.{Adds, IsOnDisk};
 ghost use Rattle.rje_folders.specs.FileNames.{IsBetween, IsBetweenFrom, IsNumbered};
 ghost use Rattle.rje_folders.specs.Folder.{path_in, path_of, why_path};
 ghost use Rattle.rje_folders.specs.Keeping.{MayKeep, WasMade, WasNamed};
 ghost use Rattle.rje_folders.specs.Moving.{IsMoved, MayMove};
+ghost use Rattle.rje_folders.specs.Promising.{MayDropCut};
 
+use crate::file_identity::FileIdentity;
 use crate::file_names::FileNames;
 use crate::folder::Folder;
 use crate::folder_disk::FolderDisk;
+use crate::folder_fault::FolderFault;
 use crate::keeping::{Kept, keep};
-use crate::moving::move_file;
+use crate::moving::{is_this_file, move_file};
 use std::alloc::Global;
 use std::io;
 
-/// Puts a file of out/ into refused/. The path that it has there.
+/// Puts this file of out/ into refused/. The path that it has there. Replaced where another file has its name, which stays.
 pub(crate) fn refuse<D: FolderDisk>(
     disk: &mut D,
     alloc: Global,
     station: &str,
     name: &str,
-) -> io::Result<String>
+    file: FileIdentity,
+) -> Result<String, FolderFault>
     ensures asks { D.discloses → Adds (MayMove D.are_one
         (path_in station.now Folder.Out name.now)
         (IsNumbered (path_in station.now Folder.Refused name.now)))
@@ -28,10 +32,40 @@ pub(crate) fn refuse<D: FolderDisk>(
     ensures moved { D.discloses → IfOk result (λ refused. IsMoved
         (path_in station.now Folder.Out name.now) (string_bytes refused)
         (D.asked disk.old) (D.asked disk.new)) }
+    ensures file { OnOk result
+        (D.is_file (D.asked disk.old) (path_in station.now Folder.Out name.now) file) }
+{
+    match move_to_refused(disk, alloc, station, name, file) {
+        Ok(Some(refused)) => Ok(refused),
+        Ok(None) => Err(FolderFault::Replaced),
+        Err(error) => Err(FolderFault::of(Folder::Refused, &error)),
+    }
+}
+
+/// Moves a file of out/ to refused/, where it is this one. The path that it has there.
+fn move_to_refused<D: FolderDisk>(
+    disk: &mut D,
+    alloc: Global,
+    station: &str,
+    name: &str,
+    file: FileIdentity,
+) -> io::Result<Option<String>>
+    ensures asks { D.discloses → Adds (MayMove D.are_one
+        (path_in station.now Folder.Out name.now)
+        (IsNumbered (path_in station.now Folder.Refused name.now)))
+        (D.asked disk.old) (D.asked disk.new) }
+    ensures moved { D.discloses → IfOk result (λ moved. IfSome moved (λ refused. IsMoved
+        (path_in station.now Folder.Out name.now) (string_bytes refused)
+        (D.asked disk.old) (D.asked disk.new))) }
+    ensures file { IfOk result (λ moved. IfSome moved (λ _.
+        D.is_file (D.asked disk.old) (path_in station.now Folder.Out name.now) file)) }
 {
     let ready = Folder::Out.path(alloc, station, name)?;
     let refused = Folder::Refused.path(alloc, station, name)?;
-    move_file(disk, alloc, ready.as_str(), FileNames::Of(refused.as_str()))
+    if !is_this_file(disk, ready.as_str(), file)? {
+        return Ok(None);
+    }
+    Ok(Some(move_file(disk, alloc, ready.as_str(), FileNames::Of(refused.as_str()))?))
 }
 
 /// Makes these bytes a new file of a folder. Where it is.
@@ -101,4 +135,20 @@ fn why_path(alloc: Global, refused: &str) -> io::Result<String>
     ensures { IfOk result (λ path. string_bytes path ≡ why_path refused.now) }
 {
     Ok(format!(in alloc; "{refused}.why")?)
+}
+
+/// Takes this file under a path away. Whether it is this one; another one stays.
+pub(crate) fn drop_cut<D: FolderDisk>(
+    disk: &mut D,
+    path: &str,
+    file: FileIdentity,
+) -> io::Result<bool>
+    ensures { D.discloses → Adds (MayDropCut D.is_file path.now file)
+        (D.asked disk.old) (D.asked disk.new) }
+{
+    if !is_this_file(disk, path, file)? {
+        return Ok(false);
+    }
+    disk.remove(path)?;
+    Ok(true)
 }

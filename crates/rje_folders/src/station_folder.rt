@@ -5,26 +5,31 @@ ghost use Rattle.rje_stores.specs.Replacing.{Adds, IsOnDisk};
 ghost use Rattle.rje_folders.specs.FileNames.{IsBetween, IsBetweenFrom, IsNumbered};
 ghost use Rattle.rje_folders.specs.Folder.{path_in, path_of, why_path};
 ghost use Rattle.rje_folders.specs.Keeping.{MayKeep, WasMade, WasNamed};
-ghost use Rattle.rje_folders.specs.Marking.{IsMarked, MayMark};
+ghost use Rattle.rje_folders.specs.Marking.{IsMarked, IsSaid, MayMark, WasSaid};
 ghost use Rattle.rje_folders.specs.Moving.{IsGone, IsMoved, IsSecond, MayMove};
-ghost use Rattle.rje_folders.specs.Promising.{IsSent, IsSettled, MayOpen, MayPromise, MaySettle};
+ghost use Rattle.rje_folders.specs.Promising.{IsSent, IsSettled, MayDropCut, MayOpen, MayPromise, MaySettle, MayTry};
 ghost use Rattle.rje_folders.specs.Reading.{IsLongerThan, IsReadOf};
 ghost use Rattle.rje_folders.specs.ReadyFile.{AreInOrder};
 ghost use Rattle.rje_folders.specs.declared.folder_fault.FolderFault.TheVariants.{TooLarge};
+ghost use Rattle.rje_folders.specs.declared.settled.OutName.TheVariants.{TakenAway};
 
+use crate::file_identity::FileIdentity;
 use crate::folder::Folder;
 use crate::folder_disk::FolderDisk;
 use crate::folder_fault::FolderFault;
 use crate::keeping::Kept;
 use crate::marking::set_mark;
 use crate::opening::{
-    clear_up, is_there, locked, make_folders, names_ready, tidy_up, unreadable_names,
+    clear_up, is_there, locked, make_folders, names_of, names_ready, tidy_up, unreadable_names,
 };
+use crate::probing::try_second_name;
 use crate::promising::{promise, put_in_doubt, settle};
-use crate::reading::read_ready;
-use crate::receiving::{explain, keep_in, refuse};
+use crate::reading::{FileRead, identity, read_ready};
+use crate::receiving::{drop_cut, explain, keep_in, refuse};
+use crate::settled::Settled;
 use rje_day::Disposition;
 use std::alloc::Global;
+use std::io::ErrorKind;
 
 /// The folder of a station, which has it for itself.
 #[derive(Drop)]
@@ -73,11 +78,23 @@ impl<D: FolderDisk + Drop> StationFolder<D> {
         )
     }
 
-    /// The bytes of a file in out/. Too large where it has more than `most`.
-    pub fn read(&self, name: &str, most: u64) -> Result<Vec<u8>, FolderFault>
-        ensures all { D.discloses → IfOk result (λ bytes. IsReadOf D.opened D.File.remaining
-            (path_in (string_bytes self.now.path) Folder.Out name.now) bytes.items) }
-        ensures limit { IfOk result (λ bytes. length bytes.items ≤ most) }
+    /// Which file has this name in out/.
+    pub fn identity(&self, name: &str) -> Result<FileIdentity, FolderFault>
+        ensures { IfOk result (D.is_file (D.asked self.now.disk)
+            (path_in (string_bytes self.now.path) Folder.Out name.now)) }
+    {
+        identity(&self.disk, self.alloc, self.path.as_str(), name).map_err(|error| FolderFault::of(
+            Folder::Out,
+            &error,
+        ))
+    }
+
+    /// All bytes of a file in out/, and which file it is. Too large where it has more than `most`; being written where it was written to meanwhile.
+    pub fn read(&self, name: &str, most: u64) -> Result<FileRead, FolderFault>
+        ensures all { D.discloses → IfOk result (IsReadOf D.opened D.File.remaining
+            (D.is_open (D.asked self.now.disk))
+            (path_in (string_bytes self.now.path) Folder.Out name.now)) }
+        ensures limit { IfOk result (λ read. length read.bytes.items ≤ most) }
         ensures long { D.discloses → IsErrOf result (TooLarge Folder.Out)
             → IsLongerThan D.opened D.File.remaining
             (path_in (string_bytes self.now.path) Folder.Out name.now) most }
@@ -95,72 +112,110 @@ impl<D: FolderDisk + Drop> StationFolder<D> {
         is_there(&self.disk, self.alloc, self.path.as_str(), "drain")
     }
 
-    /// Before the last block of the job of this file in out/ is said: the file gets a second name, in doubt/, on disk. That name's path.
-    pub fn promise(&mut self, name: &str) -> Result<String, FolderFault>
+    /// Whether the file of this name in out/ can get a second name, as it has to before its last block is said.
+    pub fn try_second_name(&mut self, name: &str) -> Result<(), FolderFault>
+        ensures asks { D.discloses → Adds (MayTry (string_bytes self.old.path) name.now)
+            (D.asked self.old.disk) (D.asked self.new.disk) }
+        ensures path { self.new.path ≡ self.old.path }
+    {
+        try_second_name(&mut self.disk, self.alloc, self.path.as_str(), name).map_err(
+            |error| match error.kind() {
+                ErrorKind::OutOfMemory => FolderFault::OutOfMemory,
+                kind => FolderFault::NoSecondName(kind),
+            },
+        )
+    }
+
+    /// Whether doubt/ has a file.
+    pub fn has_doubts(&self) -> Result<bool, FolderFault> {
+        let names = names_of(&self.disk, self.alloc, self.path.as_str(), Folder::Doubt)?;
+        Ok(!names.is_empty())
+    }
+
+    /// Before the last block of the job of this file in out/ is said: the file gets a second name, in doubt/, on disk. That name's path. Replaced
+    /// where another file has its name in out/, or it was written to: then it has no second name, if that could be taken away again.
+    pub fn promise(&mut self, name: &str, file: FileIdentity) -> Result<String, FolderFault>
         ensures asks { D.discloses → Adds
             (MayPromise D.are_one (string_bytes self.old.path) name.now)
             (D.asked self.old.disk) (D.asked self.new.disk) }
         ensures second { D.discloses → IfOk result (λ doubt. IsSecond
             (path_in (string_bytes self.old.path) Folder.Out name.now) (string_bytes doubt)
             (D.asked self.old.disk) (D.asked self.new.disk)) }
+        // The disk said that this file stands under that name.
+        ensures file { IfOk result (λ doubt.
+            D.is_file (D.asked self.new.disk) (string_bytes doubt) file) }
         ensures named { IfOk result (λ doubt. IsNumbered
             (path_in (string_bytes self.old.path) Folder.Doubt name.now) (string_bytes doubt)) }
         ensures path { self.new.path ≡ self.old.path }
     {
-        promise(&mut self.disk, self.alloc, self.path.as_str(), name).map_err(
-            |error| FolderFault::of(Folder::Doubt, &error),
-        )
+        promise(&mut self.disk, self.alloc, self.path.as_str(), name, file)
     }
 
-    /// Once a job of a job file is counted that isn't the file's last: writes this byte at this place of the file of this path in doubt/. It is on
-    /// disk then. An invalid input where the file has no byte there.
-    pub fn mark(&mut self, doubt: &str, place: u64, mark: u8) -> Result<(), FolderFault>
+    /// Once a job of a job file is counted that isn't the file's last: writes this byte at this place of this file, which has this path in doubt/.
+    /// It is on disk then. Which file it is now. Replaced where another one has the path, or it was written to by others; an invalid input where
+    /// it has no byte there.
+    pub fn mark(
+        &mut self,
+        doubt: &str,
+        place: u64,
+        mark: u8,
+        file: FileIdentity,
+    ) -> Result<FileIdentity, FolderFault>
         ensures asks { D.discloses → Adds (MayMark doubt.now place mark)
             (D.asked self.old.disk) (D.asked self.new.disk) }
         ensures marked { D.discloses → OnOk result (IsMarked doubt.now place mark
             (D.asked self.old.disk) (D.asked self.new.disk)) }
+        // The disk said that the file was this one, and which it is once the byte is on disk.
+        ensures same { D.discloses → OnOk result (WasSaid D.opened D.is_open doubt.now file
+            (D.asked self.new.disk)) }
+        ensures renewed { D.discloses → IfOk result
+            (IsSaid D.opened (D.is_open (D.asked self.new.disk)) doubt.now) }
         ensures in_doubt { D.discloses → has_synced_name doubt.now (D.asked self.old.disk) ≡ true
             → has_synced_name doubt.now (D.asked self.new.disk) ≡ true }
         ensures path { self.new.path ≡ self.old.path }
     {
-        set_mark(&mut self.disk, doubt, place, mark).map_err(|error| FolderFault::of(
-            Folder::Doubt,
-            &error,
-        ))
+        match set_mark(&mut self.disk, doubt, place, mark, file) {
+            Ok(Some(marked)) => Ok(marked),
+            Ok(None) => Err(FolderFault::Replaced),
+            Err(error) => Err(FolderFault::of(Folder::Doubt, &error)),
+        }
     }
 
     /// Once it is known what becomes of a job that was promised, whose file has this name in out/ and this path in doubt/: it is in sent/, in
-    /// doubt/ or in out/ alone. The path that it has there.
+    /// doubt/ or in out/ alone, but where its name in out/ can't be taken away. Where it stands then.
     pub fn settle(
         &mut self,
         name: &str,
         doubt: &str,
         disposition: Disposition,
-    ) -> Result<String, FolderFault>
+    ) -> Result<Settled, FolderFault>
         ensures asks { D.discloses → Adds
             (MaySettle D.are_one (string_bytes self.old.path) name.now doubt.now disposition)
             (D.asked self.old.disk) (D.asked self.new.disk) }
-        ensures sent { D.discloses → disposition ≡ Disposition.Sent → IfOk result (λ path.
-            IsSent (string_bytes self.old.path) name.now doubt.now (string_bytes path)
+        ensures sent { D.discloses → disposition ≡ Disposition.Sent → IfOk result (λ settled.
+            IsSent (string_bytes self.old.path) name.now doubt.now (string_bytes settled.path)
             (D.asked self.old.disk) (D.asked self.new.disk)) }
         ensures in_doubt { D.discloses → disposition ≡ Disposition.InDoubt
             → has_synced_name doubt.now (D.asked self.old.disk) ≡ true
             → has_synced_name doubt.now (D.asked self.new.disk) ≡ true }
-        ensures ready { D.discloses → disposition ≡ Disposition.Ready → IfOk result (λ path.
-            (string_bytes path ≡ doubt.now) ⊎ IsGone doubt.now (D.asked self.new.disk)) }
-        ensures settled { IfOk result (λ path. IsSettled disposition
-            (string_bytes self.old.path) name.now doubt.now (string_bytes path)) }
+        ensures ready { D.discloses → disposition ≡ Disposition.Ready → IfOk result (λ settled.
+            (string_bytes settled.path ≡ doubt.now) ⊎ IsGone doubt.now (D.asked self.new.disk)) }
+        ensures out { D.discloses → IfOk result (λ settled. settled.out ≡ TakenAway
+            → IsGone (path_in (string_bytes self.old.path) Folder.Out name.now)
+            (D.asked self.new.disk)) }
+        ensures settled { IfOk result (λ settled. IsSettled disposition
+            (string_bytes self.old.path) name.now doubt.now (string_bytes settled.path)) }
         ensures path { self.new.path ≡ self.old.path }
     {
-        settle(
+        let settled = settle(
             &mut self.disk,
             self.alloc,
             self.path.as_str(),
             name,
             doubt,
             disposition,
-        )
-        .map_err(|error| FolderFault::of(Folder::Doubt, &error))
+        );
+        settled.map_err(|error| FolderFault::of(Folder::Doubt, &error))
     }
 
     /// What was counted may not have arrived after all: the file of this path in sent/, whose name in out/ was this, is moved to doubt/. Its path
@@ -180,8 +235,8 @@ impl<D: FolderDisk + Drop> StationFolder<D> {
         )
     }
 
-    /// Puts a file of out/ that can't be sent into refused/. The path that it has there.
-    pub fn refuse(&mut self, name: &str) -> Result<String, FolderFault>
+    /// Puts this file of out/, which can't be sent, into refused/. The path that it has there. Replaced where another file has its name, which stays.
+    pub fn refuse(&mut self, name: &str, file: FileIdentity) -> Result<String, FolderFault>
         ensures asks { D.discloses → Adds (MayMove D.are_one
             (path_in (string_bytes self.old.path) Folder.Out name.now)
             (IsNumbered (path_in (string_bytes self.old.path) Folder.Refused name.now)))
@@ -189,11 +244,12 @@ impl<D: FolderDisk + Drop> StationFolder<D> {
         ensures moved { D.discloses → IfOk result (λ refused. IsMoved
             (path_in (string_bytes self.old.path) Folder.Out name.now) (string_bytes refused)
             (D.asked self.old.disk) (D.asked self.new.disk)) }
+        // The disk had said that this file stands under the name in out/.
+        ensures file { OnOk result (D.is_file (D.asked self.old.disk)
+            (path_in (string_bytes self.old.path) Folder.Out name.now) file) }
         ensures path { self.new.path ≡ self.old.path }
     {
-        refuse(&mut self.disk, self.alloc, self.path.as_str(), name).map_err(
-            |error| FolderFault::of(Folder::Refused, &error),
-        )
+        refuse(&mut self.disk, self.alloc, self.path.as_str(), name, file)
     }
 
     /// Says in a file beside a file of refused/, of this path, why it is refused: PATH.why. Its path. It is on disk then, and so is its name.
@@ -249,6 +305,27 @@ impl<D: FolderDisk + Drop> StationFolder<D> {
             bytes,
         )
         .map_err(|error| FolderFault::of(folder, &error))
+    }
+
+    /// Which file has this path in a folder of the station.
+    pub fn identity_at(&self, path: &str) -> Result<FileIdentity, FolderFault>
+        ensures { IfOk result (D.is_file (D.asked self.now.disk) path.now) }
+    {
+        let found = self.disk.identity(path);
+        found.map_err(|error| FolderFault::of(Folder::Cut, &error))
+    }
+
+    /// Takes this file of cut/ away, which has this path. Replaced where it is another one, which stays.
+    pub fn drop_cut(&mut self, path: &str, file: FileIdentity) -> Result<(), FolderFault>
+        ensures asks { D.discloses → Adds (MayDropCut D.is_file path.now file)
+            (D.asked self.old.disk) (D.asked self.new.disk) }
+        ensures path { self.new.path ≡ self.old.path }
+    {
+        match drop_cut(&mut self.disk, path, file) {
+            Ok(true) => Ok(()),
+            Ok(false) => Err(FolderFault::Replaced),
+            Err(error) => Err(FolderFault::of(Folder::Cut, &error)),
+        }
     }
 
     /// Lets the folder go, and gives back the disk.

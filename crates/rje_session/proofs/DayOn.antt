@@ -1,10 +1,10 @@
 -- A day goes on, moment after moment.
 use Rattle.std.proofs.lemmas.Grind.{common_steps}
-use Rattle.std.proofs.Common.{◌≡◌, ◌⊎◌, inl, inr, arith, true, false, Bool, [], ◌∷◌, ◌++◌, append_assoc, refl, ap, sym, ◌∙◌, subst}
+use Rattle.std.proofs.Common.{◌≡◌, arith, true, false, Bool, if◌then◌else◌, [], ◌∷◌, ◌++◌, append_assoc, refl, ap, sym, ◌∙◌, subst}
 use Rattle.rje_day.specs.declared.day_place.DayPlace.{DayPlace}
 use Rattle.rje_day.specs.declared.event.Event.{Event}
 use Rattle.rje_day.specs.declared.seen.Seen.{Seen}
-use Rattle.rje_day.specs.Day.{DayState, after, can_come, duty_of, is_connected}
+use Rattle.rje_day.specs.Day.{DayState, after, can_come, duty_of, is_connected, is_in_hand}
 use Rattle.rje_day.specs.History.{History, IsDay, can_follow, kept_after}
 use Rattle.rje_day.specs.declared.duty.Duty.{Duty}
 use Rattle.rje_station.specs.Station.{is_receiving}
@@ -41,7 +41,7 @@ in_hand_step d d' seen r event is comes follows now = day_step d d' seen event (
 pub comes_step : (c c' : Carried) (event : Event) (d d' : DayState) (seen : Seen) → d.place ≡ place_in_hand (is_receiving c.station.contender.place) → ComesOf c c' event → d' ≡ after event d → GoesOnAsDay d d'
 comes_step c c' (Event.OwnEnded ended) d d' seen is comes now = in_hand_step d d' seen false (Event.OwnEnded ended) (is ∙ ap place_in_hand comes.0) refl refl now
 comes_step c c' Event.OtherBegan d d' seen is comes now = in_hand_step d d' seen false Event.OtherBegan (is ∙ ap place_in_hand comes.0) refl refl now
-comes_step c c' Event.OtherEnded d d' seen is comes now = in_hand_step d d' seen true Event.OtherEnded (is ∙ ap place_in_hand comes) refl refl now
+comes_step c c' Event.OtherEnded d d' seen is comes now = in_hand_step d d' seen true Event.OtherEnded (is ∙ ap place_in_hand comes.0) refl refl now
 comes_step c c' Event.Disconnected d d' seen is comes now = gone_in (is_receiving c.station.contender.place) is where
   gone_in : (r : Bool) → d.place ≡ place_in_hand r → GoesOnAsDay d d'
   gone_in true at = in_hand_step d d' seen true Event.Disconnected at refl refl now
@@ -57,9 +57,23 @@ pub free_step : (d d' : DayState) (seen : Seen) (duty : Duty) (event : Event) �
     → d' ≡ after event d → GoesOnAsDay d d'
 free_step d d' seen duty event next is comes follows now = day_step d d' seen event (rw is comes) (rw next follows) now
 
-pub heard_step : (d d' : DayState) (seen : Seen) (event : Event) → duty_of d seen ≡ Duty.Hear → d.place ≡ DayPlace.Free → (event ≡ Event.Quiet) ⊎ (event ≡ Event.Heard) → d' ≡ after event d → GoesOnAsDay d d'
-heard_step d d' seen event next is (inl quiet) now = free_step d d' seen Duty.Hear Event.Quiet next is refl refl (now ∙ ap (λ (e : Event). after e d) quiet)
-heard_step d d' seen event next is (inr word) now = free_step d d' seen Duty.Hear Event.Heard next is refl refl (now ∙ ap (λ (e : Event). after e d) word)
+pub heard_step : (d d' : DayState) (seen : Seen) (word : Bool) → duty_of d seen ≡ Duty.Hear → d.place ≡ DayPlace.Free → d' ≡ after (if word then Event.Heard else Event.Quiet) d → GoesOnAsDay d d'
+heard_step d d' seen false next is now = free_step d d' seen Duty.Hear Event.Quiet next is refl refl now
+heard_step d d' seen true next is now = free_step d d' seen Duty.Hear Event.Heard next is refl refl now
+
+word_at : (d d' : DayState) (seen : Seen) (place : DayPlace) → d.place ≡ place → is_in_hand place ≡ true → d' ≡ after Event.Heard d → GoesOnAsDay d d' × (d'.place ≡ d.place)
+word_at d d' seen DayPlace.Sending at held now = (in_hand_step d d' seen false Event.Heard at refl refl now, now_place d d' at now) where
+  now_place : (d d' : DayState) → d.place ≡ DayPlace.Sending → d' ≡ after Event.Heard d → d'.place ≡ d.place
+  now_place d d' at now = grind (arith, common_steps)
+word_at d d' seen DayPlace.Receiving at held now = (in_hand_step d d' seen true Event.Heard at refl refl now, now_place d d' at now) where
+  now_place : (d d' : DayState) → d.place ≡ DayPlace.Receiving → d' ≡ after Event.Heard d → d'.place ≡ d.place
+  now_place d d' at now = grind (arith, common_steps)
+word_at d d' seen DayPlace.Apart at held now = cc
+word_at d d' seen DayPlace.Free at held now = cc
+
+-- with a transmission in hand the other end says a word
+pub word_step : (d d' : DayState) (seen : Seen) → is_in_hand d.place ≡ true → d' ≡ after Event.Heard d → GoesOnAsDay d d'
+word_step d d' seen held now = (word_at d d' seen d.place refl held now).0
 
 connected : (d : DayState) (seen : Seen) → is_of_connection (duty_of d seen) ≡ true → is_connected d.place ≡ true
 connected d seen of = grind (arith, common_steps)

@@ -6,6 +6,7 @@ use Rattle.rje_day.specs.declared.event.Event.{Event}
 use Rattle.rje_day.specs.Ended.{disposition_of}
 use Rattle.rje_station.specs.Station.{is_receiving}
 use Rattle.rje_session.specs.declared.leaving.Leaving.{Leaving}
+use Rattle.rje_session.specs.Breaking.{heard_end}
 use Rattle.rje_session.specs.Keeping.{cutting}
 use Rattle.rje_session.specs.Ledger.{Entry, Given, Kept, KeptCut, MayArrive, Settled}
 use Rattle.rje_session.specs.Turns.{Carried}
@@ -58,11 +59,12 @@ IsAccounted Event.OtherBegan c ledger = IsInStep c ledger
 IsAccounted _ c ledger = IsSettled c ledger
 
 -- An event that comes of a transmission in hand. Its own ends as is told, and the other end's begins, only where the other end's isn't in hand;
--- the other end's ends only where it is.
+-- the other end's ends only where it is, and by its EOT. Neither ends so where it broke: then the connection is over.
 abbrev pub ComesOf : (before after : Carried) → Event → Type 0
-ComesOf c c' (Event.OwnEnded ended) = (is_receiving c.station.contender.place ≡ false) × (ended ≡ ended_of c')
+ComesOf c c' (Event.OwnEnded ended) = (is_receiving c.station.contender.place ≡ false) × (ended ≡ ended_of c') × (c'.broken ≡ false)
 ComesOf c c' Event.OtherBegan = (is_receiving c.station.contender.place ≡ false) × (is_receiving c'.station.contender.place ≡ true)
-ComesOf c c' Event.OtherEnded = is_receiving c.station.contender.place ≡ true
+ComesOf c c' Event.OtherEnded =
+    (is_receiving c.station.contender.place ≡ true) × (heard_end c'.station.receiver.arrival ≡ true) × (c'.broken ≡ false)
 ComesOf c c' Event.Disconnected = Unit {0}
 ComesOf c c' _ = ⊥
 

@@ -7,7 +7,7 @@ use Rattle.rje_session.specs.Turns.{Carried}
 
 -- what they stand for
 abbrev pub carried_in : Inside → Carried
-carried_in a = record { station = a.station; may_have_come = a.may_have_come; kept = a.kept }
+carried_in a = record { station = a.station; may_have_come = a.may_have_come; kept = a.kept; answered = a.answered; broken = a.broken }
 
 -- the outstanding block begins at the place kept, and as long as the station hears the other one, all jobs that came whole are kept
 pub record IsInHand (a : Inside) : Type 0 where

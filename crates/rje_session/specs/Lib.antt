@@ -2,6 +2,7 @@ pub mod Ledger
 pub mod Outstanding
 pub mod Keeping
 pub mod Stations
+pub mod Breaking
 pub mod Turns
 pub mod InHand
 pub mod Account

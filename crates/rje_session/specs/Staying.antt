@@ -6,6 +6,7 @@ use Rattle.rje_day.specs.declared.duty.Duty.{Duty}
 use Rattle.rje_day.specs.declared.settings.Settings.{Settings}
 use Rattle.rje_day.specs.Day.{DayState}
 use Rattle.rje_day.specs.History.{History, IsDay, kept_after}
+use Rattle.rje_station.specs.declared.station_fault.StationFault.{StationFault}
 use Rattle.rje_session.specs.Account.{became}
 use Rattle.rje_session.specs.Ledger.{Entry}
 
@@ -33,3 +34,8 @@ is_of_connection _ = false
 -- something became of each of the first jobs of a transmission, so many
 abbrev pub AreSettled : (given : ℕ) → List Entry → Type 0
 AreSettled given ledger = (job : ℕ) → job < given → (what : Disposition) × (became ledger job ≡ Some what)
+
+-- more came in one hearing than a frame has
+abbrev pub is_babble : StationFault → Bool
+is_babble StationFault.Babble = true
+is_babble _ = false

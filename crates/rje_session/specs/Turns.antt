@@ -9,7 +9,9 @@ use Rattle.rje_day.specs.declared.disposition.Disposition.{Disposition}
 use Rattle.rje_jobs.specs.declared.job.Job.{Job}
 use Rattle.rje_station.specs.JoinedJobs.{begun_in}
 use Rattle.rje_station.specs.Receiving.{MayRefuse}
+use Rattle.rje_station.specs.Sending.{outcome_of}
 use Rattle.rje_station.specs.Station.{Contending, due_at, after_other, after_other_ended, after_other_refusal}
+use Rattle.rje_session.specs.Breaking.{breaks, is_answer}
 use Rattle.rje_session.specs.Stations.{FailsInOwn, TakesOwn}
 use Rattle.rje_session.specs.declared.leaving.Leaving.{Leaving}
 use Rattle.rje_session.specs.Keeping.{keeping}
@@ -23,6 +25,10 @@ pub record Carried : Type 0 where
   pub may_have_come : Bool
   -- so many of the jobs that came are kept
   pub kept : ℕ
+  -- something that it said was answered
+  pub answered : Bool
+  -- it broke: something that it said wasn't, or it gave up after its bid was granted
+  pub broken : Bool
 
 -- ---- Its own turn.
 
@@ -48,6 +54,11 @@ settling before after = if before == after then [] else Settled before Dispositi
 -- it may have come where that is entered, until it is counted
 abbrev pub may_come_after : Carried → Contending → Bool
 may_come_after c s = (c.may_have_come || goes_out c) && (c.station.sender.counted == s.sender.counted)
+
+-- what is noted of its own turn
+pub record Notes (host : Bool) (c c' : Carried) (heard : Sound) : Type 0 where
+  pub answered : c'.answered ≡ (c.answered || is_answer (due_at c.station) heard)
+  pub broken : c'.broken ≡ (c.broken || breaks host (due_at c.station) heard (outcome_of c'.station.sender))
 
 -- Why its own turn was left. The line failed as it spoke or as it listened. Or the spool did: before anything was said, and then nothing was;
 -- or after a job was counted.

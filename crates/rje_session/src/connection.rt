@@ -1,35 +1,40 @@
 //! Transmission after transmission on one connection.
-ghost use Rattle.std.specs.Prelude.{◌≡◌, ◌⊎◌, IfOk, OnOk};
+ghost use Rattle.std.specs.Prelude.{◌≡◌, ◌≢◌, ◌⊎◌, if◌then◌else◌, true, false, IfOk, OnOk};
 ghost use Rattle.rje_day.specs.declared.day_place.DayPlace.TheVariants.{Free};
 ghost use Rattle.rje_day.specs.declared.duty.Duty.TheVariants as duty;
-ghost use Rattle.rje_day.specs.Day.{duty_of};
+ghost use Rattle.rje_day.specs.Day.{duty_of, is_in_hand};
 ghost use Rattle.rje_station.specs.Station.{is_receiving};
-ghost use Rattle.rje_day.specs.declared.event.Event.TheVariants.{Heard, OtherBegan, Quiet};
+ghost use Rattle.rje_day.specs.declared.event.Event.TheVariants.{Disconnected, Heard, OtherBegan, Quiet};
 ghost use Rattle.rje_session.specs.Account.{ComesOf, IsAccounted, IsInStep, IsSettled};
-ghost use Rattle.rje_session.specs.Staying.{AreInDoubt, AreSettled, GoesOnAsDay, is_of_connection as of_connection, place_in_hand};
+ghost use Rattle.rje_session.specs.Breaking.{is_word as says_word};
+ghost use Rattle.rje_session.specs.Staying.{AreInDoubt, AreSettled, GoesOnAsDay, is_babble, is_of_connection as of_connection, place_in_hand};
+ghost use Rattle.rje_session.specs.declared.parting.Parting.TheVariants.{Failed, HungUp};
 
+use crate::breaking::is_word;
 use crate::leaving::Leaving;
-use crate::{InHand, Spool, StayFault, Steps, Terms};
+use crate::{InHand, Parting, Spool, StayFault, Steps, Terms};
 use bsc_link::Sound;
 use rje_day::{Day, Disposition, Duty, Event, Seen};
-use rje_station::Line;
+use rje_station::{Line, StationFault};
 use std::alloc::Global;
 
 /// After so many transmissions and hearings between them it leaves the line.
 pub const MAX_TRANSMISSIONS: u32 = 1_000_000_000;
 
 /// Stays on a connection: takes one transmission after another, each with new stations, as the day says what is next, until the connection is
-/// over. Where an answer came after this end said EOT, all jobs of its last transmission are in doubt, and the connection is left.
+/// over. A transmission that broke is the last. Where an answer came after this end said EOT, all jobs of its last transmission are in doubt, and
+/// the connection is left. How it came to its end.
 pub fn stay<L: Steps, S: Spool>(
     alloc: Global,
     terms: Terms,
     day: &mut Day,
     line: &mut L,
     spool: &mut S,
-) -> Result<(), StayFault<S::Fault>>
+) -> Result<Parting, StayFault<S::Fault>>
     ensures day { GoesOnAsDay day.old day.new }
 {
     let mut given = 0;
+    let mut parting = Parting::HungUp;
     for _ in 0..MAX_TRANSMISSIONS {
         let seen = spool.seen();
         let duty = day.next(seen);
@@ -37,18 +42,19 @@ pub fn stay<L: Steps, S: Spool>(
             if is_of_connection(duty) {
                 day.note(Event::Disconnected);
             }
-            return doubt(given, spool);
+            doubt(given, spool)?;
+            return Ok(parting);
         }
         if !is_of_connection(duty) {
-            return Ok(());
+            return Ok(parting);
         }
         match duty {
-            Duty::Bid => given = bid(alloc, terms, day, seen, line, spool)?,
-            Duty::Hear => hear(alloc, terms, day, seen, line, spool)?,
+            Duty::Bid => (given, parting) = bid(alloc, terms, day, seen, line, spool)?,
+            Duty::Hear => parting = hear(alloc, terms, day, seen, line, spool)?,
             _ => day.note(Event::Disconnected),
         }
     }
-    Ok(())
+    Ok(parting)
 }
 
 /// Whether there is a connection where this is next.
@@ -58,7 +64,8 @@ fn is_of_connection(duty: Duty) -> bool
     matches!(duty, Duty::Bid | Duty::Hear | Duty::GoOn | Duty::HangUp)
 }
 
-/// Takes a transmission of its own, of the jobs that the spool gives, and of the other end's where it gives way. How many jobs were given.
+/// Takes a transmission of its own, of the jobs that the spool gives, and of the other end's where it gives way. How many jobs were given, and how
+/// the connection came to its end, where it did.
 fn bid<L: Line, S: Spool>(
     alloc: Global,
     terms: Terms,
@@ -66,11 +73,11 @@ fn bid<L: Line, S: Spool>(
     seen: Seen,
     line: &mut L,
     spool: &mut S,
-) -> Result<usize, StayFault<S::Fault>>
+) -> Result<(usize, Parting), StayFault<S::Fault>>
     requires next { duty_of day.old seen ≡ duty.Bid }
     requires free { day.old.place ≡ Free }
     ensures day { GoesOnAsDay day.old day.new }
-    ensures settled { S.discloses → IfOk result (λ given. AreSettled given (S.ledger spool.new)) }
+    ensures settled { S.discloses → IfOk result (λ made. AreSettled made.0 (S.ledger spool.new)) }
 {
     let jobs = match spool.next(alloc) {
         Ok(jobs) => jobs,
@@ -82,8 +89,8 @@ fn bid<L: Line, S: Spool>(
     match InHand::new(alloc, terms.rank, jobs.as_slice()) {
         Ok(mut held) => {
             day.note(Event::OwnBegan);
-            carry(&mut held, terms.patience, day, seen, line, spool)?;
-            Ok(jobs.len())
+            carry(&mut held, terms, day, seen, line, spool)?;
+            Ok((jobs.len(), held.parting()))
         }
         Err(fault) => {
             day.note(Event::Disconnected);
@@ -92,7 +99,7 @@ fn bid<L: Line, S: Spool>(
     }
 }
 
-/// Hears once, and takes the transmission of the other end's that begins then, if one does.
+/// Hears once, and takes the transmission of the other end's that begins then, if one does. How the connection came to its end, where it did.
 fn hear<L: Line, S: Spool>(
     alloc: Global,
     terms: Terms,
@@ -100,7 +107,7 @@ fn hear<L: Line, S: Spool>(
     seen: Seen,
     line: &mut L,
     spool: &mut S,
-) -> Result<(), StayFault<S::Fault>>
+) -> Result<Parting, StayFault<S::Fault>>
     requires next { duty_of day.old seen ≡ duty.Hear }
     requires free { day.old.place ≡ Free }
     ensures day { GoesOnAsDay day.old day.new }
@@ -115,15 +122,16 @@ fn hear<L: Line, S: Spool>(
     match held.take_others_turn(line, spool) {
         Ok(_) if held.station().is_receiving() => {
             day.note(Event::OtherBegan);
-            carry(&mut held, terms.patience, day, seen, line, spool)
+            carry(&mut held, terms, day, seen, line, spool)?;
+            Ok(held.parting())
         }
         Ok(arrival) => {
             day.note(heard(arrival.sound));
-            Ok(())
+            Ok(Parting::HungUp)
         }
-        Err(Leaving::Line(_)) => {
+        Err(Leaving::Line(fault)) => {
             day.note(Event::Disconnected);
-            Ok(())
+            Ok(parting_of(fault))
         }
         Err(Leaving::Spool(fault)) => {
             day.note(Event::Disconnected);
@@ -135,7 +143,7 @@ fn hear<L: Line, S: Spool>(
 /// Goes on with a transmission in hand to its end, and with the other end's where its own gives way.
 fn carry<'a, L: Line, S: Spool>(
     held: &mut InHand<'a>,
-    patience: u32,
+    terms: Terms,
     day: &mut Day,
     seen: Seen,
     line: &mut L,
@@ -147,8 +155,8 @@ fn carry<'a, L: Line, S: Spool>(
         → OnOk result (IsSettled held.new (S.ledger spool.new)) }
     ensures jobs { OnOk result (held.new.station.sender.jobs ≡ held.old.station.sender.jobs) }
 {
-    if go_on(held, patience, day, seen, line, spool)? == Event::OtherBegan {
-        go_on(held, patience, day, seen, line, spool)?;
+    if go_on(held, terms, day, seen, line, spool)? == Event::OtherBegan {
+        go_on(held, terms, day, seen, line, spool)?;
     }
     Ok(())
 }
@@ -156,7 +164,7 @@ fn carry<'a, L: Line, S: Spool>(
 /// Goes on with a transmission in hand, and notes what came of it.
 fn go_on<'a, L: Line, S: Spool>(
     held: &mut InHand<'a>,
-    patience: u32,
+    terms: Terms,
     day: &mut Day,
     seen: Seen,
     line: &mut L,
@@ -171,25 +179,51 @@ fn go_on<'a, L: Line, S: Spool>(
     ensures comes { IfOk result (ComesOf held.old held.new) }
     ensures jobs { OnOk result (held.new.station.sender.jobs ≡ held.old.station.sender.jobs) }
 {
-    match held.go_on(line, patience, spool) {
+    match held.go_on(line, terms, spool) {
         Ok(event) => {
+            note_word(held, event, day);
             day.note(event);
             Ok(event)
         }
         Err(fault) => {
+            note_word(held, Event::Disconnected, day);
             day.note(Event::Disconnected);
             Err(StayFault::Spool(fault))
         }
     }
 }
 
+/// Notes that the other end said a word, where it answered in a transmission that came to its end with the connection.
+fn note_word<'a>(held: &InHand<'a>, event: Event, day: &mut Day)
+    requires in_hand { is_in_hand day.old.place ≡ true }
+    ensures day { GoesOnAsDay day.old day.new }
+    ensures place { day.new.place ≡ day.old.place }
+    ensures word { event ≡ Disconnected → held.now.answered ≡ true → day.new.has_spoken ≡ true }
+    ensures still { (event ≢ Disconnected) ⊎ (held.now.answered ≡ false) → day.new ≡ day.old }
+{
+    if event == Event::Disconnected && held.was_answered() {
+        day.note(Event::Heard);
+    }
+}
+
+/// How a connection came to its end where the line failed so, with no transmission in hand.
+fn parting_of(fault: StationFault) -> Parting
+    ensures { result ≡ (if is_babble fault then Failed fault else HungUp) }
+{
+    match fault {
+        StationFault::Babble => Parting::Failed(fault),
+        _ => Parting::HungUp,
+    }
+}
+
 /// What the day is told of a hearing between transmissions.
 fn heard(sound: Sound) -> Event
-    ensures { (result ≡ Quiet) ⊎ (result ≡ Heard) }
+    ensures { result ≡ (if says_word sound then Heard else Quiet) }
 {
-    match sound {
-        Sound::Quiet | Sound::Noise => Event::Quiet,
-        _ => Event::Heard,
+    if is_word(sound) {
+        Event::Heard
+    } else {
+        Event::Quiet
     }
 }
 

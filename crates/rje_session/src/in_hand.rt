@@ -1,22 +1,25 @@
 //! A transmission in hand, turn by turn.
-ghost use Rattle.std.specs.Prelude.{◌≡◌, ◌≢◌, ◌++◌, ◌||◌, ◌&&◌, ◌==◌, true, false, List, Option, slice_get, IfOk, IfErr, IfSome, OnOk, OnErr};
+ghost use Rattle.std.specs.Prelude.{◌≡◌, ◌≢◌, ◌⊎◌, ◌+◌, ◌++◌, ◌||◌, ◌&&◌, ◌==◌, true, false, if◌then◌else◌, min, List, Option, slice_get, IfOk, IfErr, IfSome, OnOk, OnErr};
 ghost use Rattle.bsc_link.specs.declared.reply.Reply.{Reply as Answer};
 ghost use Rattle.bsc_link.specs.declared.say.Say.{Say as Word};
 ghost use Rattle.bsc_link.specs.declared.say.Say.TheVariants as say;
+ghost use Rattle.rje_station.specs.Sending.{outcome_of};
 ghost use Rattle.rje_station.specs.Station.{due_at, is_receiving, first_contending, HeardAnswer, after_answer, after_own_refusal};
 ghost use Rattle.rje_station.specs.StationFault.{IsNewCause};
 ghost use Rattle.rje_session.specs.Stations.{FailsInOwn, TakesOwn, TakesOthers};
 ghost use Rattle.rje_session.specs.Stations.{HeardAndReplied, SpokeAndHeard};
 ghost use Rattle.rje_session.specs.Account.{ended_of, ComesOf, IfLineFailed, IsAccounted, IsInStep, IsSettled, KeepsCut};
+ghost use Rattle.rje_session.specs.Breaking.{breaks as broken_by, heard_end as is_ended, is_answer as has_answered, is_word as says_word};
 ghost use Rattle.rje_session.specs.Keeping.{AreKept, cutting, keeping, kept_with};
 ghost use Rattle.rje_session.specs.Ledger.{Entry as Record, MayArrive, MayBeEntered};
-ghost use Rattle.rje_session.specs.Turns.{Carried as Held, announcing, goes_out, is_of_block as speaks_of_block, settling, may_come_after, LeavesOwn, EntersLeavingOwn, LeavesOthers, EntersLeavingOthers};
+ghost use Rattle.rje_session.specs.Turns.{Carried as Held, Notes, announcing, goes_out, is_of_block as speaks_of_block, settling, may_come_after, LeavesOwn, EntersLeavingOwn, LeavesOthers, EntersLeavingOthers};
 
-use crate::Spool;
+use crate::breaking::{breaks, heard_end, is_answer, is_word};
 use crate::keeping::{keep_cut, keep_next};
 use crate::leaving::Leaving;
 use crate::outstanding::{counts_last, is_last};
 use crate::settling::settle_rest;
+use crate::{Parting, Spool, Terms};
 use bsc_link::{Rank, Say, Sound, Wish};
 use rje_day::{Disposition, Ended, Event};
 use rje_jobs::Job;
@@ -37,6 +40,12 @@ pub struct InHand<'a> {
     may_have_come: bool,
     /// So many of the jobs that came are kept.
     kept: usize,
+    /// Something that it said was answered.
+    answered: bool,
+    /// It broke: something that it said wasn't answered, or it gave up after its bid was granted.
+    broken: bool,
+    /// How the connection came to its end, where it did.
+    parting: Parting,
 }
 
 impl<'a> Model for InHand<'a> {
@@ -58,6 +67,8 @@ impl<'a> InHand<'a> {
           station = first_contending rank jobs.now;
           may_have_come = false;
           kept = 0;
+          answered = false;
+          broken = false;
         }) }
         ensures refused { IfErr result (λ fault. IsNewCause jobs.now fault) }
     {
@@ -67,6 +78,9 @@ impl<'a> InHand<'a> {
             from: 0,
             may_have_come: false,
             kept: 0,
+            answered: false,
+            broken: false,
+            parting: Parting::HungUp,
         })
     }
 
@@ -77,11 +91,34 @@ impl<'a> InHand<'a> {
         &self.station
     }
 
+    /// Whether something that it said was answered.
+    pub fn was_answered(&self) -> bool
+        ensures { result ≡ self.now.answered }
+    {
+        self.answered
+    }
+
+    /// Whether it broke: something that it said wasn't answered, or it gave up after its bid was granted.
+    pub fn has_broken(&self) -> bool
+        ensures { result ≡ self.now.broken }
+    {
+        self.broken
+    }
+
+    /// How the connection came to its end, where it did.
+    pub fn parting(&self) -> Parting {
+        match self.parting {
+            Parting::HungUp if self.broken => Parting::Unanswered,
+            parting => parting,
+        }
+    }
+
     /// Its own turn: it says what is due, and but for EOT it listens. Before the last block of a job goes out it is entered that the job may
     /// arrive, and once that is counted, that it was sent. What was heard; quiet after EOT.
     pub(crate) fn take_own_turn<L: Line, S: Spool>(
         &mut self,
         line: &mut L,
+        host: bool,
         spool: &mut S,
     ) -> Result<Sound, Leaving<S::Fault>>
         requires due { due_at self.old.station ≢ say.Nothing }
@@ -95,6 +132,7 @@ impl<'a> InHand<'a> {
         ensures may_have_come { OnOk result (self.new.may_have_come
             ≡ may_come_after self.old self.new.station) }
         ensures kept { self.new.kept ≡ self.old.kept }
+        ensures notes { IfOk result (Notes host self.old self.new) }
 
         // The line or the spool failed.
         ensures left { IfErr result (LeavesOwn (line.new ≡ line.old) self.old self.new) }
@@ -102,10 +140,12 @@ impl<'a> InHand<'a> {
             (S.ledger spool.old) (S.ledger spool.new)) }
     {
         let counted = self.station.sender().counted();
+        let said = self.station.due();
         if let Err(fault) = self.announce(spool) {
             return Err(Leaving::Spool(fault));
         }
         let heard = self.speak_and_hear(line)?;
+        self.note_turn(host, said, heard);
         if self.station.sender().counted() != counted {
             if let Err(fault) = spool.settle(counted, Disposition::Sent) {
                 return Err(Leaving::Spool(fault));
@@ -131,7 +171,10 @@ impl<'a> InHand<'a> {
         ensures kept { OnOk result (AreKept self.new.kept self.new.station.receiver.jobs) }
         ensures next { OnOk result (self.new.kept
             ≡ kept_with self.old.kept (slice_get self.new.station.receiver.jobs self.old.kept)) }
-        ensures may_have_come { self.new.may_have_come ≡ self.old.may_have_come }
+        ensures rest { self.new ≡ record self.old {
+          station = self.new.station;
+          kept = self.new.kept;
+        } }
 
         // The line or the spool failed.
         ensures left { IfErr result (LeavesOthers
@@ -163,12 +206,12 @@ impl<'a> InHand<'a> {
 
     /// Goes on with the transmission in hand until something comes of it that the day is told: the other end's transmission begins, which leaves
     /// its own in hand, or either ends, or the connection is over. Then what is left of its jobs is settled, and a job that was cut is kept.
-    /// It leaves the other end's transmission after so many hearings in a row that brought nothing, and the line where
-    /// the spool says so, or after a billion turns.
+    /// The other end's ends so by its EOT alone. The connection is over where the line failed, where the transmission broke, after as many
+    /// hearings in a row that brought no word as there is patience for, where the spool says so, and after a billion turns.
     pub fn go_on<L: Line, S: Spool>(
         &mut self,
         line: &mut L,
-        patience: u32,
+        terms: Terms,
         spool: &mut S,
     ) -> Result<Event, S::Fault>
         ensures accounted { S.discloses → IsInStep self.old (S.ledger spool.old)
@@ -179,9 +222,12 @@ impl<'a> InHand<'a> {
         ensures jobs { OnOk result (self.new.station.sender.jobs
             ≡ self.old.station.sender.jobs) }
     {
-        let event = match self.take_turns(line, patience, spool) {
+        let event = match self.take_turns(line, terms, spool) {
             Ok(event) => event,
-            Err(Leaving::Line(_)) => Event::Disconnected,
+            Err(Leaving::Line(fault)) => {
+                self.parting = Parting::Failed(fault);
+                Event::Disconnected
+            }
             Err(Leaving::Spool(fault)) => return Err(fault),
         };
         if event != Event::OtherBegan {
@@ -194,7 +240,7 @@ impl<'a> InHand<'a> {
     fn take_turns<L: Line, S: Spool>(
         &mut self,
         line: &mut L,
-        patience: u32,
+        terms: Terms,
         spool: &mut S,
     ) -> Result<Event, Leaving<S::Fault>>
         ensures in_step { S.discloses → IsInStep self.old (S.ledger spool.old)
@@ -220,16 +266,17 @@ impl<'a> InHand<'a> {
                 return Ok(event);
             }
             if self.is_own_turn(has_listened) {
-                self.take_own_turn(line, spool)?;
+                self.take_own_turn(line, terms.host, spool)?;
                 has_listened = at_once;
                 continue;
             }
             let arrival = self.take_others_turn(line, spool)?;
             has_listened = true;
             quiet = quiet_after(quiet, arrival);
-            if was_receiving && quiet > 0 && quiet >= patience {
+            if was_receiving && quiet > 0 && quiet >= terms.patience {
                 self.station.other_ended();
-                return Ok(Event::OtherEnded);
+                self.parting = Parting::Silent;
+                return Ok(Event::Disconnected);
             }
         }
         Ok(Event::Disconnected)
@@ -250,18 +297,42 @@ impl<'a> InHand<'a> {
     {
         match (was_receiving, self.station.is_receiving()) {
             (true, true) => None,
+            (true, false) if self.broken || !self.heard_end() => Some(Event::Disconnected),
             (true, false) => Some(Event::OtherEnded),
             (false, true) => Some(Event::OtherBegan),
-            (false, false) if self.station.due() == Say::Nothing => {
-                Some(Event::OwnEnded(self.ended()))
-            }
-            (false, false) => None,
+            (false, false) if self.station.due() != Say::Nothing => None,
+            (false, false) if self.broken => Some(Event::Disconnected),
+            (false, false) => Some(Event::OwnEnded(self.ended())),
         }
+    }
+
+    /// Whether EOT was what came last.
+    fn heard_end(&self) -> bool
+        ensures { result ≡ is_ended self.now.station.receiver.arrival }
+    {
+        heard_end(self.station.receiver().arrival())
+    }
+
+    /// Notes a turn of its own, in which this was said and heard.
+    fn note_turn(&mut self, host: bool, said: Say, heard: Sound)
+        ensures { self.new ≡ record self.old {
+          answered = self.old.answered || has_answered said heard;
+          broken = self.old.broken || broken_by host said heard
+              (outcome_of self.old.station.sender);
+        } }
+    {
+        let outcome = self.station.sender().outcome();
+        self.answered = self.answered || is_answer(said, heard);
+        self.broken = self.broken || breaks(host, said, heard, outcome);
     }
 
     /// Whether the station speaks next. One that has to listen before it bids does so as long as there is something to hear.
     fn is_own_turn(&self, has_listened: bool) -> bool
         ensures speaks { result ≡ true → due_at self.now.station ≢ say.Nothing }
+        ensures bids { result ≡ true → due_at self.now.station ≡ say.Bid
+            → (has_listened ≡ true) ⊎ (self.now.station.receiver.over ≡ true) }
+        ensures listens { result ≡ false → (due_at self.now.station ≡ say.Nothing)
+            ⊎ ((due_at self.now.station ≡ say.Bid) × (has_listened ≡ false)) }
     {
         match self.station.due() {
             Say::Nothing => false,
@@ -332,7 +403,10 @@ impl<'a> InHand<'a> {
             (L.talk line.new, L.transmissions line.new) said heard) }
         ensures counted { self.new.may_have_come ≡ (self.old.may_have_come
             && (self.old.station.sender.counted == self.new.station.sender.counted)) }
-        ensures kept { self.new.kept ≡ self.old.kept }
+        ensures rest { self.new ≡ record self.old {
+          station = self.new.station;
+          may_have_come = self.new.may_have_come;
+        } }
         ensures fault { IfErr result (FailsInOwn self.old.station self.new.station) }
     {
         match self.station.speak(line)? {
@@ -351,7 +425,10 @@ impl<'a> InHand<'a> {
         ensures none { L.transmissions line.new ≡ L.transmissions line.old }
         ensures counted { self.new.may_have_come ≡ (self.old.may_have_come
             && (self.old.station.sender.counted == self.new.station.sender.counted)) }
-        ensures kept { self.new.kept ≡ self.old.kept }
+        ensures rest { self.new ≡ record self.old {
+          station = self.new.station;
+          may_have_come = self.new.may_have_come;
+        } }
         ensures fault { IfErr result (λ fault.
             self.new.station ≡ after_own_refusal fault self.old.station) }
     {
@@ -376,10 +453,13 @@ fn is_of_block(say: Say) -> bool
     matches!(say, Say::Block | Say::Again | Say::Ask)
 }
 
-/// How many quiet hearings in a row there are, with the last one.
-fn quiet_after(quiet: u32, arrival: Arrival) -> u32 {
-    match arrival.sound {
-        Sound::Quiet => quiet.saturating_add(1),
-        _ => 0,
+/// How many hearings in a row brought no word, with the last one.
+fn quiet_after(quiet: u32, arrival: Arrival) -> u32
+    ensures { result ≡ (if says_word arrival.sound then 0 else min (quiet + 1) 4294967295) }
+{
+    if is_word(arrival.sound) {
+        0
+    } else {
+        quiet.saturating_add(1)
     }
 }

@@ -1,11 +1,13 @@
 //! The transmissions of a connection, one after another: each with new stations, over any line, and with the jobs of a spool.
 #![tactic(auto)]
 
+mod breaking;
 mod connection;
 mod in_hand;
 mod keeping;
 mod leaving;
 mod outstanding;
+mod parting;
 mod settling;
 mod spool;
 mod stay_fault;
@@ -15,6 +17,7 @@ mod terms;
 
 pub use connection::{MAX_TRANSMISSIONS, stay};
 pub use in_hand::{InHand, MAX_TURNS};
+pub use parting::Parting;
 pub use spool::Spool;
 pub use stay_fault::StayFault;
 pub use steps::Steps;

@@ -7,6 +7,10 @@ use bsc_link::Rank;
 pub struct Terms {
     /// Its rank: a secondary gives way where both bid at once.
     pub rank: Rank,
-    /// After so many hearings in a row that brought nothing it leaves a transmission of the other end's; with 0 after the first.
+    /// After so many hearings in a row that brought no word it leaves a transmission of the other end's, and the connection with it; with 0 after
+    /// the first.
     pub patience: u32,
+    /// Whether the other end is a host behind a line adapter, which may leave unanswered what is said while it doesn't listen: that ends no
+    /// connection then.
+    pub host: bool,
 }

@@ -17,3 +17,4 @@ pub mod Failing
 pub mod Looped
 pub mod Marked
 pub mod Watched
+pub mod Words

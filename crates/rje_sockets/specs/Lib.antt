@@ -14,3 +14,4 @@ pub mod LeavingBoth
 pub mod Exchanging
 pub mod Looping
 pub mod SocketCommand
+pub mod Words

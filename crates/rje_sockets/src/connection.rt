@@ -1,7 +1,8 @@
 //! Connections, and whether the time-out is longer than they take.
-ghost use Rattle.std.specs.Prelude.{◌≡◌, IfErr, IfOk};
+ghost use Rattle.std.specs.Prelude.{◌≡◌, true, IfErr, IfOk, IsSome};
 ghost use Rattle.rje_orders.specs.Callers.{IsLetIn};
 ghost use Rattle.rje_sockets.specs.LineCause.{IsPeerAt, IsUnmet};
+ghost use Rattle.rje_sockets.specs.Words.{HasSpokenWhereAwaited, HasWord};
 
 use crate::adapter_stream::AdapterStream;
 use crate::line_cause::LineCause;
@@ -25,7 +26,7 @@ pub(crate) type ObservedLine<'r, R> = SocketLine<
 
 /// A line to the other end, for a station of this rank, and the other end's address: it is called, or its call is awaited. Where calling takes
 /// as long as a hearing waits or longer, that is told to `err`. A caller that isn't let in is hung up and told too, and so is one that says
-/// nothing within so many hearings, where that is wanted.
+/// no word within so many hearings, where that is wanted.
 pub(crate) fn met<'r, R: Net + Clock, E: Write>(
     rt: &'r R,
     connection: Connection,
@@ -36,6 +37,8 @@ pub(crate) fn met<'r, R: Net + Clock, E: Write>(
 ) -> Result<(ObservedLine<'r, R>, SocketAddr), LineCause>
     ensures unused { IfOk result (λ met. met.0.transmissions ≡ 0) }
     ensures peer { IfOk result (λ met. IsPeerAt connection.entry.place met.1) }
+    ensures word { IfOk result (λ met.
+        HasSpokenWhereAwaited connection.entry.place hearings met.0.stream.ahead.items) }
     ensures cause { IfErr result (IsUnmet connection.entry.place) }
 {
     match connection.place {
@@ -84,7 +87,7 @@ fn connected<'r, R: Net + Clock, E: Write>(
 struct Listening<'a> {
     address: SocketAddr,
     callers: Callers<'a>,
-    // Within how many hearings a caller has to say something, where it has to.
+    // Within how many hearings a caller has to say a word, where it has to.
     hearings: Option<u32>,
     // What is reported meanwhile.
     report: Report,
@@ -100,6 +103,8 @@ fn accepted<'r, R: Net + Clock, E: Write>(
 ) -> io::Result<(ObservedLine<'r, R>, SocketAddr)>
     ensures unused { IfOk result (λ met. met.0.transmissions ≡ 0) }
     ensures let_in { IfOk result (λ met. IsLetIn listening.entry.callers met.1) }
+    ensures word { IsSome listening.entry.hearings
+        → IfOk result (λ met. HasWord met.0.stream.ahead.items) }
 {
     let Listening {
         address,
@@ -157,9 +162,10 @@ fn tell_hung_up<L: OpenListener, E: Write>(
     }
 }
 
-/// Whether the caller says something within so many hearings, where it has to.
+/// Whether the caller says a word within so many hearings, where it has to.
 fn says_something<R: Net + Clock>(line: &mut ObservedLine<R>, hearings: Option<u32>) -> bool
     ensures none { line.new.transmissions ≡ line.old.transmissions }
+    ensures word { result ≡ true → IsSome hearings → HasWord line.new.stream.ahead.items }
 {
     match hearings {
         Some(hearings) => line.is_spoken_on(hearings),

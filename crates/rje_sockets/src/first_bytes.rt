@@ -38,12 +38,17 @@ impl FirstBytes {
     /// Whether they begin no transmission: after any pads comes another byte than SYN.
     pub fn begin_otherwise(&self) -> bool {
         for byte in self.bytes.iter().take(self.len) {
-            if *byte != PAD && *byte != LEADING_PAD {
+            if !is_pad(*byte) {
                 return *byte != SYN;
             }
         }
         false
     }
+}
+
+/// Whether this byte is a pad that may stand in front of a transmission.
+pub(crate) fn is_pad(byte: u8) -> bool {
+    byte == PAD || byte == LEADING_PAD
 }
 
 impl Display for FirstBytes {

@@ -9,6 +9,7 @@ mod broken_off;
 mod connection;
 mod display;
 mod first_bytes;
+mod first_word;
 mod front;
 mod handing;
 mod keeper;
@@ -33,6 +34,7 @@ mod tracer;
 mod watch;
 
 pub use adapter_stream::AdapterStream;
+pub use first_word::has_word;
 pub use line_cause::LineCause;
 pub use observed_stream::ObservedStream;
 pub use over_sockets::carry_out;

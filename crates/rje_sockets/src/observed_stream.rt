@@ -1,4 +1,6 @@
 //! A stream that notes what its operator wants to know of it.
+ghost use Rattle.std.specs.Prelude.{◌≡◌};
+
 use crate::first_bytes::FirstBytes;
 use crate::handing::hand_out;
 use arrayvec::ArrayVec;
@@ -40,13 +42,11 @@ impl<C, S> ObservedStream<C, S> {
         }
     }
 
-    /// The next reads bring this, which one brought already: all of it that can be kept.
-    pub fn read_ahead(&mut self, piece: &[u8]) {
-        for byte in piece {
-            if !self.ahead.is_full() {
-                self.ahead.push(*byte);
-            }
-        }
+    /// The next reads bring this, which earlier ones brought already.
+    pub(crate) fn read_ahead(&mut self, bytes: ArrayVec<u8, MAX_AHEAD>)
+        ensures { self.new.ahead ≡ bytes }
+    {
+        self.ahead = bytes;
     }
 
     /// How long it took from the first thing that was written to what was read then, where something was.

@@ -1,18 +1,23 @@
 //! A line over a connection.
-ghost use Rattle.std.specs.Prelude.{◌≡◌, ◌+◌, ◌-◌, ◌^◌, ◌<◌, ◌≤◌, length, min, IfErr, IfOk, OnErr, OnOk, None, Some, ⊤};
+ghost use Rattle.std.specs.Prelude.{◌≡◌, ◌+◌, ◌-◌, ◌^◌, ◌<◌, ◌≤◌, length, min, IfErr, IfOk, OnErr, OnOk, None, Some, true, ⊤};
 ghost use Rattle.std.specs.Io.{ReadsAtMost};
 ghost use Rattle.std.specs.Io.KnownBytes.{Appends, IsAtEnd, ReadConsumes};
 ghost use Rattle.rje_station.specs.Line.{IsWithin, Rose, one_more};
 ghost use Rattle.rje_station.specs.declared.line_fault.LineFault.TheVariants.{Closed};
 ghost use Rattle.rje_sockets.specs.Inside.Reading.{came_of, waited_in_vain};
+ghost use Rattle.rje_sockets.specs.Words.{HasWord};
 
+use crate::first_bytes::is_pad;
+use crate::first_word::has_word;
 use crate::line_cause::LineCause;
 use crate::observed_stream::{MAX_AHEAD, ObservedStream};
+use arrayvec::ArrayVec;
 use bsc_codes::PAD;
 use bsc_link::{Rank, Reply};
 use rje_answers::{Answers, Given, Handed, Handover, Said};
 use rje_station::{Came, Line, LineFault, MAX_HEARD};
 use std::io::{self, ErrorKind, Read, Write};
+use std::mem;
 use std::net::{OpenStream, Shutdown};
 use std::time::{Clock, Duration};
 
@@ -111,9 +116,10 @@ impl<C: Clock, S> SocketLine<ObservedStream<C, S>> {
 }
 
 impl<C: Clock, S: Read> SocketLine<ObservedStream<C, S>> {
-    /// Whether the other end says something, now or within so many hearings; what it says is heard later.
-    pub fn is_spoken_on(&mut self, hearings: u32) -> bool
+    /// Whether the other end says a word, now or within so many hearings: it is heard later. Pads, SYN and noise are passed over.
+    pub(crate) fn is_spoken_on(&mut self, hearings: u32) -> bool
         ensures none { self.new.transmissions ≡ self.old.transmissions }
+        ensures word { result ≡ true → HasWord self.new.stream.ahead.items }
     {
         comes_soon(&mut self.stream, hearings)
     }
@@ -271,20 +277,63 @@ fn hear_out<S: Read>(stream: &mut S, answers: &mut Answers) {
     }
 }
 
-/// Whether something comes within so many hearings, which is read ahead.
-fn comes_soon<C: Clock, S: Read>(stream: &mut ObservedStream<C, S>, hearings: u32) -> bool {
-    let mut piece = [0; MAX_AHEAD];
-    for _ in 0..hearings {
-        match came_in(stream, &mut piece) {
-            Ok(Came::Bytes(count)) => {
-                stream.read_ahead(&piece[..count]);
-                return true;
+/// Whether a word comes within so many quiet hearings, which is read ahead. A caller has none of which so much else came that it is no answer
+/// either, or in one hearing more than is read ahead.
+fn comes_soon<C: Clock, S: Read>(stream: &mut ObservedStream<C, S>, hearings: u32) -> bool
+    ensures word { result ≡ true → HasWord stream.new.ahead.items }
+{
+    let mut came = ArrayVec::new();
+    let mut quiet: u32 = 0;
+    for turn in 0..hearings.saturating_add(MAX_PIECES) {
+        match hear_on(stream, &mut came) {
+            Ok(Came::Quiet) => quiet = quiet.saturating_add(1),
+            Ok(Came::Bytes(_)) => {
+                if is_read_ahead(stream, &mut came) {
+                    return true;
+                }
             }
-            Ok(Came::Quiet) => {}
             Err(_) => return false,
+        }
+        if quiet >= hearings || turn.saturating_sub(quiet) >= MAX_PIECES || came.is_full() {
+            return false;
         }
     }
     false
+}
+
+/// Reads what came in this hearing ahead, where it has a word. Whether it has.
+fn is_read_ahead<C, S>(
+    stream: &mut ObservedStream<C, S>,
+    came: &mut ArrayVec<u8, MAX_AHEAD>,
+) -> bool
+    ensures word { result ≡ true → HasWord stream.new.ahead.items }
+{
+    let spoken = has_word(came.as_slice());
+    if spoken {
+        stream.read_ahead(mem::replace(came, ArrayVec::new()));
+    }
+    spoken
+}
+
+/// Hears on after what came in this hearing, as far as there is room; the next one begins where the line is quiet. Pads in front aren't kept.
+fn hear_on<S: Read>(stream: &mut S, came: &mut ArrayVec<u8, MAX_AHEAD>) -> Result<Came, LineFault> {
+    let mut piece = [0; MAX_AHEAD];
+    let room = (MAX_AHEAD - came.len()).max(1);
+    let heard = came_in(stream, &mut piece[..room])?;
+    match heard {
+        Came::Quiet => came.clear(),
+        Came::Bytes(count) => keep(&piece[..count], came),
+    }
+    Ok(heard)
+}
+
+/// Keeps these bytes, as far as there is room, behind what came; but for pads in front of all.
+fn keep(piece: &[u8], came: &mut ArrayVec<u8, MAX_AHEAD>) {
+    for byte in piece {
+        if !came.is_full() && (!came.is_empty() || !is_pad(*byte)) {
+            came.push(*byte);
+        }
+    }
 }
 
 /// What comes of one read.

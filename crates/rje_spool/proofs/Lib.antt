@@ -3,3 +3,4 @@ pub mod GivenFiles
 pub mod OneEntry
 pub mod Backed
 pub mod Due
+pub mod TooMuch

@@ -1,6 +1,7 @@
 -- What becomes of a file of out/ whose jobs are in a transmission (own profile).
 use Rattle.std.specs.Prelude.{◌≡◌, ℕ, List, string_bytes, true}
 use Rattle.rje_stores.specs.Disk.{Asked, Call, has_synced_name}
+use Rattle.rje_folders.specs.declared.file_identity.FileIdentity.{FileIdentity}
 use Rattle.rje_folders.specs.declared.folder.Folder.{Folder}
 use Rattle.rje_folders.specs.FileNames.{IsNumbered}
 use Rattle.rje_folders.specs.Folder.{path_in}
@@ -12,6 +13,11 @@ use Rattle.rje_spool.specs.declared.given_file.Place.{Place}
 abbrev pub IsPromised : (station name : List ℕ) → Place → (before after : List Asked) → Type 0
 IsPromised station name (Place.Promised doubt) before after = IsSecond (path_in station Folder.Out name) (string_bytes doubt) before after
 IsPromised station name _ before after = ⊥
+
+-- its name in doubt/ stands for the file that was read, as the disk said
+abbrev pub IsOfRead : (is_file : List ℕ → FileIdentity → Type 0) → Place → FileIdentity → Type 0
+IsOfRead is_file (Place.Promised doubt) file = is_file (string_bytes doubt) file
+IsOfRead is_file _ file = ⊥
 
 -- what may be asked of a file with a name in doubt/, by that name; of any other nothing is asked
 abbrev pub OfPromised : (May : List ℕ → Call → List Asked → Type 0) → Place → Call → List Asked → Type 0

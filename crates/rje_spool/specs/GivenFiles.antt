@@ -3,10 +3,11 @@ use Rattle.std.specs.Prelude.{◌≡◌, ◌≢◌, ℕ, ◌+◌, ◌-◌, ◌==
 use Rattle.std.specs.Option.{option_map_or}
 use Rattle.rje_day.specs.declared.disposition.Disposition.{Disposition}
 use Rattle.rje_day.specs.declared.disposition.Disposition.TheVariants as disposition
+use Rattle.rje_folders.specs.declared.file_identity.FileIdentity.{FileIdentity}
 use Rattle.rje_stores.specs.Disk.{Asked}
 use Rattle.rje_spool.specs.declared.given_file.GivenFile.{GivenFile}
 use Rattle.rje_spool.specs.declared.given_file.Place.{Place}
-use Rattle.rje_spool.specs.GivenFile.{HasSecondName, IsDoubted, IsInSent, IsPromised}
+use Rattle.rje_spool.specs.GivenFile.{HasSecondName, IsDoubted, IsInSent, IsOfRead, IsPromised}
 
 -- the job is one of the file's
 abbrev pub is_of : ℕ → GivenFile → Bool
@@ -36,10 +37,12 @@ OfFile job Holds before after =
     (place : ℕ) (file : GivenFile) → position (is_of job) before ≡ Some place → slice_get before place ≡ Some file
     → (now : GivenFile) × (after ≡ slice_set before place now) × Holds file now
 
--- it doesn't stand in out/ alone; and where it did, it has a name in doubt/ now, on disk, beside the one in out/
-pub record HasGoneOut (station : List ℕ) (file now : GivenFile) (before after : List Asked) : Type 0 where
+-- it doesn't stand in out/ alone; and where it did, it has a name in doubt/ now, on disk, beside the one in out/, which stands for the very file that
+-- was read, as the disk said
+pub record HasGoneOut (is_file : List Asked → List ℕ → FileIdentity → Type 0) (station : List ℕ) (file now : GivenFile) (before after : List Asked) : Type 0 where
   pub out : now.place ≢ Place.Ready
   pub promised : file.place ≡ Place.Ready → IsPromised station (string_bytes file.name) now.place before after
+  pub same : file.place ≡ Place.Ready → IsOfRead (is_file after) now.place file.file
 
 -- where its last job was counted, and it had a name in doubt/, it stands in sent/ now, on disk
 abbrev pub HasBeenCounted : (job : ℕ) → (station : List ℕ) → (file now : GivenFile) → (after : List Asked) → Type 0

@@ -1,3 +1,4 @@
+pub mod Holding
 pub mod Outgoing
 pub mod Pace
 pub mod Paper

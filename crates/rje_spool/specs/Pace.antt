@@ -4,3 +4,7 @@ use Rattle.std.specs.Prelude.{ℕ, ◌==◌, ◌*◌, ◌/◌, nat_le, min, max,
 -- the most jobs of a transmission after one that had as many as it might: twice as many where it took less than a second, but 512 at most; half as many where it took a minute or more, but one at least; and else as many
 abbrev pub most_after : ℕ → ℕ → ℕ
 most_after seconds most = if seconds == 0 then min (2 * most) 512 else (if nat_le 60 seconds then max (most / 2) 1 else most)
+
+-- how many seconds pass until a station that has stopped sending tries a file: twice as many as before, but an hour at most
+abbrev pub longer_wait : ℕ → ℕ
+longer_wait wait = min (2 * wait) 3600

@@ -2,8 +2,9 @@
 
 use crate::notice::Notice;
 use crate::stamps::Stamps;
+use rje_names::PrintedName;
 use rje_print::{ERASED, Progress, shown_progress};
-use std::alloc::Global;
+use std::alloc::{AllocError, Global};
 use std::io::Write;
 use std::time::{Clock, Duration, Instant};
 
@@ -42,16 +43,22 @@ impl<C: Clock, W: Write, L: Write> Console<C, W, L> {
         &self.stamps
     }
 
-    /// Tells this in a line.
+    /// Tells this in a line, with a question mark for each control character of a name.
     pub fn tell(&mut self, notice: Notice) {
         self.erase();
-        let line = match self.stamps.time() {
-            Some(time) => format!(in self.alloc; "{time} {notice}\n"),
-            None => format!(in self.alloc; "{notice}\n"),
-        };
-        if let Ok(line) = line {
+        if let Ok(line) = self.line_of(notice) {
             let _ = self.out.write_all(line.as_bytes());
             let _ = self.log.write_all(line.as_bytes());
+        }
+    }
+
+    /// The line of a notice, with the time in front.
+    fn line_of(&self, notice: Notice) -> Result<String, AllocError> {
+        let text = format!(in self.alloc; "{notice}")?;
+        let text = PrintedName(text.as_str());
+        match self.stamps.time() {
+            Some(time) => format!(in self.alloc; "{time} {text}\n"),
+            None => format!(in self.alloc; "{text}\n"),
         }
     }
 

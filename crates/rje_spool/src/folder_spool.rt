@@ -2,6 +2,7 @@
 ghost use Rattle.std.specs.Prelude.{◌≡◌, List, [], ◌∷◌, length, IfOk, OnErr, OnOk, string_bytes};
 ghost use Rattle.rje_jobs.specs.declared.job.Job.{Job as Item};
 ghost use Rattle.rje_spool.specs.Backed.{AreBacked, with_doubted};
+ghost use Rattle.rje_spool.specs.GivenFile.{HasSecondName, IsDoubted};
 ghost use Rattle.rje_spool.specs.GivenFiles.{HasGoneOut, IsSettledSo, OfFile};
 ghost use Rattle.rje_session.specs.Ledger.{Given, IsEntered, MayArrive, MayBeEntered, Settled};
 
@@ -77,15 +78,29 @@ impl<D: FolderDisk + Drop, C: Clock, W: Write, L: Write, B: Book + Drop> FolderS
         self.files.tell(notice);
     }
 
-    /// All jobs of the last transmission are in doubt, those that were counted too: answers came out of step.
+    /// All jobs of the last transmission are in doubt, those that were counted too: answers came out of step. Where one can't be put there, the others
+    /// are all the same.
     pub fn doubt_all(&mut self) -> Result<(), SpoolFault>
         ensures doubted { B.discloses → OnOk result
             (self.new.entries ≡ with_doubted self.old.given self.old.entries) }
     {
         for job in 0..self.files.jobs() {
-            self.settle(job, Disposition::InDoubt)?;
+            match self.settle(job, Disposition::InDoubt) {
+                Ok(()) => {}
+                Err(fault) => {
+                    self.doubt_from(job);
+                    return Err(fault);
+                }
+            }
         }
         Ok(())
+    }
+
+    /// The jobs of the last transmission from this one on are in doubt, those of them that can be put there.
+    fn doubt_from(&mut self, first: usize) {
+        for job in first..self.files.jobs() {
+            let _ = self.settle(job, Disposition::InDoubt);
+        }
     }
 }
 
@@ -124,10 +139,10 @@ impl<D: FolderDisk + Drop, C: Clock, W: Write, L: Write, B: Book + Drop> Spool
     fn goes_out(&mut self, job: usize) -> Result<(), SpoolFault>
         ensures entered { B.discloses
             → IsEntered result (MayArrive job) self.old.entries self.new.entries }
-        // The job's file has a name in doubt/, on disk.
+        // The job's file, which is the one that was read, has a name in doubt/, on disk.
         ensures out { D.discloses → OnOk result (OfFile job
-            (λ file now. HasGoneOut self.old.station file now self.old.asked self.new.asked)
-            self.old.files self.new.files) }
+            (λ file now. HasGoneOut D.is_file self.old.station file now
+            self.old.asked self.new.asked) self.old.files self.new.files) }
     {
         self.files.goes_out(job)?;
         self.book.enter_out(job);
@@ -140,6 +155,10 @@ impl<D: FolderDisk + Drop, C: Clock, W: Write, L: Write, B: Book + Drop> Spool
         // The job's file stands where it belongs then.
         ensures stands { D.discloses → OnOk result (OfFile job
             (IsSettledSo job what self.old.station self.new.asked)
+            self.old.files self.new.files) }
+        // Where it can't, a file with a name in doubt/ stands there.
+        ensures left { OnErr result (OfFile job
+            (λ file now. HasSecondName file.place → IsDoubted now.place)
             self.old.files self.new.files) }
     {
         self.files.settle(job, what)?;

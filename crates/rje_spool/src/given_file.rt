@@ -1,6 +1,11 @@
 //! A file whose jobs are in a transmission.
-ghost use Rattle.std.specs.Prelude.{◌≡◌, IfOk, OnOk, false, string_bytes};
+ghost use Rattle.std.specs.Prelude.{◌≡◌, IfOk, OnErr, OnOk, false, true, string_bytes};
+ghost use Rattle.rje_stores.specs.Disk.{has_synced_name};
 ghost use Rattle.rje_stores.specs.Replacing.{Adds};
+ghost use Rattle.rje_folders.specs.declared.folder.Folder.{Folder};
+ghost use Rattle.rje_folders.specs.declared.settled.OutName.TheVariants.{TakenAway};
+ghost use Rattle.rje_folders.specs.Folder.{path_in};
+ghost use Rattle.rje_folders.specs.Moving.{IsGone};
 ghost use Rattle.rje_folders.specs.Promising.{MayPromise, MaySettle};
 ghost use Rattle.rje_spool.specs.declared.given_file.Place.TheVariants.{Promised, Ready};
 ghost use Rattle.rje_spool.specs.Backed.{GoesOn};
@@ -9,7 +14,9 @@ ghost use Rattle.rje_spool.specs.GivenFiles.{HasBeenCounted, HasGoneOut, is_last
 
 use rje_day::Disposition;
 use rje_files::MARK;
-use rje_folders::{FolderDisk, FolderFault, StationFolder};
+use rje_folders::{FileIdentity, FolderDisk, FolderFault, OutName, StationFolder};
+use std::io::ErrorKind;
+use std::mem;
 
 /// Where the file of a job stands.
 #[derive(Debug, Drop)]
@@ -35,8 +42,12 @@ pub(crate) struct GivenFile {
     pub(crate) count: usize,
     /// Of a job file, where each of them is marked as sent.
     pub(crate) places: Vec<usize>,
+    /// Which file it is, as it was read or marked.
+    pub(crate) file: FileIdentity,
     /// Where it stands.
     pub(crate) place: Place,
+    /// What became of its name in out/.
+    pub(crate) out: OutName,
 }
 
 impl GivenFile {
@@ -67,22 +78,25 @@ impl GivenFile {
         ensures asks { D.discloses → Adds
             (MayPromise D.are_one (string_bytes folder.old.path) (string_bytes self.old.name))
             (D.asked folder.old.disk) (D.asked folder.new.disk) }
-        ensures gone { D.discloses → OnOk result (HasGoneOut (string_bytes folder.old.path)
-            self.old self.new (D.asked folder.old.disk) (D.asked folder.new.disk)) }
+        ensures gone { D.discloses → OnOk result (HasGoneOut D.is_file
+            (string_bytes folder.old.path) self.old self.new
+            (D.asked folder.old.disk) (D.asked folder.new.disk)) }
         ensures second { OnOk result (IsUnsettled self.old.place
             → HasSecondName self.new.place) }
+        ensures failed { OnErr result (self.old.place ≡ Ready) }
         ensures rest { self.new ≡ record self.old { place = self.new.place } }
         ensures on { D.discloses
             → GoesOn (D.asked folder.old.disk) (D.asked folder.new.disk) }
         ensures path { folder.new.path ≡ folder.old.path }
     {
         if let Place::Ready = self.place {
-            self.place = Place::Promised(folder.promise(self.name.as_str())?);
+            self.place = Place::Promised(folder.promise(self.name.as_str(), self.file)?);
         }
         Ok(())
     }
 
-    /// One of its jobs was counted: it is marked as sent, and where it is the last one the file goes to sent/.
+    /// One of its jobs was counted: it is marked as sent, and where it is the last one the file goes to sent/. Where that fails, the file stands in
+    /// doubt/ alone.
     pub(crate) fn was_counted<D: FolderDisk + Drop>(
         &mut self,
         job: usize,
@@ -92,7 +106,39 @@ impl GivenFile {
             self.old self.new (D.asked folder.new.disk)) }
         ensures ready { OnOk result (is_last_of job self.old ≡ false
             → HasSecondName self.old.place → self.new.place ≡ Ready) }
-        ensures rest { self.new ≡ record self.old { place = self.new.place } }
+        ensures failed { OnErr result (HasSecondName self.old.place → IsDoubted self.new.place) }
+        ensures rest { self.new ≡ record self.old {
+          file = self.new.file;
+          place = self.new.place;
+          out = self.new.out;
+        } }
+        ensures on { D.discloses
+            → GoesOn (D.asked folder.old.disk) (D.asked folder.new.disk) }
+        ensures path { folder.new.path ≡ folder.old.path }
+    {
+        let counted = self.count(job, folder);
+        if counted.is_err() {
+            self.stays_in_doubt(folder);
+        }
+        counted
+    }
+
+    /// The same, but that it stands where it stood where that fails.
+    fn count<D: FolderDisk + Drop>(
+        &mut self,
+        job: usize,
+        folder: &mut StationFolder<D>,
+    ) -> Result<(), FolderFault>
+        ensures sent { D.discloses → OnOk result (HasBeenCounted job (string_bytes folder.old.path)
+            self.old self.new (D.asked folder.new.disk)) }
+        ensures ready { OnOk result (is_last_of job self.old ≡ false
+            → HasSecondName self.old.place → self.new.place ≡ Ready) }
+        ensures failed { OnErr result (self.new.place ≡ self.old.place) }
+        ensures rest { self.new ≡ record self.old {
+          file = self.new.file;
+          place = self.new.place;
+          out = self.new.out;
+        } }
         ensures on { D.discloses
             → GoesOn (D.asked folder.old.disk) (D.asked folder.new.disk) }
         ensures path { folder.new.path ≡ folder.old.path }
@@ -101,22 +147,23 @@ impl GivenFile {
         if self.ends_with(job) {
             self.is_sent(folder)
         } else {
-            self.lies_ready(folder)
+            self.take_back(folder)
         }
     }
 
     /// A job is marked in the file, where it is a job file.
     fn set_mark<D: FolderDisk + Drop>(
-        &self,
+        &mut self,
         job: usize,
         folder: &mut StationFolder<D>,
     ) -> Result<(), FolderFault>
+        ensures rest { self.new ≡ record self.old { file = self.new.file } }
         ensures on { D.discloses
             → GoesOn (D.asked folder.old.disk) (D.asked folder.new.disk) }
         ensures path { folder.new.path ≡ folder.old.path }
     {
         if let (Place::Promised(doubt), Some(mark)) = (&self.place, self.mark_of(job)) {
-            folder.mark(doubt.as_str(), mark as u64, MARK)?;
+            self.file = folder.mark(doubt.as_str(), mark as u64, MARK, self.file)?;
         }
         Ok(())
     }
@@ -135,20 +182,43 @@ impl GivenFile {
         ensures sent { D.discloses → OnOk result ((doubt : _) → self.old.place ≡ Promised doubt
             → HasSent (string_bytes folder.old.path) (string_bytes self.old.name)
             (string_bytes doubt) self.new.place (D.asked folder.old.disk) (D.asked folder.new.disk)) }
-        ensures rest { self.new ≡ record self.old { place = self.new.place } }
+        ensures failed { OnErr result (self.new.place ≡ self.old.place) }
+        ensures rest { self.new
+            ≡ record self.old { place = self.new.place; out = self.new.out } }
         ensures on { D.discloses
             → GoesOn (D.asked folder.old.disk) (D.asked folder.new.disk) }
         ensures path { folder.new.path ≡ folder.old.path }
     {
         if let Place::Promised(doubt) = &self.place {
-            let sent = folder.settle(self.name.as_str(), doubt.as_str(), Disposition::Sent)?;
-            self.place = Place::Sent(sent);
+            let settled = folder.settle(self.name.as_str(), doubt.as_str(), Disposition::Sent)?;
+            self.out = settled.out;
+            self.place = Place::Sent(settled.path);
         }
         Ok(())
     }
 
-    /// What is left of it lies ready still.
+    /// What is left of it lies ready still. Where that fails, it stands in doubt/ alone.
     pub(crate) fn lies_ready<D: FolderDisk + Drop>(
+        &mut self,
+        folder: &mut StationFolder<D>,
+    ) -> Result<(), FolderFault>
+        ensures ready { OnOk result (HasSecondName self.old.place → self.new.place ≡ Ready) }
+        ensures failed { OnErr result (HasSecondName self.old.place → IsDoubted self.new.place) }
+        ensures rest { self.new
+            ≡ record self.old { place = self.new.place; out = self.new.out } }
+        ensures on { D.discloses
+            → GoesOn (D.asked folder.old.disk) (D.asked folder.new.disk) }
+        ensures path { folder.new.path ≡ folder.old.path }
+    {
+        let ready = self.take_back(folder);
+        if ready.is_err() {
+            self.stays_in_doubt(folder);
+        }
+        ready
+    }
+
+    /// The same, but that it stands where it stood where that fails.
+    fn take_back<D: FolderDisk + Drop>(
         &mut self,
         folder: &mut StationFolder<D>,
     ) -> Result<(), FolderFault>
@@ -156,13 +226,17 @@ impl GivenFile {
         ensures asks { D.discloses → Adds (OfPromised (λ doubt. MaySettle D.are_one
             (string_bytes folder.old.path) (string_bytes self.old.name) doubt Disposition.Ready)
             self.old.place) (D.asked folder.old.disk) (D.asked folder.new.disk) }
+        ensures failed { OnErr result (self.new.place ≡ self.old.place) }
         ensures rest { self.new ≡ record self.old { place = self.new.place } }
         ensures on { D.discloses
             → GoesOn (D.asked folder.old.disk) (D.asked folder.new.disk) }
         ensures path { folder.new.path ≡ folder.old.path }
     {
         if let Place::Promised(doubt) = &self.place {
-            folder.settle(self.name.as_str(), doubt.as_str(), Disposition::Ready)?;
+            let settled = folder.settle(self.name.as_str(), doubt.as_str(), Disposition::Ready)?;
+            if settled.out != OutName::Stands {
+                return Err(FolderFault::Replaced);
+            }
             self.place = Place::Ready;
         }
         Ok(())
@@ -174,7 +248,9 @@ impl GivenFile {
         folder: &mut StationFolder<D>,
     ) -> Result<bool, FolderFault>
         ensures doubted { OnOk result (IsDoubted self.new.place) }
-        ensures rest { self.new ≡ record self.old { place = self.new.place } }
+        ensures failed { OnErr result (HasSecondName self.old.place → IsDoubted self.new.place) }
+        ensures rest { self.new
+            ≡ record self.old { place = self.new.place; out = self.new.out } }
         ensures on { D.discloses
             → GoesOn (D.asked folder.old.disk) (D.asked folder.new.disk) }
         ensures path { folder.new.path ≡ folder.old.path }
@@ -188,33 +264,33 @@ impl GivenFile {
             }
             _ => {
                 self.goes_out(folder)?;
-                self.stays_in_doubt(folder)?;
+                self.stays_in_doubt(folder);
                 Ok(true)
             }
         }
     }
 
-    /// It was promised, and may have arrived: it stands in doubt/ alone.
-    fn stays_in_doubt<D: FolderDisk + Drop>(
-        &mut self,
-        folder: &mut StationFolder<D>,
-    ) -> Result<(), FolderFault>
+    /// It was promised, and may have arrived: it stands in doubt/ alone, but where its name in out/ can't be taken away.
+    fn stays_in_doubt<D: FolderDisk + Drop>(&mut self, folder: &mut StationFolder<D>)
         ensures asks { D.discloses → Adds (OfPromised (λ doubt. MaySettle D.are_one
             (string_bytes folder.old.path) (string_bytes self.old.name) doubt Disposition.InDoubt)
             self.old.place) (D.asked folder.old.disk) (D.asked folder.new.disk) }
-        ensures doubted { OnOk result (HasSecondName self.old.place → IsDoubted self.new.place) }
+        ensures doubted { HasSecondName self.old.place → IsDoubted self.new.place }
+        ensures gone { D.discloses → HasSecondName self.old.place → self.new.out ≡ TakenAway
+            → IsGone (path_in (string_bytes folder.old.path) Folder.Out (string_bytes self.old.name))
+            (D.asked folder.new.disk) }
         ensures stays { D.discloses → StaysInDoubt self.old.place
             (D.asked folder.old.disk) (D.asked folder.new.disk) }
-        ensures rest { self.new ≡ record self.old { place = self.new.place } }
+        ensures rest { self.new
+            ≡ record self.old { place = self.new.place; out = self.new.out } }
         ensures on { D.discloses
             → GoesOn (D.asked folder.old.disk) (D.asked folder.new.disk) }
         ensures path { folder.new.path ≡ folder.old.path }
     {
         if let Place::Promised(doubt) = &self.place {
-            let path = folder.settle(self.name.as_str(), doubt.as_str(), Disposition::InDoubt)?;
-            self.place = Place::Doubted(path);
+            self.out = leave_in_doubt(folder, self.name.as_str(), doubt.as_str());
+            self.place = doubted(mem::replace(&mut self.place, Place::Ready));
         }
-        Ok(())
     }
 
     /// Where it stands in doubt/, if it does.
@@ -223,5 +299,37 @@ impl GivenFile {
             Place::Doubted(path) => Some(path.as_str()),
             _ => None,
         }
+    }
+}
+
+/// Where a file stands in doubt/ alone that had a name there beside the one in out/.
+fn doubted(place: Place) -> Place
+    ensures { HasSecondName place → IsDoubted result }
+{
+    match place {
+        Place::Promised(doubt) => Place::Doubted(doubt),
+        place => place,
+    }
+}
+
+/// Takes the name in out/ of a file away that has this path in doubt/. What became of it.
+fn leave_in_doubt<D: FolderDisk + Drop>(
+    folder: &mut StationFolder<D>,
+    name: &str,
+    doubt: &str,
+) -> OutName
+    ensures asks { D.discloses → Adds (MaySettle D.are_one
+        (string_bytes folder.old.path) name.now doubt.now Disposition.InDoubt)
+        (D.asked folder.old.disk) (D.asked folder.new.disk) }
+    ensures gone { D.discloses → result ≡ TakenAway
+        → IsGone (path_in (string_bytes folder.old.path) Folder.Out name.now)
+        (D.asked folder.new.disk) }
+    ensures stays { D.discloses → has_synced_name doubt.now (D.asked folder.old.disk) ≡ true
+        → has_synced_name doubt.now (D.asked folder.new.disk) ≡ true }
+    ensures path { folder.new.path ≡ folder.old.path }
+{
+    match folder.settle(name, doubt, Disposition::InDoubt) {
+        Ok(settled) => settled.out,
+        Err(_) => OutName::Left(ErrorKind::OutOfMemory),
     }
 }

@@ -7,7 +7,7 @@ ghost use Rattle.rje_spool.specs.GivenFile.{HasSecondName, IsDoubted};
 ghost use Rattle.rje_spool.specs.GivenFiles.{HasBeenCounted, HasGoneOut, IsNext, OfFile, file_of, is_last_of, is_of, jobs_of};
 
 use crate::given_file::{GivenFile, Place};
-use rje_folders::{FolderDisk, FolderFault, StationFolder};
+use rje_folders::{FileIdentity, FolderDisk, FolderFault, OutName, StationFolder};
 use std::alloc::{AllocError, Global};
 
 /// The files of the transmission that was begun last, in the order of their jobs. A job goes by its number in the transmission, from 0.
@@ -36,28 +36,31 @@ impl GivenFiles {
         }
     }
 
-    /// A file of this name, with so many jobs, comes after these. Where each of them is marked in it, if it is a job file.
+    /// This file of this name, with so many jobs, comes after these. Where each of them is marked in it, if it is a job file.
     pub(crate) fn add(
         &mut self,
         name: String,
+        file: FileIdentity,
         count: usize,
         places: Vec<usize>,
     ) -> Result<(), AllocError>
-        ensures added { OnOk result ((file : Item) × (self.new.files.items
-            ≡ self.old.files.items ++ file ∷ []) × IsNext self.old.files.items count file
-            × (file.name ≡ name) × (file.places ≡ places)) }
+        ensures added { OnOk result ((next : Item) × (self.new.files.items
+            ≡ self.old.files.items ++ next ∷ []) × IsNext self.old.files.items count next
+            × (next.name ≡ name) × (next.file ≡ file) × (next.places ≡ places)) }
         ensures jobs { OnOk result (jobs_of self.new.files.items
             ≡ min (jobs_of self.old.files.items + count) 18446744073709551615) }
         ensures kept { OnErr result (self.new.files.items ≡ self.old.files.items) }
     {
-        let file = GivenFile {
+        let next = GivenFile {
             name,
             first: self.jobs(),
             count,
             places,
+            file,
             place: Place::Ready,
+            out: OutName::Stands,
         };
-        self.files.push(file)?;
+        self.files.push(next)?;
         Ok(())
     }
 
@@ -82,7 +85,7 @@ impl GivenFiles {
         folder: &mut StationFolder<D>,
     ) -> Result<(), FolderFault>
         ensures out { D.discloses → OnOk result (OfFile job
-            (λ file now. HasGoneOut (string_bytes folder.old.path) file now
+            (λ file now. HasGoneOut D.is_file (string_bytes folder.old.path) file now
             (D.asked folder.old.disk) (D.asked folder.new.disk))
             self.old.files.items self.new.files.items) }
         ensures on { D.discloses
@@ -95,7 +98,8 @@ impl GivenFiles {
         }
     }
 
-    /// A job was counted: it is marked as sent, and where it is the last one of its file the file goes to sent/.
+    /// A job was counted: it is marked as sent, and where it is the last one of its file the file goes to sent/. Where that fails, a file with a name in
+    /// doubt/ stands there alone.
     pub(crate) fn is_counted<D: FolderDisk + Drop>(
         &mut self,
         job: usize,
@@ -106,6 +110,9 @@ impl GivenFiles {
             (D.asked folder.new.disk)) self.old.files.items self.new.files.items) }
         ensures ready { OnOk result (OfFile job (λ file now. is_last_of job file ≡ false
             → HasSecondName file.place → now.place ≡ Ready)
+            self.old.files.items self.new.files.items) }
+        ensures failed { OnErr result (OfFile job
+            (λ file now. HasSecondName file.place → IsDoubted now.place)
             self.old.files.items self.new.files.items) }
         ensures on { D.discloses
             → GoesOn (D.asked folder.old.disk) (D.asked folder.new.disk) }
@@ -126,6 +133,9 @@ impl GivenFiles {
         ensures ready { OnOk result (OfFile job
             (λ file now. HasSecondName file.place → now.place ≡ Ready)
             self.old.files.items self.new.files.items) }
+        ensures failed { OnErr result (OfFile job
+            (λ file now. HasSecondName file.place → IsDoubted now.place)
+            self.old.files.items self.new.files.items) }
         ensures on { D.discloses
             → GoesOn (D.asked folder.old.disk) (D.asked folder.new.disk) }
         ensures path { folder.new.path ≡ folder.old.path }
@@ -143,6 +153,9 @@ impl GivenFiles {
         folder: &mut StationFolder<D>,
     ) -> Result<bool, FolderFault>
         ensures doubted { OnOk result (OfFile job (λ file now. IsDoubted now.place)
+            self.old.files.items self.new.files.items) }
+        ensures failed { OnErr result (OfFile job
+            (λ file now. HasSecondName file.place → IsDoubted now.place)
             self.old.files.items self.new.files.items) }
         ensures on { D.discloses
             → GoesOn (D.asked folder.old.disk) (D.asked folder.new.disk) }

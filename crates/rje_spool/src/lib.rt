@@ -2,15 +2,19 @@
 #![tactic(auto)]
 
 mod book;
+mod brake;
 mod console;
+mod cut_job;
 mod due_paper;
 mod folder_spool;
 mod given_file;
 mod given_files;
+mod holding;
 mod notice;
 mod outgoing;
 mod pace;
 mod paper;
+mod passed_files;
 mod refused_file;
 mod spool_fault;
 mod spool_files;

@@ -64,6 +64,12 @@ pub enum Notice<'a> {
     Sent(&'a str),
     /// A job of this file may have arrived: the file is in doubt/, under this path.
     Doubt(&'a str, &'a str),
+    /// This file was taken out of out/ by others while its last block was out.
+    TakenBack(&'a str),
+    /// The name of this file can't be taken out of out/, and why.
+    Left(&'a str, ErrorKind),
+    /// So many files in a row are in doubt that the station stops sending.
+    Stopped,
     /// This file can't be sent, and why.
     Refused(&'a str, RefusedFile),
     /// A job comes: its number in the transmission, from 1.
@@ -118,6 +124,19 @@ impl Display for Notice<'_> {
                 "DOUBT {name} may have arrived: {}",
                 in_folder(path)
             ),
+            Notice::TakenBack(name) => {
+                write!(
+                    f,
+                    "{name} was taken out of out/ when its last block was out"
+                )
+            }
+            Notice::Left(name, kind) => {
+                write!(
+                    f,
+                    "out/{name} can't be taken away and isn't sent again: {kind}"
+                )
+            }
+            Notice::Stopped => f.write_str("STOPPED SENDING: three files in doubt in a row"),
             Notice::Refused(name, why) => write!(f, "refused {name}: {why}"),
             Notice::Receiving(job) => write!(f, "receiving job {job}"),
             Notice::ReceivingStill {

@@ -1,13 +1,16 @@
 //! A file of out/, read as jobs.
-ghost use Rattle.std.specs.Prelude.{◌≡◌, Some, IfErr, IfOk};
+ghost use Rattle.std.specs.Prelude.{◌≡◌, ◌↔◌, Some, IfErr, IfOk, IsTrue};
+ghost use Rattle.std.specs.List.{All};
 ghost use Rattle.rje_folders.specs.declared.ready_file.ReadyFile.TheVariants as ready;
 ghost use Rattle.rje_folders.specs.ReadyFile.{file_of_name};
-ghost use Rattle.rje_spool.specs.Outgoing.{IsOutgoing, IsRefusal};
+ghost use Rattle.rje_spool.specs.Holding.{CanBeHeld};
+ghost use Rattle.rje_spool.specs.Outgoing.{IsOfFile, IsOutgoing, IsRefusal};
 
+use crate::holding::can_be_held;
 use crate::refused_file::RefusedFile;
 use rje_files::{first_unsendable, mark_places, read_entries, unsent_jobs};
 use rje_folders::ReadyFile;
-use rje_jobs::{Jobs, job_of_deck};
+use rje_jobs::{Job, Jobs, job_of_deck};
 use rje_text::{Mode, Select};
 use std::alloc::Global;
 
@@ -21,21 +24,45 @@ pub struct Outgoing {
 }
 
 /// What is to be sent of a file of out/ of this name, which has these bytes. Refused where it is neither a deck nor a job file, where not all
-/// of it can be sent, and where nothing is left to send.
+/// of it can be sent, where nothing is left to send, and where a job is longer than the receiving station can hold.
 pub fn outgoing_of(alloc: Global, name: &str, bytes: &[u8]) -> Result<Outgoing, RefusedFile>
     ensures jobs { IfOk result (IsOutgoing (file_of_name name.now) bytes.now) }
     ensures refused { IfErr result (IsRefusal (file_of_name name.now) bytes.now) }
 {
     match ReadyFile::of_name(name) {
-        Some(ReadyFile::JobFile) => of_job_file(alloc, bytes),
-        Some(ReadyFile::Deck { select, mode }) => of_deck(alloc, bytes, select, mode),
+        Some(kind) => {
+            let outgoing = of_kind(alloc, kind, bytes)?;
+            if can_all_be_held(outgoing.jobs.as_slice()) {
+                Ok(outgoing)
+            } else {
+                Err(RefusedFile::TooMuch)
+            }
+        }
         None => Err(RefusedFile::UnknownKind),
+    }
+}
+
+/// Whether each of these jobs can be held.
+fn can_all_be_held(jobs: &[Job]) -> bool
+    ensures { IsTrue result ↔ All CanBeHeld jobs.now }
+{
+    jobs.iter().all(can_be_held)
+}
+
+/// The jobs of a file of this kind, whether they can be held or not.
+fn of_kind(alloc: Global, kind: ReadyFile, bytes: &[u8]) -> Result<Outgoing, RefusedFile>
+    ensures jobs { IfOk result (IsOfFile (Some kind) bytes.now) }
+    ensures refused { IfErr result (IsRefusal (Some kind) bytes.now) }
+{
+    match kind {
+        ReadyFile::JobFile => of_job_file(alloc, bytes),
+        ReadyFile::Deck { select, mode } => of_deck(alloc, bytes, select, mode),
     }
 }
 
 /// The job of a deck.
 fn of_deck(alloc: Global, bytes: &[u8], select: Select, mode: Mode) -> Result<Outgoing, RefusedFile>
-    ensures jobs { IfOk result (IsOutgoing (Some (ready.Deck select mode)) bytes.now) }
+    ensures jobs { IfOk result (IsOfFile (Some (ready.Deck select mode)) bytes.now) }
     ensures refused { IfErr result (IsRefusal (Some (ready.Deck select mode)) bytes.now) }
 {
     let mut jobs = Vec::new(alloc);
@@ -51,7 +78,7 @@ fn of_deck(alloc: Global, bytes: &[u8], select: Select, mode: Mode) -> Result<Ou
 
 /// The jobs of a job file that weren't sent, and where they are marked.
 fn of_job_file(alloc: Global, bytes: &[u8]) -> Result<Outgoing, RefusedFile>
-    ensures jobs { IfOk result (IsOutgoing (Some ready.JobFile) bytes.now) }
+    ensures jobs { IfOk result (IsOfFile (Some ready.JobFile) bytes.now) }
     ensures refused { IfErr result (IsRefusal (Some ready.JobFile) bytes.now) }
 {
     let entries = match read_entries(alloc, bytes) {

@@ -24,6 +24,9 @@ pub enum RefusedFile {
     /// The job of this number, from 1, can't be sent.
     #[error("job {0} can't be sent")]
     BadJob(usize),
+    /// It has a job that no station can hold that receives it.
+    #[error("a job is longer than a station can hold")]
+    TooMuch,
     /// It holds no job that wasn't sent.
     #[error("no job is left to send")]
     NothingLeft,

@@ -13,6 +13,9 @@ pub enum SpoolFault {
     /// A folder of the station, or a file there, can't be used.
     #[error("{0}")]
     Folder(FolderFault),
+    /// The last block of a job can't go out: the operator was told of which file, and why.
+    #[error("{0}")]
+    NotOut(FolderFault),
 }
 
 impl From<FolderFault> for SpoolFault {

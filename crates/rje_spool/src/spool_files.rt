@@ -1,5 +1,5 @@
 //! The files of a station's spool, and its console.
-ghost use Rattle.std.specs.Prelude.{◌≡◌, length, IfOk, OnOk, string_bytes};
+ghost use Rattle.std.specs.Prelude.{◌≡◌, length, IfOk, OnErr, OnOk, string_bytes};
 ghost use Rattle.rje_folders.specs.Keeping.{WasMade, WasNamed};
 ghost use Rattle.rje_spool.specs.Backed.{GoesOn, WasPut};
 ghost use Rattle.rje_spool.specs.declared.given_file.Place.TheVariants.{Ready};
@@ -7,24 +7,27 @@ ghost use Rattle.rje_spool.specs.GivenFile.{HasSecondName, IsDoubted};
 ghost use Rattle.rje_spool.specs.GivenFiles.{HasBeenCounted, HasGoneOut, IsSettledSo, OfFile, jobs_of};
 ghost use Rattle.rje_spool.specs.Keeping.{IsKeptIn};
 
+use crate::brake::Brake;
 use crate::console::Console;
+use crate::cut_job::CutJob;
 use crate::due_paper::DuePaper;
 use crate::given_files::GivenFiles;
 use crate::notice::{JobLabel, Notice};
 use crate::outgoing::{Outgoing, outgoing_of};
 use crate::pace::{MOST_JOBS, Pace};
 use crate::paper::received_file;
+use crate::passed_files::{PassedFiles, Until};
 use crate::refused_file::RefusedFile;
 use crate::spool_fault::SpoolFault;
 use crate::watching::Watching;
 use rje_day::{Disposition, Seen};
-use rje_folders::{Folder, FolderDisk, FolderFault, StationFolder};
+use rje_folders::{FileIdentity, Folder, FolderDisk, FolderFault, OutName, StationFolder};
 use rje_jobs::{DeckFault, FileFault, Job};
 use rje_session::Tally;
 use rje_station::Station;
 use rje_stores::MAX_INPUT;
 use std::alloc::Global;
-use std::io::Write;
+use std::io::{ErrorKind, Write};
 use std::time::Clock;
 
 /// More than the records of one block take in a job file: their blanks are counted in its text.
@@ -39,14 +42,16 @@ pub(crate) struct SpoolFiles<D: FolderDisk + Drop, C, W, L> {
     console: Console<C, W, L>,
     // The names that lie ready as far as is known, the last one first.
     ready: Vec<String>,
-    // The names that were found to be of no use to the station, and can't be put aside.
-    passed: Vec<String>,
+    // The files that are of no use to the station for now.
+    passed: PassedFiles,
     // How many names that are no text the operator was told of.
     unreadable: usize,
     // The files of the transmission that was begun last.
     given: GivenFiles,
     // How much a transmission is given.
     pace: Pace,
+    // Whether the station sends.
+    brake: Brake,
     // The time of what was kept last, and the number that comes next with it.
     stamp: String,
     number: u32,
@@ -55,6 +60,8 @@ pub(crate) struct SpoolFiles<D: FolderDisk + Drop, C, W, L> {
     watching: Watching,
     // How much has come of the transmission in hand.
     tally: Tally,
+    // The job that was cut last.
+    cut: Option<CutJob>,
 }
 
 impl<D: FolderDisk + Drop, C: Clock, W: Write, L: Write> SpoolFiles<D, C, W, L> {
@@ -71,15 +78,17 @@ impl<D: FolderDisk + Drop, C: Clock, W: Write, L: Write> SpoolFiles<D, C, W, L> 
             folder,
             console,
             ready: Vec::new(alloc),
-            passed: Vec::new(alloc),
+            passed: PassedFiles::new(alloc),
             unreadable: 0,
             given: GivenFiles::new(alloc),
             pace: Pace::new(),
+            brake: Brake::new(),
             stamp: String::new(alloc),
             number: 1,
             due: None,
             watching: Watching::new(),
             tally: Tally::after_file(0),
+            cut: None,
         }
     }
 
@@ -104,10 +113,11 @@ impl<D: FolderDisk + Drop, C: Clock, W: Write, L: Write> SpoolFiles<D, C, W, L> 
         // What can't be looked at is taken for held: nothing is sent then.
         let held = self.folder.is_held().unwrap_or(true);
         Seen {
-            ready: !held && self.has_ready(),
+            ready: !held && self.may_send() && self.has_ready(),
             held,
             drained: self.folder.is_drained().unwrap_or(false),
             call_due: false,
+            line_wanted: false,
         }
     }
 
@@ -135,15 +145,34 @@ impl<D: FolderDisk + Drop, C: Clock, W: Write, L: Write> SpoolFiles<D, C, W, L> 
     /// The last block of this job goes out next: from now on its file has a name in doubt/, on disk.
     pub(crate) fn goes_out(&mut self, job: usize) -> Result<(), SpoolFault>
         ensures out { D.discloses → OnOk result (OfFile job
-            (λ file now. HasGoneOut (string_bytes self.old.folder.path) file now
+            (λ file now. HasGoneOut D.is_file (string_bytes self.old.folder.path) file now
             (D.asked self.old.folder.disk) (D.asked self.new.folder.disk))
             self.old.given.files.items self.new.given.files.items) }
         ensures on { D.discloses
             → GoesOn (D.asked self.old.folder.disk) (D.asked self.new.folder.disk) }
         ensures path { self.new.folder.path ≡ self.old.folder.path }
     {
-        self.given.goes_out(job, &mut self.folder)?;
-        Ok(())
+        match self.given.goes_out(job, &mut self.folder) {
+            Ok(()) => Ok(()),
+            Err(FolderFault::OutOfMemory) => Err(SpoolFault::OutOfMemory),
+            Err(fault) => {
+                self.tell_not_out(job, &fault);
+                Err(SpoolFault::NotOut(fault))
+            }
+        }
+    }
+
+    /// Tells that the last block of a job of this file can't go out, and why.
+    fn tell_not_out(&mut self, job: usize, why: &FolderFault)
+        ensures folder { self.new.folder ≡ self.old.folder }
+        ensures given { self.new.given ≡ self.old.given }
+    {
+        let Some(file) = self.given.of(job) else {
+            return;
+        };
+        if let Ok(text) = format!(in self.alloc; "{}: {why}", file.name) {
+            self.console.tell(Notice::Failed(text.as_str()));
+        }
     }
 
     /// What became of this job.
@@ -151,6 +180,9 @@ impl<D: FolderDisk + Drop, C: Clock, W: Write, L: Write> SpoolFiles<D, C, W, L> 
         ensures stands { D.discloses → OnOk result (OfFile job
             (IsSettledSo job what (string_bytes self.old.folder.path)
             (D.asked self.new.folder.disk))
+            self.old.given.files.items self.new.given.files.items) }
+        ensures left { OnErr result (OfFile job
+            (λ file now. HasSecondName file.place → IsDoubted now.place)
             self.old.given.files.items self.new.given.files.items) }
         ensures on { D.discloses
             → GoesOn (D.asked self.old.folder.disk) (D.asked self.new.folder.disk) }
@@ -218,7 +250,42 @@ impl<D: FolderDisk + Drop, C: Clock, W: Write, L: Write> SpoolFiles<D, C, W, L> 
         let path = self.keep_in(Folder::Cut, job)?;
         self.console
             .tell(Notice::Cut(path.as_str(), JobLabel::of(job)));
+        self.drop_earlier(path, job);
         Ok(())
+    }
+
+    /// A job was cut, and is kept under this path: where it was cut before, as the last one that was, its file of that time is taken away.
+    fn drop_earlier(&mut self, path: String, job: &Job)
+        ensures on { D.discloses
+            → GoesOn (D.asked self.old.folder.disk) (D.asked self.new.folder.disk) }
+        ensures path { self.new.folder.path ≡ self.old.folder.path }
+    {
+        let (Ok(bytes), Ok(file)) = (
+            received_file(self.alloc, job),
+            self.folder.identity_at(path.as_str()),
+        ) else {
+            return;
+        };
+        if let Some(earlier) = self.cut.take() {
+            if earlier.is_again(bytes.as_slice()) {
+                let _ = self.folder.drop_cut(earlier.path.as_str(), earlier.file);
+            }
+        }
+        self.cut = Some(CutJob { path, file, bytes });
+    }
+
+    /// Whether the station sends: one that has stopped does so again after a while, or once doubt/ is empty.
+    fn may_send(&mut self) -> bool
+        ensures folder { self.new.folder ≡ self.old.folder }
+    {
+        if !self.brake.is_on() || self.brake.is_over(self.console.stamps().clock()) {
+            return true;
+        }
+        if self.folder.has_doubts().unwrap_or(true) {
+            return false;
+        }
+        self.brake.release();
+        true
     }
 
     /// Something lies ready. Where the list of names is used up, the folder is read anew.
@@ -233,11 +300,14 @@ impl<D: FolderDisk + Drop, C: Clock, W: Write, L: Write> SpoolFiles<D, C, W, L> 
     }
 
     /// The names that lie ready, the last one first, but for those that are passed over. None where the folder can't be read.
-    fn names_anew(&self) -> Vec<String> {
+    fn names_anew(&mut self) -> Vec<String>
+        ensures folder { self.new.folder ≡ self.old.folder }
+    {
         let Ok(mut names) = self.folder.names_ready() else {
             return Vec::new(self.alloc);
         };
-        names.retain(|name| !self.is_passed(name.as_str()));
+        self.passed.look_again(&self.folder, names.as_slice());
+        names.retain(|name| !self.passed.has(name.as_str()));
         names.reverse();
         names
     }
@@ -272,11 +342,6 @@ impl<D: FolderDisk + Drop, C: Clock, W: Write, L: Write> SpoolFiles<D, C, W, L> 
         true
     }
 
-    /// Whether a name was found to be of no use.
-    fn is_passed(&self, name: &str) -> bool {
-        self.passed.iter().any(|passed| passed.as_str() == name)
-    }
-
     /// Takes the next files that lie ready for a transmission, and gives their jobs. A file that can't be sent is put aside.
     fn take_files(&mut self) -> Result<Vec<Job>, SpoolFault>
         ensures numbered { IfOk result (λ jobs.
@@ -289,7 +354,7 @@ impl<D: FolderDisk + Drop, C: Clock, W: Write, L: Write> SpoolFiles<D, C, W, L> 
         let mut jobs = Vec::new(self.alloc);
         let mut cards: usize = 0;
         for _ in 0..MOST_JOBS {
-            if self.pace.is_full(jobs.len(), cards) {
+            if self.is_enough(jobs.len(), cards) {
                 break;
             }
             let Some(name) = self.ready.pop() else {
@@ -299,7 +364,13 @@ impl<D: FolderDisk + Drop, C: Clock, W: Write, L: Write> SpoolFiles<D, C, W, L> 
         }
         self.pace
             .begin(self.console.stamps().clock(), jobs.len(), cards);
+        self.brake.begin();
         Ok(jobs)
+    }
+
+    /// Whether a transmission that has so many jobs, of so many cards, is given no more files: a station that has stopped sending tries one.
+    fn is_enough(&self, jobs: usize, cards: usize) -> bool {
+        self.pace.is_full(jobs, cards) || self.brake.is_on() && 0 < jobs
     }
 
     /// Takes this file for a transmission that has these jobs, and adds its own. How many cards they have.
@@ -310,32 +381,75 @@ impl<D: FolderDisk + Drop, C: Clock, W: Write, L: Write> SpoolFiles<D, C, W, L> 
             → GoesOn (D.asked self.old.folder.disk) (D.asked self.new.folder.disk) }
         ensures path { self.new.folder.path ≡ self.old.folder.path }
     {
-        let file = match self.folder.read(name.as_str(), MAX_INPUT as u64) {
-            Ok(file) => file,
-            Err(FolderFault::OutOfMemory) => return Err(SpoolFault::OutOfMemory),
-            Err(FolderFault::TooLarge(_)) => {
-                self.refuse(name, RefusedFile::TooLong)?;
-                return Ok(0);
-            }
+        let file = self.folder.identity(name.as_str()).ok();
+        let read = match self.folder.read(name.as_str(), MAX_INPUT as u64) {
+            Ok(read) => read,
             Err(fault) => {
-                self.pass_over(name, &fault)?;
+                self.leave(name, file, fault)?;
                 return Ok(0);
             }
         };
-        match outgoing_of(self.alloc, name.as_str(), file.as_slice()) {
-            Ok(outgoing) => self.give(name, outgoing, jobs),
+        match outgoing_of(self.alloc, name.as_str(), read.bytes.as_slice()) {
+            Ok(outgoing) => self.give(name, read.file, outgoing, jobs),
             Err(why) if is_want_of_memory(why) => Err(SpoolFault::OutOfMemory),
             Err(why) => {
-                self.refuse(name, why)?;
+                self.refuse(name, read.file, why)?;
                 Ok(0)
             }
         }
     }
 
-    /// The jobs of this file are in the transmission. How many cards they have.
+    /// Leaves a file that can't be read: one that is gone is forgotten, and one that is being written is looked at again.
+    fn leave(
+        &mut self,
+        name: String,
+        file: Option<FileIdentity>,
+        fault: FolderFault,
+    ) -> Result<(), SpoolFault>
+        ensures given { self.new.given ≡ self.old.given }
+        ensures on { D.discloses
+            → GoesOn (D.asked self.old.folder.disk) (D.asked self.new.folder.disk) }
+        ensures path { self.new.folder.path ≡ self.old.folder.path }
+    {
+        match (fault, file) {
+            (FolderFault::OutOfMemory, _) => Err(SpoolFault::OutOfMemory),
+            (FolderFault::Failed(_, ErrorKind::NotFound), _) => Ok(()),
+            (FolderFault::BeingWritten(_), _) => Ok(self.passed.add(name, Until::NextLook)?),
+            (FolderFault::TooLarge(_), Some(file)) => {
+                self.refuse(name, file, RefusedFile::TooLong)
+            }
+            (fault, file) => self.pass_over(name, file, &fault),
+        }
+    }
+
+    /// The jobs of this file are in the transmission. How many cards they have. A file that can't get a second name is passed over.
     fn give(
         &mut self,
         name: String,
+        file: FileIdentity,
+        outgoing: Outgoing,
+        jobs: &mut Vec<Job>,
+    ) -> Result<usize, SpoolFault>
+        ensures numbered { OnOk result (jobs_of self.old.given.files.items ≡ length jobs.old.items
+            → jobs_of self.new.given.files.items ≡ length jobs.new.items) }
+        ensures on { D.discloses
+            → GoesOn (D.asked self.old.folder.disk) (D.asked self.new.folder.disk) }
+        ensures path { self.new.folder.path ≡ self.old.folder.path }
+    {
+        match self.folder.try_second_name(name.as_str()) {
+            Ok(()) => self.add(name, file, outgoing, jobs),
+            Err(fault) => {
+                self.leave(name, Some(file), fault)?;
+                Ok(0)
+            }
+        }
+    }
+
+    /// The same of a file that can get a second name.
+    fn add(
+        &mut self,
+        name: String,
+        file: FileIdentity,
         outgoing: Outgoing,
         jobs: &mut Vec<Job>,
     ) -> Result<usize, SpoolFault>
@@ -345,35 +459,46 @@ impl<D: FolderDisk + Drop, C: Clock, W: Write, L: Write> SpoolFiles<D, C, W, L> 
     {
         let Outgoing { jobs: more, places } = outgoing;
         let cards = cards_of(more.as_slice());
-        self.given.add(name, more.len(), places)?;
+        self.given.add(name, file, more.len(), places)?;
         let mut more = more.into_vec();
         jobs.append(&mut more)?;
         Ok(cards)
     }
 
-    /// Puts a file aside that can't be sent.
-    fn refuse(&mut self, name: String, why: RefusedFile) -> Result<(), SpoolFault>
+    /// Puts a file aside that can't be sent. One that was replaced meanwhile is looked at again.
+    fn refuse(
+        &mut self,
+        name: String,
+        file: FileIdentity,
+        why: RefusedFile,
+    ) -> Result<(), SpoolFault>
         ensures given { self.new.given ≡ self.old.given }
         ensures on { D.discloses
             → GoesOn (D.asked self.old.folder.disk) (D.asked self.new.folder.disk) }
         ensures path { self.new.folder.path ≡ self.old.folder.path }
     {
-        match self.put_aside(name.as_str(), why) {
+        match self.put_aside(name.as_str(), file, why) {
             Ok(()) => {
                 self.console.tell(Notice::Refused(name.as_str(), why));
                 Ok(())
             }
-            Err(fault) => self.pass_over(name, &fault),
+            Err(FolderFault::Replaced) => Ok(self.passed.add(name, Until::NextLook)?),
+            Err(fault) => self.pass_over(name, Some(file), &fault),
         }
     }
 
-    fn put_aside(&mut self, name: &str, why: RefusedFile) -> Result<(), FolderFault>
+    fn put_aside(
+        &mut self,
+        name: &str,
+        file: FileIdentity,
+        why: RefusedFile,
+    ) -> Result<(), FolderFault>
         ensures given { self.new.given ≡ self.old.given }
         ensures on { D.discloses
             → GoesOn (D.asked self.old.folder.disk) (D.asked self.new.folder.disk) }
         ensures path { self.new.folder.path ≡ self.old.folder.path }
     {
-        let path = self.folder.refuse(name)?;
+        let path = self.folder.refuse(name, file)?;
         match format!(in self.alloc; "{why}\n") {
             Ok(text) => {
                 self.folder.explain(path.as_str(), text.as_str())?;
@@ -383,26 +508,36 @@ impl<D: FolderDisk + Drop, C: Clock, W: Write, L: Write> SpoolFiles<D, C, W, L> 
         }
     }
 
-    /// Leaves a file alone that is of no use, and can't be put aside.
-    fn pass_over(&mut self, name: String, why: &FolderFault) -> Result<(), SpoolFault>
+    /// Leaves this file alone that is of no use, and can't be put aside, until another one has its name.
+    fn pass_over(
+        &mut self,
+        name: String,
+        file: Option<FileIdentity>,
+        why: &FolderFault,
+    ) -> Result<(), SpoolFault>
         ensures folder { self.new.folder ≡ self.old.folder }
         ensures given { self.new.given ≡ self.old.given }
     {
         if let Ok(text) = format!(in self.alloc; "{name}: {why}") {
             self.console.tell(Notice::Failed(text.as_str()));
         }
-        push(&mut self.passed, name)
+        self.passed.add(name, Until::Replaced(file))?;
+        Ok(())
     }
 
     /// A job may have arrived, or nobody knows: its file stands in doubt/.
     fn doubt(&mut self, job: usize) -> Result<(), SpoolFault>
         ensures doubted { OnOk result (OfFile job (λ file now. IsDoubted now.place)
             self.old.given.files.items self.new.given.files.items) }
+        ensures left { OnErr result (OfFile job
+            (λ file now. HasSecondName file.place → IsDoubted now.place)
+            self.old.given.files.items self.new.given.files.items) }
         ensures on { D.discloses
             → GoesOn (D.asked self.old.folder.disk) (D.asked self.new.folder.disk) }
         ensures path { self.new.folder.path ≡ self.old.folder.path }
     {
-        if self.given.is_doubted(job, &mut self.folder)? {
+        let doubted = self.given.is_doubted(job, &mut self.folder)?;
+        if doubted {
             self.tell_doubt(job);
         }
         Ok(())
@@ -418,7 +553,11 @@ impl<D: FolderDisk + Drop, C: Clock, W: Write, L: Write> SpoolFiles<D, C, W, L> 
         };
         if let Some(path) = file.doubt_path() {
             self.console.tell(Notice::Doubt(file.name.as_str(), path));
+            if self.brake.doubted(self.console.stamps().clock()) {
+                self.console.tell(Notice::Stopped);
+            }
         }
+        self.tell_left(job);
     }
 
     /// A job was counted.
@@ -427,13 +566,23 @@ impl<D: FolderDisk + Drop, C: Clock, W: Write, L: Write> SpoolFiles<D, C, W, L> 
             (λ file now. HasBeenCounted job (string_bytes self.old.folder.path) file now
             (D.asked self.new.folder.disk))
             self.old.given.files.items self.new.given.files.items) }
+        ensures left { OnErr result (OfFile job
+            (λ file now. HasSecondName file.place → IsDoubted now.place)
+            self.old.given.files.items self.new.given.files.items) }
         ensures on { D.discloses
             → GoesOn (D.asked self.old.folder.disk) (D.asked self.new.folder.disk) }
         ensures path { self.new.folder.path ≡ self.old.folder.path }
     {
-        self.given.is_counted(job, &mut self.folder)?;
-        self.tell_sent(job);
-        Ok(())
+        match self.given.is_counted(job, &mut self.folder) {
+            Ok(()) => {
+                self.tell_sent(job);
+                Ok(())
+            }
+            Err(fault) => {
+                self.tell_doubt(job);
+                Err(SpoolFault::from(fault))
+            }
+        }
     }
 
     /// Tells that a job was counted, and where it is the last one of the transmission notes how long that took.
@@ -444,8 +593,31 @@ impl<D: FolderDisk + Drop, C: Clock, W: Write, L: Write> SpoolFiles<D, C, W, L> 
         if let Some(file) = self.given.of(job) {
             self.console.tell(Notice::Sent(file.name.as_str()));
         }
+        self.brake.release();
+        self.tell_left(job);
         if job.saturating_add(1) == self.given.jobs() {
             self.pace.end(self.console.stamps().clock());
+        }
+    }
+
+    /// Tells what became of the name in out/ of a job's file, where it wasn't the station that took it away. One that can't be taken away isn't taken
+    /// for ready again.
+    fn tell_left(&mut self, job: usize)
+        ensures folder { self.new.folder ≡ self.old.folder }
+        ensures given { self.new.given ≡ self.old.given }
+    {
+        let Some(file) = self.given.of(job) else {
+            return;
+        };
+        match file.out {
+            OutName::Missing => self.console.tell(Notice::TakenBack(file.name.as_str())),
+            OutName::Left(kind) => {
+                self.console.tell(Notice::Left(file.name.as_str(), kind));
+                if let Ok(name) = String::from_str(self.alloc, file.name.as_str()) {
+                    let _ = self.passed.add(name, Until::Replaced(Some(file.file)));
+                }
+            }
+            OutName::Stands | OutName::TakenAway | OutName::OfAnother => {}
         }
     }
 
@@ -454,13 +626,21 @@ impl<D: FolderDisk + Drop, C: Clock, W: Write, L: Write> SpoolFiles<D, C, W, L> 
         ensures ready { OnOk result (OfFile job
             (λ file now. HasSecondName file.place → now.place ≡ Ready)
             self.old.given.files.items self.new.given.files.items) }
+        ensures left { OnErr result (OfFile job
+            (λ file now. HasSecondName file.place → IsDoubted now.place)
+            self.old.given.files.items self.new.given.files.items) }
         ensures on { D.discloses
             → GoesOn (D.asked self.old.folder.disk) (D.asked self.new.folder.disk) }
         ensures path { self.new.folder.path ≡ self.old.folder.path }
     {
         self.ready = Vec::new(self.alloc);
-        self.given.lies_ready(job, &mut self.folder)?;
-        Ok(())
+        match self.given.lies_ready(job, &mut self.folder) {
+            Ok(()) => Ok(()),
+            Err(fault) => {
+                self.tell_doubt(job);
+                Err(SpoolFault::from(fault))
+            }
+        }
     }
 
     /// The number of what is kept next, with its time.
@@ -507,14 +687,6 @@ fn cards_of(jobs: &[Job]) -> usize {
     jobs.iter()
         .map(|job| job.records.len())
         .fold(0, usize::saturating_add)
-}
-
-/// Adds an item.
-fn push<T: Drop>(items: &mut Vec<T>, item: T) -> Result<(), SpoolFault> {
-    match items.push(item) {
-        Ok(()) => Ok(()),
-        Err(_) => Err(SpoolFault::OutOfMemory),
-    }
 }
 
 /// Whether a file isn't sent for want of memory alone.

@@ -18,6 +18,15 @@ pub enum FileKind {
     Device,
 }
 
+/// When the bytes of a file last changed, by the clock of its disk, since 1970.
+#[derive(Clone, Copy, Debug, PartialEq, Eq)]
+pub struct ChangeTime {
+    /// The whole seconds.
+    pub seconds: i64,
+    /// The rest of it.
+    pub nanoseconds: i64,
+}
+
 /// What the system says of a file.
 #[derive(Drop)]
 pub struct FileStatus {
@@ -33,6 +42,8 @@ pub struct FileStatus {
     pub inode: u64,
     /// How many names it has.
     pub links: u64,
+    /// When its bytes last changed.
+    pub changed: ChangeTime,
 }
 
 impl From<Metadata> for FileStatus {
@@ -44,6 +55,10 @@ impl From<Metadata> for FileStatus {
             device: found.dev(),
             inode: found.ino(),
             links: found.nlink(),
+            changed: ChangeTime {
+                seconds: found.mtime(),
+                nanoseconds: found.mtime_nsec(),
+            },
         }
     }
 }

@@ -25,7 +25,7 @@ failed_step d d' seen seeks now = day_step d d' seen Event.NoConnection (rw seek
 
 -- the operator drains the station
 abbrev drains : Seen
-drains = record { ready = false; held = false; drained = true; call_due = false }
+drains = record { ready = false; held = false; drained = true; call_due = false; line_wanted = false }
 
 -- the connection is over, where it wasn't before
 pub over_step : (d d' : DayState) → d' ≡ after Event.Disconnected d → (can_come Event.Disconnected d.place ≡ false → d' ≡ d) → GoesOnAsDay d d'

@@ -2,8 +2,9 @@
 ghost use Rattle.rje_session.specs.Staying.{GoesOnAsDay};
 ghost use Rattle.rje_workstation.specs.Calling.{SeeksConnection};
 
+use crate::attendant::Attendant;
 use crate::call_times::CallTimes;
-use crate::doorway::{Caller, called, next_caller};
+use crate::doorway::{Caller, called};
 use crate::speaking::speak;
 use rje_day::{Day, Duty, Event, Seen};
 use rje_folders::FolderDisk;
@@ -17,36 +18,40 @@ use std::thread;
 use std::time::{Clock, Duration};
 
 /// How often a station looks for a call and at its folder where it has no connection, in milliseconds.
-const TICK: u64 = 200;
+const TICK: u64 = 100;
 
-/// Spends the day of a station as ordered, with a listener where it is called: until it is drained, or its one connection is over.
-pub(crate) fn attend<R: Net + Clock, D: FolderDisk + Drop, C: Clock, W: Write, L: Write>(
+/// Spends the day of a station as ordered: until it is drained, or its one connection is over.
+pub(crate) fn attend<
+    R: Net + Clock,
+    D: FolderDisk + Drop,
+    C: Clock + Drop,
+    W: Write + Drop,
+    L: Write + Drop,
+>(
     rt: &R,
     alloc: Global,
     order: &StationOrder,
-    listener: &Option<R::Listener>,
     day: &mut Day,
-    spool: &mut FolderSpool<D, C, W, L>,
-) -> io::Result<()>
+    attendant: &mut Attendant<&R, FolderSpool<D, C, W, L>, R::Listener>,
+)
     ensures day { GoesOnAsDay day.old day.new }
 {
     let mut calls = CallTimes::new(order.every);
     for _ in 0..u64::MAX {
         let seen = Seen {
             call_due: calls.is_due(rt),
-            ..spool.seen()
+            ..attendant.spool.seen()
         };
         match day.next(seen) {
-            Duty::End => return Ok(()),
-            Duty::Listen => await_call(rt, alloc, order, listener, day, seen, spool)?,
+            Duty::End => return,
+            Duty::Listen => await_call(rt, alloc, order, day, seen, attendant),
             Duty::Call => {
-                call(rt, alloc, order, day, seen, spool);
+                call(rt, alloc, order, day, seen, attendant);
                 calls.note(rt);
             }
             _ => wait(rt),
         }
     }
-    Ok(())
 }
 
 /// Waits a moment.
@@ -54,42 +59,67 @@ fn wait<C: Clock>(clock: &C) {
     thread::sleep(clock, Duration::from_millis(TICK));
 }
 
-/// Takes a call that waits, and stays on its connection; where none waits, it waits a moment.
-fn await_call<R: Net + Clock, D: FolderDisk + Drop, C: Clock, W: Write, L: Write>(
+/// Takes a call that waits, and stays on its connection; where none waits, or none can be taken, it waits a moment.
+fn await_call<
+    R: Net + Clock,
+    D: FolderDisk + Drop,
+    C: Clock + Drop,
+    W: Write + Drop,
+    L: Write + Drop,
+>(
     rt: &R,
     alloc: Global,
     order: &StationOrder,
-    listener: &Option<R::Listener>,
     day: &mut Day,
     seen: Seen,
-    spool: &mut FolderSpool<D, C, W, L>,
-) -> io::Result<()>
+    attendant: &mut Attendant<&R, FolderSpool<D, C, W, L>, R::Listener>,
+)
     requires seeks { SeeksConnection day.old seen }
     ensures day { GoesOnAsDay day.old day.new }
 {
-    let (Some(listener), Partner::Listens(_, callers)) = (listener, order.partner) else {
+    let Some(door) = &mut attendant.door else {
         wait(rt);
-        return Ok(());
+        return;
     };
-    match next_caller(listener, callers)? {
-        Caller::LetIn(stream, peer) => {
-            spool.tell(Notice::CalledBy(peer));
-            speak(rt, alloc, order, stream, day, seen, spool);
+    let came = door.next_caller();
+    let fault = came.as_ref().err().map(|error| error.kind());
+    let is_new = door.is_new_fault(fault);
+    match came {
+        Ok(Caller::LetIn(stream, peer)) => {
+            attendant.spool.tell(Notice::CalledBy(peer));
+            attendant.begin(Some(peer));
+            speak(rt, alloc, order, stream, day, seen, attendant);
         }
-        Caller::HungUp(peer) => spool.tell(Notice::HungUpOn(peer)),
-        Caller::Nobody => wait(rt),
+        Ok(Caller::HungUp(peer)) => attendant.spool.tell(Notice::HungUpOn(peer)),
+        Ok(Caller::Nobody) => wait(rt),
+        Err(error) => {
+            if is_new {
+                tell_not_taken(alloc, &error, &mut attendant.spool);
+            }
+            wait(rt);
+        }
     }
-    Ok(())
+}
+
+/// Tells that no call can be taken, and why.
+fn tell_not_taken<D: FolderDisk + Drop, C: Clock + Drop, W: Write + Drop, L: Write + Drop>(
+    alloc: Global,
+    why: &io::Error,
+    spool: &mut FolderSpool<D, C, W, L>,
+) {
+    if let Ok(text) = format!(in alloc; "can't take a call: {}", why.kind()) {
+        spool.tell(Notice::Failed(text.as_str()));
+    }
 }
 
 /// Calls, and stays on the connection where there is one.
-fn call<R: Net + Clock, D: FolderDisk + Drop, C: Clock, W: Write, L: Write>(
+fn call<R: Net + Clock, D: FolderDisk + Drop, C: Clock + Drop, W: Write + Drop, L: Write + Drop>(
     rt: &R,
     alloc: Global,
     order: &StationOrder,
     day: &mut Day,
     seen: Seen,
-    spool: &mut FolderSpool<D, C, W, L>,
+    attendant: &mut Attendant<&R, FolderSpool<D, C, W, L>, R::Listener>,
 )
     requires seeks { SeeksConnection day.old seen }
     ensures day { GoesOnAsDay day.old day.new }
@@ -98,15 +128,16 @@ fn call<R: Net + Clock, D: FolderDisk + Drop, C: Clock, W: Write, L: Write>(
         wait(rt);
         return;
     };
-    spool.tell(Notice::Calling(address));
+    attendant.spool.tell(Notice::Calling(address));
     match called(rt, address, order.timeout) {
         Ok(stream) => {
-            spool.tell(Notice::Connected);
-            speak(rt, alloc, order, stream, day, seen, spool);
+            attendant.spool.tell(Notice::Connected);
+            attendant.begin(None);
+            speak(rt, alloc, order, stream, day, seen, attendant);
         }
         Err(error) => {
             day.note(Event::NoConnection);
-            spool.tell(Notice::NotConnected(error.kind()));
+            attendant.spool.tell(Notice::NotConnected(error.kind()));
         }
     }
 }

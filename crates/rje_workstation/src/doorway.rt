@@ -21,18 +21,61 @@ pub(crate) enum Caller<S: Drop> {
     Nobody,
 }
 
-/// The call that waits at a listener, if one does. A caller that isn't one of these is hung up.
-pub(crate) fn next_caller<L: OpenListener>(
-    listener: &L,
-    callers: Callers,
-) -> io::Result<Caller<L::Stream>>
-    ensures let_in { IfOk result (IsOneOf callers.entry) }
-{
-    match listener.accept() {
-        Ok((stream, peer)) if callers.take(peer) => Ok(Caller::LetIn(stream, peer)),
-        Ok((_, peer)) => Ok(Caller::HungUp(peer)),
-        Err(error) if is_nobody(error.kind()) => Ok(Caller::Nobody),
-        Err(error) => Err(error),
+/// Where calls come in, and one that came while another was on the line.
+#[derive(Drop)]
+pub(crate) struct Door<'o, L: OpenListener + Drop> {
+    listener: L,
+    callers: Callers<'o>,
+    waiting: Option<(L::Stream, SocketAddr)>,
+    /// Why no call could be taken when that was tried last.
+    fault: Option<ErrorKind>,
+}
+
+impl<'o, L: OpenListener + Drop> Door<'o, L> {
+    /// The calls of these callers come in at this listener.
+    pub(crate) fn new(listener: L, callers: Callers<'o>) -> Door<'o, L> {
+        Door {
+            listener,
+            callers,
+            waiting: None,
+            fault: None,
+        }
+    }
+
+    /// The call that waits, if one does. A caller that isn't let in is hung up.
+    pub(crate) fn next_caller(&mut self) -> io::Result<Caller<L::Stream>>
+        ensures let_in { IfOk result (IsOneOf self.old.callers) }
+    {
+        let came = match self.waiting.take() {
+            Some(came) => Ok(came),
+            None => self.listener.accept(),
+        };
+        match came {
+            Ok((stream, peer)) if self.callers.take(peer) => Ok(Caller::LetIn(stream, peer)),
+            Ok((_, peer)) => Ok(Caller::HungUp(peer)),
+            Err(error) if is_nobody(error.kind()) => Ok(Caller::Nobody),
+            Err(error) => Err(error),
+        }
+    }
+
+    /// Whether one calls that is let in, and has the address of this one, which is on the line: that is gone then. The call waits.
+    pub(crate) fn is_called_again(&mut self, peer: SocketAddr) -> bool {
+        if self.waiting.is_none() {
+            if let Ok(Caller::LetIn(stream, caller)) = self.next_caller() {
+                self.waiting = Some((stream, caller));
+            }
+        }
+        match &self.waiting {
+            Some((_, caller)) => caller.ip() == peer.ip(),
+            None => false,
+        }
+    }
+
+    /// Whether it is new that no call can be taken for this reason.
+    pub(crate) fn is_new_fault(&mut self, fault: Option<ErrorKind>) -> bool {
+        let is_new = fault.is_some() && fault != self.fault;
+        self.fault = fault;
+        is_new
     }
 }
 

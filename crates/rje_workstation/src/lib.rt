@@ -1,6 +1,7 @@
 //! The order `station`, carried out: a station that stays on the line, with the jobs of a folder.
 #![tactic(auto)]
 
+mod attendant;
 mod attending;
 mod call_times;
 mod doorway;

@@ -2,7 +2,7 @@
 
 use bsc_codes::{EOT, PAD, SYN};
 use std::cell::Cell;
-use std::io::{self, Read, Write};
+use std::io::{self, ErrorKind, Read, Write};
 use std::net::{OpenStream, Shutdown};
 use std::time::{Clock, Duration, Instant};
 
@@ -12,11 +12,20 @@ const MIN_PAUSE: u64 = 20;
 /// How long a station hears before it bids where EOT was the last that was said, in milliseconds: it is through before a pause is.
 const TURN: u64 = 1;
 
+/// How long a hearing is at most where no transmission is in hand, in milliseconds: so often a station looks at its folder then.
+const MAX_IDLE: u64 = 3000;
+
+/// For so many time-outs bytes may come in one hearing: then a read brings nothing, so that whoever sends a byte now and then doesn't keep a
+/// station hearing.
+const MAX_HEARINGS: u32 = 10;
+
 /// How long a read waits.
 #[derive(Clone, Copy, PartialEq, Eq)]
 enum Wait {
     /// For a hearing, as long as was set.
     Hearing,
+    /// For a hearing with no transmission in hand, as long as was set, but for some seconds at most.
+    Idle,
     /// After its own EOT: for a moment, in which the other end may bid.
     Pause,
     /// After the other end's EOT or a pause: just for what is there already.
@@ -26,7 +35,8 @@ enum Wait {
 /// A stream whose first read after EOT was written waits twice as long as the slowest answer of that transmission took; one that follows without a
 /// word, and the first one after EOT was read, hardly wait; and each other read waits for as long as was set. So a station that has more to send
 /// leaves the line to the other end for a moment, and not for a whole hearing, and the other end bids in that moment. The first answer on a
-/// connection doesn't count, since the other end may first have had to take the call.
+/// connection doesn't count, since the other end may first have had to take the call. Where no transmission is in hand no read waits for more than
+/// three seconds. Bytes that come without an end are cut: after ten time-outs a read brings nothing, once.
 #[derive(Drop)]
 pub struct PacedStream<C, S> {
     clock: C,
@@ -42,6 +52,8 @@ pub struct PacedStream<C, S> {
     wrote: Option<Instant>,
     // How long the slowest answer took since the last pause.
     slowest: Duration,
+    // Since when bytes come, with nothing written and no read in vain in between.
+    comes: Option<Instant>,
 }
 
 impl<C: Clock, S: OpenStream> PacedStream<C, S> {
@@ -52,10 +64,22 @@ impl<C: Clock, S: OpenStream> PacedStream<C, S> {
             stream,
             time: Cell::new(None),
             waits: Wait::Hearing,
-            next: Wait::Hearing,
+            next: Wait::Idle,
             heard: false,
             wrote: None,
             slowest: Duration::ZERO,
+            comes: None,
+        }
+    }
+
+    /// Whether bytes come for too long.
+    fn is_endless(&self) -> bool {
+        let (Some(comes), Some(time)) = (self.comes, self.time.get()) else {
+            return false;
+        };
+        match comes.elapsed(&self.clock) {
+            Ok(passed) => passed >= time.saturating_mul(MAX_HEARINGS),
+            Err(_) => false,
         }
     }
 
@@ -63,6 +87,7 @@ impl<C: Clock, S: OpenStream> PacedStream<C, S> {
     fn time_of(&self, wait: Wait) -> Option<Duration> {
         let short = match wait {
             Wait::Hearing => return self.time.get(),
+            Wait::Idle => Duration::from_millis(MAX_IDLE),
             Wait::Pause => self
                 .slowest
                 .saturating_mul(2)
@@ -92,6 +117,9 @@ impl<C: Clock, S: OpenStream> PacedStream<C, S> {
     /// Something came: the answer to what was written, where that wasn't answered yet.
     fn note_answer(&mut self) {
         self.heard = true;
+        if self.comes.is_none() {
+            self.comes = Instant::now(&self.clock).ok();
+        }
         if let Some(wrote) = self.wrote {
             if let Ok(took) = wrote.elapsed(&self.clock) {
                 self.slowest = self.slowest.max(took);
@@ -111,17 +139,30 @@ fn wait_after(bytes: &[u8], end: Wait) -> Wait {
     if is_end(bytes) { end } else { Wait::Hearing }
 }
 
+/// How the next read waits where one that waited so brought nothing.
+fn after_nothing(waited: Wait) -> Wait {
+    match waited {
+        Wait::Hearing => Wait::Hearing,
+        Wait::Pause => Wait::Turn,
+        Wait::Turn | Wait::Idle => Wait::Idle,
+    }
+}
+
 impl<C: Clock, S: OpenStream + Read> Read for PacedStream<C, S> {
     fn read(&mut self, buf: &mut [u8]) -> io::Result<usize> {
+        if self.is_endless() {
+            self.comes = None;
+            return Err(io::Error::from(ErrorKind::TimedOut));
+        }
         self.set_wait()?;
         let read = self.stream.read(buf);
         self.next = match &read {
             Ok(n) => wait_after(&buf[..(*n).min(buf.len())], Wait::Turn),
-            Err(_) if self.waits == Wait::Pause => Wait::Turn,
-            Err(_) => Wait::Hearing,
+            Err(_) => after_nothing(self.waits),
         };
-        if read.is_ok() {
-            self.note_answer();
+        match &read {
+            Ok(_) => self.note_answer(),
+            Err(_) => self.comes = None,
         }
         read
     }
@@ -130,6 +171,7 @@ impl<C: Clock, S: OpenStream + Read> Read for PacedStream<C, S> {
 impl<C: Clock, S: OpenStream + Write> Write for PacedStream<C, S> {
     fn write(&mut self, buf: &[u8]) -> io::Result<usize> {
         self.next = wait_after(buf, Wait::Pause);
+        self.comes = None;
         let written = self.stream.write(buf);
         self.wrote = match self.heard {
             true => Instant::now(&self.clock).ok(),

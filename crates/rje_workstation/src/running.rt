@@ -1,11 +1,14 @@
 //! One run of the program as a station.
 
+use crate::attendant::Attendant;
 use crate::attending::attend;
+use crate::doorway::Door;
 use crate::speaking::most_quiet;
 use rje_commands::{CommandFault, tell};
 use rje_day::{Day, Settings};
 use rje_folders::{Folder, FolderDisk, FolderFault, StationFolder};
-use rje_orders::{Order, Partner, StationOrder};
+use rje_names::PrintedName;
+use rje_orders::{Callers, Order, Partner, StationOrder};
 use rje_program::tell_words;
 use rje_spool::{Console, FolderSpool, Notice};
 use rje_stores::SystemDisk;
@@ -47,6 +50,7 @@ fn tell_end<E: Write>(end: &StationEnd, folder: &str, err: &mut E) -> u8 {
     if end.is_want_of_memory() {
         return tell(&CommandFault::OutOfMemory, err);
     }
+    let folder = PrintedName(folder);
     let _ = match end {
         StationEnd::Folder(FolderFault::InUse) => writeln!(err, "rje: {folder} is in use"),
         // No folder can be made in one that isn't there.
@@ -86,7 +90,7 @@ impl StationEnd {
     }
 }
 
-/// Has the folder, and stays on the line.
+/// Has the folder, and stays on the line. A folder of no name isn't there.
 fn run<R, E: Write>(
     rt: &R,
     alloc: Global,
@@ -97,6 +101,10 @@ fn run<R, E: Write>(
 where
     R: Net + Clock + Files<File = File> + Alloc + Clone + Drop,
 {
+    if order.folder.is_empty() {
+        let fault = FolderFault::Failed(Folder::Out, ErrorKind::NotFound);
+        return Err(StationEnd::Folder(fault));
+    }
     let folder = StationFolder::open(SystemDisk::new(rt), alloc, order.folder);
     let folder = folder.map_err(StationEnd::Folder)?;
     let log = opened_log(rt, alloc, order.folder).map_err(StationEnd::Log)?;
@@ -105,14 +113,12 @@ where
     let mut spool = FolderSpool::new(alloc, folder, console);
     spool.tell(Notice::Began(order.folder));
     match order.partner {
-        Partner::Calls(_) => call_out(rt, alloc, order, &mut spool),
-        Partner::Listens(address, _) => {
-            let listened = listen(rt, alloc, order, address, &mut spool);
-            listened.map_err(|error| StationEnd::Listener(address, error))?;
+        Partner::Calls(_) => {
+            stay_on(rt, alloc, order, None, spool);
+            Ok(())
         }
+        Partner::Listens(address, callers) => listen(rt, alloc, order, address, callers, spool),
     }
-    spool.tell(Notice::Ended);
-    Ok(())
 }
 
 /// Its log, to which lines are added.
@@ -124,38 +130,64 @@ fn opened_log<R: Files<File = File>>(rt: &R, alloc: Global, folder: &str) -> io:
         .open(rt, path.as_str())
 }
 
-/// Calls, again and again.
-fn call_out<R: Net + Clock, D: FolderDisk + Drop, C: Clock, W: Write, L: Write>(
-    rt: &R,
-    alloc: Global,
-    order: &StationOrder,
-    spool: &mut FolderSpool<D, C, W, L>,
-) {
-    let mut day = Day::new(settings_of(order, true));
-    let nobody: Option<R::Listener> = None;
-    // Without a listener nothing of it fails.
-    let _ = attend(rt, alloc, order, &nobody, &mut day, spool);
-}
-
-/// Listens at this address, and attends to the calls.
-fn listen<R: Net + Clock, D: FolderDisk + Drop, C: Clock, W: Write, L: Write>(
+/// Listens at this address, and attends to the calls. What ends the station is told where it can't.
+fn listen<R: Net + Clock, D: FolderDisk + Drop, C: Clock + Drop, W: Write + Drop, L: Write + Drop>(
     rt: &R,
     alloc: Global,
     order: &StationOrder,
     address: SocketAddr,
-    spool: &mut FolderSpool<D, C, W, L>,
-) -> io::Result<()> {
+    callers: Callers,
+    mut spool: FolderSpool<D, C, W, L>,
+) -> Result<(), StationEnd> {
+    match listener_at(rt, address) {
+        Ok((listener, own)) => {
+            spool.tell(Notice::Listening(own));
+            stay_on(rt, alloc, order, Some(Door::new(listener, callers)), spool);
+            Ok(())
+        }
+        Err(error) => {
+            if let Ok(text) = format!(in alloc; "can't listen on {address}: {}", error.kind()) {
+                spool.tell(Notice::Failed(text.as_str()));
+            }
+            spool.tell(Notice::Ended);
+            Err(StationEnd::Listener(address, error))
+        }
+    }
+}
+
+/// A listener at this address, which never waits, and the address that it has.
+fn listener_at<R: Net>(rt: &R, address: SocketAddr) -> io::Result<(R::Listener, SocketAddr)> {
     let listener = TcpListener::bind(rt, address)?;
     listener.set_nonblocking(true)?;
-    spool.tell(Notice::Listening(listener.local_addr()?));
-    let mut day = Day::new(settings_of(order, false));
-    attend(rt, alloc, order, &Some(listener), &mut day, spool)
+    let own = listener.local_addr()?;
+    Ok((listener, own))
+}
+
+/// Stays on the line, with this door where it is called, until the station ends.
+fn stay_on<
+    'o,
+    R: Net + Clock,
+    D: FolderDisk + Drop,
+    C: Clock + Drop,
+    W: Write + Drop,
+    L: Write + Drop,
+>(
+    rt: &R,
+    alloc: Global,
+    order: &StationOrder,
+    door: Option<Door<'o, R::Listener>>,
+    spool: FolderSpool<D, C, W, L>,
+) {
+    let mut day = Day::new(settings_of(order));
+    let mut attendant = Attendant::new(rt, spool, door);
+    attend(rt, alloc, order, &mut day, &mut attendant);
+    attendant.spool.tell(Notice::Ended);
 }
 
 /// How the station spends its day.
-fn settings_of(order: &StationOrder, calls: bool) -> Settings {
+fn settings_of(order: &StationOrder) -> Settings {
     Settings {
-        calls,
+        calls: matches!(order.partner, Partner::Calls(_)),
         once: order.once,
         patience: most_quiet(order.patience),
     }

@@ -2,12 +2,13 @@
 ghost use Rattle.rje_session.specs.Staying.{GoesOnAsDay};
 ghost use Rattle.rje_workstation.specs.Calling.{SeeksConnection};
 
+use crate::attendant::Attendant;
 use crate::paced_stream::PacedStream;
 use rje_day::{Day, Event, Seen};
 use rje_folders::FolderDisk;
 use rje_orders::StationOrder;
-use rje_session::{StayFault, Terms, stay};
-use rje_sockets::{AdapterStream, ObservedStream, SocketLine};
+use rje_session::{Parting, StayFault, Terms, stay};
+use rje_sockets::{AdapterStream, LineCause, ObservedStream, SocketLine};
 use rje_spool::{FolderSpool, Notice, SpoolFault};
 use std::alloc::Global;
 use std::fmt::Display;
@@ -21,24 +22,30 @@ type StationLine<'r, R> = SocketLine<
 >;
 
 /// Stays on this connection until it is over, and tells why that is.
-pub(crate) fn speak<R: Net + Clock, D: FolderDisk + Drop, C: Clock, W: Write, L: Write>(
+pub(crate) fn speak<
+    R: Net + Clock,
+    D: FolderDisk + Drop,
+    C: Clock + Drop,
+    W: Write + Drop,
+    L: Write + Drop,
+>(
     rt: &R,
     alloc: Global,
     order: &StationOrder,
     stream: R::Stream,
     day: &mut Day,
     seen: Seen,
-    spool: &mut FolderSpool<D, C, W, L>,
+    attendant: &mut Attendant<&R, FolderSpool<D, C, W, L>, R::Listener>,
 )
     requires seeks { SeeksConnection day.old seen }
     ensures day { GoesOnAsDay day.old day.new }
 {
     day.note(Event::Connected);
     match line_over(rt, order, stream) {
-        Ok(line) => speak_over(alloc, order, line, day, spool),
+        Ok(line) => speak_over(alloc, order, line, day, attendant),
         Err(error) => {
             day.note(Event::Disconnected);
-            tell_failed(alloc, &error, spool);
+            tell_failed(alloc, &error, &mut attendant.spool);
         }
     }
 }
@@ -58,43 +65,71 @@ fn line_over<'r, R: Net + Clock>(
 }
 
 /// Stays on this line until the connection is over.
-fn speak_over<'r, R: Net + Clock, D: FolderDisk + Drop, C: Clock, W: Write, L: Write>(
+fn speak_over<
+    'r,
+    R: Net + Clock,
+    D: FolderDisk + Drop,
+    C: Clock + Drop,
+    W: Write + Drop,
+    L: Write + Drop,
+>(
     alloc: Global,
     order: &StationOrder,
     mut line: StationLine<'r, R>,
     day: &mut Day,
-    spool: &mut FolderSpool<D, C, W, L>,
+    attendant: &mut Attendant<&R, FolderSpool<D, C, W, L>, R::Listener>,
 )
     ensures day { GoesOnAsDay day.old day.new }
 {
     let terms = Terms {
         rank: order.rank,
         patience: most_quiet(order.patience),
+        host: order.adapter,
     };
-    let stayed = stay(alloc, terms, day, &mut line, spool);
+    let stayed = stay(alloc, terms, day, &mut line, attendant);
     // Nothing changes by that where the connection was over before.
     day.note(Event::Disconnected);
     let cause = line.cause();
+    let spool = &mut attendant.spool;
     if !line.ends_in_step() {
         spool.tell(Notice::OutOfStep);
         if let Err(fault) = spool.doubt_all() {
             tell_fault(alloc, StayFault::Spool(fault), spool);
         }
     }
-    match (stayed, cause) {
-        (Err(fault), _) => tell_fault(alloc, fault, spool),
-        (Ok(()), Some(cause)) => tell_failed(alloc, &cause, spool),
-        (Ok(()), None) => spool.tell(Notice::HungUp),
+    match stayed {
+        Ok(parting) => tell_parting(alloc, parting, cause, spool),
+        Err(fault) => tell_fault(alloc, fault, spool),
     }
 }
 
-/// Tells why a connection was left that wasn't over.
-fn tell_fault<D: FolderDisk + Drop, C: Clock, W: Write, L: Write>(
+/// Tells how a connection came to its end, whose line failed for this cause, if it did.
+fn tell_parting<D: FolderDisk + Drop, C: Clock + Drop, W: Write + Drop, L: Write + Drop>(
+    alloc: Global,
+    parting: Parting,
+    cause: Option<LineCause>,
+    spool: &mut FolderSpool<D, C, W, L>,
+) {
+    match (parting, cause) {
+        (Parting::Unanswered, _) => spool.tell(Notice::LineFailed("no answer")),
+        (Parting::Silent, _) => spool.tell(Notice::LineFailed("nothing came any more")),
+        (Parting::HungUp, Some(LineCause::NoTransmission(first))) => {
+            tell_failed(alloc, &LineCause::NoTransmission(first), spool);
+        }
+        (Parting::HungUp, _) => spool.tell(Notice::HungUp),
+        (Parting::Failed(_), Some(cause)) => tell_failed(alloc, &cause, spool),
+        (Parting::Failed(fault), None) => tell_failed(alloc, &fault, spool),
+    }
+}
+
+/// Tells why a connection was left that wasn't over, where the spool didn't.
+fn tell_fault<D: FolderDisk + Drop, C: Clock + Drop, W: Write + Drop, L: Write + Drop>(
     alloc: Global,
     fault: StayFault<SpoolFault>,
     spool: &mut FolderSpool<D, C, W, L>,
 ) {
     let text = match fault {
+        StayFault::Spool(SpoolFault::NotOut(_)) => return,
         StayFault::Station(fault) => format!(in alloc; "{fault}"),
         StayFault::Spool(fault) => format!(in alloc; "{fault}"),
     };
@@ -104,7 +139,7 @@ fn tell_fault<D: FolderDisk + Drop, C: Clock, W: Write, L: Write>(
 }
 
 /// Tells why the line failed.
-fn tell_failed<F: Display, D: FolderDisk + Drop, C: Clock, W: Write, L: Write>(
+fn tell_failed<F: Display, D: FolderDisk + Drop, C: Clock + Drop, W: Write + Drop, L: Write + Drop>(
     alloc: Global,
     cause: &F,
     spool: &mut FolderSpool<D, C, W, L>,

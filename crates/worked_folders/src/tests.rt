@@ -1,5 +1,4 @@
 //! What no clause says of a station's folder: under which names a file is found, whichever call fails.
-mod failing_disk;
 mod files;
 mod names;
 mod stations;

@@ -37,6 +37,7 @@ use crate::watch::{Unwatched, Watch};
 use bsc_link::{Outcome, Rank};
 use rje_commands::{CommandFault, lock_file, look_beside, put_lines, tell};
 use rje_jobs::{FileFault, Job};
+use rje_names::PrintedName;
 use rje_orders::{Destination, ExchangeOrder, Meeting};
 use rje_print::{PrintedLine, counted_text, handed_text, outcome_text};
 use rje_station::{Line, Station};
@@ -182,7 +183,7 @@ fn exchanged<'a, L: Line, S: Store, O: Write, E: Write>(
 /// Reports that the file of this name is no job file, where that is why.
 fn name_no_job_file<T, E: Write>(tried: &Result<T, CommandFault>, name: &str, err: &mut E) {
     if let Err(CommandFault::File(FileFault::NotJobFile)) = tried {
-        let _ = writeln!(err, "rje: {name}: no job file");
+        let _ = writeln!(err, "rje: {}: no job file", PrintedName(name));
     }
 }
 

@@ -1,6 +1,6 @@
 //! The files of a station's folder: how they are listed, read, marked, put in doubt and explained, and what a killed station left.
-use super::failing_disk::FailingDisk;
-use rje_folders::{Folder, FolderFault, StationFolder};
+use fake_disk::FailingDisk;
+use rje_folders::{Folder, FolderDisk, FolderFault, StationFolder};
 use std::alloc::Global;
 use std::io::{self, ErrorKind};
 use std::process::Abort;
@@ -45,7 +45,8 @@ fn a_file_is_read_whole_or_not_at_all(rt: HostRuntime) -> Result<(), Fail> {
     let alloc = rt.alloc();
     let station = opened(&rt, alloc, disk_with(alloc, 0, false, "s/out/A.job")?);
     let whole = station.read("A.job", 5).expect(&rt, "bytes");
-    assert!(rt; whole.as_slice() == b"12345".as_slice());
+    assert!(rt; whole.bytes.as_slice() == b"12345".as_slice());
+    assert!(rt; station.identity("A.job").ok() == Some(whole.file));
     let more = station.read("A.job", 4).err();
     assert!(rt; more == Some(FolderFault::TooLarge(Folder::Out)));
     let missing = station.read("B.job", 5).err();
@@ -59,12 +60,16 @@ fn a_mark_is_written_where_the_file_is(rt: HostRuntime) -> Result<(), Fail> {
     for fails_at in 0..MAX_CALLS {
         for is_done in [false, true] {
             let disk = disk_with(alloc, fails_at, is_done, "s/doubt/A.job")?;
+            let file = disk.identity("s/doubt/A.job")?;
             let mut station = opened(&rt, alloc, disk);
-            let marked = station.mark("s/doubt/A.job", 3, b'*');
+            let marked = station.mark("s/doubt/A.job", 3, b'*', file);
             let disk = station.close();
             let has = disk.has("s/doubt/A.job", b"123*5");
             assert!(rt; has || disk.has("s/doubt/A.job", b"12345"));
-            assert!(rt; has || marked.is_err());
+            if let Ok(marked) = marked {
+                assert!(rt; has && marked != file);
+                assert!(rt; disk.identity("s/doubt/A.job")? == marked);
+            }
         }
     }
     Ok(())
@@ -73,10 +78,25 @@ fn a_mark_is_written_where_the_file_is(rt: HostRuntime) -> Result<(), Fail> {
 #[test]
 fn a_mark_behind_the_end_is_refused(rt: HostRuntime) -> Result<(), Fail> {
     let alloc = rt.alloc();
-    let mut station = opened(&rt, alloc, disk_with(alloc, 0, false, "s/doubt/A.job")?);
-    let refused = station.mark("s/doubt/A.job", 5, b'*').err();
+    let disk = disk_with(alloc, 0, false, "s/doubt/A.job")?;
+    let file = disk.identity("s/doubt/A.job")?;
+    let mut station = opened(&rt, alloc, disk);
+    let refused = station.mark("s/doubt/A.job", 5, b'*', file).err();
     assert!(rt; refused == Some(FolderFault::Failed(Folder::Doubt, ErrorKind::InvalidInput)));
     assert!(rt; station.close().has("s/doubt/A.job", b"12345"));
+    Ok(())
+}
+
+#[test]
+fn a_file_that_was_written_to_is_not_marked(rt: HostRuntime) -> Result<(), Fail> {
+    let alloc = rt.alloc();
+    let mut disk = disk_with(alloc, 0, false, "s/doubt/A.job")?;
+    let file = disk.identity("s/doubt/A.job")?;
+    disk.set(1, 0, b'9');
+    let mut station = opened(&rt, alloc, disk);
+    let marked = station.mark("s/doubt/A.job", 3, b'*', file).err();
+    assert!(rt; marked == Some(FolderFault::Replaced));
+    assert!(rt; station.close().has("s/doubt/A.job", b"92345"));
     Ok(())
 }
 
@@ -177,5 +197,35 @@ fn what_a_killed_station_was_writing_is_taken_away(rt: HostRuntime) -> Result<()
         let refused = StationFolder::open(disk_left(alloc, fails_at, false)?, alloc, "s");
         assert!(rt; refused.is_err());
     }
+    Ok(())
+}
+
+#[test]
+fn a_file_that_cannot_be_linked_is_found(rt: HostRuntime) -> Result<(), Fail> {
+    let alloc = rt.alloc();
+    let mut disk = disk_with(alloc, 0, false, "s/out/A.job")?;
+    let other = disk.put("s/out/B.job")?;
+    disk.deny(other);
+    let mut station = opened(&rt, alloc, disk);
+    assert!(rt; station.try_second_name("A.job").is_ok());
+    let refused = station.try_second_name("B.job").err();
+    assert!(rt; refused == Some(FolderFault::NoSecondName(ErrorKind::PermissionDenied)));
+    let disk = station.close();
+    assert!(rt; disk.count() == 3 && disk.file_of("s/out/B.job") == Some(other));
+    Ok(())
+}
+
+#[test]
+fn a_cut_file_is_taken_away_where_it_is_this_one(rt: HostRuntime) -> Result<(), Fail> {
+    let alloc = rt.alloc();
+    let mut disk = disk_with(alloc, 0, false, "s/cut/T-1.job")?;
+    let first = disk.identity("s/cut/T-1.job")?;
+    disk.replace("s/cut/T-1.job", b"67890")?;
+    let mut station = opened(&rt, alloc, disk);
+    let refused = station.drop_cut("s/cut/T-1.job", first).err();
+    assert!(rt; refused == Some(FolderFault::Replaced));
+    let second = station.identity_at("s/cut/T-1.job").expect(&rt, "a file");
+    assert!(rt; station.drop_cut("s/cut/T-1.job", second).is_ok());
+    assert!(rt; station.close().file_of("s/cut/T-1.job").is_none());
     Ok(())
 }

@@ -1,10 +1,10 @@
 //! A station's folder on a disk that fails at each of its calls in turn.
-use super::failing_disk::FailingDisk;
+use fake_disk::FailingDisk;
 use rje_day::Disposition;
-use rje_folders::{Folder, FolderFault, StationFolder};
+use rje_folders::{Folder, FolderDisk, FolderFault, OutName, Settled, StationFolder};
 use rje_stores::Disk;
 use std::alloc::Global;
-use std::io;
+use std::io::{self, ErrorKind};
 use std::process::Abort;
 use std::test::Fail;
 
@@ -49,8 +49,9 @@ fn tidied(rt: &impl Abort, alloc: Global, disk: FailingDisk) -> FailingDisk {
 fn promised_and_settled(
     station: &mut StationFolder<FailingDisk>,
     disposition: Disposition,
-) -> Result<String, FolderFault> {
-    let doubt = station.promise("A.deck")?;
+) -> Result<Settled, FolderFault> {
+    let file = station.identity("A.deck")?;
+    let doubt = station.promise("A.deck", file)?;
     station.settle("A.deck", doubt.as_str(), disposition)
 }
 
@@ -69,9 +70,9 @@ fn whichever_call_fails(
             let disk = station.close();
             let left = find_file(&disk, 1);
             assert!(rt; left.out || left.doubt || left.sent);
-            assert!(rt; settled.is_err() || left == at_the_end);
-            if let Ok(path) = settled {
-                assert!(rt; disk.file_of(path.as_str()) == Some(1));
+            if let Ok(settled) = settled {
+                assert!(rt; disk.file_of(settled.path.as_str()) == Some(1));
+                assert!(rt; left == at_the_end || matches!(settled.out, OutName::Left(_)));
             }
             let then = find_file(&tidied(rt, alloc, disk), 1);
             assert!(rt; then.out || then.doubt || then.sent);
@@ -136,7 +137,7 @@ fn a_name_that_is_taken_is_left(rt: HostRuntime) -> Result<(), Fail> {
     assert!(rt; promised_and_settled(&mut station, Disposition::Sent).is_ok());
     let disk = station.close();
     assert!(rt; disk.file_of("s/sent/A.deck") == Some(other));
-    assert!(rt; disk.file_of("s/sent/A.deck.2") == Some(1));
+    assert!(rt; disk.file_of("s/sent/A.2.deck") == Some(1));
     assert!(rt; disk.file_of("s/out/A.deck").is_none());
     Ok(())
 }
@@ -145,16 +146,101 @@ fn a_name_that_is_taken_is_left(rt: HostRuntime) -> Result<(), Fail> {
 fn a_file_that_took_the_name_of_a_job_stays(rt: HostRuntime) -> Result<(), Fail> {
     let alloc = rt.alloc();
     let mut station = opened(&rt, alloc, disk_with_a_file(alloc, 0, false)?);
-    let doubt = station.promise("A.deck").expect(&rt, "a second name");
+    let file = station.identity("A.deck").expect(&rt, "a file");
+    let doubt = station.promise("A.deck", file);
+    let doubt = doubt.expect(&rt, "a second name");
     let mut disk = station.close();
     assert!(rt; rje_stores::Disk::remove(&mut disk, "s/out/A.deck").is_ok());
     let other = disk.put("s/out/A.deck")?;
     let mut station = opened(&rt, alloc, disk);
     let settled = station.settle("A.deck", doubt.as_str(), Disposition::Sent);
-    assert!(rt; settled.is_ok());
+    let settled = settled.expect(&rt, "a path");
+    assert!(rt; settled.out == OutName::OfAnother);
     let disk = station.close();
     assert!(rt; disk.file_of("s/out/A.deck") == Some(other));
     assert!(rt; disk.file_of("s/sent/A.deck") == Some(1));
+    Ok(())
+}
+
+/// The folder of a station that promised its one file, and what is found of it once one of its names was taken away by others and it is settled so.
+fn settled_without(
+    rt: &impl Abort,
+    alloc: Global,
+    name: &str,
+    disposition: Disposition,
+) -> io::Result<(Found, Settled)> {
+    let mut station = opened(rt, alloc, disk_with_a_file(alloc, 0, false)?);
+    let file = station.identity("A.deck").expect(rt, "a file");
+    let doubt = station.promise("A.deck", file).expect(rt, "a second name");
+    let mut disk = station.close();
+    disk.remove(name)?;
+    // Opened on a disk on which the file has one name, so that nothing is tidied up.
+    let mut station = opened(rt, alloc, disk);
+    let settled = station.settle("A.deck", doubt.as_str(), disposition);
+    let settled = settled.expect(rt, "a path");
+    Ok((find_file(&station.close(), 1), settled))
+}
+
+#[test]
+fn a_file_that_was_taken_back_too_late_is_counted(rt: HostRuntime) -> Result<(), Fail> {
+    let (found, settled) = settled_without(&rt, rt.alloc(), "s/out/A.deck", Disposition::Sent)?;
+    assert!(rt; found.sent && !found.out && !found.doubt);
+    assert!(rt; settled.out == OutName::Missing);
+    let (found, settled) = settled_without(&rt, rt.alloc(), "s/out/A.deck", Disposition::Ready)?;
+    assert!(rt; found.doubt && !found.out);
+    assert!(rt; settled.out == OutName::Missing && settled.path.as_str() == "s/doubt/A.deck");
+    Ok(())
+}
+
+#[test]
+fn a_name_that_is_the_last_one_of_its_file_is_left(rt: HostRuntime) -> Result<(), Fail> {
+    let (found, settled) = settled_without(
+        &rt,
+        rt.alloc(),
+        "s/doubt/A.deck",
+        Disposition::InDoubt,
+    )?;
+    assert!(rt; found.out && !found.doubt);
+    assert!(rt; settled.out == OutName::Left(ErrorKind::NotFound));
+    Ok(())
+}
+
+/// Puts another file in the place of the one in out/, after that was read. The disk, once the station promised what it read.
+fn replaced_and_promised(
+    rt: &impl Abort,
+    alloc: Global,
+    fails_at: usize,
+) -> io::Result<(FailingDisk, Result<String, FolderFault>)> {
+    let mut disk = disk_with_a_file(alloc, fails_at, false)?;
+    let file = disk.identity("s/out/A.deck")?;
+    disk.replace("s/out/A.deck", b"NEW")?;
+    let mut station = opened(rt, alloc, disk);
+    let promised = station.promise("A.deck", file);
+    Ok((station.close(), promised))
+}
+
+#[test]
+fn a_file_that_was_replaced_is_not_promised(rt: HostRuntime) -> Result<(), Fail> {
+    let (disk, promised) = replaced_and_promised(&rt, rt.alloc(), 0)?;
+    assert!(rt; promised.err() == Some(FolderFault::Replaced));
+    assert!(rt; disk.has("s/out/A.deck", b"NEW"));
+    assert!(rt; disk.file_of("s/doubt/A.deck").is_none());
+    Ok(())
+}
+
+#[test]
+fn a_file_that_was_written_to_is_not_promised(rt: HostRuntime) -> Result<(), Fail> {
+    let alloc = rt.alloc();
+    let mut disk = FailingDisk::new(alloc, 0, false);
+    let number = disk.put_bytes("s/out/A.deck", b"OLD")?;
+    let file = disk.identity("s/out/A.deck")?;
+    disk.set(number, 0, b'B');
+    let mut station = opened(&rt, alloc, disk);
+    assert!(rt; station.promise("A.deck", file).err() == Some(FolderFault::Replaced));
+    let refused = station.refuse("A.deck", file).err();
+    assert!(rt; refused == Some(FolderFault::Replaced));
+    let disk = station.close();
+    assert!(rt; disk.count() == 2 && disk.has("s/out/A.deck", b"BLD"));
     Ok(())
 }
 
@@ -164,7 +250,8 @@ fn a_job_that_was_promised_does_not_lie_ready(rt: HostRuntime) -> Result<(), Fai
     let mut station = opened(&rt, alloc, disk_with_a_file(alloc, 0, false)?);
     let ready = station.names_ready().expect(&rt, "names");
     assert!(rt; ready.len() == 1 && ready.first().is_some_and(|name| name.as_str() == "A.deck"));
-    assert!(rt; station.promise("A.deck").is_ok());
+    let file = station.identity("A.deck").expect(&rt, "a file");
+    assert!(rt; station.promise("A.deck", file).is_ok());
     assert!(rt; station.names_ready().expect(&rt, "names").is_empty());
     Ok(())
 }
@@ -194,7 +281,8 @@ fn what_came_gets_a_name_of_its_own(rt: HostRuntime) -> Result<(), Fail> {
 fn what_cannot_be_sent_is_refused(rt: HostRuntime) -> Result<(), Fail> {
     let alloc = rt.alloc();
     let mut station = opened(&rt, alloc, disk_with_a_file(alloc, 0, false)?);
-    let refused = station.refuse("A.deck").expect(&rt, "a path");
+    let file = station.identity("A.deck").expect(&rt, "a file");
+    let refused = station.refuse("A.deck", file).expect(&rt, "a path");
     assert!(rt; refused.as_str() == "s/refused/A.deck");
     assert!(rt; station.names_ready().expect(&rt, "names").is_empty());
     let disk = station.close();
@@ -205,13 +293,42 @@ fn what_cannot_be_sent_is_refused(rt: HostRuntime) -> Result<(), Fail> {
 
 #[test]
 fn a_numbered_name_of_a_job_that_was_counted_is_taken_away(rt: HostRuntime) -> Result<(), Fail> {
-    let mut disk = FailingDisk::new(rt.alloc(), 0, false);
-    let other = disk.put("s/doubt/A.deck")?;
-    let file = disk.put("s/sent/A.deck")?;
-    disk.link("s/sent/A.deck", "s/doubt/A.deck.2")?;
-    let disk = tidied(&rt, rt.alloc(), disk);
-    assert!(rt; disk.file_of("s/sent/A.deck") == Some(file));
-    assert!(rt; disk.file_of("s/doubt/A.deck.2").is_none());
-    assert!(rt; disk.file_of("s/doubt/A.deck") == Some(other));
+    for second in ["s/doubt/A.2.deck", "s/doubt/A.deck.2"] {
+        let mut disk = FailingDisk::new(rt.alloc(), 0, false);
+        let other = disk.put("s/doubt/A.deck")?;
+        let file = disk.put("s/sent/A.deck")?;
+        disk.link("s/sent/A.deck", second)?;
+        let disk = tidied(&rt, rt.alloc(), disk);
+        assert!(rt; disk.file_of("s/sent/A.deck") == Some(file));
+        assert!(rt; disk.file_of(second).is_none());
+        assert!(rt; disk.file_of("s/doubt/A.deck") == Some(other));
+    }
+    Ok(())
+}
+
+#[test]
+fn a_name_in_out_of_a_file_that_has_a_numbered_one_is_taken_away(
+    rt: HostRuntime,
+) -> Result<(), Fail> {
+    for second in [
+        "s/sent/A.2.deck",
+        "s/doubt/A.deck.12",
+        "s/refused/A.1200.deck",
+    ] {
+        let mut disk = disk_with_a_file(rt.alloc(), 0, false)?;
+        disk.link("s/out/A.deck", second)?;
+        let disk = tidied(&rt, rt.alloc(), disk);
+        assert!(rt; disk.file_of("s/out/A.deck").is_none());
+        assert!(rt; disk.file_of(second) == Some(1));
+    }
+    Ok(())
+}
+
+#[test]
+fn a_second_name_elsewhere_leaves_a_file_ready(rt: HostRuntime) -> Result<(), Fail> {
+    let mut disk = disk_with_a_file(rt.alloc(), 0, false)?;
+    disk.link("s/out/A.deck", "s/sent/B.2.deck")?;
+    let station = opened(&rt, rt.alloc(), disk);
+    assert!(rt; station.names_ready().expect(&rt, "names").len() == 1);
     Ok(())
 }

@@ -92,6 +92,7 @@ impl Spool for Book {
             held: self.held,
             drained,
             call_due: false,
+            line_wanted: false,
         }
     }
 

@@ -5,7 +5,8 @@ use super::script::Script;
 use bsc_link::Rank;
 use rje_day::{Day, Disposition, Event, Settings};
 use rje_jobs::{Job, job_of_deck};
-use rje_session::{Terms, stay};
+use rje_session::{Parting, Terms, stay};
+use rje_station::{LineFault, StationFault};
 use rje_text::{Mode, Select};
 use std::alloc::{AllocError, AllocGlobal, Global};
 use std::process::Abort;
@@ -13,6 +14,8 @@ use std::process::Abort;
 const ENQ: [u8; 4] = [0x32, 0x32, 0x2D, 0xFF];
 
 const ACK0: [u8; 5] = [0x32, 0x32, 0x10, 0x70, 0xFF];
+
+const NAK: [u8; 4] = [0x32, 0x32, 0x3D, 0xFF];
 
 const ACK1: [u8; 5] = [0x32, 0x32, 0x10, 0x61, 0xFF];
 
@@ -50,9 +53,13 @@ fn book(rt: &(impl Abort + AllocGlobal), jobs: usize, looks: u32, failing: u32) 
     Book::new(jobs, looks, failing)
 }
 
-/// Stays on a line until the station is drained. Whether the spool didn't fail.
-fn stays(rt: &(impl Abort + AllocGlobal), rank: Rank, line: &mut Script, spool: &mut Book) -> bool {
-    let terms = Terms { rank, patience: 3 };
+/// Stays on a line until the station is drained. How the connection came to its end; nothing where the spool failed.
+fn parts(
+    rt: &(impl Abort + AllocGlobal),
+    terms: Terms,
+    line: &mut Script,
+    spool: &mut Book,
+) -> Option<Parting> {
     let settings = Settings {
         calls: false,
         once: false,
@@ -60,7 +67,25 @@ fn stays(rt: &(impl Abort + AllocGlobal), rank: Rank, line: &mut Script, spool: 
     };
     let mut day = Day::new(settings);
     day.note(Event::Connected);
-    stay(rt.alloc(), terms, &mut day, line, spool).is_ok()
+    stay(rt.alloc(), terms, &mut day, line, spool).ok()
+}
+
+/// The terms of a primary, with an end like it or with a host.
+fn terms(host: bool) -> Terms {
+    Terms {
+        rank: Rank::Primary,
+        patience: 3,
+        host,
+    }
+}
+
+/// Stays on a line until the station is drained. Whether the spool didn't fail.
+fn stays(rt: &(impl Abort + AllocGlobal), rank: Rank, line: &mut Script, spool: &mut Book) -> bool {
+    let terms = Terms {
+        rank,
+        ..terms(false)
+    };
+    parts(rt, terms, line, spool).is_some()
 }
 
 #[test]
@@ -232,4 +257,98 @@ fn an_answer_after_eot_leaves_all_in_doubt(rt: HostRuntime) {
             .as_slice()
     );
     assert!(rt; line.said() == [SAID_BID, SAID_BLOCK, SAID_END].as_slice());
+}
+
+#[test]
+fn a_transmission_in_which_nothing_comes_any_more_is_the_last(rt: HostRuntime) {
+    // A bid, which would be granted, comes after as many hearings without a word as there is patience for; noise is none.
+    let mut line = Script::new(
+        &[&ENQ, &MORE, &[], &[0xFF], &[], &[], &ENQ, &BLOCK, &EOT],
+        0,
+    );
+    let mut spool = book(&rt, 0, 9, 0);
+    let parting = parts(&rt, terms(false), &mut line, &mut spool);
+    assert!(rt; parting == Some(Parting::Silent));
+    assert!(rt; spool.notes() == [Note::KeptCut].as_slice());
+    assert!(rt; line.said() == [SAID_ACK, SAID_ACK].as_slice());
+}
+
+#[test]
+fn hearings_without_a_word_count_in_a_row(rt: HostRuntime) {
+    let mut line = Script::new(&[&ENQ, &[], &[], &MORE, &[], &[], &BLOCK, &EOT], 0);
+    let mut spool = book(&rt, 0, 2, 0);
+    let parting = parts(&rt, terms(false), &mut line, &mut spool);
+    assert!(rt; parting == Some(Parting::HungUp));
+    assert!(rt; spool.notes() == [Note::Kept].as_slice());
+}
+
+#[test]
+fn a_transmission_with_a_bid_that_was_not_answered_is_the_last(rt: HostRuntime) {
+    let mut line = Script::new(&[&[], &ACK0, &ACK1, &ENQ, &BLOCK, &EOT], 0);
+    let mut spool = book(&rt, 1, 9, 0);
+    let parting = parts(&rt, terms(false), &mut line, &mut spool);
+    assert!(rt; parting == Some(Parting::Unanswered));
+    assert!(rt;
+        spool.notes()
+            == [
+                Note::Given,
+                Note::MayArrive(0),
+                Note::Settled(0, Disposition::Sent)
+            ]
+            .as_slice()
+    );
+    assert!(rt; line.said() == [SAID_BID, SAID_BID, SAID_BLOCK, SAID_END].as_slice());
+}
+
+#[test]
+fn a_block_that_was_not_answered_ends_the_connection_though_the_other_end_bids_then(
+    rt: HostRuntime,
+) {
+    let mut line = Script::new(&[&ACK0, &[], &ACK1, &ENQ, &BLOCK, &EOT], 0);
+    let mut spool = book(&rt, 1, 9, 0);
+    let parting = parts(&rt, terms(false), &mut line, &mut spool);
+    assert!(rt; parting == Some(Parting::Unanswered));
+    assert!(rt; line.said() == [SAID_BID, SAID_BLOCK, SAID_BID, SAID_END].as_slice());
+}
+
+#[test]
+fn a_host_may_leave_a_bid_unanswered(rt: HostRuntime) {
+    let mut line = Script::new(&[&[], &ACK0, &ACK1, &ENQ, &BLOCK, &EOT], 0);
+    let mut spool = book(&rt, 1, 3, 0);
+    let parting = parts(&rt, terms(true), &mut line, &mut spool);
+    assert!(rt; parting == Some(Parting::HungUp));
+    assert!(rt; spool.notes().last() == Some(&Note::Kept));
+}
+
+#[test]
+fn a_block_that_is_refused_again_and_again_ends_the_connection(rt: HostRuntime) {
+    for host in [false, true] {
+        let mut line = Script::new(
+            &[
+                &ACK0, &NAK, &NAK, &NAK, &NAK, &NAK, &NAK, &NAK, &ENQ, &BLOCK, &EOT,
+            ],
+            0,
+        );
+        let mut spool = book(&rt, 2, 9, 0);
+        let parting = parts(&rt, terms(host), &mut line, &mut spool);
+        assert!(rt; parting == Some(Parting::Unanswered));
+        assert!(rt; spool.notes().last() == Some(&Note::Settled(1, Disposition::Ready)));
+        assert!(rt; line.said().last() == Some(&SAID_END));
+    }
+}
+
+#[test]
+fn a_line_that_fails_in_a_transmission_is_told(rt: HostRuntime) {
+    let mut line = Script::new(&[&ACK0, &ACK1], 2);
+    let mut spool = book(&rt, 1, 9, 0);
+    let parting = parts(&rt, terms(false), &mut line, &mut spool);
+    assert!(rt; parting == Some(Parting::Failed(StationFault::Line(LineFault::Closed))));
+}
+
+#[test]
+fn an_end_that_hangs_up_with_nothing_in_hand_hung_up(rt: HostRuntime) {
+    let mut line = Script::new(&[], 0);
+    line.stray();
+    let mut spool = book(&rt, 0, 9, 0);
+    assert!(rt; parts(&rt, terms(false), &mut line, &mut spool) == Some(Parting::HungUp));
 }

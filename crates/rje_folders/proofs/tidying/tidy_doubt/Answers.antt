@@ -2,8 +2,11 @@ use Rattle.rje_stores.proofs.Replacing.{added_twice}
 use Rattle.rje_folders.specs.Promising.{MayTidy}
 use Rattle.rje_folders.proofs.tidying.tidy_doubt.Goals as goal
 
-pub returns-in_err-tidy_counted-in-Some : goal.returns-in_err-tidy_counted-in-Some
-returns-in_err-tidy_counted-in-Some g c = λ told. added_twice (MayTidy g.D.FolderDisk.are_one c.args.station.now) _ _ _ (c.tidy_counted.ensures told) (c.tidy_counted-in-Some.ensures told)
+pub returns-in_err-tidy_counted : goal.returns-in_err-tidy_counted
+returns-in_err-tidy_counted g c = λ told. added_twice (MayTidy g.D.FolderDisk.are_one c.args.station.now) _ _ _ (c.loop-base.invariant told) (c.tidy_counted.ensures told)
 
-pub returns-in-Some : goal.returns-in-Some
-returns-in-Some g c = λ told. added_twice (MayTidy g.D.FolderDisk.are_one c.args.station.now) _ _ _ (c.tidy_counted.ensures told) (c.tidy_counted-in-Some.ensures told)
+pub returns-then-branch-2 : goal.returns-then-branch-2
+returns-then-branch-2 g c = λ told. added_twice (MayTidy g.D.FolderDisk.are_one c.args.station.now) _ _ _ (c.loop-base.invariant told) (c.tidy_counted.ensures told)
+
+pub loop-base-preserved : goal.loop-base-preserved
+loop-base-preserved g c = λ told. added_twice (MayTidy g.D.FolderDisk.are_one c.args.station.now) _ _ _ (c.loop-base.invariant told) (c.tidy_counted.ensures told)

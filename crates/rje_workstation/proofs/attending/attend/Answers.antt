@@ -1,16 +1,13 @@
 use Rattle.rje_session.specs.Staying.{GoesOnAsDay}
 use Rattle.rje_session.proofs.DayOn.{day_still, day_then}
-use Rattle.rje_workstation.proofs.attending.attend.Goals.{in-Call, in-Listen+in_ok-await_call-in-Listen, in_default}
+use Rattle.rje_workstation.proofs.attending.attend.Goals.{in-Call, in-Listen, in_default}
 use Rattle.rje_workstation.proofs.attending.attend.Goals as goal
-
-pub returns-in_err-await_call-in-Listen : goal.returns-in_err-await_call-in-Listen
-returns-in_err-await_call-in-Listen g c = record { day = day_then c.args.day.now c.loop.day c.await_call.new.day c.loop.invariant c.await_call.ensures.day }
 
 pub loop-preserved : goal.loop-preserved
 loop-preserved g c =
     let on : GoesOnAsDay c.loop.day c.match-next.day =
     elim c.match-next.branch [
-      | in-Listen+in_ok-await_call-in-Listen w ↦ rw w.day-is w.await_call.ensures.day
+      | in-Listen w ↦ rw w.day-is w.await_call.ensures.day
       | in-Call w ↦ rw w.day-is w.call.ensures.day
       | in_default w ↦ rw w.day-is (day_still c.loop.day)
     ] in

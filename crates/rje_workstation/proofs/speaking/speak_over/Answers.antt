@@ -2,13 +2,8 @@ use Rattle.rje_session.proofs.DayOn.{day_then}
 use Rattle.rje_workstation.proofs.Days.{over_step}
 use Rattle.rje_workstation.proofs.speaking.speak_over.Goals as goal
 
-pub returns-in-Err-default : goal.returns-in-Err-default
-returns-in-Err-default g c = record {
-  day = day_then c.args.day.now c.stay-stayed.new.day c.note.new.self c.stay-stayed.ensures.day (over_step c.stay-stayed.new.day c.note.new.self c.note.ensures.exact c.note.ensures.stays);
-}
-
-pub returns-in-Ok-Some : goal.returns-in-Ok-Some
-returns-in-Ok-Some g c = record {
+pub returns-in-Ok : goal.returns-in-Ok
+returns-in-Ok g c = record {
   day = day_then c.args.day.now c.stay-stayed.new.day c.note.new.self c.stay-stayed.ensures.day (over_step c.stay-stayed.new.day c.note.new.self c.note.ensures.exact c.note.ensures.stays);
 }
 

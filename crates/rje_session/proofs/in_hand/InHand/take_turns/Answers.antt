@@ -19,12 +19,12 @@ loop-preserved g c =
     let takes = c.in_ok-arrival.ensures.takes in
     let stays = others_stay c.loop.self.station c.take_others_turn.new.self.station c.in_ok-arrival.arrival takes.0 takes.1 in record {
       step = λ shows in_step. others_in_step c.loop.self c.take_others_turn.new.self (slice_get c.take_others_turn.new.self.station.receiver.jobs c.loop.self.kept) (g.S.Spool.ledger c.show.new.spool)
-          (g.S.Spool.ledger c.take_others_turn.new.spool) stays c.take_others_turn.ensures.may_have_come (c.in_ok-arrival.ensures.entered shows) (rw (c.show.ensures shows) (c.loop.invariant.step shows in_step));
+          (g.S.Spool.ledger c.take_others_turn.new.spool) stays (ap (λ (x : Carried). x.may_have_come) c.take_others_turn.ensures.rest) (c.in_ok-arrival.ensures.entered shows) (rw (c.show.ensures shows) (c.loop.invariant.step shows in_step));
       jobs = stays.0 ∙ c.loop.invariant.jobs;
     }
 
-pub returns-then-quiet-patience-clause-jobs : goal.returns-then-quiet-patience-clause-jobs
-returns-then-quiet-patience-clause-jobs g c =
+pub returns-then-quiet-terms-clause-jobs : goal.returns-then-quiet-terms-clause-jobs
+returns-then-quiet-terms-clause-jobs g c =
     let takes = c.in_ok-arrival.ensures.takes in
     let stays = others_stay c.loop.self.station c.take_others_turn.new.self.station c.in_ok-arrival.arrival takes.0 takes.1 in
     let at : c.take_others_turn.new.self.station ≡ c.self-in-loop.inside.station = search rules in
@@ -44,14 +44,14 @@ returns-in_err-take_own_turn-clause-left_jobs g c =
     fails_on c.take_own_turn.result c.in_err-take_own_turn.field-0.0 c.from_residual.result
     (λ leaving. IfLineFailed leaving (c.take_own_turn.new.self.station.sender.jobs ≡ c.args.self.now.station.sender.jobs)) c.in_err-take_own_turn.was left c.from_residual.ensures.1
 
-pub returns-then-quiet-patience-clause-in_step : goal.returns-then-quiet-patience-clause-in_step
-returns-then-quiet-patience-clause-in_step g c shows in_step =
+pub returns-then-quiet-terms-clause-in_step : goal.returns-then-quiet-terms-clause-in_step
+returns-then-quiet-terms-clause-in_step g c shows in_step =
     let takes = c.in_ok-arrival.ensures.takes in
     let on = others_in_step c.loop.self c.take_others_turn.new.self (slice_get c.take_others_turn.new.self.station.receiver.jobs c.loop.self.kept) (g.S.Spool.ledger c.show.new.spool)
-    (g.S.Spool.ledger c.take_others_turn.new.spool) (others_stay c.loop.self.station c.take_others_turn.new.self.station c.in_ok-arrival.arrival takes.0 takes.1) c.take_others_turn.ensures.may_have_come
+    (g.S.Spool.ledger c.take_others_turn.new.spool) (others_stay c.loop.self.station c.take_others_turn.new.self.station c.in_ok-arrival.arrival takes.0 takes.1) (ap (λ (x : Carried). x.may_have_come) c.take_others_turn.ensures.rest)
     (c.in_ok-arrival.ensures.entered shows) (rw (c.show.ensures shows) (c.loop.invariant.step shows in_step)) in
     let at : c.take_others_turn.new.self.station ≡ c.self-in-loop.inside.station = search rules in
-    let left : Carried = record { station = c.other_ended.new.self; may_have_come = c.self-in-loop.inside.may_have_come; kept = c.self-in-loop.inside.kept } in
+    let left : Carried = record { station = c.other_ended.new.self; may_have_come = c.self-in-loop.inside.may_have_come; kept = c.self-in-loop.inside.kept; answered = c.self-in-loop.inside.answered; broken = c.self-in-loop.inside.broken } in
     still_in_step c.take_others_turn.new.self left (g.S.Spool.ledger c.take_others_turn.new.spool)
     (rw at (ended_stays c.self-in-loop.inside.station c.other_ended.new.self c.other_ended.ensures)) (search rules) on
 
@@ -60,7 +60,7 @@ returns-in_err-arrival-clause-left g c shows in_step =
     let left =
     others_leave (g.L.Line.transmissions c.take_others_turn.new.line ≡ g.L.Line.transmissions c.loop.line) c.loop.self c.take_others_turn.new.self
     (slice_get c.take_others_turn.new.self.station.receiver.jobs c.loop.self.kept) (g.S.Spool.ledger c.show.new.spool) (g.S.Spool.ledger c.take_others_turn.new.spool) c.take_others_turn.result
-    c.take_others_turn.ensures.left c.take_others_turn.ensures.may_have_come (c.take_others_turn.ensures.left_entered shows) (rw (c.show.ensures shows) (c.loop.invariant.step shows in_step)) in
+    c.take_others_turn.ensures.left (ap (λ (x : Carried). x.may_have_come) c.take_others_turn.ensures.rest) (c.take_others_turn.ensures.left_entered shows) (rw (c.show.ensures shows) (c.loop.invariant.step shows in_step)) in
     fails_on c.take_others_turn.result c.in_err-arrival.field-0.0 c.from_residual-in_err-arrival.result
     (λ leaving. IfLineFailed leaving (IsInStep c.take_others_turn.new.self (g.S.Spool.ledger c.take_others_turn.new.spool))) c.in_err-arrival.was left c.from_residual-in_err-arrival.ensures.1
 

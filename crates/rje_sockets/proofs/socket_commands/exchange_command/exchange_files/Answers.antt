@@ -1,4 +1,4 @@
-use Rattle.std.proofs.Common.{rules, ◌≡◌, ◌⊎◌, Bool, Err, IfOk, ap, inl, inr, length, refl, subst}
+use Rattle.std.proofs.Common.{rules, ◌≡◌, ◌⊎◌, Bool, Err, IfOk, ap, inl, inr, length, subst}
 use Rattle.std.specs.Prelude.{List}
 use Rattle.std.specs.List.{flat_map}
 use Rattle.std.specs.Result.{IsOkAnd, MatchResult, result_and}

@@ -1,4 +1,4 @@
-use Rattle.std.proofs.Common.{rules, ◌≡◌, ◌∙◌, IfOk, OnOk, IfErr, inl, inr, refl, ap, sym, subst}
+use Rattle.std.proofs.Common.{rules, ◌≡◌, ◌∙◌, IfOk, OnOk, IfErr, refl, ap, sym, subst}
 use Rattle.rje_station.specs.Receiving.{Receiving}
 use Rattle.rje_sockets.specs.Answering.{KeepsAnswered}
 use Rattle.rje_sockets.specs.Patience.{Leaves}

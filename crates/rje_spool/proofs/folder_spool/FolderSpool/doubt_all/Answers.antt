@@ -7,7 +7,7 @@ use Rattle.rje_spool.proofs.folder_spool.FolderSpool.doubt_all.Goals as goal
 pub loop-job-preserved : goal.loop-job-preserved
 loop-job-preserved g c = λ kept.
     let more : suc c.loop-job.job ≡ c.loop-job.job + 1 = omega arith in
-    c.in_ok-settle.ensures.entered kept ∙ ap (λ (entries : List Entry). Settled c.loop-job.job InDoubt ∷ entries) (c.loop-job.invariant kept)
+    c.in-Ok.ensures.entered kept ∙ ap (λ (entries : List Entry). Settled c.loop-job.job InDoubt ∷ entries) (c.loop-job.invariant kept)
     ∙ ap (λ (n : ℕ). with_doubted n c.args.self.now.entries) more
 
 pub returns : goal.returns

@@ -1,14 +1,5 @@
-use Rattle.std.proofs.Common.{string_bytes}
-use Rattle.rje_day.specs.declared.disposition.Disposition.{Disposition}
-use Rattle.rje_spool.proofs.Given.{settles_promised}
+use Rattle.rje_spool.proofs.Backed.{goes_on_twice}
 use Rattle.rje_spool.proofs.given_file.GivenFile.lies_ready.Goals as goal
 
-pub returns-in_err-settle-clause-asks : goal.returns-in_err-settle-clause-asks
-returns-in_err-settle-clause-asks g c shows =
-    settles_promised g.D.FolderDisk.are_one (string_bytes c.args.folder.now.path) (string_bytes c.args.self.now.name) c.as_str.result.now c.as_str-in-Promised.result.now Disposition.Ready c.args.self.now.place
-    c.in-Promised.doubt (g.D.Disk.asked c.args.folder.now.disk) (g.D.Disk.asked c.settle.new.self.disk) c.in-Promised.is c.as_str.ensures.value c.as_str-in-Promised.ensures.value (c.settle.ensures.asks shows)
-
-pub returns-in_ok-settle-clause-asks : goal.returns-in_ok-settle-clause-asks
-returns-in_ok-settle-clause-asks g c shows =
-    settles_promised g.D.FolderDisk.are_one (string_bytes c.args.folder.now.path) (string_bytes c.args.self.now.name) c.as_str.result.now c.as_str-in-Promised.result.now Disposition.Ready c.args.self.now.place
-    c.in-Promised.doubt (g.D.Disk.asked c.args.folder.now.disk) (g.D.Disk.asked c.settle.new.self.disk) c.in-Promised.is c.as_str.ensures.value c.as_str-in-Promised.ensures.value (c.settle.ensures.asks shows)
+pub returns-then-is_err-clause-on : goal.returns-then-is_err-clause-on
+returns-then-is_err-clause-on g c = λ told. goes_on_twice _ _ _ (c.take_back-ready.ensures.on told) (c.stays_in_doubt.ensures.on told)

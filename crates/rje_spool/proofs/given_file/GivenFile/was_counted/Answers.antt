@@ -1,8 +1,5 @@
 use Rattle.rje_spool.proofs.Backed.{goes_on_twice}
 use Rattle.rje_spool.proofs.given_file.GivenFile.was_counted.Goals as goal
 
-pub returns-then-ends_with-clause-on : goal.returns-then-ends_with-clause-on
-returns-then-ends_with-clause-on g c = λ told. goes_on_twice _ _ _ (c.set_mark.ensures.on told) (c.is_sent.ensures.on told)
-
-pub returns-else-ends_with-clause-on : goal.returns-else-ends_with-clause-on
-returns-else-ends_with-clause-on g c = λ told. goes_on_twice _ _ _ (c.set_mark.ensures.on told) (c.lies_ready.ensures.on told)
+pub returns-then-is_err-clause-on : goal.returns-then-is_err-clause-on
+returns-then-is_err-clause-on g c = λ told. goes_on_twice _ _ _ (c.count-counted.ensures.on told) (c.stays_in_doubt.ensures.on told)

@@ -1,8 +1,8 @@
 use Rattle.std.proofs.Common.{◌≡◌, ◌∙◌, false, sym, string_bytes}
 use Rattle.rje_spool.specs.declared.given_file.Place.{Place}
-use Rattle.rje_spool.specs.GivenFile.{HasSecondName}
+use Rattle.rje_spool.specs.GivenFile.{HasSecondName, IsDoubted}
 use Rattle.rje_spool.specs.GivenFiles.{HasBeenCounted, is_last_of}
-use Rattle.rje_spool.proofs.GivenFiles.{of_found_ok}
+use Rattle.rje_spool.proofs.GivenFiles.{of_found_err, of_found_ok}
 use Rattle.rje_spool.proofs.given_files.GivenFiles.is_counted.Goals as goal
 
 pub returns-in-Some-clause-sent : goal.returns-in-Some-clause-sent
@@ -16,3 +16,8 @@ returns-in-Some-clause-ready g c =
     of_found_ok c.was_counted.result c.args.job (λ file now. is_last_of c.args.job file ≡ false → HasSecondName file.place → now.place ≡ Place.Ready)
     c.args.self.now.files.items c.in-Some.place c.index_mut.result.now c.was_counted.new.self
     (sym c.place_of.ensures ∙ c.in-Some.is) c.index_mut.ensures.value c.was_counted.ensures.ready
+
+pub returns-in-Some-clause-failed : goal.returns-in-Some-clause-failed
+returns-in-Some-clause-failed g c =
+    of_found_err c.was_counted.result c.args.job (λ file now. HasSecondName file.place → IsDoubted now.place) c.args.self.now.files.items c.in-Some.place c.index_mut.result.now c.was_counted.new.self
+    (sym c.place_of.ensures ∙ c.in-Some.is) c.index_mut.ensures.value c.was_counted.ensures.failed

@@ -1,0 +1,459 @@
+//! A disk in memory that fails at one of its calls.
+ghost use Rattle.std.specs.Prelude.{[]};
+
+use crate::locking::Locking;
+use rje_folders::{FileIdentity, FolderDisk};
+use rje_stores::{ChangeTime, Disk, FileKind, FileStatus};
+use std::alloc::Global;
+use std::fs::{Permissions, TryLockError};
+use std::io::{self, Cursor, ErrorKind, Read};
+use std::os::unix::fs::PermissionsExt;
+
+/// Names with the numbers of their files, and what these have. Of calls that change something, the one of a number fails, and is done or not.
+#[derive(Drop)]
+pub struct FailingDisk {
+    alloc: Global,
+    names: Vec<Name>,
+    files: u64,
+    contents: Vec<Content>,
+    calls: usize,
+    fails_at: usize,
+    is_done: bool,
+    // A file that is written to by nobody, and gets no second name.
+    denied: u64,
+    // What comes of each lock.
+    locking: Locking,
+}
+
+/// A name of a file.
+#[derive(Drop)]
+struct Name {
+    path: String,
+    file: u64,
+}
+
+/// The bytes of a file that isn't empty, and how often they changed.
+#[derive(Drop)]
+struct Content {
+    file: u64,
+    bytes: Vec<u8>,
+    changes: i64,
+}
+
+/// An open file, and what there is to be read of it.
+#[derive(Drop)]
+pub struct OpenFile {
+    file: u64,
+    bytes: Cursor<Vec<u8>>,
+}
+
+impl FailingDisk {
+    /// A disk with no files, whose call of this number fails, done or not; none does at 0.
+    pub fn new(alloc: Global, fails_at: usize, is_done: bool) -> FailingDisk {
+        FailingDisk {
+            alloc,
+            names: Vec::new(alloc),
+            files: 0,
+            contents: Vec::new(alloc),
+            calls: 0,
+            fails_at,
+            is_done,
+            denied: 0,
+            locking: Locking::Done,
+        }
+    }
+
+    /// From now on the file of this number is written to by nobody, and gets no second name.
+    pub fn deny(&mut self, file: u64) {
+        self.denied = file;
+    }
+
+    /// The next call that changes something fails.
+    pub fn fail_next(&mut self) {
+        self.fails_at = self.calls.saturating_add(1);
+    }
+
+    /// From now on this comes of each lock.
+    pub fn lock_so(&mut self, locking: Locking) {
+        self.locking = locking;
+    }
+
+    /// The same disk, none of whose calls fails any more.
+    pub fn mended(self) -> FailingDisk {
+        let mut disk = self;
+        disk.fails_at = 0;
+        disk
+    }
+
+    /// A new file under a name.
+    pub fn put(&mut self, path: &str) -> io::Result<u64> {
+        self.files = self.files.saturating_add(1);
+        let file = self.files;
+        self.give(path, file)?;
+        Ok(file)
+    }
+
+    /// A new file with these bytes under a name.
+    pub fn put_bytes(&mut self, path: &str, bytes: &[u8]) -> io::Result<u64> {
+        let file = self.put(path)?;
+        self.write(file, bytes)?;
+        Ok(file)
+    }
+
+    /// Whether a file of just these bytes stands under a name.
+    pub fn has(&self, path: &str, bytes: &[u8]) -> bool {
+        match self.file_of(path) {
+            Some(file) => self.bytes_of(file) == bytes,
+            None => false,
+        }
+    }
+
+    fn bytes_of(&self, file: u64) -> &[u8] {
+        for content in &self.contents {
+            if content.file == file {
+                return content.bytes.as_slice();
+            }
+        }
+        &[]
+    }
+
+    /// Gives an empty file these bytes.
+    fn write(&mut self, file: u64, bytes: &[u8]) -> io::Result<()> {
+        let mut own = Vec::new(self.alloc);
+        own.extend_from_slice(bytes)?;
+        self.contents.push(Content {
+            file,
+            bytes: own,
+            changes: 1,
+        })?;
+        Ok(())
+    }
+
+    /// Sets a byte of a file.
+    pub fn set(&mut self, file: u64, place: usize, byte: u8) {
+        for content in &mut self.contents {
+            if content.file == file && place < content.bytes.len() {
+                content.bytes[place] = byte;
+                content.changes = content.changes.saturating_add(1);
+            }
+        }
+    }
+
+    /// How often the bytes of a file changed.
+    fn changes_of(&self, file: u64) -> i64 {
+        for content in &self.contents {
+            if content.file == file {
+                return content.changes;
+            }
+        }
+        0
+    }
+
+    /// Puts a new file with these bytes in the place of the one under a name.
+    pub fn replace(&mut self, path: &str, bytes: &[u8]) -> io::Result<u64> {
+        if let Some(place) = self.place_of(path) {
+            if place < self.names.len() {
+                self.names.swap_remove(place);
+            }
+        }
+        self.put_bytes(path, bytes)
+    }
+
+    fn opened(&self, path: &str) -> io::Result<OpenFile> {
+        let file = self.found(path)?;
+        let mut bytes = Vec::new(self.alloc);
+        bytes.extend_from_slice(self.bytes_of(file))?;
+        Ok(OpenFile {
+            file,
+            bytes: Cursor::new(bytes),
+        })
+    }
+
+    /// The number of the file under a name.
+    pub fn file_of(&self, path: &str) -> Option<u64> {
+        for name in &self.names {
+            if name.path.as_str() == path {
+                return Some(name.file);
+            }
+        }
+        None
+    }
+
+    /// How many names there are.
+    pub fn count(&self) -> usize {
+        self.names.len()
+    }
+
+    fn give(&mut self, path: &str, file: u64) -> io::Result<()> {
+        let path = String::from_str(self.alloc, path)?;
+        self.names.push(Name { path, file })?;
+        Ok(())
+    }
+
+    /// Counts a call. Whether it is to be done.
+    fn begins(&mut self) -> bool {
+        self.calls = self.calls.saturating_add(1);
+        self.calls != self.fails_at || self.is_done
+    }
+
+    /// How the call ends that was counted last.
+    fn ended(&self) -> io::Result<()> {
+        if self.calls == self.fails_at {
+            return Err(io::Error::from(ErrorKind::StorageFull));
+        }
+        Ok(())
+    }
+
+    fn found(&self, path: &str) -> io::Result<u64> {
+        self.file_of(path)
+            .ok_or(io::Error::from(ErrorKind::NotFound))
+    }
+
+    fn place_of(&self, path: &str) -> Option<usize> {
+        for (place, name) in self.names.iter().enumerate() {
+            if name.path.as_str() == path {
+                return Some(place);
+            }
+        }
+        None
+    }
+
+    fn links_of(&self, file: u64) -> u64 {
+        if self.locking == Locking::OfNoName {
+            return 0;
+        }
+        let mut links: u64 = 0;
+        for name in &self.names {
+            if name.file == file {
+                links = links.saturating_add(1);
+            }
+        }
+        links
+    }
+
+    fn status_of_file(&self, file: u64) -> FileStatus {
+        FileStatus {
+            kind: FileKind::Regular,
+            mode: Permissions::from_mode(0o640),
+            len: self.bytes_of(file).len() as u64,
+            device: 1,
+            inode: file,
+            links: self.links_of(file),
+            changed: ChangeTime {
+                seconds: self.changes_of(file),
+                nanoseconds: 0,
+            },
+        }
+    }
+}
+
+impl Read for OpenFile {
+    fn read(&mut self, buf: &mut [u8]) -> io::Result<usize> {
+        self.bytes.read(buf)
+    }
+}
+
+impl Disk for FailingDisk {
+    type File = OpenFile;
+
+    type Folder = ();
+
+    ghost discloses = { ⊥ };
+
+    ghost asked = { λ _. [] };
+
+    ghost opened = { λ _. record { name = []; number = 0 } };
+
+    ghost folder_of = { λ _. [] };
+
+    ghost leads = { λ _ _. Unit {0} };
+
+    ghost is_device = { λ _ _. Unit {0} };
+
+    fn status(&self, name: &str) -> io::Result<FileStatus> {
+        let file = self.found(name)?;
+        Ok(self.status_of_file(file))
+    }
+
+    fn status_of(&self, file: &OpenFile) -> io::Result<FileStatus> {
+        Ok(self.status_of_file(file.file))
+    }
+
+    fn is_link(&self, _name: &str) -> io::Result<bool> {
+        Ok(false)
+    }
+
+    fn whole_path(&self, alloc: Global, name: &str) -> io::Result<String> {
+        Ok(String::from_str(alloc, name)?)
+    }
+
+    fn open_to_read(&self, name: &str) -> io::Result<OpenFile> {
+        self.opened(name)
+    }
+
+    fn open_to_lock(&self, name: &str) -> io::Result<OpenFile> {
+        self.open_to_read(name)
+    }
+
+    fn try_to_write(&self, name: &str) -> io::Result<()> {
+        if self.found(name)? == self.denied {
+            return Err(io::Error::from(ErrorKind::PermissionDenied));
+        }
+        Ok(())
+    }
+
+    fn create(&mut self, name: &str) -> io::Result<OpenFile> {
+        if self.file_of(name).is_some() {
+            return Err(io::Error::from(ErrorKind::AlreadyExists));
+        }
+        if self.begins() {
+            self.put(name)?;
+        }
+        self.ended()?;
+        self.open_to_read(name)
+    }
+
+    fn open_to_copy(&mut self, name: &str) -> io::Result<OpenFile> {
+        self.open_to_read(name)
+    }
+
+    fn open_to_write(&mut self, name: &str) -> io::Result<OpenFile> {
+        self.open_to_read(name)
+    }
+
+    fn open_or_create(&mut self, name: &str) -> io::Result<OpenFile> {
+        if self.file_of(name).is_none() {
+            self.put(name)?;
+        }
+        self.open_to_read(name)
+    }
+
+    fn try_lock(&self, _file: &OpenFile) -> Result<(), TryLockError> {
+        match self.locking {
+            Locking::Done | Locking::OfNoName => Ok(()),
+            Locking::InUse => Err(TryLockError::WouldBlock),
+            Locking::Fails => Err(TryLockError::Error(io::Error::from(ErrorKind::Unsupported))),
+        }
+    }
+
+    fn set_mode(&mut self, _file: &OpenFile, _mode: Permissions) -> io::Result<()> {
+        Ok(())
+    }
+
+    fn fill(&mut self, file: &OpenFile, bytes: &[u8]) -> io::Result<()> {
+        if self.begins() {
+            self.write(file.file, bytes)?;
+        }
+        self.ended()
+    }
+
+    fn go_on(
+        &mut self,
+        _file: &OpenFile,
+        _from: &OpenFile,
+        _place: u64,
+        _bytes: &[u8],
+    ) -> io::Result<()> {
+        Err(io::Error::from(ErrorKind::Unsupported))
+    }
+
+    fn write_at(&mut self, file: &OpenFile, place: u64, bytes: &[u8]) -> io::Result<()> {
+        if self.begins() {
+            for byte in bytes {
+                self.set(file.file, place as usize, *byte);
+            }
+        }
+        self.ended()
+    }
+
+    fn sync(&mut self, _file: &OpenFile) -> io::Result<()> {
+        self.begins();
+        self.ended()
+    }
+
+    fn sync_bytes(&mut self, _file: &OpenFile) -> io::Result<()> {
+        self.begins();
+        self.ended()
+    }
+
+    fn rename(&mut self, _from: &str, _to: &str) -> io::Result<()> {
+        Err(io::Error::from(ErrorKind::Unsupported))
+    }
+
+    fn link(&mut self, from: &str, to: &str) -> io::Result<()> {
+        let file = self.found(from)?;
+        if self.file_of(to).is_some() {
+            return Err(io::Error::from(ErrorKind::AlreadyExists));
+        }
+        if file == self.denied {
+            return Err(io::Error::from(ErrorKind::PermissionDenied));
+        }
+        if self.begins() {
+            self.give(to, file)?;
+        }
+        self.ended()
+    }
+
+    fn remove(&mut self, name: &str) -> io::Result<()> {
+        let Some(place) = self.place_of(name) else {
+            return Err(io::Error::from(ErrorKind::NotFound));
+        };
+        if self.begins() && place < self.names.len() {
+            self.names.swap_remove(place);
+        }
+        self.ended()
+    }
+
+    fn open_folder(&self, _path: &str) -> io::Result<()> {
+        Ok(())
+    }
+
+    fn sync_folder(&mut self, _folder: &()) -> io::Result<()> {
+        self.begins();
+        self.ended()
+    }
+
+    fn write_device(&mut self, _name: &str, _bytes: &[u8]) -> io::Result<()> {
+        Err(io::Error::from(ErrorKind::Unsupported))
+    }
+}
+
+impl FolderDisk for FailingDisk {
+    ghost are_one = { λ _ _ _. Unit {0} };
+
+    ghost is_file = { λ _ _ _. Unit {0} };
+
+    ghost is_open = { λ _ _ _. Unit {0} };
+
+    fn is_one_file(&self, one: &str, other: &str) -> io::Result<bool> {
+        Ok(self.found(one)? == self.found(other)?)
+    }
+
+    fn identity(&self, name: &str) -> io::Result<FileIdentity> {
+        Ok(FileIdentity::of(&self.status(name)?))
+    }
+
+    fn identity_of(&self, file: &OpenFile) -> io::Result<FileIdentity> {
+        Ok(FileIdentity::of(&self.status_of(file)?))
+    }
+
+    fn names_in(&self, alloc: Global, folder: &str) -> io::Result<Vec<String>> {
+        let mut names = Vec::new(alloc);
+        for name in &self.names {
+            if let Some((of, own)) = name.path.as_str().rsplit_once('/') {
+                if of == folder {
+                    names.push(String::from_str(alloc, own)?)?;
+                }
+            }
+        }
+        Ok(names)
+    }
+
+    fn count_unreadable_names(&self, _folder: &str) -> io::Result<usize> {
+        Ok(0)
+    }
+
+    fn make_folder(&mut self, _path: &str) -> io::Result<()> {
+        Ok(())
+    }
+}

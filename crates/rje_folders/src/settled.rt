@@ -1,0 +1,27 @@
+//! Where a file stands once it is known what became of its job.
+
+use std::io::ErrorKind;
+
+/// What became of the name that the file of a job had in out/.
+#[derive(Clone, Copy, Debug, PartialEq, Eq)]
+pub enum OutName {
+    /// It stands for the file still.
+    Stands,
+    /// It was taken away.
+    TakenAway,
+    /// Somebody else had taken it away.
+    Missing,
+    /// It stands for another file.
+    OfAnother,
+    /// It can't be taken away, and why.
+    Left(ErrorKind),
+}
+
+/// Where a file stands once it is known what became of its job.
+#[derive(Debug, Drop)]
+pub struct Settled {
+    /// Its path.
+    pub path: String,
+    /// What became of its name in out/.
+    pub out: OutName,
+}

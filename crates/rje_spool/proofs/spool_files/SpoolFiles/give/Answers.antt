@@ -1,0 +1,12 @@
+use Rattle.rje_spool.proofs.Backed.{goes_on_twice}
+use Rattle.rje_spool.proofs.spool_files.SpoolFiles.give.Goals as goal
+
+pub returns-in_err-leave-in-Err-clause-on : goal.returns-in_err-leave-in-Err-clause-on
+returns-in_err-leave-in-Err-clause-on g c = λ told.
+    let (calls, is, each) = c.try_second_name.ensures.asks told in
+    goes_on_twice _ _ _ (calls, is) (c.leave.ensures.on told)
+
+pub returns-in_ok-leave-in-Err-clause-on : goal.returns-in_ok-leave-in-Err-clause-on
+returns-in_ok-leave-in-Err-clause-on g c = λ told.
+    let (calls, is, each) = c.try_second_name.ensures.asks told in
+    goes_on_twice _ _ _ (calls, is) (c.leave.ensures.on told)

@@ -1,0 +1,84 @@
+//! The files of out/ that are passed over.
+
+use rje_folders::{FileIdentity, FolderDisk, StationFolder};
+use std::alloc::{AllocError, Global};
+use std::collections::BTreeMap;
+
+/// How long a file is passed over.
+#[derive(Clone, Copy, Debug, PartialEq, Eq)]
+pub(crate) enum Until {
+    /// At the next look at its folder, and not at the one after that.
+    NextLook,
+    /// At this look, and not at the next one.
+    ThisLook,
+    /// As long as this file has its name; none is known of one that can't be looked at.
+    Replaced(Option<FileIdentity>),
+}
+
+/// The files of out/ that are passed over, by their names.
+#[derive(Drop)]
+pub(crate) struct PassedFiles {
+    alloc: Global,
+    files: BTreeMap<String, Until>,
+}
+
+impl PassedFiles {
+    /// None.
+    pub(crate) fn new(alloc: Global) -> PassedFiles {
+        PassedFiles {
+            alloc,
+            files: BTreeMap::new(alloc),
+        }
+    }
+
+    /// The file of this name is passed over so long.
+    pub(crate) fn add(&mut self, name: String, until: Until) -> Result<(), AllocError> {
+        match self.files.insert(name, until) {
+            Ok(_) => Ok(()),
+            Err(_) => Err(AllocError),
+        }
+    }
+
+    /// Whether the file of this name is passed over.
+    pub(crate) fn has(&self, name: &str) -> bool {
+        self.files.contains_key(name)
+    }
+
+    /// The folder was looked at, and these names lie ready there: those are forgotten that were passed over long enough, and those whose file is gone or
+    /// another one. One that doesn't lie ready for now, since it has a name in doubt/ too, isn't forgotten.
+    pub(crate) fn look_again<D: FolderDisk + Drop>(
+        &mut self,
+        folder: &StationFolder<D>,
+        names: &[String],
+    ) {
+        let mut still = BTreeMap::new(self.alloc);
+        for (name, until) in self.files.iter() {
+            if let Some(until) = until.still(folder, name.as_str(), names) {
+                if let Ok(name) = String::from_str(self.alloc, name.as_str()) {
+                    let _ = still.insert(name, until);
+                }
+            }
+        }
+        self.files = still;
+    }
+}
+
+impl Until {
+    /// How long a file of this name is passed over still, if it is, at a look at which these names lie ready.
+    fn still<D: FolderDisk + Drop>(
+        self,
+        folder: &StationFolder<D>,
+        name: &str,
+        names: &[String],
+    ) -> Option<Until> {
+        match self {
+            Until::NextLook => Some(Until::ThisLook),
+            Until::ThisLook => None,
+            Until::Replaced(None) if !names.iter().any(|listed| listed.as_str() == name) => None,
+            Until::Replaced(file) if folder.identity(name).ok() == file => {
+                Some(Until::Replaced(file))
+            }
+            Until::Replaced(_) => None,
+        }
+    }
+}

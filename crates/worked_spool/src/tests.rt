@@ -1,0 +1,102 @@
+//! What no clause says of a station's spool: names, marks, times, lines, and what it holds.
+mod console;
+mod given;
+mod holding;
+mod keeping;
+mod locks;
+mod page;
+mod sending;
+mod test_clock;
+mod watching;
+
+use fake_disk::{FailingDisk, SharedDisk};
+use page::Page;
+use rje_folders::StationFolder;
+use rje_spool::{Console, FolderSpool};
+use rje_stores::Disk;
+use std::alloc::Global;
+use std::cell::{Cell, RefCell};
+use std::process::Abort;
+use test_clock::TestClock;
+
+/// A spool of the tests.
+type TestSpool<'a> = FolderSpool<SharedDisk<'a>, TestClock<'a>, Page<'a>, Page<'a>>;
+
+/// What a spool stands on: a disk, a clock, the page of its console, and its log.
+#[derive(Drop)]
+struct Ground {
+    alloc: Global,
+    disk: RefCell<FailingDisk>,
+    clock: Cell<Option<u64>>,
+    page: RefCell<Vec<u8>>,
+    log: RefCell<Vec<u8>>,
+}
+
+impl Ground {
+    /// An empty disk none of whose calls fails, five past one in the afternoon of 28 November 2026, and empty pages.
+    fn new(alloc: Global) -> Ground {
+        Ground {
+            alloc,
+            disk: RefCell::new(FailingDisk::new(alloc, 0, false)),
+            clock: Cell::new(Some(1795871109)),
+            page: RefCell::new(Vec::new(alloc)),
+            log: RefCell::new(Vec::new(alloc)),
+        }
+    }
+
+    /// The disk.
+    fn disk(&self) -> SharedDisk<'_> {
+        SharedDisk::new(&self.disk)
+    }
+
+    /// Puts a file of these bytes on the disk.
+    fn put(&self, rt: &impl Abort, path: &str, bytes: &[u8]) {
+        let mut disk = self.disk().changed().expect(rt, "a disk");
+        assert!(rt; disk.put_bytes(path, bytes).is_ok());
+    }
+
+    /// A file of just these bytes stands there.
+    fn assert_file(&self, rt: &impl Abort, path: &str, bytes: &[u8]) {
+        let disk = self.disk().seen().expect(rt, "a disk");
+        assert!(rt; disk.has(path, bytes));
+    }
+
+    /// Takes a file away.
+    fn remove(&self, rt: &impl Abort, path: &str) {
+        assert!(rt; self.disk().remove(path).is_ok());
+    }
+
+    /// The next call that changes something on the disk fails.
+    fn fail_next(&self, rt: &impl Abort) {
+        self.disk().changed().expect(rt, "a disk").fail_next();
+    }
+
+    /// How many names there are on the disk.
+    fn count(&self, rt: &impl Abort) -> usize {
+        self.disk().seen().expect(rt, "a disk").count()
+    }
+
+    /// A console whose lines go to the page and to the log.
+    fn console(&self) -> Console<TestClock<'_>, Page<'_>, Page<'_>> {
+        let clock = TestClock::new(&self.clock);
+        Console::new(
+            clock,
+            self.alloc,
+            Page::new(&self.page),
+            Page::new(&self.log),
+            false,
+        )
+    }
+
+    /// Just this stands on the page and in the log.
+    fn assert_told(&self, rt: &impl Abort, lines: &[u8]) {
+        assert!(rt; Page::new(&self.page).shows(lines));
+        assert!(rt; Page::new(&self.log).shows(lines));
+    }
+
+    /// The spool of the folder `s`.
+    fn spool(&self, rt: &impl Abort) -> TestSpool<'_> {
+        let folder = StationFolder::open(self.disk(), self.alloc, "s").expect(rt, "a folder");
+        FolderSpool::new(self.alloc, folder, self.console())
+    }
+}
