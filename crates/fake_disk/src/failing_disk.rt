@@ -21,8 +21,23 @@ pub struct FailingDisk {
     is_done: bool,
     // A file that is written to by nobody, and gets no second name.
     denied: u64,
+    // A file whose names nobody changes.
+    stuck: u64,
+    // What others do meanwhile.
+    meanwhile: Option<Meanwhile>,
+    // From this call on none is done; of no number at 0.
+    ends_at: usize,
     // What comes of each lock.
     locking: Locking,
+}
+
+/// At a call of this number another file is put in the place of the one under a path.
+#[derive(Drop)]
+struct Meanwhile {
+    at: usize,
+    path: String,
+    // Whether it was put there, and then whether no file had the path.
+    was_free: Option<bool>,
 }
 
 /// A name of a file.
@@ -59,6 +74,9 @@ impl FailingDisk {
             fails_at,
             is_done,
             denied: 0,
+            stuck: 0,
+            meanwhile: None,
+            ends_at: 0,
             locking: Locking::Done,
         }
     }
@@ -66,6 +84,35 @@ impl FailingDisk {
     /// From now on the file of this number is written to by nobody, and gets no second name.
     pub fn deny(&mut self, file: u64) {
         self.denied = file;
+    }
+
+    /// From now on the names of the file of this number stay.
+    pub fn stick(&mut self, file: u64) {
+        self.stuck = file;
+    }
+
+    /// Right before the call of this number, of those that change something, a file of the bytes NEW is put in the place of the one under a path.
+    pub fn put_meanwhile(&mut self, at: usize, path: &str) -> io::Result<()> {
+        let path = String::from_str(self.alloc, path)?;
+        self.meanwhile = Some(Meanwhile {
+            at,
+            path,
+            was_free: None,
+        });
+        Ok(())
+    }
+
+    /// Whether what was to be put meanwhile was put there, and then whether no file had the path.
+    pub fn was_free(&self) -> Option<bool> {
+        match &self.meanwhile {
+            Some(other) => other.was_free,
+            None => None,
+        }
+    }
+
+    /// The call of this number fails and isn't done, and so do all that come after it: as if the one who asks was ended then.
+    pub fn end_at(&mut self, at: usize) {
+        self.ends_at = at;
     }
 
     /// The next call that changes something fails.
@@ -82,6 +129,7 @@ impl FailingDisk {
     pub fn mended(self) -> FailingDisk {
         let mut disk = self;
         disk.fails_at = 0;
+        disk.ends_at = 0;
         disk
     }
 
@@ -151,12 +199,17 @@ impl FailingDisk {
 
     /// Puts a new file with these bytes in the place of the one under a name.
     pub fn replace(&mut self, path: &str, bytes: &[u8]) -> io::Result<u64> {
+        self.drop_name(path);
+        self.put_bytes(path, bytes)
+    }
+
+    /// Takes a name away, where it is there.
+    fn drop_name(&mut self, path: &str) {
         if let Some(place) = self.place_of(path) {
             if place < self.names.len() {
                 self.names.swap_remove(place);
             }
         }
-        self.put_bytes(path, bytes)
     }
 
     fn opened(&self, path: &str) -> io::Result<OpenFile> {
@@ -193,12 +246,32 @@ impl FailingDisk {
     /// Counts a call. Whether it is to be done.
     fn begins(&mut self) -> bool {
         self.calls = self.calls.saturating_add(1);
-        self.calls != self.fails_at || self.is_done
+        let _ = self.goes_on_meanwhile();
+        !self.is_ended() && (self.calls != self.fails_at || self.is_done)
+    }
+
+    /// What others do right before the call that was counted last.
+    fn goes_on_meanwhile(&mut self) -> io::Result<()> {
+        let Some(other) = self.meanwhile.take() else {
+            return Ok(());
+        };
+        let mut other = other;
+        if other.at == self.calls {
+            other.was_free = Some(self.file_of(other.path.as_str()).is_none());
+            self.replace(other.path.as_str(), b"NEW")?;
+        }
+        self.meanwhile = Some(other);
+        Ok(())
+    }
+
+    /// Whether nothing is done any more.
+    fn is_ended(&self) -> bool {
+        self.ends_at != 0 && self.ends_at <= self.calls
     }
 
     /// How the call ends that was counted last.
     fn ended(&self) -> io::Result<()> {
-        if self.calls == self.fails_at {
+        if self.calls == self.fails_at || self.is_ended() {
             return Err(io::Error::from(ErrorKind::StorageFull));
         }
         Ok(())
@@ -307,6 +380,9 @@ impl Disk for FailingDisk {
             return Err(io::Error::from(ErrorKind::AlreadyExists));
         }
         if self.begins() {
+            if self.file_of(name).is_some() {
+                return Err(io::Error::from(ErrorKind::AlreadyExists));
+            }
             self.put(name)?;
         }
         self.ended()?;
@@ -337,7 +413,8 @@ impl Disk for FailingDisk {
     }
 
     fn set_mode(&mut self, _file: &OpenFile, _mode: Permissions) -> io::Result<()> {
-        Ok(())
+        self.begins();
+        self.ended()
     }
 
     fn fill(&mut self, file: &OpenFile, bytes: &[u8]) -> io::Result<()> {
@@ -376,8 +453,17 @@ impl Disk for FailingDisk {
         self.ended()
     }
 
-    fn rename(&mut self, _from: &str, _to: &str) -> io::Result<()> {
-        Err(io::Error::from(ErrorKind::Unsupported))
+    fn rename(&mut self, from: &str, to: &str) -> io::Result<()> {
+        if self.found(from)? == self.stuck {
+            return Err(io::Error::from(ErrorKind::PermissionDenied));
+        }
+        if self.begins() {
+            let file = self.found(from)?;
+            self.drop_name(from);
+            self.drop_name(to);
+            self.give(to, file)?;
+        }
+        self.ended()
     }
 
     fn link(&mut self, from: &str, to: &str) -> io::Result<()> {
@@ -389,17 +475,18 @@ impl Disk for FailingDisk {
             return Err(io::Error::from(ErrorKind::PermissionDenied));
         }
         if self.begins() {
+            if self.file_of(to).is_some() {
+                return Err(io::Error::from(ErrorKind::AlreadyExists));
+            }
             self.give(to, file)?;
         }
         self.ended()
     }
 
     fn remove(&mut self, name: &str) -> io::Result<()> {
-        let Some(place) = self.place_of(name) else {
-            return Err(io::Error::from(ErrorKind::NotFound));
-        };
-        if self.begins() && place < self.names.len() {
-            self.names.swap_remove(place);
+        self.found(name)?;
+        if self.begins() {
+            self.drop_name(name);
         }
         self.ended()
     }

@@ -5,3 +5,4 @@ pub mod NewFile
 pub mod Ready
 pub mod Marked
 pub mod Settling
+pub mod TakenOver

@@ -24,7 +24,7 @@ new_stands folder file name after (before, made, is, temporary) =
 pub new_temporary : (folder : List ℕ) (file : Opened) (name : List ℕ) (after : List Asked) → IsNewIn folder file name after → IsTemporary folder name
 new_temporary folder file name after (before, made, is, temporary) = temporary
 
-file_temporary : (folder : List ℕ) (file : Opened) (name : List ℕ) (after : List Asked) → IsNewIn folder file name after → IsTemporary folder file.name
+pub file_temporary : (folder : List ℕ) (file : Opened) (name : List ℕ) (after : List Asked) → IsNewIn folder file name after → IsTemporary folder file.name
 file_temporary folder file name after (before, made, is, temporary) = subst (IsTemporary folder) (sym (ap (λ (f : Opened). f.name) is)) temporary
 
 -- what is asked to make it

@@ -6,4 +6,5 @@ pub mod Marking
 pub mod ReadyFile
 pub mod Folder
 pub mod Promising
+pub mod TakingOver
 pub mod Inside

@@ -47,6 +47,14 @@ impl FolderFault {
         }
     }
 
+    /// Why a file can't get a second name, nor be taken over.
+    pub(crate) fn no_second_name(error: &io::Error) -> FolderFault {
+        match error.kind() {
+            ErrorKind::OutOfMemory => FolderFault::OutOfMemory,
+            kind => FolderFault::NoSecondName(kind),
+        }
+    }
+
     /// Why the station's own files can't be used.
     pub(crate) fn own(error: &io::Error) -> FolderFault {
         match error.kind() {

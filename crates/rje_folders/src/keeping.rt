@@ -24,9 +24,9 @@ pub struct Kept {
 
 /// A new file under a name that a reader of its folder leaves alone.
 #[derive(Drop)]
-struct NewFile<F: Drop> {
-    file: F,
-    path: String,
+pub(crate) struct NewFile<F: Drop> {
+    pub(crate) file: F,
+    pub(crate) path: String,
 }
 
 /// Makes these bytes a new file of a folder, under the first of these names that no file has: once it is on disk, and then its name is put there
@@ -57,7 +57,11 @@ pub fn keep<D: Disk>(
 }
 
 /// A new file of a folder, empty.
-fn create_new<D: Disk>(disk: &mut D, alloc: Global, folder: &str) -> io::Result<NewFile<D::File>>
+pub(crate) fn create_new<D: Disk>(
+    disk: &mut D,
+    alloc: Global,
+    folder: &str,
+) -> io::Result<NewFile<D::File>>
     ensures asks { D.discloses
         → Adds (MayCreate folder.now) (D.asked disk.old) (D.asked disk.new) }
     ensures new { D.discloses → IfOk result (λ new. IsNewIn folder.now (D.opened new.file)
@@ -126,7 +130,7 @@ fn keep_new<D: Disk>(
 }
 
 /// Writes the bytes into an empty file, and has it on disk.
-fn fill_new<D: Disk>(disk: &mut D, file: &D::File, bytes: &[u8]) -> io::Result<()>
+pub(crate) fn fill_new<D: Disk>(disk: &mut D, file: &D::File, bytes: &[u8]) -> io::Result<()>
     ensures asks { D.discloses
         → bytes_of (D.opened file.now).number (D.asked disk.old) ≡ Some []
         → Adds (MayWrite (D.opened file.now)) (D.asked disk.old) (D.asked disk.new) }

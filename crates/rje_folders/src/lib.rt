@@ -2,8 +2,10 @@
 #![tactic(auto)]
 
 mod clearing;
+mod copying;
 mod file_identity;
 mod file_names;
+mod finishing;
 mod folder;
 mod folder_disk;
 mod folder_fault;
@@ -21,6 +23,8 @@ mod ready_file;
 mod receiving;
 mod settled;
 mod station_folder;
+mod taken_name;
+mod taking_over;
 mod tidying;
 
 pub use file_identity::FileIdentity;

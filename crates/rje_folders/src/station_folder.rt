@@ -1,7 +1,7 @@
 //! The folder of a station.
 ghost use Rattle.std.specs.Prelude.{◌≡◌, ◌⊎◌, ◌≤◌, length, true, IfOk, IsErrOf, OnOk, string_bytes};
 ghost use Rattle.rje_stores.specs.Disk.{has_synced_name};
-ghost use Rattle.rje_stores.specs.Replacing.{Adds, IsOnDisk};
+ghost use Rattle.rje_stores.specs.Replacing.{Adds, Either, IsOnDisk};
 ghost use Rattle.rje_folders.specs.FileNames.{IsBetween, IsBetweenFrom, IsNumbered};
 ghost use Rattle.rje_folders.specs.Folder.{path_in, path_of, why_path};
 ghost use Rattle.rje_folders.specs.Keeping.{MayKeep, WasMade, WasNamed};
@@ -10,10 +10,12 @@ ghost use Rattle.rje_folders.specs.Moving.{IsGone, IsMoved, IsSecond, MayMove};
 ghost use Rattle.rje_folders.specs.Promising.{IsSent, IsSettled, MayDropCut, MayOpen, MayPromise, MaySettle, MayTry};
 ghost use Rattle.rje_folders.specs.Reading.{IsLongerThan, IsReadOf};
 ghost use Rattle.rje_folders.specs.ReadyFile.{AreInOrder};
+ghost use Rattle.rje_folders.specs.TakingOver.{IsTakenOver, MayFinish, MayTakeOver};
 ghost use Rattle.rje_folders.specs.declared.folder_fault.FolderFault.TheVariants.{TooLarge};
 ghost use Rattle.rje_folders.specs.declared.settled.OutName.TheVariants.{TakenAway};
 
 use crate::file_identity::FileIdentity;
+use crate::finishing::finish_all;
 use crate::folder::Folder;
 use crate::folder_disk::FolderDisk;
 use crate::folder_fault::FolderFault;
@@ -27,9 +29,9 @@ use crate::promising::{promise, put_in_doubt, settle};
 use crate::reading::{FileRead, identity, read_ready};
 use crate::receiving::{drop_cut, explain, keep_in, refuse};
 use crate::settled::Settled;
+use crate::taking_over::take_over;
 use rje_day::Disposition;
 use std::alloc::Global;
-use std::io::ErrorKind;
 
 /// The folder of a station, which has it for itself.
 #[derive(Drop)]
@@ -45,13 +47,16 @@ impl<D: FolderDisk + Drop> StationFolder<D> {
     /// Has the folder of this path for this station, with what was begun there brought to its end. In use where another station has it.
     pub fn open(disk: D, alloc: Global, path: &str) -> Result<StationFolder<D>, FolderFault>
         ensures { D.discloses → IfOk result (λ station.
-            Adds (MayOpen D.are_one path.now) (D.asked disk) (D.asked station.disk)) }
+            Adds (Either (MayOpen D.are_one path.now)
+            (MayFinish D.opened D.File.remaining D.is_open D.is_file D.are_one path.now))
+            (D.asked disk) (D.asked station.disk)) }
     {
         let mut disk = disk;
         make_folders(&mut disk, alloc, path)?;
         let lock = locked(&mut disk, alloc, path)?;
         clear_up(&mut disk, alloc, path)?;
         tidy_up(&mut disk, alloc, path)?;
+        finish_all(&mut disk, alloc, path)?;
         Ok(StationFolder {
             disk,
             alloc,
@@ -119,11 +124,27 @@ impl<D: FolderDisk + Drop> StationFolder<D> {
         ensures path { self.new.path ≡ self.old.path }
     {
         try_second_name(&mut self.disk, self.alloc, self.path.as_str(), name).map_err(
-            |error| match error.kind() {
-                ErrorKind::OutOfMemory => FolderFault::OutOfMemory,
-                kind => FolderFault::NoSecondName(kind),
-            },
+            |error| FolderFault::no_second_name(&error),
         )
+    }
+
+    /// Takes a file of out/ over that can't get a second name, as one of another user can't: a copy of the station's own, of at most so many bytes,
+    /// comes in its place. The path that it has then: of its name, or that with a number where another file has it meanwhile. Replaced where the
+    /// file itself is another one meanwhile, which lies ready. Where a step fails the file stays under its name, or is given back at the next begin.
+    pub fn take_over(&mut self, name: &str, most: u64) -> Result<String, FolderFault>
+        ensures asks { D.discloses → Adds
+            (MayTakeOver D.opened D.File.remaining D.is_open D.is_file D.are_one
+            (string_bytes self.old.path) name.now)
+            (D.asked self.old.disk) (D.asked self.new.disk) }
+        ensures taken { D.discloses → IfOk result (λ path.
+            IsTakenOver D.opened D.File.remaining D.is_open
+            (path_in (string_bytes self.old.path) Folder.Out name.now) (string_bytes path)
+            (D.asked self.old.disk) (D.asked self.new.disk)) }
+        ensures named { IfOk result (λ path. IsNumbered
+            (path_in (string_bytes self.old.path) Folder.Out name.now) (string_bytes path)) }
+        ensures path { self.new.path ≡ self.old.path }
+    {
+        take_over(&mut self.disk, self.alloc, self.path.as_str(), name, most)
     }
 
     /// Whether doubt/ has a file.

@@ -89,7 +89,7 @@ fn tidy_counted<D: FolderDisk>(
 }
 
 /// Whether the file of a path has no other name, or is there no more.
-fn has_one_name<D: FolderDisk>(disk: &D, path: &str) -> io::Result<bool> {
+pub(crate) fn has_one_name<D: FolderDisk>(disk: &D, path: &str) -> io::Result<bool> {
     match disk.status(path) {
         Ok(found) => Ok(found.links < 2),
         Err(error) if error.kind() == ErrorKind::NotFound => Ok(true),
@@ -125,7 +125,7 @@ pub(crate) fn has_kept_name<D: FolderDisk>(
 }
 
 /// The path of the other name that the file of a name in out/ has.
-fn kept_name<D: FolderDisk>(
+pub(crate) fn kept_name<D: FolderDisk>(
     disk: &D,
     alloc: Global,
     station: &str,
@@ -152,7 +152,7 @@ fn kept_name<D: FolderDisk>(
 }
 
 /// That in one of the other folders, which has these names: the one of this file that is of this name, as it is or with a number.
-fn second_in<D: FolderDisk>(
+pub(crate) fn second_in<D: FolderDisk>(
     disk: &D,
     alloc: Global,
     station: &str,

@@ -1,11 +1,16 @@
 -- What is asked step by step, and what names come to.
-use Rattle.std.specs.Prelude.{◌≡◌, ◌≢◌, ◌⊎◌, ℕ, List, [], ◌∷◌, ◌++◌, length, Some, None, true}
-use Rattle.rje_stores.specs.Disk.{Asked, Call, Opened, Done, Create, Fill, Sync, Link, Remove, standing, bytes_of, is_synced, has_synced_name}
-use Rattle.rje_stores.specs.Replacing.{IsOnDisk}
+use Rattle.std.specs.Prelude.{◌≡◌, ◌≢◌, ◌⊎◌, ℕ, List, [], ◌∷◌, ◌++◌, length, Option, Some, None, true}
+use Rattle.rje_stores.specs.Disk.{Asked, Call, Opened, Done, Create, SetMode, Fill, Sync, Rename, Link, Remove, standing, bytes_of, is_synced, has_synced_name}
+use Rattle.rje_stores.specs.Replacing.{IsOnDisk, IsWhole}
 use Rattle.rje_stores.specs.Inside.Filling.{AddsSync}
 use Rattle.rje_folders.specs.declared.file_names.FileNames.{FileNames}
 use Rattle.rje_folders.specs.declared.file_names.FileNames.TheVariants.{Of, Numbered}
+use Rattle.rje_folders.specs.declared.file_identity.FileIdentity.{FileIdentity}
+use Rattle.rje_folders.specs.declared.folder.Folder.{Folder}
+use Rattle.rje_folders.specs.declared.reading.FileRead.{FileRead}
+use Rattle.rje_folders.specs.Folder.{path_in, path_of}
 use Rattle.rje_folders.specs.Keeping.{IsTemporary}
+use Rattle.rje_folders.specs.TakingOver.{IsTakenPath, WasRead}
 
 -- each name stands for what it stood for, and each file is as it was
 pub record KeepsFiles (before after : List Asked) : Type 0 where
@@ -50,3 +55,19 @@ IsKept temporary name bytes after = (name ≢ temporary) × IsOnDisk name bytes 
 abbrev pub first_number : FileNames → ℕ
 first_number (Of name) = 1
 first_number (Numbered stem ending first) = first
+
+-- what may be asked to write a copy, while it is empty
+abbrev pub MayWriteCopy : Opened → Call → List Asked → Type 0
+MayWriteCopy file call before = ((call ≡ SetMode file) × (bytes_of file.number before ≡ Some [])) ⊎ MayWrite file call before
+
+-- a copy of what was read stands under a name that is left alone, and all of it is on disk
+abbrev pub HasCopy : {F : Type 0} → (F → Opened) → (F → Option (List ℕ)) → (is_open : List Asked → F → FileIdentity → Type 0) → (station copy : List ℕ) → FileRead → List Asked → Type 0
+HasCopy {F} opened remaining is_open station copy read after = IsTemporary (path_of station Folder.Refused) copy × IsWhole copy read.bytes.items after × WasRead opened remaining is_open read after
+
+-- what may be asked to give whatever stands under a name in out/ a hidden one
+abbrev pub MayHide : (station name : List ℕ) → Call → List Asked → Type 0
+MayHide station name call before = (hidden : List ℕ) × IsTakenPath station name hidden × (call ≡ Rename (path_in station Folder.Out name) hidden)
+
+-- the last call gave whatever stood under a name in out/ this hidden one
+abbrev pub IsHidden : (station name hidden : List ℕ) → List Asked → List Asked → Type 0
+IsHidden station name hidden before after = after ≡ Done (Rename (path_in station Folder.Out name) (path_in station Folder.Out hidden)) ∷ before

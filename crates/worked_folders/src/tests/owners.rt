@@ -1,0 +1,141 @@
+//! Files of out/ that get no second name, as those of another user don't, and are taken over.
+use fake_disk::FailingDisk;
+use rje_folders::{Folder, FolderFault, StationFolder};
+use rje_stores::Disk;
+use std::alloc::Global;
+use std::io::{self, ErrorKind};
+use std::process::Abort;
+use std::test::Fail;
+
+/// More calls than the station makes to take a file over.
+const MAX_CALLS: usize = 16;
+
+/// The number of the last call that it makes.
+const LAST_CALL: usize = 12;
+
+/// The folder of the station on this disk.
+fn opened(rt: &impl Abort, alloc: Global, disk: FailingDisk) -> StationFolder<FailingDisk> {
+    StationFolder::open(disk, alloc, "s").expect(rt, "a folder")
+}
+
+/// A disk with one file in out/, of another user.
+fn disk_of_another(alloc: Global, fails_at: usize, is_done: bool) -> io::Result<FailingDisk> {
+    let mut disk = FailingDisk::new(alloc, fails_at, is_done);
+    let file = disk.put_bytes("s/out/A.deck", b"12345")?;
+    disk.deny(file);
+    Ok(disk)
+}
+
+/// How many files lie ready in out/ whose bytes are these.
+fn count_ready(rt: &impl Abort, station: &StationFolder<FailingDisk>, bytes: &[u8]) -> usize {
+    let mut count: usize = 0;
+    for name in &station.names_ready().expect(rt, "names") {
+        let read = station.read(name.as_str(), 5).expect(rt, "a file");
+        if read.bytes.as_slice() == bytes {
+            count = count.saturating_add(1);
+        }
+    }
+    count
+}
+
+/// Whichever call fails, done or not, a station that begins then has the file once, as its own.
+#[test]
+fn a_file_of_another_user_is_taken_over(rt: HostRuntime) -> Result<(), Fail> {
+    let alloc = rt.alloc();
+    for fails_at in 0..MAX_CALLS {
+        for is_done in [false, true] {
+            let mut station = opened(&rt, alloc, disk_of_another(alloc, fails_at, is_done)?);
+            let taken = station.take_over("A.deck", 5);
+            assert!(rt; count_ready(&rt, &station, b"12345") <= 1);
+            let disk = station.close();
+            if let Ok(path) = &taken {
+                assert!(rt; path.as_str() == "s/out/A.deck" && disk.count() == 2);
+                assert!(rt; disk.file_of("s/out/A.deck") != Some(1));
+            }
+            assert!(rt; fails_at != 0 || taken.is_ok());
+            let station = opened(&rt, alloc, disk.mended());
+            assert!(rt; count_ready(&rt, &station, b"12345") == 1);
+            assert!(rt; station.close().count() == 2);
+        }
+    }
+    Ok(())
+}
+
+/// A station that was ended at any of its calls: the next one has the file once, as its own.
+#[test]
+fn a_file_that_was_being_taken_over_is_there_once(rt: HostRuntime) -> Result<(), Fail> {
+    let alloc = rt.alloc();
+    for ends_at in 1..MAX_CALLS {
+        let mut disk = disk_of_another(alloc, 0, false)?;
+        disk.end_at(ends_at);
+        let mut station = opened(&rt, alloc, disk);
+        let _ = station.take_over("A.deck", 5);
+        let station = opened(&rt, alloc, station.close().mended());
+        assert!(rt; count_ready(&rt, &station, b"12345") == 1);
+        let disk = station.close();
+        assert!(rt; disk.count() == 2 && disk.file_of("s/out/A.deck").is_some());
+    }
+    Ok(())
+}
+
+/// Whenever another file is put under the name it lies ready, and the one that is taken over does where it wasn't put in the place of that.
+#[test]
+fn a_file_that_is_put_there_meanwhile_stays(rt: HostRuntime) -> Result<(), Fail> {
+    let alloc = rt.alloc();
+    let mut frees: usize = 0;
+    for at in 1..=LAST_CALL {
+        let mut disk = disk_of_another(alloc, 0, false)?;
+        disk.put_meanwhile(at, "s/out/A.deck")?;
+        let mut station = opened(&rt, alloc, disk);
+        let _ = station.take_over("A.deck", 5);
+        let disk = station.close();
+        let was_free = disk.was_free();
+        assert!(rt; was_free.is_some() && disk.has("s/out/A.deck", b"NEW"));
+        let station = opened(&rt, alloc, disk);
+        assert!(rt; count_ready(&rt, &station, b"NEW") == 1);
+        let others = count_ready(&rt, &station, b"12345");
+        if was_free == Some(true) {
+            frees = frees.saturating_add(1);
+            assert!(rt; others == 1);
+        }
+        assert!(rt; others <= 1);
+    }
+    assert!(rt; 0 < frees);
+    Ok(())
+}
+
+#[test]
+fn a_file_that_cannot_be_taken_over_stays(rt: HostRuntime) -> Result<(), Fail> {
+    let alloc = rt.alloc();
+    let mut disk = disk_of_another(alloc, 0, false)?;
+    disk.stick(1);
+    let mut station = opened(&rt, alloc, disk);
+    let longer = station.take_over("A.deck", 4).err();
+    assert!(rt; longer == Some(FolderFault::TooLarge(Folder::Out)));
+    let refused = station.take_over("A.deck", 5).err();
+    assert!(rt; refused == Some(FolderFault::NoSecondName(ErrorKind::PermissionDenied)));
+    let disk = station.close();
+    assert!(rt; disk.count() == 2 && disk.file_of("s/out/A.deck") == Some(1));
+    Ok(())
+}
+
+/// A hidden name is taken away whose file has another one, and left where that isn't found; a file that has it alone gets a number where its name is
+/// taken.
+#[test]
+fn a_hidden_name_is_brought_to_its_end(rt: HostRuntime) -> Result<(), Fail> {
+    let mut disk = FailingDisk::new(rt.alloc(), 0, false);
+    let sent = disk.put("s/sent/A.2.deck")?;
+    disk.link("s/sent/A.2.deck", "s/out/.A.deck.taken-0")?;
+    let ready = disk.put("s/out/B.deck")?;
+    disk.link("s/out/B.deck", "s/out/.B.deck.taken-3")?;
+    let other = disk.put("s/sent/E.deck")?;
+    disk.link("s/sent/E.deck", "s/out/.C.deck.taken-0")?;
+    let alone = disk.put("s/out/.B.deck.taken-0")?;
+    let disk = opened(&rt, rt.alloc(), disk).close();
+    assert!(rt; disk.file_of("s/sent/A.2.deck") == Some(sent));
+    assert!(rt; disk.file_of("s/out/B.deck") == Some(ready));
+    assert!(rt; disk.file_of("s/out/.C.deck.taken-0") == Some(other));
+    assert!(rt; disk.file_of("s/out/B.2.deck") == Some(alone));
+    assert!(rt; disk.count() == 6);
+    Ok(())
+}
