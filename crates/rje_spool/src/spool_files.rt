@@ -422,7 +422,7 @@ impl<D: FolderDisk + Drop, C: Clock, W: Write, L: Write> SpoolFiles<D, C, W, L> 
         }
     }
 
-    /// The jobs of this file are in the transmission. How many cards they have. A file that can't get a second name is passed over.
+    /// The jobs of this file are in the transmission. How many cards they have. A file that can't get a second name is taken over, or passed over.
     fn give(
         &mut self,
         name: String,
@@ -438,10 +438,28 @@ impl<D: FolderDisk + Drop, C: Clock, W: Write, L: Write> SpoolFiles<D, C, W, L> 
     {
         match self.folder.try_second_name(name.as_str()) {
             Ok(()) => self.add(name, file, outgoing, jobs),
+            Err(FolderFault::NoSecondName(ErrorKind::PermissionDenied)) => {
+                self.take_over(name, file)?;
+                Ok(0)
+            }
             Err(fault) => {
                 self.leave(name, Some(file), fault)?;
                 Ok(0)
             }
+        }
+    }
+
+    /// Takes this file over, which can't get a second name, as one of another user can't: a file of the station's own lies ready then, at the next look
+    /// at the folder.
+    fn take_over(&mut self, name: String, file: FileIdentity) -> Result<(), SpoolFault>
+        ensures given { self.new.given ≡ self.old.given }
+        ensures on { D.discloses
+            → GoesOn (D.asked self.old.folder.disk) (D.asked self.new.folder.disk) }
+        ensures path { self.new.folder.path ≡ self.old.folder.path }
+    {
+        match self.folder.take_over(name.as_str(), MAX_INPUT as u64) {
+            Ok(_) | Err(FolderFault::Replaced) => Ok(()),
+            Err(fault) => self.leave(name, Some(file), fault),
         }
     }
 
