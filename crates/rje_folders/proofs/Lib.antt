@@ -6,3 +6,4 @@ pub mod Ready
 pub mod Marked
 pub mod Settling
 pub mod TakenOver
+pub mod Tried

@@ -1,6 +1,6 @@
 -- How bytes become a new file of a folder, which is never in the place of another.
 use Rattle.std.specs.Prelude.{◌≡◌, ◌⊎◌, ℕ, ◌≤◌, List, [], ◌∷◌, ◌++◌, length, Some, ⊤, codes, decimal}
-use Rattle.rje_stores.specs.Disk.{Asked, Call, Done, Create, Fill, Sync, Link, Remove, SyncFolder, bytes_of, standing}
+use Rattle.rje_stores.specs.Disk.{Asked, Call, Done, Create, Fill, Sync, Link, Remove, SyncFolder, bytes_of, call_of, standing}
 use Rattle.rje_stores.specs.Replacing.{IsWhole}
 
 -- the name of a new file of a folder as long as it is written; it begins with a dot, so that whoever reads the folder leaves it alone
@@ -26,3 +26,17 @@ WasNamed name before after = (from : List ℕ) × (earlier later : List Asked) �
 -- the file under this name was made after these calls, so it is none of the files that there were before
 abbrev pub WasMade : (name : List ℕ) → (before after : List Asked) → Type 0
 WasMade name before after = (number : ℕ) × (length before ≤ number) × (standing name after ≡ Some number)
+
+-- What may be asked to see whether bytes can be kept in a folder: a file is made under a name that is left alone, is written while it is empty, and put
+-- on disk; and such a name is taken away.
+abbrev pub MayTryToKeep : (folder : List ℕ) → Call → List Asked → Type 0
+MayTryToKeep folder (Create name) before = IsTemporary folder name
+MayTryToKeep folder (Fill file _) before = IsTemporary folder file.name × (bytes_of file.number before ≡ Some [])
+MayTryToKeep folder (Sync _) before = ⊤
+MayTryToKeep folder (Remove name) before = IsTemporary folder name
+MayTryToKeep folder _ before = ⊥
+
+-- a file of so many bytes was whole and on disk under a name of a folder that is left alone, and the last call was to take that name away
+abbrev pub HasTriedToKeep : (folder : List ℕ) → (len : ℕ) → List Asked → Type 0
+HasTriedToKeep folder len after = (name bytes : List ℕ) × (moment : List Asked) × (last : Asked) × IsTemporary folder name × (length bytes ≡ len) × IsWhole name bytes moment
+    × (after ≡ last ∷ moment) × (call_of last ≡ Remove name)

@@ -4,7 +4,7 @@ ghost use Rattle.rje_stores.specs.Disk.{has_synced_name};
 ghost use Rattle.rje_stores.specs.Replacing.{Adds, Either, IsOnDisk};
 ghost use Rattle.rje_folders.specs.FileNames.{IsBetween, IsBetweenFrom, IsNumbered};
 ghost use Rattle.rje_folders.specs.Folder.{path_in, path_of, why_path};
-ghost use Rattle.rje_folders.specs.Keeping.{MayKeep, WasMade, WasNamed};
+ghost use Rattle.rje_folders.specs.Keeping.{HasTriedToKeep, MayKeep, MayTryToKeep, WasMade, WasNamed};
 ghost use Rattle.rje_folders.specs.Marking.{IsMarked, IsSaid, MayMark, WasSaid};
 ghost use Rattle.rje_folders.specs.Moving.{IsGone, IsMoved, IsSecond, MayMove};
 ghost use Rattle.rje_folders.specs.Promising.{IsSent, IsSettled, MayDropCut, MayOpen, MayPromise, MaySettle, MayTry};
@@ -24,7 +24,7 @@ use crate::marking::set_mark;
 use crate::opening::{
     clear_up, is_there, locked, make_folders, names_of, names_ready, tidy_up, unreadable_names,
 };
-use crate::probing::try_second_name;
+use crate::probing::{try_second_name, try_to_keep};
 use crate::promising::{promise, put_in_doubt, settle};
 use crate::reading::{FileRead, identity, read_ready};
 use crate::receiving::{drop_cut, explain, keep_in, refuse};
@@ -145,6 +145,22 @@ impl<D: FolderDisk + Drop> StationFolder<D> {
         ensures path { self.new.path ≡ self.old.path }
     {
         take_over(&mut self.disk, self.alloc, self.path.as_str(), name, most)
+    }
+
+    /// Whether a new file of so many bytes can be kept in a folder, as far as a trial shows: one of zeros is made there under a name that is left alone,
+    /// put on disk, and taken away again, whatever came of it. An invalid input where it is more than 32 MiB.
+    pub fn try_to_keep(&mut self, folder: Folder, len: u64) -> Result<(), FolderFault>
+        ensures asks { D.discloses → Adds
+            (MayTryToKeep (path_of (string_bytes self.old.path) folder))
+            (D.asked self.old.disk) (D.asked self.new.disk) }
+        ensures tried { D.discloses → OnOk result
+            (HasTriedToKeep (path_of (string_bytes self.old.path) folder) len
+            (D.asked self.new.disk)) }
+        ensures path { self.new.path ≡ self.old.path }
+    {
+        try_to_keep(&mut self.disk, self.alloc, self.path.as_str(), folder, len).map_err(
+            |error| FolderFault::of(folder, &error),
+        )
     }
 
     /// Whether doubt/ has a file.

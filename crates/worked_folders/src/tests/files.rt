@@ -229,3 +229,24 @@ fn a_cut_file_is_taken_away_where_it_is_this_one(rt: HostRuntime) -> Result<(), 
     assert!(rt; station.close().file_of("s/cut/T-1.job").is_none());
     Ok(())
 }
+
+/// Whichever call fails, what was written to see whether a job can be kept is taken away, but where that itself fails or the file was made all the same.
+#[test]
+fn whether_a_job_can_be_kept_is_tried(rt: HostRuntime) -> Result<(), Fail> {
+    let alloc = rt.alloc();
+    // To make the file, to write it, to put it on disk, and to take it away.
+    for fails_at in 0..6 {
+        let mut station = opened(&rt, alloc, FailingDisk::new(alloc, fails_at, false));
+        let tried = station.try_to_keep(Folder::In, 3);
+        assert!(rt; tried.is_err() == (1..=3).contains(&fails_at));
+        let disk = station.close();
+        assert!(rt; disk.has("s/in/.rje-0.part", b"\0\0\0") == (fails_at == 4));
+        assert!(rt; disk.count() == if fails_at == 4 { 2 } else { 1 });
+    }
+    let mut station = opened(&rt, alloc, FailingDisk::new(alloc, 1, true));
+    let full = station.try_to_keep(Folder::In, 3).err();
+    assert!(rt; full == Some(FolderFault::Failed(Folder::In, ErrorKind::StorageFull)));
+    let longer = station.try_to_keep(Folder::In, 33_554_433).err();
+    assert!(rt; longer == Some(FolderFault::Failed(Folder::In, ErrorKind::InvalidInput)));
+    Ok(())
+}
