@@ -27,6 +27,9 @@ pub struct FailingDisk {
     meanwhile: Option<Meanwhile>,
     // From this call on none is done; of no number at 0.
     ends_at: usize,
+    // The folders that were made, where there were none; and whether their names are on disk.
+    folders: Option<usize>,
+    are_on_disk: bool,
     // What comes of each lock.
     locking: Locking,
 }
@@ -77,6 +80,8 @@ impl FailingDisk {
             stuck: 0,
             meanwhile: None,
             ends_at: 0,
+            folders: None,
+            are_on_disk: true,
             locking: Locking::Done,
         }
     }
@@ -108,6 +113,16 @@ impl FailingDisk {
             Some(other) => other.was_free,
             None => None,
         }
+    }
+
+    /// There are no folders: each is made from now on.
+    pub fn drop_folders(&mut self) {
+        self.folders = Some(0);
+    }
+
+    /// How many folders were made, where there were none, and their names are on disk.
+    pub fn folders_on_disk(&self) -> Option<usize> {
+        if self.are_on_disk { self.folders } else { None }
     }
 
     /// The call of this number fails and isn't done, and so do all that come after it: as if the one who asks was ended then.
@@ -496,7 +511,13 @@ impl Disk for FailingDisk {
     }
 
     fn sync_folder(&mut self, _folder: &()) -> io::Result<()> {
-        self.begins();
+        // One that comes first has nothing to put on disk, and isn't counted.
+        if self.calls == 0 {
+            return Ok(());
+        }
+        if self.begins() {
+            self.are_on_disk = true;
+        }
         self.ended()
     }
 
@@ -541,6 +562,13 @@ impl FolderDisk for FailingDisk {
     }
 
     fn make_folder(&mut self, _path: &str) -> io::Result<()> {
-        Ok(())
+        let Some(made) = self.folders else {
+            return Ok(());
+        };
+        if self.begins() {
+            self.folders = Some(made.saturating_add(1));
+            self.are_on_disk = false;
+        }
+        self.ended()
     }
 }

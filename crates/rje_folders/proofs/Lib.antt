@@ -7,3 +7,4 @@ pub mod Marked
 pub mod Settling
 pub mod TakenOver
 pub mod Tried
+pub mod Opened

@@ -1,7 +1,7 @@
 -- What becomes of the file of a job while the job may have arrived, and after that: at each moment it has a name on disk that says so.
 use Rattle.std.specs.Prelude.{◌≡◌, ◌⊎◌, ℕ, List, ◌∷◌, ◌++◌, true, codes}
 use Rattle.rje_day.specs.declared.disposition.Disposition.{Disposition}
-use Rattle.rje_stores.specs.Disk.{Asked, Call, Done, Link, OpenLock, Remove, standing, has_synced_name}
+use Rattle.rje_stores.specs.Disk.{Asked, Call, Done, Link, OpenLock, Remove, SyncFolder, standing, has_synced_name}
 use Rattle.rje_folders.specs.declared.file_identity.FileIdentity.{FileIdentity}
 use Rattle.rje_folders.specs.declared.folder.Folder.{Folder}
 use Rattle.rje_folders.specs.FileNames.{IsNamedAfter, IsNumbered}
@@ -61,6 +61,11 @@ MayTry station name call before = (second : List ℕ) × IsTemporary (path_of st
 abbrev pub MayDropCut : (is_file : List Asked → List ℕ → FileIdentity → Type 0) → (path : List ℕ) → FileIdentity → Call → List Asked → Type 0
 MayDropCut is_file path file call before = (call ≡ Remove path) × is_file before path file
 
--- what may be asked to have the folder of a station: to open the file that is locked, to clear the folders, and to tidy up
+-- what may be asked to have the folder of a station: to put the names of its folders on disk, to open the file that is locked, to clear the folders,
+-- and to tidy up
 abbrev pub MayOpen : (List Asked → List ℕ → List ℕ → Type 0) → (station : List ℕ) → Call → List Asked → Type 0
-MayOpen are_one station call before = (call ≡ OpenLock (lock_path station)) ⊎ MayClear station call before ⊎ MayTidy are_one station call before
+MayOpen are_one station call before = (call ≡ OpenLock (lock_path station)) ⊎ MayClear station call before ⊎ MayTidy are_one station call before ⊎ (call ≡ SyncFolder (path_of station Folder.Out))
+
+-- a name was on disk at one moment before these calls ended
+abbrev pub WasOnDisk : (name : List ℕ) → List Asked → Type 0
+WasOnDisk name after = (moment later : List Asked) × (after ≡ later ++ moment) × (has_synced_name name moment ≡ true)

@@ -1,6 +1,8 @@
 //! How a station gets its folder, and what it sees there.
-ghost use Rattle.std.specs.Prelude.{◌≡◌, IfOk, string_bytes};
+ghost use Rattle.std.specs.Prelude.{◌≡◌, true, IfOk, OnOk, string_bytes};
+ghost use Rattle.rje_stores.specs.Disk.{has_synced_name};
 ghost use Rattle.rje_stores.specs.Replacing.{Adds};
+ghost use Rattle.rje_folders.specs.Folder.{path_of};
 ghost use Rattle.rje_folders.specs.ReadyFile.{AreInOrder};
 ghost use Rattle.rje_folders.specs.Promising.{MayClear, MayOpen, MayTidy, lock_path};
 
@@ -9,25 +11,42 @@ use crate::folder::Folder;
 use crate::folder_disk::FolderDisk;
 use crate::folder_fault::FolderFault;
 use crate::kept_names::KeptNames;
+use crate::linking::sync_names;
 use crate::ready_file::{is_left_alone, ready_names};
 use crate::tidying::{has_kept_name, names_of_file, tidy_doubt, tidy_ready};
 use std::alloc::Global;
 use std::fs::TryLockError;
 use std::io::{self, ErrorKind};
 
-/// Makes those of the folders that aren't there.
+/// Makes those of the folders that aren't there, and puts their names on disk.
 pub(crate) fn make_folders<D: FolderDisk>(
     disk: &mut D,
     alloc: Global,
     station: &str,
 ) -> Result<(), FolderFault>
-    ensures { D.discloses → D.asked disk.new ≡ D.asked disk.old }
+    ensures asks { D.discloses → Adds (MayOpen D.are_one station.now)
+        (D.asked disk.old) (D.asked disk.new) }
+    ensures on_disk { D.discloses → OnOk result
+        (has_synced_name (path_of station.now Folder.Out) (D.asked disk.new) ≡ true) }
 {
     for folder in Folder::ALL {
         let made = make_folder(disk, alloc, station, folder);
         made.map_err(|error| FolderFault::of(folder, &error))?;
     }
-    Ok(())
+    let synced = sync_folders(disk, alloc, station);
+    synced.map_err(|error| FolderFault::own(&error))
+}
+
+/// Puts the names of the folders on disk, which stand in one folder.
+fn sync_folders<D: FolderDisk>(disk: &mut D, alloc: Global, station: &str) -> io::Result<()>
+    ensures asks { D.discloses → Adds (MayOpen D.are_one station.now)
+        (D.asked disk.old) (D.asked disk.new) }
+    ensures on_disk { D.discloses → OnOk result
+        (has_synced_name (path_of station.now Folder.Out) (D.asked disk.new) ≡ true) }
+{
+    let first = Folder::Out.own_path(alloc, station)?;
+    let folder = disk.open_folder(first.as_str())?;
+    sync_names(disk, &folder)
 }
 
 fn make_folder<D: FolderDisk>(

@@ -7,7 +7,7 @@ ghost use Rattle.rje_folders.specs.Folder.{path_in, path_of, why_path};
 ghost use Rattle.rje_folders.specs.Keeping.{HasTriedToKeep, MayKeep, MayTryToKeep, WasMade, WasNamed};
 ghost use Rattle.rje_folders.specs.Marking.{IsMarked, IsSaid, MayMark, WasSaid};
 ghost use Rattle.rje_folders.specs.Moving.{IsGone, IsMoved, IsSecond, MayMove};
-ghost use Rattle.rje_folders.specs.Promising.{IsSent, IsSettled, MayDropCut, MayOpen, MayPromise, MaySettle, MayTry};
+ghost use Rattle.rje_folders.specs.Promising.{IsSent, IsSettled, MayDropCut, MayOpen, MayPromise, MaySettle, MayTry, WasOnDisk};
 ghost use Rattle.rje_folders.specs.Reading.{IsLongerThan, IsReadOf};
 ghost use Rattle.rje_folders.specs.ReadyFile.{AreInOrder};
 ghost use Rattle.rje_folders.specs.TakingOver.{IsTakenOver, MayFinish, MayTakeOver};
@@ -44,12 +44,15 @@ pub struct StationFolder<D: FolderDisk + Drop> {
 }
 
 impl<D: FolderDisk + Drop> StationFolder<D> {
-    /// Has the folder of this path for this station, with what was begun there brought to its end. In use where another station has it.
+    /// Has the folder of this path for this station, with its folders on disk, and with what was begun there brought to its end. In use where another station has it.
     pub fn open(disk: D, alloc: Global, path: &str) -> Result<StationFolder<D>, FolderFault>
-        ensures { D.discloses → IfOk result (λ station.
+        ensures asks { D.discloses → IfOk result (λ station.
             Adds (Either (MayOpen D.are_one path.now)
             (MayFinish D.opened D.File.remaining D.is_open D.is_file D.are_one path.now))
             (D.asked disk) (D.asked station.disk)) }
+        // The names of its folders, which stand in one folder.
+        ensures on_disk { D.discloses → IfOk result (λ station.
+            WasOnDisk (path_of path.now Folder.Out) (D.asked station.disk)) }
     {
         let mut disk = disk;
         make_folders(&mut disk, alloc, path)?;

@@ -250,3 +250,19 @@ fn whether_a_job_can_be_kept_is_tried(rt: HostRuntime) -> Result<(), Fail> {
     assert!(rt; longer == Some(FolderFault::Failed(Folder::In, ErrorKind::InvalidInput)));
     Ok(())
 }
+
+/// A station that has a fresh folder has its eight folders on disk.
+#[test]
+fn a_fresh_folder_is_on_disk(rt: HostRuntime) -> Result<(), Fail> {
+    let alloc = rt.alloc();
+    // To make each of them, and to put them on disk.
+    for fails_at in 0..=10 {
+        let mut disk = FailingDisk::new(alloc, fails_at, false);
+        disk.drop_folders();
+        match StationFolder::open(disk, alloc, "s") {
+            Ok(station) => assert!(rt; station.close().folders_on_disk() == Some(8)),
+            Err(_) => assert!(rt; (1..=9).contains(&fails_at)),
+        }
+    }
+    Ok(())
+}
