@@ -5,7 +5,7 @@ use rje_commands::CommandFault;
 use rje_program::{command, is_for_sockets, is_for_station, socket_command_at};
 use rje_stores::FileStore;
 use rje_workstation::station_command;
-use std::fs::File;
+use std::fs::{File, OpenOptions};
 use std::io::IsTerminal;
 use std::os::fd::AsRawFd;
 use std::process::ExitCode;
@@ -28,8 +28,8 @@ fn run(rt: &HostRuntime) -> io::Result<u8> {
             "rje: reads a deck from the terminal, up to Ctrl-D; rje --help tells the commands"
         );
     }
+    let _held = [held_number(rt), held_number(rt), held_number(rt)];
     if is_for_station(words.as_slice()) {
-        let _held = [held_number(rt), held_number(rt), held_number(rt)];
         return Ok(station_command(
             rt,
             alloc,
@@ -41,7 +41,6 @@ fn run(rt: &HostRuntime) -> io::Result<u8> {
     }
     let mut store = FileStore::new(rt, alloc);
     let status = if is_for_sockets(words.as_slice()) {
-        let _held = [held_number(rt), held_number(rt), held_number(rt)];
         socket_command_at(
             rt,
             alloc,
@@ -65,12 +64,16 @@ fn run(rt: &HostRuntime) -> io::Result<u8> {
     Ok(status)
 }
 
-/// The null device, for reading, under the number of a standard stream that is closed. Else a file or a connection would get the number, and
-/// with it what is written to the stream.
+/// The null device under the number of a standard stream that is closed, so that no file and no connection gets the number, and with it what is
+/// written to the stream. It is open for what the stream isn't for: reading a closed input fails, and so does writing to a closed output.
 fn held_number(rt: &HostRuntime) -> Option<File> {
-    let null = File::open(rt, "/dev/null").ok()?;
+    let null = OpenOptions::new().write(true).open(rt, "/dev/null").ok()?;
     match null.as_raw_fd() {
-        0..=2 => Some(null),
+        0 => Some(null),
+        1 | 2 => {
+            drop(null);
+            File::open(rt, "/dev/null").ok()
+        }
         _ => None,
     }
 }
