@@ -17,8 +17,8 @@ from stationed import Station, told_by, waits_for  # noqa: E402
 
 # The user that the station runs as.
 OWN = 65534
-# The modes of the decks of root, and those of their copies: nobody reads one who couldn't read the deck, and nobody runs one.
-MODES = {"a.deck": (0o4755, 0o644), "b.deck": (0o604, 0o600)}
+# The modes of the decks of root, and those of their copies, which the station alone reads.
+MODES = {"a.deck": (0o4755, 0o600), "b.deck": (0o604, 0o600)}
 
 
 class OwnStation(Station):

@@ -3,11 +3,10 @@ ghost use Rattle.std.specs.Prelude.{[]};
 
 use crate::locking::Locking;
 use rje_folders::{FileIdentity, FolderDisk};
-use rje_stores::{ChangeTime, Disk, FileKind, FileStatus};
+use rje_stores::{ChangeTime, Disk, FileAccess, FileKind, FileStatus};
 use std::alloc::Global;
-use std::fs::{Permissions, TryLockError};
+use std::fs::TryLockError;
 use std::io::{self, Cursor, ErrorKind, Read};
-use std::os::unix::fs::PermissionsExt;
 
 /// Names with the numbers of their files, and what these have. Of calls that change something, the one of a number fails, and is done or not.
 #[derive(Drop)]
@@ -322,7 +321,11 @@ impl FailingDisk {
     fn status_of_file(&self, file: u64) -> FileStatus {
         FileStatus {
             kind: FileKind::Regular,
-            mode: Permissions::from_mode(0o640),
+            access: FileAccess {
+                mode: 0o640,
+                owner: 0,
+                group: 0,
+            },
             len: self.bytes_of(file).len() as u64,
             device: 1,
             inode: file,
@@ -361,6 +364,10 @@ impl Disk for FailingDisk {
     fn status(&self, name: &str) -> io::Result<FileStatus> {
         let file = self.found(name)?;
         Ok(self.status_of_file(file))
+    }
+
+    fn status_of_name(&self, name: &str) -> io::Result<FileStatus> {
+        self.status(name)
     }
 
     fn status_of(&self, file: &OpenFile) -> io::Result<FileStatus> {
@@ -404,6 +411,10 @@ impl Disk for FailingDisk {
         self.open_to_read(name)
     }
 
+    fn create_private(&mut self, name: &str) -> io::Result<OpenFile> {
+        self.create(name)
+    }
+
     fn open_to_copy(&mut self, name: &str) -> io::Result<OpenFile> {
         self.open_to_read(name)
     }
@@ -427,7 +438,7 @@ impl Disk for FailingDisk {
         }
     }
 
-    fn set_mode(&mut self, _file: &OpenFile, _mode: Permissions) -> io::Result<()> {
+    fn set_access(&mut self, _file: &OpenFile, _access: FileAccess) -> io::Result<()> {
         self.begins();
         self.ended()
     }

@@ -3,10 +3,10 @@ ghost use Rattle.std.specs.Prelude.{[]};
 
 use crate::failing_disk::{FailingDisk, OpenFile};
 use rje_folders::{FileIdentity, FolderDisk};
-use rje_stores::{Disk, FileStatus};
+use rje_stores::{Disk, FileAccess, FileStatus};
 use std::alloc::Global;
 use std::cell::{Ref, RefCell, RefMut};
-use std::fs::{Permissions, TryLockError};
+use std::fs::TryLockError;
 use std::io::{self, ErrorKind};
 
 /// A disk that others have too: a test puts files there, and looks at them, while a station has it.
@@ -57,6 +57,10 @@ impl Disk for SharedDisk<'_> {
         self.seen()?.status(name)
     }
 
+    fn status_of_name(&self, name: &str) -> io::Result<FileStatus> {
+        self.seen()?.status_of_name(name)
+    }
+
     fn status_of(&self, file: &OpenFile) -> io::Result<FileStatus> {
         self.seen()?.status_of(file)
     }
@@ -85,6 +89,10 @@ impl Disk for SharedDisk<'_> {
         self.changed()?.create(name)
     }
 
+    fn create_private(&mut self, name: &str) -> io::Result<OpenFile> {
+        self.changed()?.create_private(name)
+    }
+
     fn open_to_copy(&mut self, name: &str) -> io::Result<OpenFile> {
         self.changed()?.open_to_copy(name)
     }
@@ -104,8 +112,8 @@ impl Disk for SharedDisk<'_> {
         }
     }
 
-    fn set_mode(&mut self, file: &OpenFile, mode: Permissions) -> io::Result<()> {
-        self.changed()?.set_mode(file, mode)
+    fn set_access(&mut self, file: &OpenFile, access: FileAccess) -> io::Result<()> {
+        self.changed()?.set_access(file, access)
     }
 
     fn fill(&mut self, file: &OpenFile, bytes: &[u8]) -> io::Result<()> {

@@ -3,7 +3,7 @@ use Rattle.std.proofs.Common.{◌≡◌, ◌≢◌, ◌⊎◌, ℕ, inl, inr, Li
 use Rattle.std.specs.Prelude.{codes, decimal, IfSome}
 use Rattle.std.proofs.lemmas.List.{append_assoc, append_cancel_left}
 use Rattle.std.specs.declared.io.Error.{Error}
-use Rattle.rje_stores.specs.Disk.{Asked, Call, Opened, Done, Refused, Failed, SetMode, Rename, Remove, call_of, came_to, standing, bytes_of, is_synced}
+use Rattle.rje_stores.specs.Disk.{Asked, Call, Opened, Done, Refused, Failed, Rename, Remove, call_of, came_to, standing, bytes_of, is_synced}
 use Rattle.rje_stores.specs.Replacing.{Adds, Each, IsOnDisk, IsWhole}
 use Rattle.rje_stores.specs.Inside.Filling.{AddsSync, Fills, MayFill}
 use Rattle.rje_stores.proofs.Replacing.{added_call, added_none, added_weaker, call_came, filled_keeps, whatever_came, whole_renamed, whole_synced, same_name}
@@ -17,8 +17,8 @@ use Rattle.rje_folders.specs.Moving.{IsMoved, MayDrop, MayMove}
 use Rattle.rje_folders.specs.Promising.{IsKeptElsewhere}
 use Rattle.rje_folders.specs.Reading.{IsReadOf}
 use Rattle.rje_folders.specs.TakingOver.{IsTakenName, IsTakenOver, IsTakenPath, MayCopy, MayFinish, MayGiveBack, MayTakeOver, WasRead}
-use Rattle.rje_folders.specs.Inside.Calls.{HasCopy, IsHidden, IsNewIn, MayCreate, MayHide, MayWrite, MayWriteCopy}
-use Rattle.rje_folders.proofs.NewFile.{file_temporary, new_is_empty, new_stands}
+use Rattle.rje_folders.specs.Inside.Calls.{HasCopy, IsHidden, IsNewIn, MayCreate, MayHide, MayWrite}
+use Rattle.rje_folders.proofs.NewFile.{file_temporary, new_is_empty, new_stands, write_fills}
 use Rattle.rje_folders.proofs.Taken.{other_name, sync_keeps_standing}
 
 -- THE COPY
@@ -28,40 +28,19 @@ pub create_copies : (folder : List ℕ) (a b : List Asked) → Adds (MayCreate f
 create_copies folder a b adds =
     added_weaker (MayCreate folder) (MayCopy folder) (λ call before (name, temporary, e). subst (λ c. MayCopy folder c before) (sym e) temporary) a b adds
 
--- to give a file its mode leaves its bytes
-pub mode_leaves : {A : Type 0} (result : Result A Error) (file : Opened) (number : ℕ) (a b : List Asked) → b ≡ came_to result (SetMode file) ∷ a → bytes_of number b ≡ bytes_of number a
-mode_leaves result file number a b made =
-    let Stays : Call → Type 0 = λ c. (bytes_of number (Done c ∷ a) ≡ bytes_of number a) × (bytes_of number (Refused c ∷ a) ≡ bytes_of number a) × (bytes_of number (Failed c ∷ a) ≡ bytes_of number a) in
-    let parts : Stays (call_of (came_to result (SetMode file))) = subst Stays (sym (call_came result (SetMode file))) (refl, refl, refl) in
-    subst (λ (l : List Asked). bytes_of number l ≡ bytes_of number a) (sym made) (whatever_came (λ x. bytes_of number (x ∷ a) ≡ bytes_of number a) (came_to result (SetMode file)) parts.0 parts.1 parts.2)
-
-pub mode_writes : {A : Type 0} (result : Result A Error) (file : Opened) (a b : List Asked) → b ≡ came_to result (SetMode file) ∷ a → bytes_of file.number a ≡ Some [] → Adds (MayWriteCopy file) a b
-mode_writes result file a b made empty = added_call (MayWriteCopy file) a a b result (SetMode file) (added_none (MayWriteCopy file) a) made (inl (refl, empty))
-
-pub write_writes : (file : Opened) (a b : List Asked) → Adds (MayWrite file) a b → Adds (MayWriteCopy file) a b
-write_writes file a b adds = added_weaker (MayWrite file) (MayWriteCopy file) (λ call before may. inr may) a b adds
-
 -- what is asked to write it
-copy_fills : (file : Opened) (a b : List Asked) → Adds (MayWriteCopy file) a b → Adds (MayFill file) a b
-copy_fills file a b adds = added_weaker (MayWriteCopy file) (MayFill file) (write_may file) a b adds where
-  write_may : (file : Opened) (call : Call) (before : List Asked) → MayWriteCopy file call before → MayFill file call before
-  write_may file call before (inl (e, empty)) = inl e
-  write_may file call before (inr (inl (bytes, e, empty))) = inr (inl (bytes, e))
-  write_may file call before (inr (inr e)) = inr (inr (inl e))
-
-pub write_copies : (folder : List ℕ) (file : Opened) (name : List ℕ) (a b : List Asked) → IsNewIn folder file name a → Adds (MayWriteCopy file) a b → Adds (MayCopy folder) a b
-write_copies folder file name a b new adds = added_weaker (MayWriteCopy file) (MayCopy folder) (write_may folder file (file_temporary folder file name a new)) a b adds where
-  write_may : (folder : List ℕ) (file : Opened) → IsTemporary folder file.name → (call : Call) (before : List Asked) → MayWriteCopy file call before → MayCopy folder call before
-  write_may folder file temporary call before (inl (e, empty)) = subst (λ c. MayCopy folder c before) (sym e) (temporary, empty)
-  write_may folder file temporary call before (inr (inl (written, e, empty))) = subst (λ c. MayCopy folder c before) (sym e) (temporary, empty)
-  write_may folder file temporary call before (inr (inr e)) = subst (λ c. MayCopy folder c before) (sym e) temporary
+pub write_copies : (folder : List ℕ) (file : Opened) (name : List ℕ) (a b : List Asked) → IsNewIn folder file name a → Adds (MayWrite file) a b → Adds (MayCopy folder) a b
+write_copies folder file name a b new adds = added_weaker (MayWrite file) (MayCopy folder) (write_may folder file (file_temporary folder file name a new)) a b adds where
+  write_may : (folder : List ℕ) (file : Opened) → IsTemporary folder file.name → (call : Call) (before : List Asked) → MayWrite file call before → MayCopy folder call before
+  write_may folder file temporary call before (inl (written, e, empty)) = subst (λ c. MayCopy folder c before) (sym e) (temporary, empty)
+  write_may folder file temporary call before (inr e) = subst (λ c. MayCopy folder c before) (sym e) temporary
 
 -- the name that is left alone stands for it
-pub copy_stands : (folder : List ℕ) (file : Opened) (name : List ℕ) (a b : List Asked) → IsNewIn folder file name a → Adds (MayWriteCopy file) a b → standing name b ≡ Some file.number
-copy_stands folder file name a b new adds = filled_keeps file name a b (copy_fills file a b adds) ∙ new_stands folder file name a new
+pub copy_stands : (folder : List ℕ) (file : Opened) (name : List ℕ) (a b : List Asked) → IsNewIn folder file name a → Adds (MayWrite file) a b → standing name b ≡ Some file.number
+copy_stands folder file name a b new adds = filled_keeps file name a b (write_fills file a b adds) ∙ new_stands folder file name a new
 
 -- once it is written it is whole there
-pub copy_whole : (folder : List ℕ) (file : Opened) (name bytes : List ℕ) (a b : List Asked) → IsNewIn folder file name a → Adds (MayWriteCopy file) a b → Fills file.number bytes a b → IsWhole name bytes b
+pub copy_whole : (folder : List ℕ) (file : Opened) (name bytes : List ℕ) (a b : List Asked) → IsNewIn folder file name a → Adds (MayWrite file) a b → Fills file.number bytes a b → IsWhole name bytes b
 copy_whole folder file name bytes a b new adds fills =
     let has : (bytes_of file.number b ≡ Some bytes) × (is_synced file.number b ≡ true) = fills (new_is_empty folder file name a new) in
     (file.number, copy_stands folder file name a b new adds, has.0, has.1)

@@ -1,24 +1,18 @@
 //! How a file of out/ is copied.
-ghost use Rattle.std.specs.Prelude.{◌≡◌, ℕ, List, [], Some, IfOk, OnOk, string_bytes};
-ghost use Rattle.rje_stores.specs.Disk.{bytes_of};
+ghost use Rattle.std.specs.Prelude.{IfOk, string_bytes};
 ghost use Rattle.rje_stores.specs.Replacing.{Adds, IsWhole};
-ghost use Rattle.rje_stores.specs.Inside.Filling.{Fills};
 ghost use Rattle.rje_folders.specs.Folder.{path_in, path_of};
 ghost use Rattle.rje_folders.specs.Keeping.{IsTemporary, WasMade};
 ghost use Rattle.rje_folders.specs.Reading.{IsReadOf};
 ghost use Rattle.rje_folders.specs.TakingOver.{MayCopy};
-ghost use Rattle.rje_folders.specs.Inside.Calls.{MayWriteCopy};
 
 use crate::folder::Folder;
 use crate::folder_disk::FolderDisk;
 use crate::folder_fault::FolderFault;
 use crate::keeping::{create_new, fill_new};
 use crate::reading::{FileRead, read_ready};
-use rje_stores::Disk;
 use std::alloc::Global;
-use std::fs::Permissions;
 use std::io;
-use std::os::unix::fs::PermissionsExt;
 
 /// A copy of a file of out/, which stands in refused/ under a name that is left alone.
 #[derive(Drop)]
@@ -48,18 +42,17 @@ pub(crate) fn copied<D: FolderDisk>(
         IsTemporary (path_of station.now Folder.Refused) (string_bytes copy.path)) }
 {
     let read = read_ready(disk, alloc, station, name, most)?;
-    match new_copy(disk, alloc, station, name, read.bytes.as_slice()) {
+    match new_copy(disk, alloc, station, read.bytes.as_slice()) {
         Ok(path) => Ok(FileCopy { path, read }),
         Err(error) => Err(FolderFault::of(Folder::Out, &error)),
     }
 }
 
-/// A new file with these bytes, as a copy of a file of out/, on disk. Its path.
+/// A new file with these bytes, as a copy of a file of out/, on disk, that the station's user alone may read. Its path.
 fn new_copy<D: FolderDisk>(
     disk: &mut D,
     alloc: Global,
     station: &str,
-    name: &str,
     bytes: &[u8],
 ) -> io::Result<String>
     ensures asks { D.discloses → Adds (MayCopy (path_of station.now Folder.Refused))
@@ -71,42 +64,13 @@ fn new_copy<D: FolderDisk>(
     ensures named { D.discloses → IfOk result (λ path.
         IsTemporary (path_of station.now Folder.Refused) (string_bytes path)) }
 {
-    let ready = Folder::Out.path(alloc, station, name)?;
     let own = Folder::Refused.own_path(alloc, station)?;
-    let mode = disk.status(ready.as_str())?.mode;
     let new = create_new(disk, alloc, own.as_str())?;
-    match fill_copy(disk, &new.file, copy_mode(&mode), bytes) {
+    match fill_new(disk, &new.file, bytes) {
         Ok(()) => Ok(new.path),
         Err(error) => {
             let _ = disk.remove(new.path.as_str());
             Err(error)
         }
     }
-}
-
-/// The mode of a copy of a file of this mode. Its owner reads and writes it; others read it who could read the file, whichever group has it; and nobody
-/// runs it.
-fn copy_mode(mode: &Permissions) -> Permissions {
-    if mode.mode() & 0o044 == 0o044 {
-        Permissions::from_mode(0o644)
-    } else {
-        Permissions::from_mode(0o600)
-    }
-}
-
-/// Gives an empty file this mode and these bytes, and has it on disk.
-fn fill_copy<D: Disk>(
-    disk: &mut D,
-    file: &D::File,
-    mode: Permissions,
-    bytes: &[u8],
-) -> io::Result<()>
-    ensures asks { D.discloses
-        → bytes_of (D.opened file.now).number (D.asked disk.old) ≡ Some []
-        → Adds (MayWriteCopy (D.opened file.now)) (D.asked disk.old) (D.asked disk.new) }
-    ensures filled { D.discloses → OnOk result
-        (Fills (D.opened file.now).number bytes.now (D.asked disk.old) (D.asked disk.new)) }
-{
-    disk.set_mode(file, mode)?;
-    fill_new(disk, file, bytes)
 }

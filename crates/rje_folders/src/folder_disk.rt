@@ -40,7 +40,7 @@ pub trait FolderDisk: Disk {
     /// How many names in a folder are no text.
     fn count_unreadable_names(&self, folder: &str) -> io::Result<usize>;
 
-    /// Makes a folder, where there is none of this name.
+    /// Makes a folder, where there is none of this name, that its owner alone may read and write.
     fn make_folder(&mut self, path: &str) -> io::Result<()>
         ensures { Self.discloses → Self.asked self.new ≡ Self.asked self.old };
 }
@@ -94,7 +94,7 @@ impl<'a, R: Files<File = File> + Alloc + Clone + Drop> FolderDisk for SystemDisk
     }
 
     fn make_folder(&mut self, path: &str) -> io::Result<()> {
-        match fs::create_dir(self.runtime(), path) {
+        match self.runtime().create_dir_with_mode(path, 0o700) {
             Err(error) if error.kind() == ErrorKind::AlreadyExists => Ok(()),
             made => made,
         }

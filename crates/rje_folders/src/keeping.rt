@@ -56,7 +56,7 @@ pub fn keep<D: Disk>(
     kept
 }
 
-/// A new file of a folder, empty.
+/// A new file of a folder, empty, that the station's user alone may read.
 pub(crate) fn create_new<D: Disk>(
     disk: &mut D,
     alloc: Global,
@@ -71,7 +71,7 @@ pub(crate) fn create_new<D: Disk>(
 {
     for number in 0..u32::MAX {
         let path = temporary_name(alloc, folder, number)?;
-        match disk.create(path.as_str()) {
+        match disk.create_private(path.as_str()) {
             Ok(file) => return Ok(NewFile { file, path }),
             Err(error) if error.kind() == ErrorKind::AlreadyExists => {}
             Err(error) => return Err(error),

@@ -25,8 +25,15 @@ pub struct FileRead {
     pub file: FileIdentity,
 }
 
-/// What there is to be read of a file in out/, and which file it is. Too large where it has more than `most`; being written where it was written
-/// to meanwhile.
+/// A file that is open to be read, and which file stood under its name before that.
+#[derive(Drop)]
+struct NamedFile<F: Drop> {
+    file: F,
+    named: FileIdentity,
+}
+
+/// What there is to be read of a file in out/, and which file it is: the one that stands under the name itself. Too large where it has more than `most`;
+/// being written where it was written to, or another one took the name, meanwhile.
 pub(crate) fn read_ready<D: FolderDisk>(
     disk: &D,
     alloc: Global,
@@ -36,37 +43,40 @@ pub(crate) fn read_ready<D: FolderDisk>(
 ) -> Result<FileRead, FolderFault>
     ensures all { D.discloses → IfOk result (IsReadOf D.opened D.File.remaining
         (D.is_open (D.asked disk.now)) (path_in station.now Folder.Out name.now)) }
+    ensures named { IfOk result (λ read. D.is_file (D.asked disk.now)
+        (path_in station.now Folder.Out name.now) read.file) }
     ensures limit { IfOk result (λ read. length read.bytes.items ≤ most) }
     ensures long { D.discloses → IsErrOf result (TooLarge Folder.Out)
         → IsLongerThan D.opened D.File.remaining
         (path_in station.now Folder.Out name.now) most }
 {
     match open_ready(disk, alloc, station, name) {
-        Ok(file) => {
-            let mut file = file;
-            read_whole(disk, alloc, &mut file, most)
+        Ok(NamedFile { mut file, named }) => read_whole(disk, alloc, &mut file, named, most),
+        Err(error) if error.kind() == ErrorKind::ResourceBusy => {
+            Err(FolderFault::BeingWritten(Folder::Out))
         }
         Err(error) => Err(FolderFault::of(Folder::Out, &error)),
     }
 }
 
-/// What there is to be read of an open file of out/, which is the same one before its first byte and behind its last.
+/// What there is to be read of an open file of out/, which is this one before its first byte and behind its last.
 fn read_whole<D: FolderDisk>(
     disk: &D,
     alloc: Global,
     file: &mut D::File,
+    named: FileIdentity,
     most: u64,
 ) -> Result<FileRead, FolderFault>
-    ensures all { IfOk result (IsWholeRead D.File.remaining (D.is_open (D.asked disk.now)) file.old) }
+    ensures all { D.is_open (D.asked disk.now) file.old named → IfOk result
+        (IsWholeRead D.File.remaining (D.is_open (D.asked disk.now)) file.old) }
+    ensures named { IfOk result (λ read. read.file ≡ named) }
     ensures limit { IfOk result (λ read. length read.bytes.items ≤ most) }
     ensures long { IsErrOf result (TooLarge Folder.Out) → IfSome (D.File.remaining file.old)
         (λ rest. most < length rest) }
 {
-    let before = identity_of(disk, file)?;
     let bytes = read_all(alloc, Folder::Out, file, most)?;
-    let after = identity_of(disk, file)?;
-    if before == after {
-        Ok(FileRead { bytes, file: after })
+    if identity_of(disk, file)? == named {
+        Ok(FileRead { bytes, file: named })
     } else {
         Err(FolderFault::BeingWritten(Folder::Out))
     }
@@ -96,25 +106,48 @@ pub(crate) fn identity<D: FolderDisk>(
     disk.identity(ready.as_str())
 }
 
-/// A file in out/, open to be read. A symbolic link is refused, since its names in other folders can't be told from others, and so are a folder, a
-/// device, and a pipe, which would be waited for.
+/// A file in out/, open to be read: the one that stands under its name itself. A symbolic link is refused, since its names in other folders can't be told
+/// from others, and so are a folder, a device, and a pipe, which would be waited for; busy where another file took the name meanwhile.
 fn open_ready<D: FolderDisk>(
     disk: &D,
     alloc: Global,
     station: &str,
     name: &str,
-) -> io::Result<D::File>
-    ensures { D.discloses → IfOk result (λ file.
-        (D.opened file).name ≡ path_in station.now Folder.Out name.now) }
+) -> io::Result<NamedFile<D::File>>
+    ensures opened { D.discloses → IfOk result (λ ready.
+        (D.opened ready.file).name ≡ path_in station.now Folder.Out name.now) }
+    ensures is { IfOk result (λ ready. D.is_open (D.asked disk.now) ready.file ready.named) }
+    ensures named { IfOk result (λ ready. D.is_file (D.asked disk.now)
+        (path_in station.now Folder.Out name.now) ready.named) }
 {
     let ready = Folder::Out.path(alloc, station, name)?;
+    let named = disk.identity(ready.as_str())?;
     if disk.is_link(ready.as_str())? {
         return Err(io::Error::from(ErrorKind::Unsupported));
     }
     match disk.status(ready.as_str())?.kind {
-        FileKind::Regular => disk.open_to_read(ready.as_str()),
+        FileKind::Regular => open_named(disk, ready.as_str(), named),
         FileKind::Folder => Err(io::Error::from(ErrorKind::IsADirectory)),
         FileKind::Device => Err(io::Error::from(ErrorKind::Unsupported)),
+    }
+}
+
+/// The file under a name, open to be read, where it is the one that was seen to stand there. So a link that takes the name between the look and the open
+/// leads nowhere.
+fn open_named<D: FolderDisk>(
+    disk: &D,
+    path: &str,
+    named: FileIdentity,
+) -> io::Result<NamedFile<D::File>>
+    ensures opened { D.discloses → IfOk result (λ ready. (D.opened ready.file).name ≡ path.now) }
+    ensures is { IfOk result (λ ready. D.is_open (D.asked disk.now) ready.file ready.named) }
+    ensures named { IfOk result (λ ready. ready.named ≡ named) }
+{
+    let file = disk.open_to_read(path)?;
+    if disk.identity_of(&file)? == named {
+        Ok(NamedFile { file, named })
+    } else {
+        Err(io::Error::from(ErrorKind::ResourceBusy))
     }
 }
 

@@ -102,6 +102,9 @@ impl<D: FolderDisk + Drop> StationFolder<D> {
         ensures all { D.discloses → IfOk result (IsReadOf D.opened D.File.remaining
             (D.is_open (D.asked self.now.disk))
             (path_in (string_bytes self.now.path) Folder.Out name.now)) }
+        // It is the file that stands under the name itself, as the disk said.
+        ensures named { IfOk result (λ read. D.is_file (D.asked self.now.disk)
+            (path_in (string_bytes self.now.path) Folder.Out name.now) read.file) }
         ensures limit { IfOk result (λ read. length read.bytes.items ≤ most) }
         ensures long { D.discloses → IsErrOf result (TooLarge Folder.Out)
             → IsLongerThan D.opened D.File.remaining

@@ -3,7 +3,7 @@ ghost use Rattle.std.specs.Prelude.{◌≡◌, ℕ, List, ◌∷◌, length, Non
 ghost use Rattle.rje_stores.specs.Disk.{Asked, Opened, Create, OpenLock, SetMode, Fill, GoOn, WriteAt, Sync, SyncBytes, Rename, Link, Remove, SyncFolder, WriteDevice, IsOpened, came_to, seen_as, standing, bytes_of};
 
 use std::alloc::Global;
-use std::fs::{Metadata, Permissions, TryLockError};
+use std::fs::{Metadata, TryLockError};
 use std::io::{self, Read};
 use std::os::unix::fs::MetadataExt;
 
@@ -27,13 +27,24 @@ pub struct ChangeTime {
     pub nanoseconds: i64,
 }
 
+/// Who may read and write a file.
+#[derive(Clone, Copy, Debug, PartialEq, Eq)]
+pub struct FileAccess {
+    /// What its owner, its group and others may do, as the bits of its mode.
+    pub mode: u32,
+    /// Its owner, as a number.
+    pub owner: u32,
+    /// Its group, as a number.
+    pub group: u32,
+}
+
 /// What the system says of a file.
 #[derive(Drop)]
 pub struct FileStatus {
     /// The kind of file.
     pub kind: FileKind,
     /// Who may read and write it.
-    pub mode: Permissions,
+    pub access: FileAccess,
     /// How many bytes it has.
     pub len: u64,
     /// The disk that it is on, as a number.
@@ -50,7 +61,11 @@ impl From<Metadata> for FileStatus {
     fn from(found: Metadata) -> FileStatus {
         FileStatus {
             kind: kind_of(&found),
-            mode: found.permissions(),
+            access: FileAccess {
+                mode: found.mode() & 0o777,
+                owner: found.uid(),
+                group: found.gid(),
+            },
             len: found.len(),
             device: found.dev(),
             inode: found.ino(),
@@ -105,6 +120,9 @@ pub trait Disk {
         ensures { IfOk result (λ status. status.kind ≡ FileKind.Device
             → is_device self.now name.now) };
 
+    /// What stands under a name, itself and not what it leads to: a symbolic link is a device then.
+    fn status_of_name(&self, name: &str) -> io::Result<FileStatus>;
+
     /// What an open file is.
     fn status_of(&self, file: &Self::File) -> io::Result<FileStatus>
         ensures { discloses → IfOk result (λ status.
@@ -136,6 +154,14 @@ pub trait Disk {
         ensures file { discloses → IfOk result (λ file.
             opened file ≡ record { name = name.now; number = length (asked self.old) }) };
 
+    /// The same of a file that its owner alone may read and write, until it is given its access.
+    fn create_private(&mut self, name: &str) -> io::Result<Self::File>
+        ensures asks { discloses
+            → asked self.new ≡ came_to result (Create name.now) ∷ asked self.old }
+        ensures free { discloses → OnOk result (standing name.now (asked self.old) ≡ None) }
+        ensures file { discloses → IfOk result (λ file.
+            opened file ≡ record { name = name.now; number = length (asked self.old) }) };
+
     /// The file under a name, open to be read, of which a copy is to be made.
     fn open_to_copy(&mut self, name: &str) -> io::Result<Self::File>
         ensures asks { discloses → IsOpened result name.now (asked self.old) (asked self.new) }
@@ -148,7 +174,7 @@ pub trait Disk {
         ensures file { discloses → IfOk result (λ file.
             opened file ≡ record { name = name.now; number = seen_as name.now (asked self.old) }) };
 
-    /// The file under a name, an empty one where there is none, open to be read and written.
+    /// The file under a name, open to be read and written: an empty one where there is none, that its owner alone may read and write.
     fn open_or_create(&mut self, name: &str) -> io::Result<Self::File>
         ensures asks { discloses
             → asked self.new ≡ came_to result (OpenLock name.now) ∷ asked self.old }
@@ -158,8 +184,8 @@ pub trait Disk {
     /// Locks an open file, as long as it is open.
     fn try_lock(&self, file: &Self::File) -> Result<(), TryLockError>;
 
-    /// Gives a file its mode.
-    fn set_mode(&mut self, file: &Self::File, mode: Permissions) -> io::Result<()>
+    /// Gives a file its owner and its group, and then its mode. Where it can't have the group, nobody but its owner may read and write it.
+    fn set_access(&mut self, file: &Self::File, access: FileAccess) -> io::Result<()>
         ensures { discloses
             → asked self.new ≡ came_to result (SetMode (opened file.now)) ∷ asked self.old };
 

@@ -9,7 +9,7 @@ mod growing;
 mod locks;
 mod marked;
 
-use crate::disk::{Disk, FileKind};
+use crate::disk::{Disk, FileAccess, FileKind};
 use crate::reading::{MAX_INPUT, read_all};
 use crate::store::{Place, Store, StoreFault};
 use crate::system_disk::SystemDisk;
@@ -18,7 +18,7 @@ use growing::Growing;
 use locks::FileLock;
 use marked::MarkedDisk;
 use std::alloc::Global;
-use std::fs::{File, Permissions};
+use std::fs::File;
 use std::io::{self, ErrorKind};
 use std::rt::Files;
 
@@ -38,8 +38,8 @@ pub struct FileStore<D: Disk> {
 enum Target {
     /// Nothing.
     New,
-    /// A file on disk, with this mode.
-    File(Permissions),
+    /// A file on disk, with this access.
+    File(FileAccess),
     /// A device or a pipe.
     Device,
 }
@@ -104,7 +104,9 @@ impl<D: Disk> FileStore<D> {
         match target_of(self.disk.disk(), path)? {
             Target::Device => Ok(self.disk.closed().write_device(path, bytes)?),
             Target::New => replace(self.disk.closed(), self.alloc, path, None, bytes),
-            Target::File(mode) => replace(self.disk.closed(), self.alloc, path, Some(mode), bytes),
+            Target::File(access) => {
+                replace(self.disk.closed(), self.alloc, path, Some(access), bytes)
+            }
         }
     }
 
@@ -177,7 +179,7 @@ fn target_of<D: Disk>(disk: &D, path: &str) -> io::Result<Target>
             FileKind::Folder => Err(io::Error::from(ErrorKind::IsADirectory)),
             FileKind::Regular => {
                 disk.try_to_write(path)?;
-                Ok(Target::File(found.mode))
+                Ok(Target::File(found.access))
             }
             FileKind::Device => Ok(Target::Device),
         },

@@ -8,7 +8,7 @@ mod reading;
 mod store;
 mod system_disk;
 
-pub use disk::{ChangeTime, Disk, FileKind, FileStatus};
+pub use disk::{ChangeTime, Disk, FileAccess, FileKind, FileStatus};
 pub use file_store::FileStore;
 pub use memory_store::MemoryStore;
 pub use reading::{MAX_INPUT, read_all};

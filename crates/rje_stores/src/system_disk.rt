@@ -1,11 +1,12 @@
 //! The system's disk.
 ghost use Rattle.std.specs.Prelude.{[]};
 
-use crate::disk::{Disk, FileStatus};
+use crate::disk::{Disk, FileAccess, FileStatus};
 use std::alloc::Global;
 use std::fs::{self, File, OpenOptions, Permissions, TryLockError};
 use std::io::{self, Seek, SeekFrom, Write};
-use std::os::unix::fs::FileExt;
+use std::os::fd::AsFd;
+use std::os::unix::fs::{FileExt, OpenOptionsExt, PermissionsExt, fchown};
 use std::rt::Files;
 
 /// What the runtime reaches. It discloses nothing that it is asked.
@@ -47,6 +48,10 @@ impl<'a, R: Files<File = File>> Disk for SystemDisk<'a, R> {
         Ok(FileStatus::from(self.rt.metadata(name)?))
     }
 
+    fn status_of_name(&self, name: &str) -> io::Result<FileStatus> {
+        Ok(FileStatus::from(self.rt.symlink_metadata(name)?))
+    }
+
     fn status_of(&self, file: &File) -> io::Result<FileStatus> {
         Ok(FileStatus::from(file.metadata()?))
     }
@@ -83,6 +88,15 @@ impl<'a, R: Files<File = File>> Disk for SystemDisk<'a, R> {
             .open(self.rt, name)
     }
 
+    fn create_private(&mut self, name: &str) -> io::Result<File> {
+        OpenOptions::new()
+            .read(true)
+            .write(true)
+            .create_new(true)
+            .mode(0o600)
+            .open(self.rt, name)
+    }
+
     fn open_to_copy(&mut self, name: &str) -> io::Result<File> {
         fs::open(self.rt, name)
     }
@@ -96,6 +110,7 @@ impl<'a, R: Files<File = File>> Disk for SystemDisk<'a, R> {
             .read(true)
             .write(true)
             .create(true)
+            .mode(0o600)
             .open(self.rt, name)
     }
 
@@ -103,8 +118,12 @@ impl<'a, R: Files<File = File>> Disk for SystemDisk<'a, R> {
         file.try_lock()
     }
 
-    fn set_mode(&mut self, file: &File, mode: Permissions) -> io::Result<()> {
-        file.set_permissions(mode)
+    fn set_access(&mut self, file: &File, access: FileAccess) -> io::Result<()> {
+        let mode = match has_group(file, access) {
+            true => access.mode & 0o777,
+            false => access.mode & 0o700,
+        };
+        file.set_permissions(Permissions::from_mode(mode))
     }
 
     fn fill(&mut self, mut file: &File, bytes: &[u8]) -> io::Result<()> {
@@ -164,4 +183,15 @@ impl<'a, R: Files<File = File>> Disk for SystemDisk<'a, R> {
     fn write_device(&mut self, name: &str, bytes: &[u8]) -> io::Result<()> {
         fs::write(self.rt, name, bytes)
     }
+}
+
+/// Gives a file its owner and its group, or where it can't have the owner the group alone. Whether it has the group.
+fn has_group(file: &File, access: FileAccess) -> bool {
+    let FileAccess {
+        mode: _,
+        owner,
+        group,
+    } = access;
+    fchown(file.as_fd(), Some(owner), Some(group)).is_ok()
+        || fchown(file.as_fd(), None, Some(group)).is_ok()
 }

@@ -1,6 +1,6 @@
 -- What is asked step by step, and what names come to.
 use Rattle.std.specs.Prelude.{◌≡◌, ◌≢◌, ◌⊎◌, ℕ, List, [], ◌∷◌, ◌++◌, length, Option, Some, None, true}
-use Rattle.rje_stores.specs.Disk.{Asked, Call, Opened, Done, Create, SetMode, Fill, Sync, Rename, Link, Remove, standing, bytes_of, is_synced, has_synced_name}
+use Rattle.rje_stores.specs.Disk.{Asked, Call, Opened, Done, Create, Fill, Sync, Rename, Link, Remove, standing, bytes_of, is_synced, has_synced_name}
 use Rattle.rje_stores.specs.Replacing.{IsOnDisk, IsWhole}
 use Rattle.rje_stores.specs.Inside.Filling.{AddsSync}
 use Rattle.rje_folders.specs.declared.file_names.FileNames.{FileNames}
@@ -55,10 +55,6 @@ IsKept temporary name bytes after = (name ≢ temporary) × IsOnDisk name bytes 
 abbrev pub first_number : FileNames → ℕ
 first_number (Of name) = 1
 first_number (Numbered stem ending first) = first
-
--- what may be asked to write a copy, while it is empty
-abbrev pub MayWriteCopy : Opened → Call → List Asked → Type 0
-MayWriteCopy file call before = ((call ≡ SetMode file) × (bytes_of file.number before ≡ Some [])) ⊎ MayWrite file call before
 
 -- a copy of what was read stands under a name that is left alone, and all of it is on disk
 abbrev pub HasCopy : {F : Type 0} → (F → Opened) → (F → Option (List ℕ)) → (is_open : List Asked → F → FileIdentity → Type 0) → (station copy : List ℕ) → FileRead → List Asked → Type 0

@@ -1,13 +1,12 @@
 //! Files beside a file, by way of which it is replaced whole or not at all.
-ghost use Rattle.std.specs.Prelude.{◌≡◌, IfOk, OnOk, IsErrOf, ℕ, List, true, string_bytes};
-ghost use Rattle.rje_stores.specs.Disk.{Asked, Call, SyncFolder, call_of, is_synced, has_synced_name};
+ghost use Rattle.std.specs.Prelude.{◌≡◌, ◌∷◌, IfOk, OnOk, IsErrOf, ℕ, List, None, length, true, string_bytes};
+ghost use Rattle.rje_stores.specs.Disk.{Asked, Call, Create, SyncFolder, call_of, came_to, is_synced, has_synced_name, standing};
 ghost use Rattle.rje_stores.specs.Replacing.{Adds, HasTried, IsBeside, IsNewBeside, IsOnDisk, IsWhole, LeadsTo, MayReplace, MayTry};
 ghost use Rattle.rje_stores.specs.Inside.Filling.{AddsSync, Fills, IsSecond, KeepsNames, MayFill, MayLink};
 
-use crate::disk::{Disk, FileKind};
+use crate::disk::{Disk, FileAccess, FileKind};
 use crate::store::StoreFault;
 use std::alloc::Global;
-use std::fs::Permissions;
 use std::io::{self, ErrorKind};
 
 /// How many names are tried for a file beside another.
@@ -20,11 +19,12 @@ pub(super) struct Beside<F: Drop> {
     pub(super) path: String,
 }
 
-/// The path of the file that a symbolic link leads to, where it leads to one; else the name itself.
+/// The path of the file that a symbolic link leads to, where it leads to one; else the name itself. A link that the system doesn't follow, as one of
+/// another user's in a folder that all may write to, is a failure.
 pub(super) fn resolved<D: Disk>(disk: &D, alloc: Global, name: &str) -> io::Result<String>
     ensures { IfOk result (λ path. LeadsTo D.leads name.now (string_bytes path)) }
 {
-    if is_link_to_file(disk, name) {
+    if is_link_to_file(disk, name)? {
         disk.whole_path(alloc, name)
     } else {
         Ok(String::from_str(alloc, name)?)
@@ -32,13 +32,16 @@ pub(super) fn resolved<D: Disk>(disk: &D, alloc: Global, name: &str) -> io::Resu
 }
 
 /// Whether this is a symbolic link, and not one to a device or a pipe.
-fn is_link_to_file<D: Disk>(disk: &D, name: &str) -> bool {
+fn is_link_to_file<D: Disk>(disk: &D, name: &str) -> io::Result<bool> {
     match disk.is_link(name) {
         Ok(true) => match disk.status(name) {
-            Ok(found) => found.kind == FileKind::Regular,
-            Err(_) => true,
+            Ok(found) => Ok(found.kind == FileKind::Regular),
+            Err(error) if error.kind() == ErrorKind::NotFound => Ok(true),
+            Err(error) => Err(error),
         },
-        _ => false,
+        Ok(false) => Ok(false),
+        Err(error) if error.kind() == ErrorKind::NotFound => Ok(false),
+        Err(error) => Err(error),
     }
 }
 
@@ -75,17 +78,17 @@ pub(super) fn try_beside<D: Disk>(disk: &mut D, alloc: Global, path: &str) -> io
     ensures tried { D.discloses → OnOk result (HasTried path.now (D.asked disk.new)) }
 {
     disk.open_folder(path)?;
-    let beside = create_beside(disk, alloc, path)?;
+    let beside = create_beside(disk, alloc, path, false)?;
     disk.remove(beside.path.as_str())
 }
 
-/// Puts a file of these bytes in the place of this one, with this mode, on disk: whole, or nothing changes. Unsynced where the new file is in
+/// Puts a file of these bytes in the place of this one, with this access, on disk: whole, or nothing changes. Unsynced where the new file is in
 /// its place and only its name may not be on disk.
 pub(super) fn replace<D: Disk>(
     disk: &mut D,
     alloc: Global,
     path: &str,
-    mode: Option<Permissions>,
+    access: Option<FileAccess>,
     bytes: &[u8],
 ) -> Result<(), StoreFault>
     ensures asks { D.discloses
@@ -96,8 +99,8 @@ pub(super) fn replace<D: Disk>(
 {
     // Opened before anything is written, since a name that was changed in a folder that can't be opened is not known to be on disk.
     let folder = disk.open_folder(path)?;
-    let beside = create_beside(disk, alloc, path)?;
-    match put_in_place(disk, &beside, path, mode, bytes) {
+    let beside = create_beside(disk, alloc, path, access.is_some())?;
+    match put_in_place(disk, &beside, path, access, bytes) {
         Ok(()) => sync_folder(disk, &folder),
         Err(error) => {
             let _ = disk.remove(beside.path.as_str());
@@ -111,7 +114,7 @@ fn put_in_place<D: Disk>(
     disk: &mut D,
     beside: &Beside<D::File>,
     path: &str,
-    mode: Option<Permissions>,
+    access: Option<FileAccess>,
     bytes: &[u8],
 ) -> io::Result<()>
     requires { D.discloses → IsNewBeside path.now (D.opened beside.now.file)
@@ -120,7 +123,7 @@ fn put_in_place<D: Disk>(
         → Adds (MayReplace path.now bytes.now) (D.asked disk.old) (D.asked disk.new) }
     ensures whole { D.discloses → OnOk result (IsWhole path.now bytes.now (D.asked disk.new)) }
 {
-    fill(disk, &beside.file, mode, bytes)?;
+    fill(disk, &beside.file, access, bytes)?;
     disk.rename(beside.path.as_str(), path)
 }
 
@@ -131,11 +134,13 @@ fn name_beside(alloc: Global, path: &str, number: u32) -> io::Result<String>
     Ok(format!(in alloc; "{path}.rje-{number}")?)
 }
 
-/// A new file beside this one.
+/// A new file beside this one: a private one, of which nobody but its owner may read anything before it is given its access, or one with the access that
+/// the system gives a new file.
 pub(super) fn create_beside<D: Disk>(
     disk: &mut D,
     alloc: Global,
     path: &str,
+    private: bool,
 ) -> io::Result<Beside<D::File>>
     ensures asks { D.discloses → Adds (MayTry path.now) (D.asked disk.old) (D.asked disk.new) }
     ensures new { D.discloses → IfOk result (λ beside. IsNewBeside path.now
@@ -143,13 +148,28 @@ pub(super) fn create_beside<D: Disk>(
 {
     for number in 0..MAX_NAMES {
         let beside = name_beside(alloc, path, number)?;
-        match disk.create(beside.as_str()) {
+        match create_one(disk, beside.as_str(), private) {
             Ok(file) => return Ok(Beside { file, path: beside }),
             Err(error) if error.kind() == ErrorKind::AlreadyExists => {}
             Err(error) => return Err(error),
         }
     }
     Err(io::Error::from(ErrorKind::AlreadyExists))
+}
+
+/// A new file under a name that no file has, which is private or isn't.
+fn create_one<D: Disk>(disk: &mut D, name: &str, private: bool) -> io::Result<D::File>
+    ensures asks { D.discloses
+        → D.asked disk.new ≡ came_to result (Create name.now) ∷ D.asked disk.old }
+    ensures free { D.discloses → OnOk result (standing name.now (D.asked disk.old) ≡ None) }
+    ensures file { D.discloses → IfOk result (λ file. D.opened file
+        ≡ record { name = name.now; number = length (D.asked disk.old) }) }
+{
+    if private {
+        disk.create_private(name)
+    } else {
+        disk.create(name)
+    }
 }
 
 /// A second name, beside the first, for the file that is there; not the one that is said to be taken, for which the system isn't asked.
@@ -178,11 +198,11 @@ pub(super) fn link_beside<D: Disk>(
     Err(io::Error::from(ErrorKind::AlreadyExists))
 }
 
-/// Gives a new file its mode, writes the bytes and has all on disk.
+/// Gives a new file its access, writes the bytes and has all on disk.
 fn fill<D: Disk>(
     disk: &mut D,
     file: &D::File,
-    mode: Option<Permissions>,
+    access: Option<FileAccess>,
     bytes: &[u8],
 ) -> io::Result<()>
     ensures asks { D.discloses
@@ -190,9 +210,9 @@ fn fill<D: Disk>(
     ensures filled { D.discloses → OnOk result
         (Fills (D.opened file.now).number bytes.now (D.asked disk.old) (D.asked disk.new)) }
 {
-    match mode {
-        Some(mode) => {
-            disk.set_mode(file, mode)?;
+    match access {
+        Some(access) => {
+            disk.set_access(file, access)?;
             fill_on_disk(disk, file, bytes)
         }
         None => fill_on_disk(disk, file, bytes),

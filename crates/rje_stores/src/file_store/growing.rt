@@ -292,7 +292,7 @@ fn first_copy<D: Disk>(disk: &mut D, alloc: Global, path: &str) -> io::Result<Ol
         → IsOlder D.opened path.now had older (D.asked disk.new)) }
     ensures front { IfOk result (λ older. older.front ≡ 0) }
 {
-    let beside = create_beside(disk, alloc, path)?;
+    let beside = create_beside(disk, alloc, path, true)?;
     Ok(Older {
         file: beside.file,
         path: beside.path,
@@ -410,7 +410,7 @@ fn grown<D: Disk>(
     }
     if older.len == 0 {
         let found = disk.status_of(newest)?;
-        disk.set_mode(&older.file, found.mode)?;
+        disk.set_access(&older.file, found.access)?;
         return gone_on(disk, newest, older, front, tail);
     }
     gone_on(disk, newest, older, front, tail)

@@ -4,12 +4,11 @@
 //! given up. The file itself is locked too, where it is there, since it may have a second name. The system gives up both when the process
 //! ends.
 use super::beside::resolved;
-use crate::disk::{Disk, FileKind};
+use crate::disk::{Disk, FileAccess, FileKind};
 use crate::store::StoreFault;
 use std::alloc::Global;
-use std::fs::{Permissions, TryLockError};
+use std::fs::TryLockError;
 use std::io::{self, ErrorKind};
-use std::os::unix::fs::PermissionsExt;
 
 /// How many times to lock the file beside another anew where it was removed meanwhile.
 const MAX_TRIES: u32 = 1000;
@@ -42,7 +41,7 @@ impl<F: Drop> FileLock<F> {
             Err(_) => false,
         };
         let own = match is_there {
-            true => open_to_lock(disk, path.as_str()),
+            true => open_to_lock(disk, path.as_str()).ok(),
             false => None,
         };
         let lock = match lock_of(disk, beside.as_str()) {
@@ -71,7 +70,7 @@ impl<F: Drop> FileLock<F> {
     /// be locked, the file beside still is.
     pub(super) fn follow<D: Disk<File = F>>(&mut self, disk: &D) {
         self.own = None;
-        if let Some(file) = open_to_lock(disk, self.path.as_str()) {
+        if let Ok(file) = open_to_lock(disk, self.path.as_str()) {
             if locked(disk, &file).is_ok() {
                 self.own = Some(file);
             }
@@ -100,11 +99,11 @@ fn lock_beside(alloc: Global, path: &str) -> io::Result<String> {
     }
 }
 
-/// The file of this path, open, where that can be.
-fn open_to_lock<D: Disk>(disk: &D, path: &str) -> Option<D::File> {
+/// The file of this path, open to be written where that can be, else to be read.
+fn open_to_lock<D: Disk>(disk: &D, path: &str) -> io::Result<D::File> {
     match disk.open_to_lock(path) {
-        Ok(file) => Some(file),
-        Err(_) => disk.open_to_read(path).ok(),
+        Ok(file) => Ok(file),
+        Err(_) => disk.open_to_read(path),
     }
 }
 
@@ -112,10 +111,11 @@ fn open_to_lock<D: Disk>(disk: &D, path: &str) -> Option<D::File> {
 /// more when it is locked was left by a process that has gone: then there is another one, or none.
 fn lock_of<D: Disk>(disk: &mut D, path: &str) -> Result<D::File, StoreFault> {
     for _ in 0..MAX_TRIES {
-        let file = open_lock(disk, path)?;
-        locked(disk, &file)?;
-        if has_name(disk, &file) {
-            return Ok(file);
+        if let Some(file) = open_lock(disk, path)? {
+            locked(disk, &file)?;
+            if has_name(disk, &file) {
+                return Ok(file);
+            }
         }
     }
     Err(StoreFault::Failed(ErrorKind::ResourceBusy))
@@ -129,19 +129,42 @@ pub(super) fn has_name<D: Disk>(disk: &D, file: &D::File) -> bool {
     }
 }
 
-/// A lock's file, which is empty, and which any user may read: so one that was left keeps no one out. Another user's can perhaps only be read.
-fn open_lock<D: Disk>(disk: &mut D, path: &str) -> io::Result<D::File> {
-    let file = match disk.open_or_create(path) {
-        Err(error) if error.kind() == ErrorKind::PermissionDenied => {
-            disk.open_to_read(path).or(Err(error))?
-        }
-        opened => opened?,
+/// A lock's file, which is empty, and which any user may read: so one that was left keeps no one out. It is made where nothing stands under its name.
+fn open_lock<D: Disk>(disk: &mut D, path: &str) -> io::Result<Option<D::File>> {
+    let file = match disk.create(path) {
+        Ok(file) => file,
+        Err(error) if error.kind() == ErrorKind::AlreadyExists => return found_lock(disk, path),
+        Err(error) => return Err(error),
     };
-    if disk.status_of(&file)?.len != 0 {
+    let made = disk.status_of(&file)?.access;
+    let access = FileAccess {
+        mode: 0o644,
+        ..made
+    };
+    let _ = disk.set_access(&file, access);
+    Ok(Some(file))
+}
+
+/// A lock's file that was left, or that another process has; none where it is gone meanwhile. A link, a folder, a device, a pipe and a file with bytes
+/// are none of ours, and stay as they are. Another user's can perhaps only be read.
+fn found_lock<D: Disk>(disk: &D, path: &str) -> io::Result<Option<D::File>> {
+    let stands = match disk.status_of_name(path) {
+        Err(error) if error.kind() == ErrorKind::NotFound => return Ok(None),
+        found => found?,
+    };
+    if stands.kind != FileKind::Regular || stands.len != 0 {
         return Err(io::Error::from(ErrorKind::AlreadyExists));
     }
-    let _ = disk.set_mode(&file, Permissions::from_mode(0o644));
-    Ok(file)
+    let file = match open_to_lock(disk, path) {
+        Ok(file) => file,
+        Err(error) if error.kind() == ErrorKind::NotFound => return Ok(None),
+        Err(error) => return Err(error),
+    };
+    let found = disk.status_of(&file)?;
+    if found.device != stands.device || found.inode != stands.inode || found.len != 0 {
+        return Err(io::Error::from(ErrorKind::AlreadyExists));
+    }
+    Ok(Some(file))
 }
 
 /// Locks an open file: in use where another process has it.

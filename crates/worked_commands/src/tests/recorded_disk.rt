@@ -1,12 +1,11 @@
 //! A disk of the tests' own that records what it is asked to change, and fails at one of these calls.
 ghost use Rattle.std.specs.Prelude.{[]};
 
-use rje_stores::{ChangeTime, Disk, FileKind, FileStatus};
+use rje_stores::{ChangeTime, Disk, FileAccess, FileKind, FileStatus};
 use std::alloc::Global;
 use std::cell::Cell;
-use std::fs::{Permissions, TryLockError};
+use std::fs::TryLockError;
 use std::io::{self, ErrorKind, Read};
-use std::os::unix::fs::PermissionsExt;
 
 /// A disk on which the same stands under each name: nothing, or a file of this many bytes, or a device. What stands under a name that begins
 /// with /second/ is on a second disk, with the same number.
@@ -96,7 +95,11 @@ impl RecordedDisk {
         match self.kind {
             Some(kind) => Ok(FileStatus {
                 kind,
-                mode: Permissions::from_mode(0o640),
+                access: FileAccess {
+                    mode: 0o640,
+                    owner: 0,
+                    group: 0,
+                },
                 len: self.len,
                 device,
                 inode: 1,
@@ -138,6 +141,10 @@ impl Disk for RecordedDisk {
         self.found(if name.starts_with("/second/") { 2 } else { 1 })
     }
 
+    fn status_of_name(&self, name: &str) -> io::Result<FileStatus> {
+        self.status(name)
+    }
+
     fn status_of(&self, file: &RecordedFile) -> io::Result<FileStatus> {
         self.status(file.name.as_str())
     }
@@ -167,6 +174,11 @@ impl Disk for RecordedDisk {
         self.opened(name)
     }
 
+    fn create_private(&mut self, name: &str) -> io::Result<RecordedFile> {
+        self.note(&[b"create private ", name.as_bytes()])?;
+        self.opened(name)
+    }
+
     fn open_to_copy(&mut self, name: &str) -> io::Result<RecordedFile> {
         self.note(&[b"open ", name.as_bytes()])?;
         self.opened(name)
@@ -186,8 +198,8 @@ impl Disk for RecordedDisk {
         Ok(())
     }
 
-    fn set_mode(&mut self, file: &RecordedFile, _mode: Permissions) -> io::Result<()> {
-        self.note(&[b"mode of ", file.name.as_bytes()])
+    fn set_access(&mut self, file: &RecordedFile, _access: FileAccess) -> io::Result<()> {
+        self.note(&[b"access of ", file.name.as_bytes()])
     }
 
     fn fill(&mut self, file: &RecordedFile, bytes: &[u8]) -> io::Result<()> {

@@ -59,38 +59,38 @@ fn a_file_is_on_disk_before_it_gets_its_name(rt: HostRuntime) {
         &rt,
         alloc,
         0,
-        b"create a.job.rje-0\nmode of a.job.rje-0\nfill a.job.rje-0 with one\nsync a.job.rje-0\nrename a.job.rje-0 to a.job\nsync folder of a.job\n",
+        b"create private a.job.rje-0\naccess of a.job.rje-0\nfill a.job.rje-0 with one\nsync a.job.rje-0\nrename a.job.rje-0 to a.job\nsync folder of a.job\n",
     );
-    asked_to_write(&rt, alloc, 1, b"create a.job.rje-0\n");
+    asked_to_write(&rt, alloc, 1, b"create private a.job.rje-0\n");
     asked_to_write(
         &rt,
         alloc,
         2,
-        b"create a.job.rje-0\nmode of a.job.rje-0\nremove a.job.rje-0\n",
+        b"create private a.job.rje-0\naccess of a.job.rje-0\nremove a.job.rje-0\n",
     );
     asked_to_write(
         &rt,
         alloc,
         3,
-        b"create a.job.rje-0\nmode of a.job.rje-0\nfill a.job.rje-0 with one\nremove a.job.rje-0\n",
+        b"create private a.job.rje-0\naccess of a.job.rje-0\nfill a.job.rje-0 with one\nremove a.job.rje-0\n",
     );
     asked_to_write(
         &rt,
         alloc,
         4,
-        b"create a.job.rje-0\nmode of a.job.rje-0\nfill a.job.rje-0 with one\nsync a.job.rje-0\nremove a.job.rje-0\n",
+        b"create private a.job.rje-0\naccess of a.job.rje-0\nfill a.job.rje-0 with one\nsync a.job.rje-0\nremove a.job.rje-0\n",
     );
     asked_to_write(
         &rt,
         alloc,
         5,
-        b"create a.job.rje-0\nmode of a.job.rje-0\nfill a.job.rje-0 with one\nsync a.job.rje-0\nrename a.job.rje-0 to a.job\nremove a.job.rje-0\n",
+        b"create private a.job.rje-0\naccess of a.job.rje-0\nfill a.job.rje-0 with one\nsync a.job.rje-0\nrename a.job.rje-0 to a.job\nremove a.job.rje-0\n",
     );
     asked_to_write(
         &rt,
         alloc,
         6,
-        b"create a.job.rje-0\nmode of a.job.rje-0\nfill a.job.rje-0 with one\nsync a.job.rje-0\nrename a.job.rje-0 to a.job\nsync folder of a.job\n",
+        b"create private a.job.rje-0\naccess of a.job.rje-0\nfill a.job.rje-0 with one\nsync a.job.rje-0\nrename a.job.rje-0 to a.job\nsync folder of a.job\n",
     );
 }
 
@@ -106,7 +106,7 @@ fn a_file_grows_by_way_of_a_copy(rt: HostRuntime) {
     files.settle();
     assert!(rt;
         files.disk().asked()
-            == b"open a.job\ncreate a.job.rje-0\nmode of a.job.rje-0\ngo on with a.job.rje-0 as a.job and s\nwrite to a.job.rje-0: 2\nsync a.job.rje-0\nrename a.job.rje-0 to a.job\nsync folder of a.job\ncreate a.job.rje-0\nmode of a.job.rje-0\ngo on with a.job.rje-0 as a.job.rje-0 and t\nwrite to a.job.rje-0: 3\nsync a.job.rje-0\nlink a.job as a.job.rje-1\nrename a.job.rje-0 to a.job\nsync folder of a.job\nremove a.job.rje-1\n".as_slice()
+            == b"open a.job\ncreate private a.job.rje-0\naccess of a.job.rje-0\ngo on with a.job.rje-0 as a.job and s\nwrite to a.job.rje-0: 2\nsync a.job.rje-0\nrename a.job.rje-0 to a.job\nsync folder of a.job\ncreate private a.job.rje-0\naccess of a.job.rje-0\ngo on with a.job.rje-0 as a.job.rje-0 and t\nwrite to a.job.rje-0: 3\nsync a.job.rje-0\nlink a.job as a.job.rje-1\nrename a.job.rje-0 to a.job\nsync folder of a.job\nremove a.job.rje-1\n".as_slice()
     );
 }
 
@@ -196,7 +196,7 @@ fn a_growth_that_fails_leaves_nothing_beside_the_file(rt: HostRuntime) {
     assert!(rt; files.extend(alloc, "a.job", b"4", b"u") == Err(FULL));
     assert!(rt;
         files.disk().asked().ends_with(
-            b"sync folder of a.job\nremove a.job.rje-1\ncreate a.job.rje-0\n"
+            b"sync folder of a.job\nremove a.job.rje-1\ncreate private a.job.rje-0\n"
         )
     );
 }
@@ -233,7 +233,7 @@ fn asked_to_lock(rt: &(impl Abort + AllocGlobal), links: u64, asked: &[u8]) {
 
 #[test]
 fn the_file_of_a_lock_that_was_taken_away_is_not_removed(rt: HostRuntime) {
-    let lock = b"open or create .a.job.rje-lock\nmode of .a.job.rje-lock\n".as_slice();
+    let lock = b"create .a.job.rje-lock\naccess of .a.job.rje-lock\n".as_slice();
     let removed = joined(&rt, &[lock, b"remove .a.job.rje-lock\n"]);
     asked_to_lock(&rt, 1, removed.as_slice());
     asked_to_lock(&rt, 0, lock);
