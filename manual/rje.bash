@@ -12,14 +12,14 @@ _rje() {
     send) words+=" $connection" ;;
     receive) words+=" $connection --patience --wait --new --append" ;;
     exchange) words+=" $connection --patience --primary --secondary --new --append" ;;
-    station) words+=' --to --listen --from --every --timeout --patience --primary --secondary --adapter --once --quiet' ;;
+    station) words+=' --to --listen --from --every --timeout --patience --progress --primary --secondary --adapter --once --quiet' ;;
     esac
     COMPREPLY=()
     if [ "$COMP_CWORD" = 1 ]; then
         mapfile -t COMPREPLY < <(compgen -W "$commands --help --version" -- "$word")
     elif [ "$command" = help ]; then
         mapfile -t COMPREPLY < <(compgen -W "$commands" -- "$word")
-    elif [[ $before = --@(job|name|timeout|to|listen|from|patience|every) ]]; then
+    elif [[ $before = --@(job|name|timeout|to|listen|from|patience|progress|every) ]]; then
         return
     elif [[ $word = -* ]]; then
         mapfile -t COMPREPLY < <(compgen -W "$words" -- "$word")

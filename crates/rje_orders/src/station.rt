@@ -23,6 +23,8 @@ pub struct StationOrder<'a> {
     pub adapter: bool,
     /// How long an end that calls waits before its next call, in seconds, 1 to 86400.
     pub every: u32,
+    /// How long another end has the line while no job comes whole and none is counted, in seconds, 0 to 1000000; with 0 for ever.
+    pub progress: u32,
     /// Whether it ends after one connection.
     pub once: bool,
     /// Whether nothing is shown on a terminal of how far it is.

@@ -13,7 +13,7 @@ use Rattle.rje_orders.specs.Station.{station_rank}
 use Rattle.rje_words.specs.declared.words_fault.WordsFault.{WordsFault}
 use Rattle.rje_words.specs.declared.words_fault.WordsFault.TheVariants.{BadHost, EveryListens, TwoRanks}
 use Rattle.rje_words.specs.Address.{IsHostAddress}
-use Rattle.rje_words.specs.Asking.{IsEveryOf, IsFaultOf, IsOrderOf, IsPartnerFault, IsPartnerIn, IsPartnerOf, IsPatienceOf, IsStandingFault, IsTimeoutOf, every_goes, is_on, word_in}
+use Rattle.rje_words.specs.Asking.{IsEveryOf, IsFaultOf, IsOrderOf, IsPartnerFault, IsPartnerIn, IsPartnerOf, IsPatienceOf, IsProgressOf, IsStandingFault, IsTimeoutOf, every_goes, is_on, word_in}
 use Rattle.rje_words.specs.Canonical.{IsStation, StationAsked}
 use Rattle.rje_words.specs.CommandLine.{rje_app}
 use Rattle.rje_words.proofs.PlainWords.{IsPlain, jobs_plain}
@@ -21,19 +21,19 @@ use Rattle.rje_words.proofs.FileWords.{AreTaken, apart, no_file, no_socket, only
 
 -- what is seen of the rows of `station`: its folder, how it comes to its connections, its numbers and its flags
 abbrev Seen : Type 0
-Seen = Text × (Option Text × Option Text × Option Text) × (Option Text × Option Text × Option Text) × (Bool × Bool) × (Bool × Bool × Bool)
+Seen = Text × (Option Text × Option Text × Option Text) × (Option Text × Option Text × Option Text × Option Text) × (Bool × Bool) × (Bool × Bool × Bool)
 
 abbrev station_in : List Row → Seen
 station_in rows = (
   word_in (codes "FOLDER") rows,
   (first_of (codes "to") rows, first_of (codes "listen") rows, first_of (codes "from") rows),
-  (one_of (codes "every") rows, one_of (codes "timeout") rows, one_of (codes "patience") rows),
+  (one_of (codes "every") rows, one_of (codes "timeout") rows, one_of (codes "patience") rows, one_of (codes "progress") rows),
   (is_on (codes "primary") rows, is_on (codes "secondary") rows),
   (is_on (codes "adapter") rows, is_on (codes "once") rows, is_on (codes "quiet") rows),
 )
 
 abbrev value : (folder host : Text) → Seen
-value folder host = (folder, (Some host, None, None), (None, Some (codes "3000"), Some (codes "40")), (false, false), (false, false, false))
+value folder host = (folder, (Some host, None, None), (None, Some (codes "3000"), Some (codes "40"), Some (codes "21600")), (false, false), (false, false, false))
 
 module _ (folder host : Text) (h : IsPlain folder) (k : IsPlain host) where
   station_taken : fault_of rje_app (codes "station" ∷ folder ∷ codes "--to" ∷ host ∷ []) ≡ []
@@ -76,6 +76,7 @@ module _ (folder host : Text) (rows : List Row) (e : station_in rows ≡ value f
     every = subst (λ (v : Seen). IsEveryOf v.2.0 order.every) e h.1.every;
     timeout = subst (λ (v : Seen). IsTimeoutOf v.2.1 order.timeout) e h.1.timeout;
     patience = subst (λ (v : Seen). IsPatienceOf v.2.2 order.patience) e h.1.patience;
+    progress = subst (λ (v : Seen). IsProgressOf v.2.3 order.progress) e h.1.progress;
     adapter = h.1.adapter ∙ ap (λ (v : Seen). v.4.0) e;
     once = h.1.once ∙ ap (λ (v : Seen). v.4.1) e;
     quiet = h.1.quiet ∙ ap (λ (v : Seen). v.4.2) e;

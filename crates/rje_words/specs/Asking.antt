@@ -286,13 +286,17 @@ every_goes (ways.Listens address callers) rows = is_none (first_of (codes "every
 abbrev pub IsEveryOf : Option Text → ℕ → Type 0
 IsEveryOf = IsGivenNumber (2 ^ 32) 60
 
+-- how long another end has the line while no job comes whole and none is counted, in seconds, by the text that was found for it
+abbrev pub IsProgressOf : Option Text → ℕ → Type 0
+IsProgressOf = IsGivenNumber (2 ^ 32) 21600
+
 -- the rank that the options choose for a station that comes to its connections so
 abbrev pub station_rank_in : Partner → List Row → Option Rank
 station_rank_in partner rows = station_rank partner (is_on (codes "primary") rows) (is_on (codes "secondary") rows)
 
--- the order has the folder, the way to its connections, the time-out, the patience and the time between calls that were found, the rank that
--- the options choose, a line adapter at the other end, an end after one connection, and nothing shown of how far it is, where these options
--- were
+-- the order has the folder, the way to its connections, the time-out, the patience, the time between calls and the time without a job that
+-- were found, the rank that the options choose, a line adapter at the other end, an end after one connection, and nothing shown of how far it
+-- is, where these options were
 pub record IsStationOrderOf (rows : List Row) (order : StationOrder) : Type 0 where
   pub folder : order.folder.now ≡ word_in (codes "FOLDER") rows
   pub partner : IsPartnerIn rows order.partner
@@ -302,6 +306,7 @@ pub record IsStationOrderOf (rows : List Row) (order : StationOrder) : Type 0 wh
   pub adapter : order.adapter ≡ is_on (codes "adapter") rows
   pub goes : every_goes order.partner rows ≡ true
   pub every : IsEveryOf (one_of (codes "every") rows) order.every
+  pub progress : IsProgressOf (one_of (codes "progress") rows) order.progress
   pub once : order.once ≡ is_on (codes "once") rows
   pub quiet : order.quiet ≡ is_on (codes "quiet") rows
 

@@ -12,7 +12,7 @@ use Rattle.rje_orders.specs.declared.order.Order.TheVariants.{Sockets, Station}
 use Rattle.rje_orders.specs.declared.order.SocketOrder.TheVariants.{Receive, Send}
 use Rattle.rje_orders.specs.declared.station.StationOrder.{StationOrder}
 use Rattle.rje_orders.specs.Choice.{devices_chosen}
-use Rattle.rje_words.specs.Asking.{AsksFor, form_chosen, IsGivenName, IsMeetingOf, IsPartnerOf, IsPatienceOf, IsTimeoutOf, IsWordsFault}
+use Rattle.rje_words.specs.Asking.{AsksFor, form_chosen, IsGivenName, IsMeetingOf, IsPartnerOf, IsPatienceOf, IsProgressOf, IsTimeoutOf, IsWordsFault}
 use Rattle.rje_words.specs.Address.{IsHostAddress, IsSomeAddress}
 use Rattle.rje_words.specs.CommandLine.{is_file, names_file}
 use Rattle.rje_words.specs.Orders.{IsBlocks, IsCards, IsShow, IsCheck, IsPrint, IsTry, IsMonitor}
@@ -137,8 +137,8 @@ ReceiveAsked =
     (jobs address : Text) (existing : Existing) → names_file jobs ≡ true → names_file address ≡ true → IsSomeAddress address
     → AskOnlyFor (codes "receive" ∷ jobs ∷ codes "--listen" ∷ address ∷ existing_words existing) (IsReceive jobs address existing)
 
--- the station of the folder of this name calls this host, is the primary, and has all else as usual: 60 seconds between its calls, the usual time-out and
--- patience, no line adapter, one connection after another, and how far it is is shown
+-- the station of the folder of this name calls this host, is the primary, and has all else as usual: 60 seconds between its calls, the usual time-out,
+-- patience and time without a job, no line adapter, one connection after another, and how far it is is shown
 pub record IsUsualStation (named host : Text) (order : StationOrder) : Type 0 where
   pub folder : order.folder.now ≡ named
   pub partner : IsPartnerOf (Some host) None None order.partner
@@ -146,6 +146,7 @@ pub record IsUsualStation (named host : Text) (order : StationOrder) : Type 0 wh
   pub every : order.every ≡ 60
   pub timeout : IsTimeoutOf (Some (codes "3000")) order.timeout
   pub patience : IsPatienceOf (Some (codes "40")) order.patience
+  pub progress : IsProgressOf (Some (codes "21600")) order.progress
   pub adapter : order.adapter ≡ false
   pub once : order.once ≡ false
   pub quiet : order.quiet ≡ false

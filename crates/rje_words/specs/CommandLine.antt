@@ -50,6 +50,13 @@ patience_rule = record (value_rule (codes "patience")) {
 abbrev pub every_rule : Rule
 every_rule = record (value_rule (codes "every")) { parser = Some (parser.Signed (pos 1) (pos 86400)) }
 
+-- the option for how long another end has the line while no job comes whole and none is counted, in seconds
+abbrev pub progress_rule : Rule
+progress_rule = record (value_rule (codes "progress")) {
+  parser = Some (parser.Signed (pos 0) (pos 1000000));
+  defaults = codes "21600" ∷ [];
+}
+
 -- the option to report each turn
 abbrev pub trace_rule : Rule
 trace_rule = flag_rule (codes "trace")
@@ -145,7 +152,8 @@ exchange_app =
 
 -- the options for how a station comes to its connections, and what it keeps to there
 abbrev pub with_partner_rules : App → App
-with_partner_rules app = with_rank_rules (with_rule (with_rule (with_rule (with_meeting_rules app) every_rule) timeout_rule) patience_rule)
+with_partner_rules app =
+    with_rank_rules (with_rule (with_rule (with_rule (with_rule (with_meeting_rules app) every_rule) timeout_rule) patience_rule) progress_rule)
 
 -- `station FOLDER`, with the options for its connections, for a line adapter, for one connection, and to show nothing of how far it is
 abbrev pub station_app : App

@@ -6,14 +6,14 @@ ghost use Rattle.rje_words.specs.CommandLine.{timeout_rule, patience_rule, trace
 ghost use Rattle.rje_words.specs.CommandLine.{try_app, loop_app, send_app, receive_app, exchange_app, rje_app};
 ghost use Rattle.rje_words.specs.CommandLine.{capture_rule, monitor_app, number_rule, print_app, show_app, with_choice_rules};
 ghost use Rattle.rje_words.specs.CommandLine.{with_connection_rules, with_device_rules, with_existing_rules, with_meeting_rules, with_rank_rules};
-ghost use Rattle.rje_words.specs.CommandLine.{every_rule, station_app, with_partner_rules};
+ghost use Rattle.rje_words.specs.CommandLine.{every_rule, progress_rule, station_app, with_partner_rules};
 ghost use Rattle.rje_words.specs.CommandLine.{with_deck_apps, with_file_apps, with_line_apps};
 
 use clap::{Arg, ArgAction, Command, value_parser};
 use std::alloc::{AllocError, Global};
 
 /// The program's version.
-const VERSION: &str = "1.5.0";
+const VERSION: &str = "1.6.0";
 
 /// What stands after the commands where help is given.
 const AFTER_HELP: &str = "\
@@ -255,6 +255,7 @@ fn with_partner<'a>(alloc: Global, command: Command<'a>) -> Result<Command<'a>, 
     let command = with_arg(command, every(alloc))?;
     let command = with_arg(command, timeout(alloc))?;
     let command = with_arg(command, patience(alloc))?;
+    let command = with_arg(command, progress(alloc))?;
     with_rank(alloc, command)
 }
 
@@ -447,6 +448,20 @@ fn every<'a>(alloc: Global) -> Arg<'a>
         .action(ArgAction::Set)
         .value_parser(value_parser!(u32).range(1..=86400))
         .help("With --to: call again after so long, 1 to 86400 seconds; usual is 60")
+}
+
+fn progress<'a>(alloc: Global) -> Arg<'a>
+    ensures { IsArg progress_rule result }
+{
+    Arg::new(alloc, "progress")
+        .long("progress")
+        .value_name("SECONDS")
+        .action(ArgAction::Set)
+        .value_parser(value_parser!(u32).range(0..=1000000))
+        .default_value("21600")
+        .help(
+            "Leave where no job came whole and none was counted for so long, 0 to 1000000 seconds; with 0 never",
+        )
 }
 
 fn adapter<'a>(alloc: Global) -> Arg<'a>

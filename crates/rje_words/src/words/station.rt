@@ -1,7 +1,7 @@
 //! What the words of `station` ask for.
 ghost use Rattle.std.specs.Prelude.{◌≡◌, codes, IfOk, IfErr};
 ghost use Rattle.clap.specs.Words.{found_of, one_of, rows_of};
-ghost use Rattle.rje_words.specs.Asking.{IsEveryOf, IsPartnerFaultIn, IsPartnerIn, IsStationFaultOf, IsStationOrderOf, every_goes, station_rank_in};
+ghost use Rattle.rje_words.specs.Asking.{IsEveryOf, IsPartnerFaultIn, IsPartnerIn, IsProgressOf, IsStationFaultOf, IsStationOrderOf, every_goes, station_rank_in};
 
 use super::{callers_in, is_given, is_quiet, patience_of, timeout_of, value_of, word};
 use crate::address::{address_of, is_host_address};
@@ -31,6 +31,7 @@ pub(super) fn station_order<'a>(
         rank,
         adapter: is_given(matches, "adapter"),
         every: every_of(matches),
+        progress: progress_of(matches),
         once: is_given(matches, "once"),
         quiet: is_quiet(matches),
     })
@@ -83,4 +84,12 @@ fn every_of(matches: &ArgMatches) -> u32
     ensures { IsEveryOf (one_of (codes "every") (rows_of (found_of matches.now))) result }
 {
     matches.get_one::<u32>("every").unwrap_or(60)
+}
+
+/// How long another end has the line while no job comes whole and none is counted, in seconds: clap tests
+/// the range.
+fn progress_of(matches: &ArgMatches) -> u32
+    ensures { IsProgressOf (one_of (codes "progress") (rows_of (found_of matches.now))) result }
+{
+    matches.get_one::<u32>("progress").unwrap_or(21_600)
 }
