@@ -5,7 +5,7 @@ use crate::stamps::Stamps;
 use rje_names::PrintedName;
 use rje_print::{ERASED, Progress, shown_progress};
 use std::alloc::{AllocError, Global};
-use std::io::Write;
+use std::io::{self, ErrorKind, Write};
 use std::time::{Clock, Duration, Instant};
 
 /// How many milliseconds a line of a terminal that is rewritten stands at least.
@@ -22,6 +22,8 @@ pub struct Console<C, W, L> {
     rewrites: bool,
     // When that line was written that stands.
     shown: Option<Instant>,
+    // Whether the log had its last line.
+    logged: bool,
 }
 
 impl<C: Clock, W: Write, L: Write> Console<C, W, L> {
@@ -35,6 +37,7 @@ impl<C: Clock, W: Write, L: Write> Console<C, W, L> {
             log,
             rewrites,
             shown: None,
+            logged: true,
         }
     }
 
@@ -43,12 +46,41 @@ impl<C: Clock, W: Write, L: Write> Console<C, W, L> {
         &self.stamps
     }
 
-    /// Tells this in a line, with a question mark for each control character of a name.
+    /// Tells this in a line, with a question mark for each control character of a name. That the log can't be written is told to the operator, once as
+    /// long as it can't.
     pub fn tell(&mut self, notice: Notice) {
         self.erase();
-        if let Ok(line) = self.line_of(notice) {
+        let Ok(line) = self.line_of(notice) else {
+            return;
+        };
+        let _ = self.out.write_all(line.as_bytes());
+        if let Err(error) = self.log_line(line.as_str()) {
+            self.tell_unlogged(error.kind());
+        }
+    }
+
+    /// Writes a line to the log: one that comes after one which it hasn't, or not whole, begins anew.
+    fn log_line(&mut self, line: &str) -> io::Result<()> {
+        if !self.logged {
+            self.log.write_all(b"\n")?;
+        }
+        self.log.write_all(line.as_bytes())?;
+        self.logged = true;
+        Ok(())
+    }
+
+    /// The log hasn't the last line, for this reason.
+    fn tell_unlogged(&mut self, why: ErrorKind) {
+        let was_logged = self.logged;
+        self.logged = false;
+        if !was_logged {
+            return;
+        }
+        let Ok(text) = format!(in self.alloc; "log: {why}") else {
+            return;
+        };
+        if let Ok(line) = self.line_of(Notice::Failed(text.as_str())) {
             let _ = self.out.write_all(line.as_bytes());
-            let _ = self.log.write_all(line.as_bytes());
         }
     }
 

@@ -78,6 +78,11 @@ impl<D: FolderDisk + Drop, C: Clock, W: Write, L: Write, B: Book + Drop> FolderS
         self.files.tell(notice);
     }
 
+    /// Whether what comes can be kept: after a job that couldn't be, once a file of its length can.
+    pub fn can_receive(&mut self) -> bool {
+        self.files.can_receive()
+    }
+
     /// All jobs of the last transmission are in doubt, those that were counted too: answers came out of step. Where one can't be put there, the others
     /// are all the same.
     pub fn doubt_all(&mut self) -> Result<(), SpoolFault>

@@ -19,6 +19,7 @@ mod refused_file;
 mod spool_fault;
 mod spool_files;
 mod stamps;
+mod unkept;
 mod watching;
 
 pub use book::{Book, NoBook};

@@ -70,6 +70,10 @@ pub enum Notice<'a> {
     Left(&'a str, ErrorKind),
     /// So many files in a row are in doubt that the station stops sending.
     Stopped,
+    /// A job couldn't be kept: nothing is received until one can be.
+    ReceivesNot,
+    /// A job can be kept again.
+    Receives,
     /// This file can't be sent, and why.
     Refused(&'a str, RefusedFile),
     /// A job comes: its number in the transmission, from 1.
@@ -137,6 +141,8 @@ impl Display for Notice<'_> {
                 )
             }
             Notice::Stopped => f.write_str("STOPPED SENDING: three files in doubt in a row"),
+            Notice::ReceivesNot => f.write_str("STOPPED RECEIVING: a job can't be kept"),
+            Notice::Receives => f.write_str("receiving again: a job can be kept"),
             Notice::Refused(name, why) => write!(f, "refused {name}: {why}"),
             Notice::Receiving(job) => write!(f, "receiving job {job}"),
             Notice::ReceivingStill {

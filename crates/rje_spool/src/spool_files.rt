@@ -19,6 +19,7 @@ use crate::paper::received_file;
 use crate::passed_files::{PassedFiles, Until};
 use crate::refused_file::RefusedFile;
 use crate::spool_fault::SpoolFault;
+use crate::unkept::Unkept;
 use crate::watching::Watching;
 use rje_day::{Disposition, Seen};
 use rje_folders::{FileIdentity, Folder, FolderDisk, FolderFault, OutName, StationFolder};
@@ -62,6 +63,10 @@ pub(crate) struct SpoolFiles<D: FolderDisk + Drop, C, W, L> {
     tally: Tally,
     // The job that was cut last.
     cut: Option<CutJob>,
+    // What couldn't be kept.
+    unkept: Unkept,
+    // Why the folder couldn't be looked at last, as it was told.
+    look: Option<FolderFault>,
 }
 
 impl<D: FolderDisk + Drop, C: Clock, W: Write, L: Write> SpoolFiles<D, C, W, L> {
@@ -89,6 +94,8 @@ impl<D: FolderDisk + Drop, C: Clock, W: Write, L: Write> SpoolFiles<D, C, W, L> 
             watching: Watching::new(),
             tally: Tally::after_file(0),
             cut: None,
+            unkept: Unkept::new(),
+            look: None,
         }
     }
 
@@ -110,8 +117,7 @@ impl<D: FolderDisk + Drop, C: Clock, W: Write, L: Write> SpoolFiles<D, C, W, L> 
     pub(crate) fn seen(&mut self) -> Seen
         ensures folder { self.new.folder ≡ self.old.folder }
     {
-        // What can't be looked at is taken for held: nothing is sent then.
-        let held = self.folder.is_held().unwrap_or(true);
+        let held = self.is_held();
         Seen {
             ready: !held && self.may_send() && self.has_ready(),
             held,
@@ -119,6 +125,51 @@ impl<D: FolderDisk + Drop, C: Clock, W: Write, L: Write> SpoolFiles<D, C, W, L> 
             call_due: false,
             line_wanted: false,
         }
+    }
+
+    /// Whether nothing is to be sent. What can't be looked at is taken for held.
+    fn is_held(&mut self) -> bool
+        ensures folder { self.new.folder ≡ self.old.folder }
+    {
+        match self.folder.is_held() {
+            Ok(held) => held,
+            Err(fault) => {
+                self.tell_look(fault);
+                true
+            }
+        }
+    }
+
+    /// Tells why the folder can't be looked at, once as long as it can't for that.
+    fn tell_look(&mut self, why: FolderFault)
+        ensures folder { self.new.folder ≡ self.old.folder }
+    {
+        if self.look == Some(why) {
+            return;
+        }
+        if let Ok(text) = format!(in self.alloc; "{why}") {
+            self.console.tell(Notice::Failed(text.as_str()));
+        }
+        self.look = Some(why);
+    }
+
+    /// Whether what comes can be kept: after a job that couldn't be, once a file of its length can.
+    pub(crate) fn can_receive(&mut self) -> bool
+        ensures on { D.discloses
+            → GoesOn (D.asked self.old.folder.disk) (D.asked self.new.folder.disk) }
+        ensures path { self.new.folder.path ≡ self.old.folder.path }
+    {
+        let Some(len) = self.unkept.len() else {
+            return true;
+        };
+        if !self.unkept.tries(self.console.stamps().clock())
+            || self.folder.try_to_keep(Folder::In, len).is_err()
+        {
+            return false;
+        }
+        self.unkept = Unkept::new();
+        self.console.tell(Notice::Receives);
+        true
     }
 
     /// The jobs of the next transmission: those of the first files that lie ready.
@@ -204,7 +255,13 @@ impl<D: FolderDisk + Drop, C: Clock, W: Write, L: Write> SpoolFiles<D, C, W, L> 
             → GoesOn (D.asked self.old.folder.disk) (D.asked self.new.folder.disk) }
         ensures path { self.new.folder.path ≡ self.old.folder.path }
     {
-        let path = self.keep_in(Folder::In, job)?;
+        let path = match self.keep_in(Folder::In, job) {
+            Ok(path) => path,
+            Err(fault) => {
+                self.note_unkept(job, &fault);
+                return Err(fault);
+            }
+        };
         self.console
             .tell(Notice::Received(path.as_str(), JobLabel::of(job)));
         let number = self.number.saturating_sub(1);
@@ -213,6 +270,20 @@ impl<D: FolderDisk + Drop, C: Clock, W: Write, L: Write> SpoolFiles<D, C, W, L> 
             Err(fault) => self.tell_no_paper(path.as_str(), &fault),
         }
         Ok(())
+    }
+
+    /// A job can't be kept, for this reason: where that isn't want of memory, nothing is received until a file of its length can be.
+    fn note_unkept(&mut self, job: &Job, why: &SpoolFault)
+        ensures folder { self.new.folder ≡ self.old.folder }
+    {
+        if matches!(why, SpoolFault::OutOfMemory) {
+            return;
+        }
+        if let Ok(file) = received_file(self.alloc, job) {
+            self.unkept
+                .add(file.len() as u64, self.console.stamps().clock());
+            self.console.tell(Notice::ReceivesNot);
+        }
     }
 
     /// Makes the paper that is due, if one is. It is told where that can't be.
@@ -303,9 +374,14 @@ impl<D: FolderDisk + Drop, C: Clock, W: Write, L: Write> SpoolFiles<D, C, W, L> 
     fn names_anew(&mut self) -> Vec<String>
         ensures folder { self.new.folder ≡ self.old.folder }
     {
-        let Ok(mut names) = self.folder.names_ready() else {
-            return Vec::new(self.alloc);
+        let mut names = match self.folder.names_ready() {
+            Ok(names) => names,
+            Err(fault) => {
+                self.tell_look(fault);
+                return Vec::new(self.alloc);
+            }
         };
+        self.look = None;
         self.passed.look_again(&self.folder, names.as_slice());
         names.retain(|name| !self.passed.has(name.as_str()));
         names.reverse();

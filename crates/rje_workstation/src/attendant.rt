@@ -4,6 +4,7 @@ ghost use Rattle.rje_jobs.specs.declared.job.Job.{Job as Item};
 ghost use Rattle.rje_session.specs.Ledger.{Given, IsEntered, Kept, KeptCut, MayArrive, MayBeEntered, Settled};
 
 use crate::doorway::Door;
+use crate::strangers::Strangers;
 use rje_day::{Disposition, Seen};
 use rje_jobs::Job;
 use rje_session::Spool;
@@ -12,9 +13,6 @@ use std::alloc::Global;
 use std::net::{OpenListener, SocketAddr};
 use std::time::{Clock, Duration, Instant};
 
-/// How long an end has the line in which no job comes whole and none is counted, in seconds: as long as the longest job takes at 9600 bits a second.
-const LONGEST: u64 = 21_600;
-
 /// A station's spool, and the door where calls come in, if it is called: while one end is on the line, it is seen whether that calls again, and
 /// whether it has the line for too long.
 #[derive(Drop)]
@@ -22,20 +20,30 @@ pub(crate) struct Attendant<'o, C: Clock + Drop, S: Drop, L: OpenListener + Drop
     clock: C,
     pub(crate) spool: S,
     pub(crate) door: Option<Door<'o, L>>,
+    pub(crate) strangers: Strangers,
     // Who is on the line, where it called.
     peer: Option<SocketAddr>,
+    // How long an end has the line in which no job comes whole and none is counted, in seconds; with 0 for ever.
+    progress: u32,
     // Since when no job came whole and none was counted on this connection.
     since: Option<Instant>,
 }
 
 impl<'o, C: Clock + Drop, S: Drop, L: OpenListener + Drop> Attendant<'o, C, S, L> {
-    /// Nobody is on the line.
-    pub(crate) fn new(clock: C, spool: S, door: Option<Door<'o, L>>) -> Attendant<'o, C, S, L> {
+    /// Nobody is on the line. An end has it for so many seconds in which no job comes whole and none is counted, and with 0 for ever.
+    pub(crate) fn new(
+        clock: C,
+        spool: S,
+        door: Option<Door<'o, L>>,
+        progress: u32,
+    ) -> Attendant<'o, C, S, L> {
         Attendant {
             clock,
             spool,
             door,
+            strangers: Strangers::new(),
             peer: None,
+            progress,
             since: None,
         }
     }
@@ -48,12 +56,12 @@ impl<'o, C: Clock + Drop, S: Drop, L: OpenListener + Drop> Attendant<'o, C, S, L
 
     /// Whether the other end has had the line for too long. Where the clock can't be read it hasn't.
     fn is_overdue(&self) -> bool {
-        let Some(since) = self.since else {
-            return false;
-        };
-        match since.elapsed(&self.clock) {
-            Ok(passed) => passed >= Duration::from_secs(LONGEST),
-            Err(_) => false,
+        match self.since {
+            Some(since) if self.progress > 0 => match since.elapsed(&self.clock) {
+                Ok(passed) => passed >= Duration::from_secs(u64::from(self.progress)),
+                Err(_) => false,
+            },
+            _ => false,
         }
     }
 

@@ -13,7 +13,7 @@ use rje_session::Spool;
 use rje_spool::{FolderSpool, Notice};
 use std::alloc::Global;
 use std::io::{self, Write};
-use std::net::Net;
+use std::net::{Net, SocketAddr};
 use std::thread;
 use std::time::{Clock, Duration};
 
@@ -44,6 +44,9 @@ pub(crate) fn attend<
         };
         match day.next(seen) {
             Duty::End => return,
+            Duty::Listen | Duty::Call if !attendant.spool.can_receive() => {
+                hang_up_caller(rt, attendant);
+            }
             Duty::Listen => await_call(rt, alloc, order, day, seen, attendant),
             Duty::Call => {
                 call(rt, alloc, order, day, seen, attendant);
@@ -57,6 +60,24 @@ pub(crate) fn attend<
 /// Waits a moment.
 fn wait<C: Clock>(clock: &C) {
     thread::sleep(clock, Duration::from_millis(TICK));
+}
+
+/// What comes can't be kept: a call that waits is hung up; where none does, it waits a moment.
+fn hang_up_caller<
+    R: Net + Clock,
+    D: FolderDisk + Drop,
+    C: Clock + Drop,
+    W: Write + Drop,
+    L: Write + Drop,
+>(rt: &R, attendant: &mut Attendant<&R, FolderSpool<D, C, W, L>, R::Listener>) {
+    let came = match &mut attendant.door {
+        Some(door) => door.next_caller(),
+        None => Ok(Caller::Nobody),
+    };
+    match came {
+        Ok(Caller::LetIn(_, peer) | Caller::HungUp(peer)) => tell_hung_up(rt, attendant, peer),
+        Ok(Caller::Nobody) | Err(_) => wait(rt),
+    }
 }
 
 /// Takes a call that waits, and stays on its connection; where none waits, or none can be taken, it waits a moment.
@@ -90,7 +111,7 @@ fn await_call<
             attendant.begin(Some(peer));
             speak(rt, alloc, order, stream, day, seen, attendant);
         }
-        Ok(Caller::HungUp(peer)) => attendant.spool.tell(Notice::HungUpOn(peer)),
+        Ok(Caller::HungUp(peer)) => tell_hung_up(rt, attendant, peer),
         Ok(Caller::Nobody) => wait(rt),
         Err(error) => {
             if is_new {
@@ -98,6 +119,19 @@ fn await_call<
             }
             wait(rt);
         }
+    }
+}
+
+/// Tells that a caller was hung up, once in a minute.
+fn tell_hung_up<
+    R: Net + Clock,
+    D: FolderDisk + Drop,
+    C: Clock + Drop,
+    W: Write + Drop,
+    L: Write + Drop,
+>(rt: &R, attendant: &mut Attendant<&R, FolderSpool<D, C, W, L>, R::Listener>, peer: SocketAddr) {
+    if attendant.strangers.is_told(rt) {
+        attendant.spool.tell(Notice::HungUpOn(peer));
     }
 }
 

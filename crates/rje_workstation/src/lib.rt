@@ -5,9 +5,11 @@ mod attendant;
 mod attending;
 mod call_times;
 mod doorway;
+mod guarding;
 mod paced_stream;
 mod running;
 mod speaking;
+mod strangers;
 
 pub use paced_stream::PacedStream;
 pub use running::station_command;

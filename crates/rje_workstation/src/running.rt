@@ -3,6 +3,7 @@
 use crate::attendant::Attendant;
 use crate::attending::attend;
 use crate::doorway::Door;
+use crate::guarding::{Openness, how_open};
 use crate::speaking::most_quiet;
 use rje_commands::{CommandFault, tell};
 use rje_day::{Day, Settings};
@@ -17,6 +18,7 @@ use std::alloc::Global;
 use std::fs::{File, OpenOptions};
 use std::io::{self, ErrorKind, Write};
 use std::net::{Net, OpenListener, SocketAddr, TcpListener};
+use std::os::unix::fs::OpenOptionsExt;
 use std::rt::Files;
 use std::time::Clock;
 
@@ -58,6 +60,10 @@ fn tell_end<E: Write>(end: &StationEnd, folder: &str, err: &mut E) -> u8 {
             writeln!(err, "rje: {folder}: {}", ErrorKind::NotFound)
         }
         StationEnd::Folder(fault) => writeln!(err, "rje: {folder}: {fault}"),
+        StationEnd::Open(Openness::Writable(part)) => {
+            writeln!(err, "rje: {folder}{part}: others may write to it")
+        }
+        StationEnd::Open(Openness::NoFile(part)) => writeln!(err, "rje: {folder}{part}: no file"),
         StationEnd::Log(error) => writeln!(err, "rje: {folder}/log: {error}"),
         StationEnd::Listener(address, error) => writeln!(
             err,
@@ -73,6 +79,8 @@ fn tell_end<E: Write>(end: &StationEnd, folder: &str, err: &mut E) -> u8 {
 enum StationEnd {
     /// Its folder can't be used.
     Folder(FolderFault),
+    /// Its folder isn't its owner's alone.
+    Open(Openness),
     /// Its log can't be written.
     Log(io::Error),
     /// It can't listen at this address.
@@ -86,6 +94,7 @@ impl StationEnd {
             StationEnd::Folder(fault) => *fault == FolderFault::OutOfMemory,
             StationEnd::Log(error) => error.kind() == ErrorKind::OutOfMemory,
             StationEnd::Listener(_, error) => error.kind() == ErrorKind::OutOfMemory,
+            StationEnd::Open(_) => false,
         }
     }
 }
@@ -105,6 +114,7 @@ where
         let fault = FolderFault::Failed(Folder::Out, ErrorKind::NotFound);
         return Err(StationEnd::Folder(fault));
     }
+    guard(rt, alloc, order.folder)?;
     let folder = StationFolder::open(SystemDisk::new(rt), alloc, order.folder);
     let folder = folder.map_err(StationEnd::Folder)?;
     let log = opened_log(rt, alloc, order.folder).map_err(StationEnd::Log)?;
@@ -121,12 +131,22 @@ where
     }
 }
 
+/// Refuses a folder that others than its owner may change.
+fn guard<R: Files<File = File>>(rt: &R, alloc: Global, folder: &str) -> Result<(), StationEnd> {
+    match how_open(&SystemDisk::new(rt), alloc, folder) {
+        Ok(None) => Ok(()),
+        Ok(Some(open)) => Err(StationEnd::Open(open)),
+        Err(_) => Err(StationEnd::Folder(FolderFault::OutOfMemory)),
+    }
+}
+
 /// Its log, to which lines are added.
 fn opened_log<R: Files<File = File>>(rt: &R, alloc: Global, folder: &str) -> io::Result<File> {
     let path = format!(in alloc; "{folder}/log")?;
     OpenOptions::new()
         .append(true)
         .create(true)
+        .mode(0o600)
         .open(rt, path.as_str())
 }
 
@@ -179,7 +199,7 @@ fn stay_on<
     spool: FolderSpool<D, C, W, L>,
 ) {
     let mut day = Day::new(settings_of(order));
-    let mut attendant = Attendant::new(rt, spool, door);
+    let mut attendant = Attendant::new(rt, spool, door, order.progress);
     attend(rt, alloc, order, &mut day, &mut attendant);
     attendant.spool.tell(Notice::Ended);
 }
