@@ -2,3 +2,4 @@
 mod book;
 mod connections;
 mod script;
+mod tallies;

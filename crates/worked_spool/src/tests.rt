@@ -1,11 +1,15 @@
 //! What no clause says of a station's spool: names, marks, times, lines, and what it holds.
+mod braking;
 mod console;
+mod cutting;
 mod given;
 mod holding;
 mod keeping;
 mod locks;
 mod page;
+mod passing;
 mod sending;
+mod telling;
 mod test_clock;
 mod watching;
 
@@ -35,9 +39,14 @@ struct Ground {
 impl Ground {
     /// An empty disk none of whose calls fails, five past one in the afternoon of 28 November 2026, and empty pages.
     fn new(alloc: Global) -> Ground {
+        Ground::failing(alloc, 0)
+    }
+
+    /// The same, but that the call of this number fails, of those that change something on the disk.
+    fn failing(alloc: Global, fails_at: usize) -> Ground {
         Ground {
             alloc,
-            disk: RefCell::new(FailingDisk::new(alloc, 0, false)),
+            disk: RefCell::new(FailingDisk::new(alloc, fails_at, false)),
             clock: Cell::new(Some(1795871109)),
             page: RefCell::new(Vec::new(alloc)),
             log: RefCell::new(Vec::new(alloc)),
@@ -59,6 +68,39 @@ impl Ground {
     fn assert_file(&self, rt: &impl Abort, path: &str, bytes: &[u8]) {
         let disk = self.disk().seen().expect(rt, "a disk");
         assert!(rt; disk.has(path, bytes));
+    }
+
+    /// Whether a file stands there.
+    fn stands(&self, path: &str) -> bool {
+        match self.disk().seen() {
+            Ok(disk) => disk.file_of(path).is_some(),
+            Err(_) => false,
+        }
+    }
+
+    /// Nothing stands there.
+    fn assert_none(&self, rt: &impl Abort, path: &str) {
+        assert!(rt; !self.stands(path));
+    }
+
+    /// Puts another file of these bytes in the place of one.
+    fn replace(&self, rt: &impl Abort, path: &str, bytes: &[u8]) {
+        let mut disk = self.disk().changed().expect(rt, "a disk");
+        assert!(rt; disk.replace(path, bytes).is_ok());
+    }
+
+    /// Writes a byte to the beginning of a file, where it lies.
+    fn write(&self, rt: &impl Abort, path: &str, byte: u8) {
+        let mut disk = self.disk().changed().expect(rt, "a disk");
+        let file = disk.file_of(path).expect(rt, "a file");
+        disk.set(file, 0, byte);
+    }
+
+    /// The file that stands there gets no second name.
+    fn deny(&self, rt: &impl Abort, path: &str) {
+        let mut disk = self.disk().changed().expect(rt, "a disk");
+        let file = disk.file_of(path).expect(rt, "a file");
+        disk.deny(file);
     }
 
     /// Takes a file away.

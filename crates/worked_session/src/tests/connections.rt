@@ -352,3 +352,51 @@ fn an_end_that_hangs_up_with_nothing_in_hand_hung_up(rt: HostRuntime) {
     let mut spool = book(&rt, 0, 9, 0);
     assert!(rt; parts(&rt, terms(false), &mut line, &mut spool) == Some(Parting::HungUp));
 }
+
+/// A connection goes on all day: a thousand transmissions are granted and acknowledged on it.
+#[test]
+fn a_connection_has_any_number_of_transmissions(rt: HostRuntime) {
+    let mut line = Script::new(&[&ENQ, &BLOCK, &EOT], 0);
+    line.repeat(999);
+    let mut spool = book(&rt, 0, 1001, 0);
+    let parting = parts(&rt, terms(false), &mut line, &mut spool);
+    assert!(rt; parting == Some(Parting::HungUp));
+    assert!(rt; line.transmissions() == 2000);
+}
+
+/// Patience is for the other end's transmissions: a secondary that hears nothing before its bid bids all the same.
+#[test]
+fn a_secondary_bids_after_a_hearing_without_a_word(rt: HostRuntime) {
+    let mut line = Script::new(&[&[], &ACK0, &ACK1], 0);
+    let mut spool = book(&rt, 1, 2, 0);
+    let impatient = Terms {
+        rank: Rank::Secondary,
+        patience: 1,
+        host: false,
+    };
+    assert!(rt; parts(&rt, impatient, &mut line, &mut spool) == Some(Parting::HungUp));
+    assert!(rt; line.said() == [SAID_BID, SAID_BLOCK, SAID_END].as_slice());
+}
+
+/// Whatever came after its own EOT, all jobs of its last transmission are in doubt, though the other end's came between.
+#[test]
+fn an_answer_after_a_transmission_of_the_other_end_leaves_all_in_doubt(rt: HostRuntime) {
+    let mut line = Script::new(&[&ACK0, &ACK1, &ACK0, &ENQ, &BLOCK, &EOT], 0);
+    line.stray();
+    let mut spool = book(&rt, 2, 9, 0);
+    assert!(rt; stays(&rt, Rank::Primary, &mut line, &mut spool));
+    assert!(rt;
+        spool.notes()
+            == [
+                Note::Given,
+                Note::MayArrive(0),
+                Note::Settled(0, Disposition::Sent),
+                Note::MayArrive(1),
+                Note::Settled(1, Disposition::Sent),
+                Note::Kept,
+                Note::Settled(0, Disposition::InDoubt),
+                Note::Settled(1, Disposition::InDoubt)
+            ]
+            .as_slice()
+    );
+}

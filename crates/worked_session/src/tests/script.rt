@@ -15,6 +15,8 @@ pub(super) struct Script {
     /// An answer comes as the other end hangs up, once there is nothing more to hear.
     strays: bool,
     hung_up: bool,
+    /// It begins anew so often once there is nothing more to hear.
+    again: u32,
     /// The third byte of each transmission, by which its kind is known.
     said: ArrayVec<u8, 64>,
     transmissions: u64,
@@ -30,6 +32,7 @@ impl Script {
             failing,
             strays: false,
             hung_up: false,
+            again: 0,
             said: ArrayVec::new(),
             transmissions: 0,
             failures: 0,
@@ -40,6 +43,16 @@ impl Script {
     /// An answer comes as the other end hangs up, once there is nothing more to hear.
     pub(super) fn stray(&mut self) {
         self.strays = true;
+    }
+
+    /// All is heard so many times more.
+    pub(super) fn repeat(&mut self, times: u32) {
+        self.again = times;
+    }
+
+    /// How often the station spoke.
+    pub(super) fn transmissions(&self) -> u64 {
+        self.transmissions
     }
 
     /// The third byte of each transmission.
@@ -73,6 +86,10 @@ impl Line for Script {
     }
 
     fn listen(&mut self, piece: &mut [u8]) -> Result<Came, LineFault> {
+        if self.place >= self.pieces.len() && self.again > 0 {
+            self.again = self.again.saturating_sub(1);
+            self.place = 0;
+        }
         if self.place >= self.pieces.len() && self.strays {
             self.hung_up = true;
             self.failures = self.failures.saturating_add(1);

@@ -78,3 +78,20 @@ fn a_line_that_is_rewritten_stands_a_while(rt: HostRuntime) {
     );
     assert!(rt; log.shows(b"2026-11-28 13:05:10 hung up\n"));
 }
+
+/// Where the one can't be written the line stands in the other.
+#[test]
+fn a_page_that_cannot_be_written_keeps_no_line_from_the_log(rt: HostRuntime) {
+    let ground = Ground::new(rt.alloc());
+    ground.clock.set(None);
+    let mut console = ground.console();
+    if let Ok(page) = ground.page.try_borrow() {
+        console.tell(Notice::Connected);
+        assert!(rt; page.is_empty());
+    }
+    if let Ok(log) = ground.log.try_borrow() {
+        console.tell(Notice::Bid);
+        assert!(rt; log.as_slice() == b"connected\n".as_slice());
+    }
+    assert!(rt; Page::new(&ground.page).shows(b"bid\n"));
+}

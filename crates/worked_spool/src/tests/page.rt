@@ -22,6 +22,14 @@ impl<'a> Page<'a> {
         }
     }
 
+    /// Whether this stands on it, among others.
+    pub(super) fn has(&self, text: &[u8]) -> bool {
+        match self.text.try_borrow() {
+            Ok(written) => written.windows(text.len()).any(|piece| piece == text),
+            Err(_) => false,
+        }
+    }
+
     /// Takes away what stands on it.
     pub(super) fn clear(&self) {
         if let Ok(mut written) = self.text.try_borrow_mut() {

@@ -5,7 +5,7 @@ use rje_session::Spool;
 use std::process::Abort;
 
 /// Gives what lies ready to a transmission: how many jobs it has. None where nothing lies ready.
-fn given(rt: &(impl Abort + AllocGlobal), spool: &mut TestSpool<'_>) -> usize {
+pub(super) fn given(rt: &(impl Abort + AllocGlobal), spool: &mut TestSpool<'_>) -> usize {
     if !spool.seen().ready {
         return 0;
     }
@@ -13,7 +13,7 @@ fn given(rt: &(impl Abort + AllocGlobal), spool: &mut TestSpool<'_>) -> usize {
 }
 
 /// Each of so many jobs of the transmission comes to this.
-fn settled(rt: &impl Abort, spool: &mut TestSpool<'_>, jobs: usize, what: Disposition) {
+pub(super) fn settled(rt: &impl Abort, spool: &mut TestSpool<'_>, jobs: usize, what: Disposition) {
     for job in 0..jobs {
         assert!(rt; spool.goes_out(job).is_ok());
         assert!(rt; spool.settle(job, what).is_ok());
@@ -21,7 +21,7 @@ fn settled(rt: &impl Abort, spool: &mut TestSpool<'_>, jobs: usize, what: Dispos
 }
 
 /// So many decks of one card lie ready.
-fn put_decks(rt: &(impl Abort + AllocGlobal), ground: &Ground, count: usize) {
+pub(super) fn put_decks(rt: &(impl Abort + AllocGlobal), ground: &Ground, count: usize) {
     for number in 0..count {
         let path = format!(in rt.alloc(); "s/out/{number}.deck").expect(rt, "memory");
         ground.put(rt, path.as_str(), b"A\n");
@@ -80,30 +80,6 @@ fn a_fast_line_is_given_more(rt: HostRuntime) {
     assert!(rt; given(&rt, &mut spool) == 86);
 }
 
-/// After three files in doubt in a row nothing is sent for a minute, and then one file is tried; where that one is in doubt too, nothing is for two
-/// minutes.
-#[test]
-fn a_station_stops_after_three_files_in_doubt(rt: HostRuntime) {
-    let ground = Ground::new(rt.alloc());
-    for name in ["a", "b", "c", "d", "e", "f"] {
-        let path = format!(in rt.alloc(); "s/out/{name}.deck").expect(&rt, "memory");
-        ground.put(&rt, path.as_str(), b"A\n");
-    }
-    let mut spool = ground.spool(&rt);
-    assert!(rt; given(&rt, &mut spool) == 6);
-    settled(&rt, &mut spool, 3, Disposition::InDoubt);
-    assert!(rt; given(&rt, &mut spool) == 0);
-    ground.clock.set(Some(1795871109 + 59));
-    assert!(rt; given(&rt, &mut spool) == 0);
-    ground.clock.set(Some(1795871109 + 60));
-    assert!(rt; given(&rt, &mut spool) == 1);
-    settled(&rt, &mut spool, 1, Disposition::InDoubt);
-    ground.clock.set(Some(1795871109 + 60 + 119));
-    assert!(rt; given(&rt, &mut spool) == 0);
-    ground.clock.set(Some(1795871109 + 60 + 120));
-    assert!(rt; given(&rt, &mut spool) == 1);
-}
-
 /// What wasn't sent after all comes before what was to be next.
 #[test]
 fn files_that_are_taken_back_come_first(rt: HostRuntime) {
@@ -113,4 +89,105 @@ fn files_that_are_taken_back_come_first(rt: HostRuntime) {
     assert!(rt; given(&rt, &mut spool) == 64);
     settled(&rt, &mut spool, 64, Disposition::Ready);
     assert!(rt; given(&rt, &mut spool) == 64);
+}
+
+/// A file that is held back, or taken away, once its name was read isn't in the transmission.
+#[test]
+fn a_file_that_is_held_back_before_the_bid_is_left_alone(rt: HostRuntime) {
+    let ground = Ground::new(rt.alloc());
+    put_decks(&rt, &ground, 3);
+    ground.put(&rt, "s/out/3.deck.hold", b"A\n");
+    ground.put(&rt, "s/out/4.deck.part", b"A\n");
+    ground.put(&rt, "s/out/.5.deck", b"A\n");
+    let mut spool = ground.spool(&rt);
+    assert!(rt; spool.seen().ready);
+    ground.remove(&rt, "s/out/0.deck");
+    ground.put(&rt, "s/out/0.deck.hold", b"A\n");
+    ground.remove(&rt, "s/out/1.deck");
+    assert!(rt; given(&rt, &mut spool) == 1);
+    settled(&rt, &mut spool, 1, Disposition::Sent);
+    ground.assert_file(&rt, "s/sent/2.deck", b"A\n");
+    assert!(rt; given(&rt, &mut spool) == 0);
+    ground.assert_told(&rt, b"2026-11-28 13:05:09 sent 2.deck\n");
+}
+
+/// What was put there while others lay ready comes after those; each look at the folder has its names in the order of their bytes.
+#[test]
+fn files_go_in_the_order_of_their_names(rt: HostRuntime) {
+    let ground = Ground::new(rt.alloc());
+    for name in ["b.deck", "B.deck", "a.deck"] {
+        let path = format!(in rt.alloc(); "s/out/{name}").expect(&rt, "memory");
+        ground.put(&rt, path.as_str(), b"A\n");
+    }
+    let mut spool = ground.spool(&rt);
+    assert!(rt; spool.seen().ready);
+    ground.put(&rt, "s/out/0.deck", b"A\n");
+    assert!(rt; given(&rt, &mut spool) == 3);
+    settled(&rt, &mut spool, 3, Disposition::Sent);
+    assert!(rt; given(&rt, &mut spool) == 1);
+    settled(&rt, &mut spool, 1, Disposition::Sent);
+    ground.assert_told(
+        &rt,
+        b"2026-11-28 13:05:09 sent B.deck
+2026-11-28 13:05:09 sent a.deck
+2026-11-28 13:05:09 sent b.deck
+2026-11-28 13:05:09 sent 0.deck
+",
+    );
+}
+
+/// After a transmission that took a minute the next one has half as many jobs, and one that took less than that and more than a second as many; one
+/// that might have had more changes nothing.
+#[test]
+fn a_slow_line_is_given_less(rt: HostRuntime) {
+    let ground = Ground::new(rt.alloc());
+    put_decks(&rt, &ground, 193);
+    let mut spool = ground.spool(&rt);
+    for (seconds, jobs) in [(59, 64), (60, 64), (1, 32), (0, 32), (0, 1)] {
+        assert!(rt; given(&rt, &mut spool) == jobs);
+        settled(&rt, &mut spool, jobs.saturating_sub(1), Disposition::Sent);
+        // It takes so long until the last job is counted.
+        let now = ground.clock.get().expect(&rt, "a time");
+        ground.clock.set(Some(now.saturating_add(seconds)));
+        let last = jobs.saturating_sub(1);
+        assert!(rt; spool.goes_out(last).is_ok());
+        assert!(rt; spool.settle(last, Disposition::Sent).is_ok());
+    }
+    put_decks(&rt, &ground, 100);
+    assert!(rt; given(&rt, &mut spool) == 64);
+}
+
+/// 6,400 cards fill the first transmission; the file with which it has so many is in it.
+#[test]
+fn a_transmission_has_so_many_cards(rt: HostRuntime) {
+    let ground = Ground::new(rt.alloc());
+    let mut cards = Vec::new(rt.alloc());
+    assert!(rt; cards.resize(6398, b'\n').is_ok());
+    ground.put(&rt, "s/out/0.deck", cards.as_slice());
+    for name in ["1", "2", "3"] {
+        let path = format!(in rt.alloc(); "s/out/{name}.deck").expect(&rt, "memory");
+        ground.put(&rt, path.as_str(), b"A\n");
+    }
+    let mut spool = ground.spool(&rt);
+    assert!(rt; given(&rt, &mut spool) == 3);
+}
+
+/// A file of more bytes than are read is refused, and one of as many is no deck for its long lines alone.
+#[test]
+fn a_file_that_is_too_long_is_refused(rt: HostRuntime) {
+    let ground = Ground::new(rt.alloc());
+    let mut bytes = Vec::new(rt.alloc());
+    assert!(rt; bytes.resize(16_777_216, b'A').is_ok());
+    ground.put(&rt, "s/out/a.deck", bytes.as_slice());
+    assert!(rt; bytes.push(b'A').is_ok());
+    ground.put(&rt, "s/out/b.deck", bytes.as_slice());
+    let mut spool = ground.spool(&rt);
+    assert!(rt; given(&rt, &mut spool) == 0);
+    ground.assert_file(&rt, "s/refused/b.deck.why", b"more than 16777216 bytes\n");
+    ground.assert_told(
+        &rt,
+        b"2026-11-28 13:05:09 refused a.deck: deck line 1: more than 80 columns
+2026-11-28 13:05:09 refused b.deck: more than 16777216 bytes
+",
+    );
 }
