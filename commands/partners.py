@@ -1,6 +1,8 @@
 """A station and the end that it talks with: one that is silent, calls again, hangs up, babbles, or doesn't let it go first.
 
-partners.py PROGRAM   Prints a line for each fault, and at last how many checks went well.
+partners.py PROGRAM [CLOCK]   CLOCK: clock.c as a library, without which no six hours pass
+
+Prints a line for each fault, and at last how many checks went well.
 """
 import concurrent.futures
 import os
@@ -14,10 +16,12 @@ import time
 
 sys.path.insert(0, os.path.dirname(os.path.abspath(__file__)))
 from connected import ACK0, ACK1, ENQ, EOT, NAK, Checks  # noqa: E402
-from stationed import Peer, Station, block, free_port, told_by, waits_for  # noqa: E402
+from stationed import FIRST_JOBS, Peer, Station, block, free_port, told_by, waits_for  # noqa: E402
 
 # So many of them at once, most of which wait.
 AT_ONCE = 8
+# A library by which a station's clock goes ahead.
+CLOCK = os.path.abspath(sys.argv[2]) if len(sys.argv) > 2 and __name__ == "__main__" else None
 
 
 class Door:
@@ -196,6 +200,97 @@ def partings(checks, program, folder):
     peer.says(b"\x31" * 20000)
     checks.check(not waits_for(lambda: "line failed: babble" in told_by(station)) and f"partings: of babble it told {told_by(station)[-6:]}")
     peer.close()
+    station.kill()
+
+
+def six_hours(checks, program, folder):
+    """An end has the line for six hours at most in which no job comes whole and none is counted, idle or not, also with endless patience."""
+    if not CLOCK:
+        return
+    begins, ahead = 21_500, 0
+    port = free_port()
+    station = Station(program, f"{folder}/hours", "--listen", f"127.0.0.1:{port}", "--patience", "0")
+    station.environment = {**os.environ, "LD_PRELOAD": CLOCK, "CLOCK_AHEAD": f"{folder}/ahead"}
+
+    def passes(seconds):
+        nonlocal ahead
+        ahead += seconds
+        with open(f"{folder}/new", "w") as file:
+            file.write(str(ahead))
+        os.rename(f"{folder}/new", f"{folder}/ahead")
+
+    def calls_it():
+        peer = Peer(socket.create_connection(("127.0.0.1", port)))
+        peer.says(ENQ)
+        checks.check(not peer.hears(ACK0) and "six hours: it grants no bid")
+        return peer
+
+    def is_there(peer, what):
+        peer.says(ENQ)
+        checks.check(not peer.hears(ACK0) and f"six hours: {what}, it hung up too soon")
+
+    passes(0)
+    station.start()
+    assert waits_for(lambda: os.path.exists(station.at("log")) and "listening" in open(station.at("log")).read())
+    for what in ("idle", "a job came", "a job was counted"):
+        peer = calls_it()
+        if what == "a job came":
+            passes(begins)
+            peer.says(block(b"\xC8\xC9", last=True))
+            checks.check(not peer.hears(ACK1) and "six hours: it acknowledges no block")
+        peer.says(EOT)
+        if what == "a job was counted":
+            passes(begins)
+            station.put("a.deck", ["A"])
+            checks.check(not peer.hears(ENQ) and "six hours: it doesn't bid")
+            peer.says(ACK0)
+            peer.hears(b"\x03")
+            peer.says(ACK1)
+            checks.check(not peer.hears(EOT) and "six hours: it says no EOT")
+        passes(begins)
+        is_there(peer, what)
+        peer.says(EOT)
+        passes(21_601 - begins)
+        checks.check(not peer.is_hung_up() and f"six hours: {what}, and it stays")
+        peer.close()
+    # A job that doesn't come to its end.
+    peer = calls_it()
+    for answer in (ACK1, ACK0):
+        peer.says(block(b"\xC8\xC9", last=False))
+        checks.check(not peer.hears(answer) and "six hours: it acknowledges no block of a long job")
+        passes(begins if answer == ACK1 else 21_601 - begins)
+    peer.says(block(b"\xC8\xC9", last=False))
+    checks.check(not peer.is_hung_up() and "six hours: a job without an end has the line")
+    checks.check(not waits_for(lambda: station.names("cut")) and "six hours: what came of it isn't in cut/")
+    station.kill()
+
+
+def adapters_turns(checks, program, folder):
+    """Behind a line adapter, too, a station that has something to send bids at once after the host's EOT, and after its own one leaves but a moment."""
+    enq, ack0, ack1, eot, last = b"\x2D", b"\x10\x70", b"\x10\x61", b"\x37", b"\x03"
+    door = Door()
+    station = Station(program, f"{folder}/adapter", "--adapter", "--to", door.address, timeout="3000")
+    os.makedirs(station.at("out"))
+    for number in range(FIRST_JOBS + 1):
+        station.put(f"{number:03}.deck", ["PAY"])
+    open(station.at("hold"), "w").close()
+    station.start()
+    peer = door.takes_call()
+    peer.says(enq)
+    checks.check(not peer.hears(ack0) and "adapter: it grants no bid")
+    os.remove(station.at("hold"))
+    for turn, jobs in (("host's", FIRST_JOBS), ("own", 1)):
+        if turn == "host's":
+            peer.says(eot)
+        began = time.time()
+        checks.check(not peer.hears(enq) and f"adapter: after the {turn} EOT it doesn't bid")
+        took = time.time() - began
+        checks.check(took > 1 and f"adapter: after the {turn} EOT it bids {took:.1f} s later")
+        peer.says(ack0)
+        for number in range(jobs):
+            peer.hears(last)
+            peer.says(ack0 if number % 2 else ack1)
+        checks.check(not peer.hears(eot) and "adapter: it doesn't end")
     station.kill()
 
 
@@ -545,7 +640,7 @@ def no_folder(checks, program, folder):
 
 # (the longest ones first)
 LOOKS = (endless_patience, call_times, broken_end, idle_end, calls_again, time_outs, other_callers, late_answers, cleared_folders, partings, why_left,
-         long_names, being_written, turns, quick_looks, log, one_connection, no_folder)
+         long_names, being_written, turns, quick_looks, adapters_turns, six_hours, log, one_connection, no_folder)
 
 
 def checks_of(look, program, folder):

@@ -1,6 +1,7 @@
 """Two stations that stay on a line, with decks each way, over a relay that delays, cuts and is gone, and killed at random moments.
 
 stationed.py PROGRAM [DECKS KILLS SEED]   DECKS: how many files each way (30); KILLS: how often one of them is killed (12); SEED: of the chances
+stationed.py PROGRAM storm [SEED [FILES KILLS STOPS]]   a storm alone (storms.py), of 500 files each way, 300 kills and 100 stops
 
 Prints a line for each fault, lines that begin with 'figures: ', and at last how many checks went well.
 """
@@ -106,13 +107,14 @@ class Station:
     def __init__(self, program, folder, *words, timeout=TIMEOUT):
         self.program, self.folder, self.process = program, folder, None
         self.words = [*words, "--timeout", timeout]
-        self.decks = {}
+        self.decks, self.environment = {}, None
         os.mkdir(folder)
 
     def start(self):
         self.errors = open(f"{self.folder}.err", "ab")
         words = [self.program, "station", self.folder, *self.words]
-        self.process = subprocess.Popen(words, stdin=subprocess.DEVNULL, stdout=subprocess.DEVNULL, stderr=self.errors)
+        further = {"stderr": self.errors, "env": self.environment}
+        self.process = subprocess.Popen(words, stdin=subprocess.DEVNULL, stdout=subprocess.DEVNULL, **further)
 
     def kill(self, how=signal.SIGKILL):
         self.process.send_signal(how)
@@ -499,6 +501,8 @@ def longer_turns(checks, program, folder):
                 quick = time.time() - began < 0.8 or counted == [1]
                 if counted == [first]:
                     open(station.at("hold"), "w").close()
+                    # (a look at the folder that began before that is over)
+                    time.sleep(0.2)
                     for number, deck in enumerate(decks[first:], first):
                         station.put(f"{number:03}.deck", deck)
                     os.remove(station.at("hold"))
@@ -547,8 +551,20 @@ def names_again(checks, program, folder):
     station.kill()
 
 
+def in_a_storm(checks, program, seed, files=500, kills=300, stops=100):
+    """A storm of this seed, so many files, kills and stops."""
+    import storms  # (which uses this module)
+    with tempfile.TemporaryDirectory() as folder:
+        storms.storm(checks, program, folder, files, kills, stops, seed)
+
+
 def main():
     program = os.path.abspath(sys.argv[1])
+    if sys.argv[2:3] == ["storm"]:
+        checks = Checks()
+        in_a_storm(checks, program, *([int(word) for word in sys.argv[3:]] or [1]))
+        print(checks.well)
+        return
     decks, kills, seed = (int(word) for word in (sys.argv[2:] + ["30", "12", "1"][len(sys.argv) - 2:]))
     chances, checks = random.Random(seed), Checks()
     with tempfile.TemporaryDirectory() as folder:
@@ -602,6 +618,7 @@ def main():
         look(checks, near, far)
         look(checks, far, near)
         figures(f"{decks} files each way, {killed} kills, {doubts} in doubt, {took:.0f} s")
+        in_a_storm(checks, program, seed, files=30, kills=12, stops=6)
         if checks.ill and os.environ.get("KEEP"):
             shutil.copytree(folder, os.environ["KEEP"], dirs_exist_ok=True)
     print(checks.well)

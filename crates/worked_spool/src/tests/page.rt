@@ -24,10 +24,15 @@ impl<'a> Page<'a> {
 
     /// Whether this stands on it, among others.
     pub(super) fn has(&self, text: &[u8]) -> bool {
-        match self.text.try_borrow() {
-            Ok(written) => written.windows(text.len()).any(|piece| piece == text),
-            Err(_) => false,
+        let Ok(written) = self.text.try_borrow() else {
+            return false;
+        };
+        for begin in 0..written.len() {
+            if written.get(begin..).is_some_and(|rest| rest.starts_with(text)) {
+                return true;
+            }
         }
+        false
     }
 
     /// Takes away what stands on it.
