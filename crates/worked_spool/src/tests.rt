@@ -96,11 +96,19 @@ impl Ground {
         disk.set(file, 0, byte);
     }
 
-    /// The file that stands there gets no second name.
+    /// The file that stands there is another user's: it gets no second name.
     fn deny(&self, rt: &impl Abort, path: &str) {
         let mut disk = self.disk().changed().expect(rt, "a disk");
         let file = disk.file_of(path).expect(rt, "a file");
         disk.deny(file);
+    }
+
+    /// The same of a file that can't be renamed either.
+    fn hold_fast(&self, rt: &impl Abort, path: &str) {
+        self.deny(rt, path);
+        let mut disk = self.disk().changed().expect(rt, "a disk");
+        let file = disk.file_of(path).expect(rt, "a file");
+        disk.stick(file);
     }
 
     /// Takes a file away.

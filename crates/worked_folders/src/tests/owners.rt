@@ -11,7 +11,7 @@ use std::test::Fail;
 const MAX_CALLS: usize = 16;
 
 /// The number of the last call that it makes.
-const LAST_CALL: usize = 12;
+const LAST_CALL: usize = 11;
 
 /// The folder of the station on this disk.
 fn opened(rt: &impl Abort, alloc: Global, disk: FailingDisk) -> StationFolder<FailingDisk> {

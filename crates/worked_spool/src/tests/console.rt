@@ -91,7 +91,11 @@ fn a_page_that_cannot_be_written_keeps_no_line_from_the_log(rt: HostRuntime) {
     }
     if let Ok(log) = ground.log.try_borrow() {
         console.tell(Notice::Bid);
+        console.tell(Notice::HungUp);
         assert!(rt; log.as_slice() == b"connected\n".as_slice());
     }
-    assert!(rt; Page::new(&ground.page).shows(b"bid\n"));
+    assert!(rt; Page::new(&ground.page).shows(b"bid\nlog: resource busy\nhung up\n"));
+    // (it begins a line of its own, since the log may have a part of the one before)
+    console.tell(Notice::Ended);
+    assert!(rt; Page::new(&ground.log).shows(b"connected\n\nended\n"));
 }

@@ -63,3 +63,31 @@ fn a_job_without_paper_is_told(rt: HostRuntime) {
 ",
     );
 }
+
+/// After a job that can't be kept nothing is received until a file as long can be, which is tried each ten seconds and leaves nothing.
+#[test]
+fn a_job_that_cannot_be_kept_stops_a_station(rt: HostRuntime) {
+    let ground = Ground::new(rt.alloc());
+    let mut spool = ground.spool(&rt);
+    let before = ground.count(&rt);
+    assert!(rt; spool.can_receive());
+    ground.fail_next(&rt);
+    assert!(rt; spool.keep(&job_of(&rt, b"ONE", Select::Unset)).is_err());
+    ground.fail_next(&rt);
+    for (time, receives) in [
+        (1795871118, false),
+        (1795871119, false),
+        (1795871128, false),
+        (1795871129, true),
+    ] {
+        ground.clock.set(Some(time));
+        assert!(rt; spool.can_receive() == receives);
+    }
+    assert!(rt; ground.count(&rt) == before);
+    ground.assert_told(
+        &rt,
+        b"2026-11-28 13:05:09 STOPPED RECEIVING: a job can't be kept
+2026-11-28 13:05:29 receiving again: a job can be kept
+",
+    );
+}

@@ -28,7 +28,10 @@ impl<'a> Page<'a> {
             return false;
         };
         for begin in 0..written.len() {
-            if written.get(begin..).is_some_and(|rest| rest.starts_with(text)) {
+            if written
+                .get(begin..)
+                .is_some_and(|rest| rest.starts_with(text))
+            {
                 return true;
             }
         }
