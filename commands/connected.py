@@ -875,7 +875,8 @@ class Checks:
 
     def check(self, fault):
         if fault:
-            print(fault, flush=True)
+            caller = sys._getframe(1)
+            print(f"{os.path.basename(caller.f_code.co_filename)}:{caller.f_lineno}: {fault}", flush=True)
         self.well, self.ill = self.well + (not fault), self.ill + bool(fault)
 
 
