@@ -23,7 +23,7 @@ keeps_twice a b c p q = record {
 }
 
 -- a call that failed, whatever the error says
-failed_is : (P : Asked → Type 0) (kind : ErrorKind) (call : Call) → P (Refused call) → P (Failed call) → P (failed_by kind call)
+pub failed_is : (P : Asked → Type 0) (kind : ErrorKind) (call : Call) → P (Refused call) → P (Failed call) → P (failed_by kind call)
 failed_is P ErrorKind.InvalidInput call p q = p
 failed_is P _ call p q = q
 

@@ -1,5 +1,5 @@
 -- What is asked to have the folder of a station: call after call.
-use Rattle.std.proofs.Common.{◌≡◌, ℕ, inl, inr, List, [], ◌∷◌, subst, sym, true}
+use Rattle.std.proofs.Common.{◌≡◌, ℕ, inl, inr, List, [], ◌∷◌, true}
 use Rattle.rje_stores.specs.Disk.{Asked, Call, has_synced_name}
 use Rattle.rje_stores.specs.Replacing.{Adds}
 use Rattle.rje_stores.specs.Inside.Filling.{AddsSync}

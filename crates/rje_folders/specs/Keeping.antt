@@ -1,5 +1,5 @@
 -- How bytes become a new file of a folder, which is never in the place of another.
-use Rattle.std.specs.Prelude.{◌≡◌, ◌⊎◌, ℕ, ◌≤◌, List, [], ◌∷◌, ◌++◌, length, Some, ⊤, codes, decimal}
+use Rattle.std.specs.Prelude.{◌≡◌, ◌⊎◌, ℕ, ◌<◌, ◌≤◌, List, [], ◌∷◌, ◌++◌, length, Some, ⊤, codes, decimal}
 use Rattle.rje_stores.specs.Disk.{Asked, Call, Done, Create, Fill, Sync, Link, Remove, SyncFolder, bytes_of, call_of, standing}
 use Rattle.rje_stores.specs.Replacing.{IsWhole}
 
@@ -26,6 +26,10 @@ WasNamed name before after = (from : List ℕ) × (earlier later : List Asked) �
 -- the file under this name was made after these calls, so it is none of the files that there were before
 abbrev pub WasMade : (name : List ℕ) → (before after : List Asked) → Type 0
 WasMade name before after = (number : ℕ) × (length before ≤ number) × (standing name after ≡ Some number)
+
+-- no name stands for a file that was made after these calls
+abbrev pub LeavesNone : (before after : List Asked) → Type 0
+LeavesNone before after = (name : List ℕ) (number : ℕ) → standing name after ≡ Some number → number < length before
 
 -- What may be asked to see whether bytes can be kept in a folder: a file is made under a name that is left alone, is written while it is empty, and put
 -- on disk; and such a name is taken away.

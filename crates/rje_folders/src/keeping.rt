@@ -1,11 +1,11 @@
 //! How bytes become a new file, which is never in the place of another.
-ghost use Rattle.std.specs.Prelude.{◌≡◌, ◌≤◌, ℕ, List, [], length, Some, IfOk, OnOk, string_bytes};
+ghost use Rattle.std.specs.Prelude.{◌≡◌, ◌≤◌, ℕ, List, [], length, Some, IfOk, OnErr, OnOk, string_bytes};
 ghost use Rattle.rje_stores.specs.Disk.{bytes_of, standing};
 ghost use Rattle.rje_stores.specs.Replacing.{Adds, IsOnDisk};
 ghost use Rattle.rje_stores.specs.Inside.Filling.{Fills};
 ghost use Rattle.rje_folders.specs.FileNames.{IsNameBefore, IsNameOf};
-ghost use Rattle.rje_folders.specs.Keeping.{IsTemporary, MayKeep, WasMade, WasNamed};
-ghost use Rattle.rje_folders.specs.Inside.Calls.{IsKept, IsNewIn, MayCreate, MayWrite};
+ghost use Rattle.rje_folders.specs.Keeping.{IsTemporary, LeavesNone, MayKeep, WasMade, WasNamed};
+ghost use Rattle.rje_folders.specs.Inside.Calls.{IsKept, IsNewIn, LeavesOne, MayCreate, MayWrite};
 
 use crate::file_names::FileNames;
 use crate::linking::{link_free, sync_names};
@@ -68,6 +68,9 @@ pub(crate) fn create_new<D: Disk>(
         (string_bytes new.path) (D.asked disk.new)) }
     ensures made { D.discloses → IfOk result (λ new.
         length (D.asked disk.old) ≤ (D.opened new.file).number) }
+    ensures others { D.discloses → IfOk result (λ new.
+        LeavesOne (string_bytes new.path) (D.asked disk.old) (D.asked disk.new)) }
+    ensures none { D.discloses → OnErr result (LeavesNone (D.asked disk.old) (D.asked disk.new)) }
 {
     for number in 0..u32::MAX {
         let path = temporary_name(alloc, folder, number)?;

@@ -2,7 +2,7 @@
 ghost use Rattle.std.specs.Prelude.{◌≡◌, length, IfOk, OnOk};
 ghost use Rattle.rje_stores.specs.Replacing.{Adds};
 ghost use Rattle.rje_folders.specs.Folder.{path_of};
-ghost use Rattle.rje_folders.specs.Keeping.{HasTriedToKeep, MayTryToKeep};
+ghost use Rattle.rje_folders.specs.Keeping.{HasTriedToKeep, LeavesNone, MayTryToKeep};
 ghost use Rattle.rje_folders.specs.Promising.{MayTry};
 
 use crate::folder::Folder;
@@ -54,6 +54,7 @@ pub(crate) fn try_to_keep<D: FolderDisk>(
         (D.asked disk.old) (D.asked disk.new) }
     ensures tried { D.discloses → OnOk result
         (HasTriedToKeep (path_of station.now folder) len (D.asked disk.new)) }
+    ensures gone { D.discloses → LeavesNone (D.asked disk.old) (D.asked disk.new) }
 {
     let own = folder.own_path(alloc, station)?;
     let zeros = zeros_of(alloc, len)?;

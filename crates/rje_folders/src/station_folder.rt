@@ -4,7 +4,7 @@ ghost use Rattle.rje_stores.specs.Disk.{has_synced_name};
 ghost use Rattle.rje_stores.specs.Replacing.{Adds, Either, IsOnDisk};
 ghost use Rattle.rje_folders.specs.FileNames.{IsBetween, IsBetweenFrom, IsNumbered};
 ghost use Rattle.rje_folders.specs.Folder.{path_in, path_of, why_path};
-ghost use Rattle.rje_folders.specs.Keeping.{HasTriedToKeep, MayKeep, MayTryToKeep, WasMade, WasNamed};
+ghost use Rattle.rje_folders.specs.Keeping.{HasTriedToKeep, LeavesNone, MayKeep, MayTryToKeep, WasMade, WasNamed};
 ghost use Rattle.rje_folders.specs.Marking.{IsMarked, IsSaid, MayMark, WasSaid};
 ghost use Rattle.rje_folders.specs.Moving.{IsGone, IsMoved, IsSecond, MayMove};
 ghost use Rattle.rje_folders.specs.Promising.{IsSent, IsSettled, MayDropCut, MayOpen, MayPromise, MaySettle, MayTry, WasOnDisk};
@@ -162,6 +162,7 @@ impl<D: FolderDisk + Drop> StationFolder<D> {
         ensures tried { D.discloses → OnOk result
             (HasTriedToKeep (path_of (string_bytes self.old.path) folder) len
             (D.asked self.new.disk)) }
+        ensures gone { D.discloses → LeavesNone (D.asked self.old.disk) (D.asked self.new.disk) }
         ensures path { self.new.path ≡ self.old.path }
     {
         try_to_keep(&mut self.disk, self.alloc, self.path.as_str(), folder, len).map_err(

@@ -64,6 +64,16 @@ impl Ground {
         assert!(rt; disk.put_bytes(path, bytes).is_ok());
     }
 
+    /// Puts a file of another user on the disk, which may be renamed or not.
+    fn put_of_another(&self, rt: &impl Abort, path: &str, bytes: &[u8], stays: bool) {
+        let mut disk = self.disk().changed().expect(rt, "a disk");
+        let file = disk.put_bytes(path, bytes).expect(rt, "memory");
+        disk.deny(file);
+        if stays {
+            disk.stick(file);
+        }
+    }
+
     /// A file of just these bytes stands there.
     fn assert_file(&self, rt: &impl Abort, path: &str, bytes: &[u8]) {
         let disk = self.disk().seen().expect(rt, "a disk");

@@ -1,5 +1,5 @@
 -- What is asked step by step, and what names come to.
-use Rattle.std.specs.Prelude.{◌≡◌, ◌≢◌, ◌⊎◌, ℕ, List, [], ◌∷◌, ◌++◌, length, Option, Some, None, true}
+use Rattle.std.specs.Prelude.{◌≡◌, ◌≢◌, ◌⊎◌, ℕ, ◌<◌, List, [], ◌∷◌, ◌++◌, length, Option, Some, None, true}
 use Rattle.rje_stores.specs.Disk.{Asked, Call, Opened, Done, Create, Fill, Sync, Rename, Link, Remove, standing, bytes_of, is_synced, has_synced_name}
 use Rattle.rje_stores.specs.Replacing.{IsOnDisk, IsWhole}
 use Rattle.rje_stores.specs.Inside.Filling.{AddsSync}
@@ -67,3 +67,7 @@ MayHide station name call before = (hidden : List ℕ) × IsTakenPath station na
 -- the last call gave whatever stood under a name in out/ this hidden one
 abbrev pub IsHidden : (station name hidden : List ℕ) → List Asked → List Asked → Type 0
 IsHidden station name hidden before after = after ≡ Done (Rename (path_in station Folder.Out name) (path_in station Folder.Out hidden)) ∷ before
+
+-- no name but this one stands for a file that was made after these calls
+abbrev pub LeavesOne : (path : List ℕ) → (before after : List Asked) → Type 0
+LeavesOne path before after = (name : List ℕ) (number : ℕ) → name ≢ path → standing name after ≡ Some number → number < length before

@@ -30,19 +30,6 @@ fn a_file_without_a_second_name_is_passed_over(rt: HostRuntime) {
     assert!(rt; given(&rt, &mut spool) == 1);
 }
 
-/// A file of another user is taken over, and goes at the next look; nothing is told of that.
-#[test]
-fn a_file_of_another_user_goes_at_the_next_look(rt: HostRuntime) {
-    let ground = Ground::new(rt.alloc());
-    ground.put(&rt, "s/out/a.deck", b"A\n");
-    ground.deny(&rt, "s/out/a.deck");
-    let mut spool = ground.spool(&rt);
-    assert!(rt; given(&rt, &mut spool) == 0);
-    ground.assert_told(&rt, b"");
-    assert!(rt; spool.seen().ready);
-    assert!(rt; given(&rt, &mut spool) == 1);
-}
-
 /// Files beside one that is passed over go meanwhile.
 #[test]
 fn a_file_that_is_passed_over_keeps_no_other_back(rt: HostRuntime) {

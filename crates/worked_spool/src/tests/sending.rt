@@ -69,6 +69,34 @@ fn a_file_that_cannot_be_sent_is_put_aside(rt: HostRuntime) {
     );
 }
 
+/// A deck of another user is taken over, and goes at the next look.
+#[test]
+fn a_deck_of_another_user_goes_at_the_next_look(rt: HostRuntime) {
+    let ground = Ground::new(rt.alloc());
+    ground.put_of_another(&rt, "s/out/a.deck", b"A\n", false);
+    let mut spool = ground.spool(&rt);
+    assert!(rt; given(&rt, &mut spool) == 0);
+    assert!(rt; given(&rt, &mut spool) == 1);
+    settled(&rt, &mut spool, 1, Disposition::Sent);
+    ground.assert_file(&rt, "s/sent/a.deck", b"A\n");
+    ground.assert_told(&rt, b"2026-11-28 13:05:09 sent a.deck\n");
+}
+
+/// Where it can't be taken over it is told once, and stays.
+#[test]
+fn a_deck_that_cannot_be_taken_over_is_passed_over(rt: HostRuntime) {
+    let ground = Ground::new(rt.alloc());
+    ground.put_of_another(&rt, "s/out/a.deck", b"A\n", true);
+    let mut spool = ground.spool(&rt);
+    assert!(rt; given(&rt, &mut spool) == 0);
+    assert!(rt; !spool.seen().ready);
+    ground.assert_file(&rt, "s/out/a.deck", b"A\n");
+    ground.assert_told(
+        &rt,
+        b"2026-11-28 13:05:09 a.deck: can't get a second name: permission denied\n",
+    );
+}
+
 /// A transmission is given 64 jobs at first, and after one that took no time twice as many.
 #[test]
 fn a_fast_line_is_given_more(rt: HostRuntime) {

@@ -6,7 +6,17 @@ returns-in_err-leave-in-Err-clause-on g c = λ told.
     let (calls, is, each) = c.try_second_name.ensures.asks told in
     goes_on_twice _ _ _ (calls, is) (c.leave.ensures.on told)
 
-pub returns-in_ok-leave-in-Err-clause-on : goal.returns-in_ok-leave-in-Err-clause-on
-returns-in_ok-leave-in-Err-clause-on g c = λ told.
+pub returns-clause-on : goal.returns-clause-on
+returns-clause-on g c = λ told.
     let (calls, is, each) = c.try_second_name.ensures.asks told in
     goes_on_twice _ _ _ (calls, is) (c.leave.ensures.on told)
+
+pub returns-in_err-take_over-in-Err-NoSecondName-PermissionDenied-clause-on : goal.returns-in_err-take_over-in-Err-NoSecondName-PermissionDenied-clause-on
+returns-in_err-take_over-in-Err-NoSecondName-PermissionDenied-clause-on g c = λ told.
+    let (calls, is, each) = c.try_second_name.ensures.asks told in
+    goes_on_twice _ _ _ (calls, is) (c.take_over.ensures.on told)
+
+pub returns-in-Err-NoSecondName-PermissionDenied-clause-on : goal.returns-in-Err-NoSecondName-PermissionDenied-clause-on
+returns-in-Err-NoSecondName-PermissionDenied-clause-on g c = λ told.
+    let (calls, is, each) = c.try_second_name.ensures.asks told in
+    goes_on_twice _ _ _ (calls, is) (c.take_over.ensures.on told)
