@@ -219,3 +219,23 @@ fn a_file_that_is_too_long_is_refused(rt: HostRuntime) {
 ",
     );
 }
+
+/// A name that is taken again and again gets the next number each time.
+#[test]
+fn a_name_that_is_taken_gets_the_next_number(rt: HostRuntime) {
+    let ground = Ground::new(rt.alloc());
+    let mut spool = ground.spool(&rt);
+    for path in [
+        "s/sent/a.printer.deck",
+        "s/sent/a.2.printer.deck",
+        "s/sent/a.3.printer.deck",
+        "s/sent/a.4.printer.deck",
+        "s/sent/a.5.printer.deck",
+    ] {
+        ground.put(&rt, "s/out/a.printer.deck", b"A\n");
+        assert!(rt; given(&rt, &mut spool) == 1);
+        settled(&rt, &mut spool, 1, Disposition::Sent);
+        assert!(rt; ground.stands(path));
+        assert!(rt; !ground.stands("s/out/a.printer.deck"));
+    }
+}
