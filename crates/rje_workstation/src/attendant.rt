@@ -21,6 +21,8 @@ pub(crate) struct Attendant<'o, C: Clock + Drop, S: Drop, L: OpenListener + Drop
     pub(crate) spool: S,
     pub(crate) door: Option<Door<'o, L>>,
     pub(crate) strangers: Strangers,
+    // What comes can be kept.
+    pub(crate) receives: bool,
     // Who is on the line, where it called.
     peer: Option<SocketAddr>,
     // How long an end has the line in which no job comes whole and none is counted, in seconds; with 0 for ever.
@@ -42,6 +44,7 @@ impl<'o, C: Clock + Drop, S: Drop, L: OpenListener + Drop> Attendant<'o, C, S, L
             spool,
             door,
             strangers: Strangers::new(),
+            receives: true,
             peer: None,
             progress,
             since: None,

@@ -38,19 +38,17 @@ pub(crate) fn attend<
 {
     let mut calls = CallTimes::new(order.every);
     for _ in 0..u64::MAX {
+        attendant.receives = attendant.spool.can_receive();
         let seen = Seen {
             call_due: calls.is_due(rt),
             ..attendant.spool.seen()
         };
         match day.next(seen) {
             Duty::End => return,
-            Duty::Listen | Duty::Call if !attendant.spool.can_receive() => {
-                hang_up_caller(rt, attendant);
-            }
             Duty::Listen => await_call(rt, alloc, order, day, seen, attendant),
             Duty::Call => {
                 call(rt, alloc, order, day, seen, attendant);
-                calls.note(rt);
+                calls.note(rt, attendant.receives);
             }
             _ => wait(rt),
         }
@@ -80,7 +78,8 @@ fn hang_up_caller<
     }
 }
 
-/// Takes a call that waits, and stays on its connection; where none waits, or none can be taken, it waits a moment.
+/// Takes a call that waits, and stays on its connection; where none waits, or none can be taken, it waits a moment. Where what comes can't be kept the
+/// call is hung up.
 fn await_call<
     R: Net + Clock,
     D: FolderDisk + Drop,
@@ -98,6 +97,10 @@ fn await_call<
     requires seeks { SeeksConnection day.old seen }
     ensures day { GoesOnAsDay day.old day.new }
 {
+    if !attendant.receives {
+        hang_up_caller(rt, attendant);
+        return;
+    }
     let Some(door) = &mut attendant.door else {
         wait(rt);
         return;
@@ -146,7 +149,7 @@ fn tell_not_taken<D: FolderDisk + Drop, C: Clock + Drop, W: Write + Drop, L: Wri
     }
 }
 
-/// Calls, and stays on the connection where there is one.
+/// Calls, and stays on the connection where there is one. Where what comes can't be kept it waits a moment.
 fn call<R: Net + Clock, D: FolderDisk + Drop, C: Clock + Drop, W: Write + Drop, L: Write + Drop>(
     rt: &R,
     alloc: Global,
@@ -162,6 +165,10 @@ fn call<R: Net + Clock, D: FolderDisk + Drop, C: Clock + Drop, W: Write + Drop, 
         wait(rt);
         return;
     };
+    if !attendant.receives {
+        wait(rt);
+        return;
+    }
     attendant.spool.tell(Notice::Calling(address));
     match called(rt, address, order.timeout) {
         Ok(stream) => {

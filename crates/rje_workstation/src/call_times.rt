@@ -29,8 +29,10 @@ impl CallTimes {
         }
     }
 
-    /// It called now, or its connection is over now.
-    pub(crate) fn note<C: Clock>(&mut self, clock: &C) {
-        self.last = Instant::now(clock).ok();
+    /// It called now, or its connection is over now; or it didn't call.
+    pub(crate) fn note<C: Clock>(&mut self, clock: &C, called: bool) {
+        if called {
+            self.last = Instant::now(clock).ok();
+        }
     }
 }
