@@ -1,0 +1,4 @@
+pub mod Connections
+pub mod Day
+pub mod Settling
+pub mod WorkedDay
