@@ -8,7 +8,7 @@ use Rattle.rje_settle.specs.Receipt.{IsReceiptOf}
 use Rattle.rje_settle.specs.Sending.{Sending}
 use Rattle.settle_world.specs.Connections.{AllInTurn, IsInTurn, SettlesDoubt, begun_in, is_out, is_out_by, is_said, is_said_by, promised_in, said_by, said_last, settled_by_receipt, settled_in}
 use Rattle.settle_world.specs.Day.{ComesTo, Connects, Ends, Happening, Hears, History, IsDay, Keeps, Promises, Restarts, Says, TakesBack, TakesReceipt, ends_after}
-use Rattle.settle_world.specs.Settling.{AllTrusted, IsTrue}
+use Rattle.settle_world.specs.Settling.{AllTrusted, IsTrueReceipt}
 use Rattle.settle_world.proofs.Kept.{AreLaws, hold_all_time, now-stood}
 use Rattle.settle_world.proofs.Lists.{IsFront}
 use Rattle.settle_world.proofs.Names.{IsNamed, came-named, names-step}
@@ -57,7 +57,7 @@ front-all xs ys front same =
 
 -- what a receipt that agrees leaves
 agrees-settles : AreLaws → (put_out : ℕ → JobFile) (past : History) (after : Ends) (r : Receipt) (came : ℕ) → IsDay past → AllTrusted past
-    → AllInTurn put_out past → TakesReceipt r (Verdict.Agrees came) (ends_after past) after → IsTrue past r
+    → AllInTurn put_out past → TakesReceipt r (Verdict.Agrees came) (ends_after past) after → IsTrueReceipt past r
     → (is_said past ≡ true) × (r ≡ said_last past)
     → after.kept ≡ begun_in past ++ map put_out (settled_in past ++ take came (promised_in past))
 agrees-settles laws put_out past after r came day may turn t true_one last =
@@ -77,7 +77,7 @@ agrees-settles laws put_out past after r came day may turn t true_one last =
 pub settles_doubt : AreLaws → SettlesDoubt
 settles_doubt laws put_out m past r came day may turn what =
     let t : TakesReceipt r (Verdict.Agrees came) (ends_after past) m.after = rw what at day.0 in
-    let true_one : IsTrue past r = rw what at may.0 in
+    let true_one : IsTrueReceipt past r = rw what at may.0 in
     let last : (is_said past ≡ true) × (r ≡ said_last past) = rw what at turn.0 in
     let kept = agrees-settles laws put_out past m.after r came day.1 may.1 turn.1 t true_one last in
     let settled : settled_by_receipt m.what (promised_in past) (settled_in past) ≡ settled_in past ++ take came (promised_in past) = rw what refl in

@@ -15,14 +15,14 @@ pub record WasSaid (past : History) (r : Receipt) : Type 0 where
   pub said : r ≡ then.receiving
 
 -- and the digest tells apart the two lists of jobs that are compared by it: what was kept then, and the first of those that were given
-pub record IsTrue (past : History) (r : Receipt) : Type 0 where
+pub record IsTrueReceipt (past : History) (r : Receipt) : Type 0 where
   pub was_said : WasSaid past r
   pub apart : AreToldApart was_said.then.kept (take r.kept (ends_after past).given)
 
 -- A receipt that agrees is true; so nobody makes up a digest that fits, and no two lists of jobs that are compared share one. One from which
 -- is counted was said. One that doesn't agree may be anything.
 abbrev pub MayBeTrusted : History → Happening → Type 0
-MayBeTrusted past (Hears r (Verdict.Agrees came)) = IsTrue past r
+MayBeTrusted past (Hears r (Verdict.Agrees came)) = IsTrueReceipt past r
 MayBeTrusted past (Hears r Verdict.BeginsToCount) = WasSaid past r
 MayBeTrusted past _ = Unit {0}
 
