@@ -1,0 +1,1 @@
+"""The tests of the program; run.py runs them, and ../test calls it."""
