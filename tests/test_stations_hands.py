@@ -1,0 +1,224 @@
+"""What other hands and a full disk do to a station: files of out/ that are replaced, written to, held or taken back, folders that are gone, what comes and
+can't be kept, and a log that can't be written."""
+import os
+import resource
+import shutil
+import signal
+import socket
+import subprocess
+import sys
+import time
+
+sys.path.insert(0, os.path.dirname(os.path.dirname(os.path.abspath(__file__))))
+from tests.lib import case  # noqa: E402
+from tests.lib.frames import ACK0, ACK1, ENQ, EOT, text_of  # noqa: E402
+from tests.lib.ports import waits_for  # noqa: E402
+from tests.lib.samples import lines_of_jobs  # noqa: E402
+from tests.lib.stations import Peer, StationCase, card, file_text, has_logged, hears_block, put_beside, serves, told_by  # noqa: E402
+
+
+class HandCase(StationCase):
+    def begins(self, door, name):
+        """The peer of a call that is bid for and grants the bid."""
+        peer = door.takes_call()
+        self.true(peer and peer.hears(ENQ), f"{name}: it doesn't bid")
+        peer.says(ACK0)
+        return peer
+
+
+class Hands(HandCase):
+    seconds = 8
+
+    def test_replaced(self):
+        """A file that takes the name of one that is on the line isn't taken for that: what was read is counted, or nothing is, and the new file goes."""
+        for name, put in (("renamed", put_beside), ("written", lambda station, name, text: open(station.at("out", name), "w").write(text))):
+            door, station = self.calls(name, "--every", "1", decks=("a.deck", "b.deck"))
+            peer = self.begins(door, name)
+            self.true(card("a.deck") in hears_block(peer), f"{name}: it doesn't send a.deck")
+            put(station, "b.deck", "ANOTHER B\n")
+            peer.says(ACK1)
+            self.true(card("b.deck") not in hears_block(peer), f"{name}: the last block of the old text is said")
+            self.true(waits_for(lambda: any("b.deck" in line and "replaced" in line for line in told_by(station))), lambda: f"{name}: it told {told_by(station)}")
+            peer.close()
+            peer = self.begins(door, name)
+            self.true(card("ANOTHER B") in hears_block(peer), f"{name}: the new text isn't sent")
+            peer.says(ACK1)
+            self.true(waits_for(lambda: station.names("sent") == ["a.deck", "b.deck"]), lambda: f"{name}: sent/ has {station.names('sent')}")
+            self.equal(file_text(station, "sent", "b.deck"), "ANOTHER B\n", f"{name}: another file is in sent/")
+            gone = waits_for(lambda: not station.names("out") and not station.names("doubt"))
+            self.true(gone, lambda: f"{name}: out/ {station.names('out')}, doubt/ {station.names('doubt')}")
+            station.kill()
+        # A file that takes the name while the last block is out stays ready, and the one that was read is counted.
+        door, station = self.calls("late", "--every", "1", decks=("a.deck",))
+        peer = self.begins(door, "late")
+        hears_block(peer)
+        put_beside(station, "a.deck", "ANOTHER A\n")
+        peer.says(ACK1)
+        self.true(waits_for(lambda: station.names("sent") == ["a.deck"]), "late: what was counted isn't in sent/")
+        self.equal(file_text(station, "sent", "a.deck"), "a.deck\n", "late: the new file is in sent/")
+        self.true(peer.hears(ENQ), "late: the new file isn't bid for")
+        peer.says(ACK0)
+        self.true(card("ANOTHER A") in hears_block(peer), "late: the new text isn't sent")
+        station.kill()
+
+    def test_marked(self):
+        """The marks of a job file are written into the file that was read, and its jobs go on where they were."""
+        door, station = self.calls("marks", "--every", "1")
+        peer = door.takes_call()
+        station.put("m.job", ["ONE", "ONE", "TWO", "TWO", "THREE", "THREE"])
+        self.true(peer.hears(ENQ), "marks: it doesn't bid")
+        peer.says(ACK0)
+        for number, answer in enumerate((ACK1, ACK0)):
+            self.true(hears_block(peer), f"marks: no block {number}")
+            peer.says(answer)
+        hears_block(peer)
+        peer.close()
+        self.true(waits_for(lambda: station.names("doubt") == ["m.job"]), lambda: f"marks: doubt/ has {station.names('doubt')}")
+        states = [state for state, _ in lines_of_jobs(station.at("doubt", "m.job"))]
+        self.equal(states, [1, 1, 0], f"marks: its jobs are {states}")
+        station.kill()
+
+
+class Held(HandCase):
+    seconds = 8
+
+    def test_held(self):
+        """A file that was held for a moment, or taken back, goes once it is there again, and so does another file of its name."""
+        door, station = self.calls("held", "--every", "1", decks=("a.deck", "b.deck", "c.deck"))
+        peer = self.begins(door, "held")
+        hears_block(peer)
+        os.rename(station.at("out", "b.deck"), station.at("out", "b.deck.hold"))
+        os.rename(station.at("out", "c.deck"), station.at("c.deck"))
+        peer.says(ACK1)
+        peer.is_hung_up()
+        peer.close()
+        os.rename(station.at("out", "b.deck.hold"), station.at("out", "b.deck"))
+        put_beside(station, "c.deck", "TOMORROW\n")
+        came = b""
+        until = time.monotonic() + 15
+        while time.monotonic() < until and len(station.names("sent")) < 3:
+            came += serves(door)
+        self.equal(station.names("sent"), ["a.deck", "b.deck", "c.deck"], lambda: f"held: sent/ has {station.names('sent')}, out/ {station.names('out')}")
+        self.true(card("TOMORROW") in came, "held: the other file of its name isn't sent")
+        station.kill()
+
+    def test_not_filed(self):
+        """A job that was counted leaves out/ where sent/ is no folder any more, and that is told; nothing goes twice once doubt/ is cleared."""
+        door, station = self.calls("filed", "--every", "1", decks=("a.deck",))
+        peer = self.begins(door, "filed")
+        hears_block(peer)
+        shutil.rmtree(station.at("sent"))
+        with open(station.at("sent"), "w"):
+            pass
+        peer.says(ACK1)
+        self.true(waits_for(lambda: not station.names("out")), lambda: f"filed: out/ has {station.names('out')}")
+        self.equal(station.names("doubt"), ["a.deck"], lambda: f"filed: doubt/ has {station.names('doubt')}")
+        told = waits_for(lambda: any(line.startswith("DOUBT a.deck") for line in told_by(station)))
+        self.true(told, lambda: f"filed: it told {told_by(station)}")
+        peer.close()
+        os.remove(station.at("doubt", "a.deck"))
+        peer = door.takes_call(4)
+        if peer:
+            peer.connection.settimeout(2)
+            try:
+                self.true(ENQ not in peer.connection.recv(4096), "filed: it bids for a job that was counted")
+            except OSError:
+                pass
+        station.kill()
+
+
+def answer_of(port):
+    """The peer of a call that bids and sends a job; what it heard after its last block, or none where its bid wasn't granted."""
+    peer = Peer(socket.create_connection(("127.0.0.1", port)))
+    try:
+        peer.says(ENQ)
+        if not peer.hears(ACK0):
+            return None
+        peer.says(text_of([b"\xC8\xC9"]))
+        return peer.connection.recv(4096)
+    except OSError:
+        return None
+    finally:
+        peer.close()
+
+
+class FullDisk(StationCase):
+    seconds = 30
+
+    def test_not_kept(self):
+        """A job that can't be kept isn't acknowledged, and none is taken after it until one can be: the other end has that one in doubt alone."""
+        station, port = self.is_called("keeps")
+        os.rename(station.at("in"), station.at("in.away"))
+        with open(station.at("in"), "w"):
+            pass
+        self.equal(answer_of(port), b"", "a job that can't be kept is acknowledged")
+        for _ in range(3):
+            self.check(answer_of(port) is not None and "with a disk that takes nothing a bid is granted")
+        told = told_by(station)
+        self.equal(told.count("STOPPED RECEIVING: a job can't be kept"), 1, f"of a disk that takes nothing it told {told}")
+        os.remove(station.at("in"))
+        os.rename(station.at("in.away"), station.at("in"))
+        self.true(waits_for(lambda: "receiving again: a job can be kept" in told_by(station), 15), lambda: f"it told {told_by(station)}")
+        heard = answer_of(port)
+        self.check((heard is None or ACK1 not in heard) and f"with a disk that takes a job again it says {heard}")
+        self.check((len(station.came()) != 1 or len(os.listdir(station.at("in"))) != 1) and f"in/ has {os.listdir(station.at('in'))}")
+        station.kill()
+
+    def test_not_called(self):
+        """A station that calls makes no call as long as what comes can't be kept, whatever lies ready."""
+        door, station = self.calls("caller", "--every", "1")
+        peer = door.takes_call()
+        os.rename(station.at("in"), station.at("in.away"))
+        peer.says(ENQ)
+        peer.hears(ACK0)
+        peer.says(text_of([b"\xC8\xC9"]))
+        self.true(peer.is_hung_up(), "a job that can't be kept is acknowledged to an end that is called")
+        peer.close()
+        station.put("a.deck", ["A"])
+        self.check(door.takes_call(4) and "with a disk that takes nothing it calls")
+        os.rename(station.at("in.away"), station.at("in"))
+        peer = door.takes_call(15)
+        self.check((peer is None or not peer.hears(ENQ)) and "with a disk that takes a job again it doesn't bid")
+        station.kill()
+
+    def test_no_log(self):
+        """A log that can't be written stops nothing, and is told once on the console."""
+        os.mkdir(f"{self.folder}/logged")
+
+        def limit():
+            signal.signal(signal.SIGXFSZ, signal.SIG_IGN)
+            resource.setrlimit(resource.RLIMIT_FSIZE, (400, 400))
+
+        words = [self.program, "station", f"{self.folder}/logged", "--to", "127.0.0.1:1", "--every", "1"]
+        process = subprocess.Popen(words, stdin=subprocess.DEVNULL, stdout=subprocess.DEVNULL, stderr=subprocess.PIPE, text=True, preexec_fn=limit)
+        lines, until = [], time.monotonic() + 20
+        while len(lines) < 20 and time.monotonic() < until:
+            lines.append(process.stderr.readline()[20:].rstrip())
+        process.kill()
+        process.communicate()
+        self.equal(sum(line.startswith("log: ") for line in lines), 1, f"of a log that takes no more it told {lines}")
+        self.check(len(lines) < 20 and f"with a log that takes no more it tells {lines} alone")
+        with open(f"{self.folder}/logged/log") as log:
+            logged = log.read()
+        self.true(300 < len(logged) <= 400, lambda: f"its log has {len(logged)} bytes")
+
+    def test_no_out(self):
+        """That out/ is gone is told once, and once it is there again what lies in it is sent."""
+        door, station = self.calls("gone", "--every", "1")
+        waits_for(lambda: has_logged(station, "connected"))
+        os.rmdir(station.at("out"))
+        wanted = "out: entity not found"
+        self.true(waits_for(lambda: wanted in told_by(station)), lambda: f"without out/ it told {told_by(station)}")
+        peer = door.takes_call()
+        time.sleep(1)
+        self.equal(told_by(station).count(wanted), 1, lambda: f"without out/ it told {told_by(station)}")
+        os.mkdir(station.at("out"))
+        station.put("a.deck", ["A"])
+        self.true(peer.hears(ENQ), "with out/ there again it doesn't bid")
+        peer.says(EOT)
+        station.kill()
+
+
+
+if __name__ == "__main__":
+    case.main()

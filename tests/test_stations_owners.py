@@ -1,0 +1,124 @@
+"""Decks that other users put into out/ of a station that runs as a user of its own, where the system protects hard links."""
+import os
+import shutil
+import subprocess
+import sys
+import time
+
+sys.path.insert(0, os.path.dirname(os.path.dirname(os.path.abspath(__file__))))
+from tests.lib import case  # noqa: E402
+from tests.lib.ports import waits_for  # noqa: E402
+from tests.lib.processes import as_user  # noqa: E402
+from tests.lib.stations import Door, Station, StationCase, card, file_text, serves, told_by  # noqa: E402
+
+# The user that the station runs as.
+OWN = 65534
+# The modes of the decks of root, and those of their copies, which the station alone reads.
+MODES = {"a.deck": (0o4755, 0o600), "b.deck": (0o604, 0o600)}
+
+
+class OwnStation(Station):
+    """A station that runs as its own user."""
+
+    def start(self):
+        self.errors = open(f"{self.folder}.err", "ab")
+        words = [self.program, "station", self.folder, *self.words]
+        self.process = subprocess.Popen(words, stdin=subprocess.DEVNULL, stdout=subprocess.DEVNULL, stderr=self.errors, **as_user(OWN))
+
+
+def sends(door, station, names):
+    """What came until these stand in sent/, for some seconds at most."""
+    came, until = b"", time.monotonic() + 15
+    while time.monotonic() < until and station.names("sent") != names:
+        came += serves(door)
+    return came
+
+
+def protects_links():
+    try:
+        with open("/proc/sys/fs/protected_hardlinks") as file:
+            return file.read().strip() == "1"
+    except OSError:
+        return False
+
+
+class Owners(StationCase):
+    seconds = 25
+
+    def setUp(self):
+        if os.getuid() != 0 or not protects_links():
+            self.skipTest("it takes root, and fs.protected_hardlinks=1")
+        super().setUp()
+        # (the program may stand where its user may not go)
+        self.copied = shutil.copy(self.program, self.at("rje"))
+        os.chmod(self.copied, 0o755)
+
+    def calls(self, name):
+        """A station that will call a door of the test's, whose folder is its own, and whose out/ has two decks of root."""
+        door = Door()
+        self.addCleanup(door.socket.close)
+        station = OwnStation(self.copied, self.at(name), "--to", door.address, "--every", "1")
+        self.addCleanup(station.stop)
+        os.mkdir(station.at("out"))
+        for path in (station.folder, station.at("out")):
+            os.chown(path, OWN, OWN)
+        for deck, (mode, _) in MODES.items():
+            station.put(deck, [f"{deck} OF ROOT"])
+            os.chmod(station.at("out", deck), mode)
+        return door, station
+
+    def test_taken_over(self):
+        """A deck of root goes once, and stands in sent/ as the station's own; nothing else is left."""
+        door, station = self.calls("own")
+        station.start()
+        self.true(waits_for(lambda: os.path.isdir(station.at("sent"))), "own: the station makes no folders")
+        came = sends(door, station, ["a.deck", "b.deck"])
+        for deck in ("a.deck", "b.deck"):
+            times = came.count(card(f"{deck} OF ROOT"))
+            self.equal(times, 1, f"own: {deck} came {times} times")
+        sent = station.names("sent")
+        self.equal(sent, ["a.deck", "b.deck"], lambda: f"own: sent/ has {sent}, and it told {told_by(station)}")
+        for deck in sent:
+            found = os.stat(station.at("sent", deck))
+            self.equal((found.st_uid, found.st_mode & 0o7777), (OWN, MODES[deck][1]), f"own: {deck} of user {found.st_uid}, mode {found.st_mode:o}")
+            self.equal(file_text(station, "sent", deck), f"{deck} OF ROOT\n", f"own: {deck} is another text")
+        for name in ("out", "doubt", "refused"):
+            self.check(os.listdir(station.at(name)) and f"own: {name}/ has {os.listdir(station.at(name))}")
+        station.kill()
+
+    def test_passed_over(self):
+        """Where the station may not rename a deck of root, that is told, it stays, and the next one goes."""
+        door, station = self.calls("sticky")
+        os.chown(station.at("out"), 0, 0)
+        os.chmod(station.at("out"), 0o1777)
+        os.chown(station.at("out", "b.deck"), OWN, OWN)
+        station.start()
+        self.true(waits_for(lambda: os.path.isdir(station.at("sent"))), "sticky: the station makes no folders")
+        came = sends(door, station, ["b.deck"])
+        self.true(card("b.deck OF ROOT") in came, "sticky: b.deck isn't sent")
+        self.true(card("a.deck OF ROOT") not in came, "sticky: a.deck is sent")
+        self.true(waits_for(lambda: station.names("sent") == ["b.deck"]), lambda: f"sticky: sent/ has {station.names('sent')}")
+        self.equal(os.listdir(station.at("out")), ["a.deck"], lambda: f"sticky: out/ has {os.listdir(station.at('out'))}")
+        self.check(os.listdir(station.at("refused")) and f"sticky: refused/ has {os.listdir(station.at('refused'))}")
+        told = [line for line in told_by(station) if "a.deck" in line]
+        self.equal(told, ["a.deck: can't get a second name: permission denied"], f"sticky: it told {told}")
+        station.kill()
+
+    def test_left_hidden(self):
+        """A deck of root that a killed station had hidden goes once the next one begins, beside another one of its name."""
+        door, station = self.calls("hidden")
+        os.rename(station.at("out", "b.deck"), station.at("out", ".a.deck.taken-0"))
+        station.start()
+        self.true(waits_for(lambda: os.path.isdir(station.at("sent"))), "hidden: the station makes no folders")
+        came = sends(door, station, ["a.2.deck", "a.deck"])
+        for deck in ("a.deck", "b.deck"):
+            times = came.count(card(f"{deck} OF ROOT"))
+            self.equal(times, 1, f"hidden: {deck} came {times} times")
+        self.equal(file_text(station, "sent", "a.2.deck"), "b.deck OF ROOT\n", "hidden: another text")
+        self.check(os.listdir(station.at("out")) and f"hidden: out/ has {os.listdir(station.at('out'))}")
+        station.kill()
+
+
+
+if __name__ == "__main__":
+    case.main()
