@@ -102,7 +102,7 @@ def as_bytes(text):
 
 
 class Case(unittest.TestCase):
-    """Tests of the program, each in a folder of its own."""
+    """Tests of the program, each in a folder of its own, which stays where KEEP is set."""
 
     # When these tests are run: with --quick too, with --program too, or with the whole alone, behind the proofs.
     level = "program"
@@ -126,7 +126,8 @@ class Case(unittest.TestCase):
         LAST.clear()
         self.folder = tempfile.mkdtemp(prefix="rje-", dir=self.room)
         os.chmod(self.folder, 0o755)
-        self.addCleanup(shutil.rmtree, self.folder, ignore_errors=True)
+        if not os.environ.get("KEEP"):
+            self.addCleanup(shutil.rmtree, self.folder, ignore_errors=True)
 
     # ---- Checks.
 
