@@ -25,12 +25,11 @@ HERE = os.path.dirname(os.path.abspath(__file__))
 sys.path.insert(0, os.path.dirname(HERE))
 from tests.lib import shim  # noqa: E402
 from tests.lib.case import Counts  # noqa: E402
-from tests.lib.ports import Ports  # noqa: E402
 from tests.lib.program import program  # noqa: E402
 
 LEVELS = ("quick", "program", "whole")
-# How many ports each process gets, and for how long one may run, in seconds.
-PORTS, LIMIT = 400, 1800
+# For how long a class may run, in seconds.
+LIMIT = 1800
 
 
 def tests_of(suite):
@@ -102,15 +101,15 @@ def end_group(number):
 class Runner:
     """Runs classes in processes."""
 
-    def __init__(self, is_loud):
+    def __init__(self, is_loud, ports):
         self.lock, self.passed, self.failed, self.is_loud, self.running = threading.Lock(), 0, 0, is_loud, set()
-        self.environment = {**os.environ, "PROGRAM": program(), "TEST_SHIM": shim.library(), "PYTHONDONTWRITEBYTECODE": "1"}
+        self.environment = {**os.environ, "PROGRAM": program(), "TEST_SHIM": shim.library(), "TEST_PORTS": ports, "PYTHONDONTWRITEBYTECODE": "1"}
 
-    def told_by(self, words, environment):
+    def told_by(self, words):
         """What a process of these words told; nothing that it started is left."""
         with tempfile.TemporaryFile() as told:
             outputs = {"stdin": subprocess.DEVNULL, "stdout": told, "stderr": subprocess.STDOUT}
-            process = subprocess.Popen(words, env=environment, start_new_session=True, **outputs)
+            process = subprocess.Popen(words, env=self.environment, start_new_session=True, **outputs)
             self.running.add(process.pid)
             try:
                 process.wait(LIMIT)
@@ -129,10 +128,9 @@ class Runner:
             end_group(number)
         os._exit(1)
 
-    def run(self, number, kind, names):
+    def run(self, kind, names):
         """Runs these tests of a class in a process of their own, and tells what came of them."""
-        environment = {**self.environment, "TEST_PORTS": str(Ports.FIRST + number * PORTS % (Ports.LAST - Ports.FIRST - PORTS))}
-        told = self.told_by([sys.executable, os.path.abspath(__file__), "--here", *names], environment)
+        told = self.told_by([sys.executable, os.path.abspath(__file__), "--here", *names])
         text, _, last = told.rstrip("\n").rpartition("\n")
         try:
             passed, failed, untried, figures, seconds = json.loads(last)
@@ -152,13 +150,11 @@ class Runner:
         """Runs the longest ones first, and those that need the machine for themselves one by one, before the others. Beside as many as there are
         processors run as many of those that mostly wait."""
         units = sorted(units, key=lambda unit: -unit[0].seconds)
-        numbered = list(enumerate(units))
-        for number, unit in numbered:
+        for unit in units:
             if unit[0].is_alone:
-                self.run(number, *unit)
+                self.run(*unit)
         with concurrent.futures.ThreadPoolExecutor(processors) as works, concurrent.futures.ThreadPoolExecutor(processors) as waits:
-            beside = [(number, unit) for number, unit in numbered if not unit[0].is_alone]
-            runs = [(waits if unit[0].mostly_waits else works).submit(self.run, number, *unit) for number, unit in beside]
+            runs = [(waits if unit[0].mostly_waits else works).submit(self.run, *unit) for unit in units if not unit[0].is_alone]
             for it in runs:
                 it.result()
 
@@ -179,7 +175,8 @@ def main():
         return 0
     words = words_of()
     files = words.files or sorted(name for name in os.listdir(HERE) if name.startswith("test_") and name.endswith(".py"))
-    runner = Runner(words.is_loud)
+    ports = tempfile.NamedTemporaryFile()
+    runner = Runner(words.is_loud, ports.name)
     for number in signal.SIGINT, signal.SIGTERM:
         signal.signal(number, runner.end)
     classes, faults = found(files)

@@ -34,7 +34,7 @@ KIND = re.compile(r"held|got|pay\.job|a\.deck")
 COUNTED = {"KILL": "kill changes", "EIO": "fail files", "FULL": "full room"}
 
 
-class Command:
+class FileCommand:
     """A command over files of a folder: SEND of `given`, RECEIVED of `comes`, or a deck that goes into `held`."""
 
     def __init__(self, label, words, sends=None, receives=None, listens=False, version=2, given=JOBS):
@@ -80,14 +80,14 @@ class Command:
 
 
 COMMANDS = [
-    Command("cards", ["cards", "a.deck", "held"]),
-    Command("cards --append", ["cards", "a.deck", "held", "--append"]),
-    Command("send", ["send", "pay.job"], sends="pay.job"),
-    Command("send of version 1", ["send", "pay.job"], sends="pay.job", version=1),
-    Command("receive", ["receive", "got"], receives="got", listens=True),
-    Command("receive --append", ["receive", "got", "--append"], receives="got", listens=True),
-    Command("exchange --to", ["exchange", "pay.job", "got"], sends="pay.job", receives="got"),
-    Command("exchange --listen", ["exchange", "pay.job", "got"], sends="pay.job", receives="got", listens=True),
+    FileCommand("cards", ["cards", "a.deck", "held"]),
+    FileCommand("cards --append", ["cards", "a.deck", "held", "--append"]),
+    FileCommand("send", ["send", "pay.job"], sends="pay.job"),
+    FileCommand("send of version 1", ["send", "pay.job"], sends="pay.job", version=1),
+    FileCommand("receive", ["receive", "got"], receives="got", listens=True),
+    FileCommand("receive --append", ["receive", "got", "--append"], receives="got", listens=True),
+    FileCommand("exchange --to", ["exchange", "pay.job", "got"], sends="pay.job", receives="got"),
+    FileCommand("exchange --listen", ["exchange", "pay.job", "got"], sends="pay.job", receives="got", listens=True),
 ]
 
 
@@ -268,7 +268,7 @@ def sends_all_or_nothing(folder, name, label, given, words, room=None, **further
 def within_size(program, version, size):
     """A sender whose files may have `size` bytes."""
     with Folder(program) as folder:
-        command = Command("", [], sends="pay.job", version=version, given=OTHERS)
+        command = FileCommand("", [], sends="pay.job", version=version, given=OTHERS)
         command.prepare(folder)
         label = f"a sender of version {version} whose files may have {size} bytes"
         return sends_all_or_nothing(folder, "pay.job", label, OTHERS, ["send", "pay.job"], **with_files_of(size))

@@ -12,7 +12,8 @@ from tests.lib import case, shim  # noqa: E402
 from tests.lib.case import figures  # noqa: E402
 from tests.lib.ports import free_port, waits_for  # noqa: E402
 from tests.lib.processes import as_user  # noqa: E402
-from tests.lib.stations import Door, StationCase, card, has_logged, serves, told_by  # noqa: E402
+from tests.lib.samples import ebcdic  # noqa: E402
+from tests.lib.stations import Door, StationCase, has_logged, serves, told_by  # noqa: E402
 
 # Numbers that no user and no group has.
 ATTACKER, CLERK, GROUP = 61001, 61002, 62000
@@ -203,7 +204,7 @@ class Stations(UserCase):
         heard = serves(door)
         process.wait()
         self.check((os.path.exists(hidden) or not os.path.islink(name)) and "the name wasn't exchanged")
-        self.true(card("PRIVATE") not in heard, "a link that took the place of a file was followed")
+        self.true(ebcdic("PRIVATE") not in heard, "a link that took the place of a file was followed")
         # (as another user would)
         os.remove(name)
         self.put(name, b"OPEN AGAIN\n")
@@ -211,7 +212,7 @@ class Stations(UserCase):
         threading.Timer(3, process.terminate).start()
         heard = serves(door)
         process.wait()
-        self.true(card("OPEN AGAIN") in heard, "the file that took its place isn't sent")
+        self.true(ebcdic("OPEN AGAIN") in heard, "the file that took its place isn't sent")
 
     def test_many_strangers(self):
         """Callers that aren't let in are told once in a minute."""

@@ -24,8 +24,10 @@ from tests.lib.hercules.guest import Event, block, disables, enables, leaves, re
 from tests.lib.hercules.holding import Call, Hears, HungUp, Speaker, Stays, Talk, faults_of  # noqa: E402
 from tests.lib.hercules.machine import RUNNING  # noqa: E402
 from tests.lib.hercules.texts import DEFAULT, PRINTER, PUNCH, TRANSPARENT, Job, cards, normal  # noqa: E402
+from tests.lib.line import HUNG_UP  # noqa: E402
 from tests.lib.program import ROOT  # noqa: E402
 from tests.lib.samples import CUT, WHOLE  # noqa: E402
+from tests.lib.talk import counted, handed  # noqa: E402
 
 # How long a message takes on its way where both bid at once, and how long a READ waits by itself where nothing is to come, in seconds.
 AT_ONCE, WAY, READ_WAITS = 12, 0.8, 1.5
@@ -33,7 +35,6 @@ AT_ONCE, WAY, READ_WAITS = 12, 0.8, 1.5
 SECOND = ["--timeout", "1000"]
 CALLED, DISABLED = Event("ENABLE"), Event("DISABLE")
 HEARD_EOT, SAID_EOT, LOST = Event("eot", EOT), wrote(EOT), Event("lost")
-HUNG_UP = "rje: peer hung up\nrje: line failed\n"
 
 
 # What is said to a guest, and by it.
@@ -62,14 +63,6 @@ def said_by(*jobs):
 
 def entries(*jobs):
     return [block(*writes_of(it)) for job in jobs for it in job.blocks()]
-
-
-def counted(count, given, outcome="done"):
-    return f"counted {count} of {given} jobs\noutcome {outcome}\n"
-
-
-def handed(count, whole=None):
-    return f"handed {count} jobs, {count if whole is None else whole} whole\n"
 
 
 # The jobs.

@@ -13,6 +13,7 @@ from tests.lib.adapter import (  # noqa: E402
     ACK0, ACK1, ENQ, EOT, NAK, OTHER_EOT, RULES, RVI, TTD, WACK, Adapter, End, as_read, heard_of, writes_of,
 )
 from tests.lib.case import Case  # noqa: E402
+from tests.lib.line import HUNG_UP  # noqa: E402
 from tests.lib.ports import PATIENCE, both_ends  # noqa: E402
 from tests.lib.pulse import held_steadily  # noqa: E402
 from tests.lib.samples import CUT, job_file  # noqa: E402
@@ -145,7 +146,6 @@ SEND, SEND_CALLED = ["send", "jobs", ADAPTER, "--to", "%TO"], ["send", "jobs", A
 RECEIVE, RECEIVE_CALLED = ["receive", "got", ADAPTER, "--to", "%TO"], ["receive", "got", ADAPTER, "--listen", "%TO"]
 CALLS, CALLED = ["exchange", "jobs", "got", ADAPTER, "--to", "%TO"], ["exchange", "jobs", "got", ADAPTER, "--listen", "%TO"]
 SOON, LATER = ["--timeout", "60"], ["--timeout", "300"]
-HUNG_UP = "rje: peer hung up\nrje: line failed\n"
 
 
 def form(transmission):

@@ -8,14 +8,11 @@ import time
 sys.path.insert(0, os.path.dirname(os.path.dirname(os.path.abspath(__file__))))
 from tests.lib import case, shim  # noqa: E402
 from tests.lib.frames import A_BLOCK, ACK0, ACK1, ENQ, EOT, ETB, NAK, normal, text_of  # noqa: E402
-from tests.lib.line import HUNG_UP, NO_JOB, ONE_JOB, LineCase  # noqa: E402
+from tests.lib.line import HUNG_UP, LOOPED_TWO, NO_JOB, ONE_JOB, SENT_TWO, LineCase  # noqa: E402
 from tests.lib.ports import free_port  # noqa: E402
 from tests.lib.samples import (  # noqa: E402
     A_CARD, CAME_A, NORMAL, SAMPLES, SENT_A, UNSET, WAITING_A, WHOLE, entry, job_file, old_entry, old_file, record,
 )
-
-SENT_TWO = "counted 2 of 2 jobs\noutcome done\n"
-LOOPED_TWO = "counted 2 of 2 jobs\nhanded 2 jobs, 2 whole\noutcome done\n"
 
 
 class Commands(LineCase):

@@ -70,7 +70,7 @@ class Streams(Case):
         self.equal(ended.out.decode("latin-1") + ended.told, turns_text(turns), "of 20,000 turns")
 
 
-def told_by(trace):
+def said_by(trace):
     """What was on the line, by the lines of the trace of the end that calls."""
     for line in trace.splitlines():
         first, second = line.split()[1:3]
@@ -105,7 +105,7 @@ class Overheard(LineCase):
             heard, trace, statuses = self.conversation(here, there)
             self.equal(statuses, (0, 0), f"{name}: the statuses of both ends")
             shown = self.rje("monitor", "-", stdin=heard).printed.splitlines()
-            self.equal([line.split()[1] for line in shown], list(told_by(trace)), f"{name}: what monitor heard, beside the trace")
+            self.equal([line.split()[1] for line in shown], list(said_by(trace)), f"{name}: what monitor heard, beside the trace")
             self.equal(sum(line.count(" |") for line in shown), len((here + there).splitlines()), f"{name}: how many records monitor showed")
 
 

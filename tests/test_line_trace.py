@@ -7,11 +7,10 @@ import sys
 sys.path.insert(0, os.path.dirname(os.path.dirname(os.path.abspath(__file__))))
 from tests.lib import case, shim  # noqa: E402
 from tests.lib.frames import A_BLOCK, ACK0, ACK1, EOT, NAK  # noqa: E402
-from tests.lib.line import ONE_JOB, SENT_ONE, LineCase, portless, untimed  # noqa: E402
+from tests.lib.line import LOOPED_TWO, ONE_JOB, SENT_ONE, LineCase, portless, untimed  # noqa: E402
 from tests.lib.ports import waits_for  # noqa: E402
 from tests.lib.samples import SAMPLES  # noqa: E402
 
-LOOPED_TWO = "counted 2 of 2 jobs\nhanded 2 jobs, 2 whole\noutcome done\n"
 BID, END = "T bid enq ack0 ack0", "T end eot - quiet"
 FIRST, SECOND = "T block block ack1 ack1 job 1 block 1 2 bytes", "T block block ack0 ack0 job 2 block 1 2 bytes"
 # The text of a block: 11 for the printer, D7C1E840F1F0F01E of the one card, and D7C1E8, 1D and a count for five blanks, F2F5F0 and 1E.

@@ -11,13 +11,12 @@ sys.path.insert(0, os.path.dirname(os.path.dirname(os.path.abspath(__file__))))
 from tests.lib import case  # noqa: E402
 from tests.lib.case import Case, figures  # noqa: E402
 from tests.lib.exchanging import Exchange, counted_in, make_jobs  # noqa: E402
-from tests.lib.line import HUNG_UP, LineCase  # noqa: E402
+from tests.lib.line import HUNG_UP, SENT_TWO, LineCase  # noqa: E402
 from tests.lib.ports import free_port, was_called  # noqa: E402
 from tests.lib.refusing import MOST, OUT_OF_MEMORY, refusing, was_refused, without_refusal  # noqa: E402
-from tests.lib.samples import NORMAL, SENT, UNSET, WAITING, WHOLE, A_CARD, entry, job_file, jobs_of, record  # noqa: E402
-from tests.lib.stations import card  # noqa: E402
+from tests.lib.samples import A_CARD, NORMAL, SENT, UNSET, WAITING, WHOLE, ebcdic, entry, job_file, jobs_of, record  # noqa: E402
 
-SENT_TWO, HANDED_TWO = "counted 2 of 2 jobs\noutcome done\n", "handed 2 jobs, 2 whole\n"
+HANDED_TWO = "handed 2 jobs, 2 whole\n"
 SENT_NONE, SENT_FIRST = "counted 0 of 2 jobs\noutcome open\n", "counted 1 of 2 jobs\noutcome open\n"
 HANDED_ONE, HANDED_NONE = "handed 1 jobs, 1 whole\n", "handed 0 jobs, 0 whole\n"
 # An end that isn't there: a receiver that waits for the next call, or a sender that has nobody to call.
@@ -201,7 +200,7 @@ def cards_in(station, text):
     count = 0
     for name in listed(station, "in"):
         with open(f"{station}/in/{name}", "rb") as file:
-            count += card(text) in file.read()
+            count += ebcdic(text) in file.read()
     return count
 
 

@@ -13,8 +13,8 @@ sys.path.insert(0, os.path.dirname(os.path.dirname(os.path.abspath(__file__))))
 from tests.lib import case  # noqa: E402
 from tests.lib.frames import ACK0, ACK1, ENQ, EOT, text_of  # noqa: E402
 from tests.lib.ports import waits_for  # noqa: E402
-from tests.lib.samples import lines_of_jobs  # noqa: E402
-from tests.lib.stations import Peer, StationCase, card, file_text, has_logged, hears_block, put_beside, serves, told_by  # noqa: E402
+from tests.lib.samples import ebcdic, lines_of_jobs  # noqa: E402
+from tests.lib.stations import Peer, StationCase, file_text, has_logged, hears_block, put_beside, serves, told_by  # noqa: E402
 
 
 class HandCase(StationCase):
@@ -34,14 +34,14 @@ class Hands(HandCase):
         for name, put in (("renamed", put_beside), ("written", lambda station, name, text: open(station.at("out", name), "w").write(text))):
             door, station = self.calls(name, "--every", "1", decks=("a.deck", "b.deck"))
             peer = self.begins(door, name)
-            self.true(card("a.deck") in hears_block(peer), f"{name}: it doesn't send a.deck")
+            self.true(ebcdic("a.deck") in hears_block(peer), f"{name}: it doesn't send a.deck")
             put(station, "b.deck", "ANOTHER B\n")
             peer.says(ACK1)
-            self.true(card("b.deck") not in hears_block(peer), f"{name}: the last block of the old text is said")
+            self.true(ebcdic("b.deck") not in hears_block(peer), f"{name}: the last block of the old text is said")
             self.true(waits_for(lambda: any("b.deck" in line and "replaced" in line for line in told_by(station))), lambda: f"{name}: it told {told_by(station)}")
             peer.close()
             peer = self.begins(door, name)
-            self.true(card("ANOTHER B") in hears_block(peer), f"{name}: the new text isn't sent")
+            self.true(ebcdic("ANOTHER B") in hears_block(peer), f"{name}: the new text isn't sent")
             peer.says(ACK1)
             self.true(waits_for(lambda: station.names("sent") == ["a.deck", "b.deck"]), lambda: f"{name}: sent/ has {station.names('sent')}")
             self.equal(file_text(station, "sent", "b.deck"), "ANOTHER B\n", f"{name}: another file is in sent/")
@@ -58,7 +58,7 @@ class Hands(HandCase):
         self.equal(file_text(station, "sent", "a.deck"), "a.deck\n", "late: the new file is in sent/")
         self.true(peer.hears(ENQ), "late: the new file isn't bid for")
         peer.says(ACK0)
-        self.true(card("ANOTHER A") in hears_block(peer), "late: the new text isn't sent")
+        self.true(ebcdic("ANOTHER A") in hears_block(peer), "late: the new text isn't sent")
         station.kill()
 
     def test_marked(self):
@@ -99,7 +99,7 @@ class Held(HandCase):
         while time.monotonic() < until and len(station.names("sent")) < 3:
             came += serves(door)
         self.equal(station.names("sent"), ["a.deck", "b.deck", "c.deck"], lambda: f"held: sent/ has {station.names('sent')}, out/ {station.names('out')}")
-        self.true(card("TOMORROW") in came, "held: the other file of its name isn't sent")
+        self.true(ebcdic("TOMORROW") in came, "held: the other file of its name isn't sent")
         station.kill()
 
     def test_not_filed(self):

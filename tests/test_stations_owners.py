@@ -9,7 +9,8 @@ sys.path.insert(0, os.path.dirname(os.path.dirname(os.path.abspath(__file__))))
 from tests.lib import case  # noqa: E402
 from tests.lib.ports import waits_for  # noqa: E402
 from tests.lib.processes import as_user  # noqa: E402
-from tests.lib.stations import Door, Station, StationCase, card, file_text, serves, told_by  # noqa: E402
+from tests.lib.samples import ebcdic  # noqa: E402
+from tests.lib.stations import Door, Station, StationCase, file_text, serves, told_by  # noqa: E402
 
 # The user that the station runs as.
 OWN = 65534
@@ -74,7 +75,7 @@ class Owners(StationCase):
         self.true(waits_for(lambda: os.path.isdir(station.at("sent"))), "own: the station makes no folders")
         came = sends(door, station, ["a.deck", "b.deck"])
         for deck in ("a.deck", "b.deck"):
-            times = came.count(card(f"{deck} OF ROOT"))
+            times = came.count(ebcdic(f"{deck} OF ROOT"))
             self.equal(times, 1, f"own: {deck} came {times} times")
         sent = station.names("sent")
         self.equal(sent, ["a.deck", "b.deck"], lambda: f"own: sent/ has {sent}, and it told {told_by(station)}")
@@ -95,8 +96,8 @@ class Owners(StationCase):
         station.start()
         self.true(waits_for(lambda: os.path.isdir(station.at("sent"))), "sticky: the station makes no folders")
         came = sends(door, station, ["b.deck"])
-        self.true(card("b.deck OF ROOT") in came, "sticky: b.deck isn't sent")
-        self.true(card("a.deck OF ROOT") not in came, "sticky: a.deck is sent")
+        self.true(ebcdic("b.deck OF ROOT") in came, "sticky: b.deck isn't sent")
+        self.true(ebcdic("a.deck OF ROOT") not in came, "sticky: a.deck is sent")
         self.true(waits_for(lambda: station.names("sent") == ["b.deck"]), lambda: f"sticky: sent/ has {station.names('sent')}")
         self.equal(os.listdir(station.at("out")), ["a.deck"], lambda: f"sticky: out/ has {os.listdir(station.at('out'))}")
         self.check(os.listdir(station.at("refused")) and f"sticky: refused/ has {os.listdir(station.at('refused'))}")
@@ -112,7 +113,7 @@ class Owners(StationCase):
         self.true(waits_for(lambda: os.path.isdir(station.at("sent"))), "hidden: the station makes no folders")
         came = sends(door, station, ["a.2.deck", "a.deck"])
         for deck in ("a.deck", "b.deck"):
-            times = came.count(card(f"{deck} OF ROOT"))
+            times = came.count(ebcdic(f"{deck} OF ROOT"))
             self.equal(times, 1, f"hidden: {deck} came {times} times")
         self.equal(file_text(station, "sent", "a.2.deck"), "b.deck OF ROOT\n", "hidden: another text")
         self.check(os.listdir(station.at("out")) and f"hidden: out/ has {os.listdir(station.at('out'))}")

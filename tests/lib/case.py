@@ -18,7 +18,8 @@ __unittest = True
 # How many seconds a command may take.
 LIMIT = 60
 LIBRARY = os.path.dirname(os.path.abspath(__file__)) + os.sep
-SHORT, CONTEXT = 300, 3
+# Of a failure: how much of a line is shown; above how many lines, up to which length and how far a text is shown line by line.
+SHORT, CONTEXT, MOST, LINES = 300, 3, 100_000, 40
 # A folder in memory, where there is one: for tests that would wait for a disk.
 MEMORY = "/dev/shm" if os.access("/dev/shm", os.W_OK) else None
 
@@ -49,32 +50,42 @@ def place():
     return ", called at ".join(found)
 
 
-def text_of(it):
-    """How something is shown: a text of several lines as it is, bytes as a text where they are one, and else as hexadecimal digits."""
-    if isinstance(it, bytes):
-        try:
-            it = it.decode("utf-8")
-        except UnicodeDecodeError:
-            return it.hex(" ").upper()
-        if not all(letter.isprintable() or letter in "\n\t\f\r" for letter in it):
-            return as_bytes(it).hex(" ").upper()
-    return it if isinstance(it, str) and it.count("\n") > CONTEXT else repr(it)
+def as_text(data):
+    """Bytes as a text, where they are a short enough one."""
+    try:
+        text = data[:MOST].decode("utf-8")
+    except UnicodeDecodeError:
+        return data
+    is_text = len(data) <= MOST and all(letter.isprintable() or letter in "\n\t\f\r" for letter in text)
+    return text if is_text else data
 
 
 def shortened(text):
     return text if len(text) <= SHORT else f"{text[:SHORT]}.. ({len(text)} characters)"
 
 
+def shown(it):
+    """How something is shown: bytes as hexadecimal digits, and all else as Python has it."""
+    return shortened(it.hex(" ").upper() if isinstance(it, bytes) else repr(it))
+
+
+def from_byte(data, at):
+    return f"{len(data)} bytes, from byte {at} on {data[at:at + 40].hex(' ').upper() or 'none'}"
+
+
 def difference(found, wanted):
-    """What was wanted beside what came: of long texts of several lines the lines that differ."""
-    if isinstance(found, bytes) and isinstance(wanted, bytes) and max(len(found), len(wanted)) > SHORT:
-        at = next((at for at, (one, other) in enumerate(zip(found, wanted)) if one != other), min(len(found), len(wanted)))
-        found, wanted = (f"{len(it)} bytes, from byte {at} on {it[at:at + 40].hex(' ').upper() or 'none'}" for it in (found, wanted))
-    found, wanted = text_of(found), text_of(wanted)
-    if min(found.count("\n"), wanted.count("\n")) > CONTEXT:
-        lines = difflib.unified_diff(wanted.splitlines(), found.splitlines(), "wanted", "came", n=1, lineterm="")
-        return "\n".join(f"    {shortened(line)}" for line in list(lines)[:60])
-    return f"    wanted: {shortened(wanted)}\n    came:   {shortened(found)}"
+    """What was wanted beside what came: of texts of several lines the lines that differ, and of many bytes those from the first one on that does."""
+    if isinstance(found, bytes) and isinstance(wanted, bytes):
+        if isinstance(as_text(found), str) and isinstance(as_text(wanted), str):
+            found, wanted = as_text(found), as_text(wanted)
+        elif max(len(found), len(wanted)) > SHORT:
+            at = next((at for at, (one, other) in enumerate(zip(found, wanted)) if one != other), min(len(found), len(wanted)))
+            return f"    wanted: {from_byte(wanted, at)}\n    came:   {from_byte(found, at)}"
+    if isinstance(found, str) and isinstance(wanted, str) and max(found.count("\n"), wanted.count("\n")) > CONTEXT:
+        lines = list(difflib.unified_diff(wanted.splitlines(), found.splitlines(), "wanted", "came", n=1, lineterm=""))
+        more = [f"    .. and {len(lines) - LINES} lines more"] if len(lines) > LINES else []
+        return "\n".join([*(f"    {shortened(line)}" for line in lines[:LINES]), *more])
+    return f"    wanted: {shown(wanted)}\n    came:   {shown(found)}"
 
 
 class Ended:
@@ -110,9 +121,6 @@ class Case(unittest.TestCase):
     seconds, is_alone, mostly_waits = 1, False, False
     # Where the folder is made; None: where temporary files are.
     room = None
-    # What the program finds in its environment beside what is there, and which words stand in front of it.
-    environment, under = {}, ()
-    maxDiff = None
 
     @property
     def program(self):
@@ -194,7 +202,7 @@ class Case(unittest.TestCase):
     # ---- Commands.
 
     def environ(self, further=None):
-        return {**os.environ, "LC_ALL": "C", **self.environment, **(further or {})}
+        return {**os.environ, "LC_ALL": "C", **(further or {})}
 
     def run_words(self, *words, stdin=subprocess.DEVNULL, stdout=subprocess.PIPE, stderr=subprocess.PIPE, command=None, env=None, **further):
         """Runs these words in the folder; how it ended. The input may be bytes."""
@@ -212,13 +220,13 @@ class Case(unittest.TestCase):
 
     def rje(self, *words, **further):
         """Runs the program with these words; how it ended."""
-        return self.run_words(*self.under, self.program, *words, **further)
+        return self.run_words(self.program, *words, **further)
 
     def start(self, *words, env=None, **further):
         """Starts the program with these words."""
         note([self.program, *words], env)
         outputs = {"stdin": subprocess.DEVNULL, "stdout": subprocess.PIPE, "stderr": subprocess.PIPE, "cwd": self.folder, **further}
-        return subprocess.Popen([*self.under, self.program, *words], env=self.environ(env), **outputs)
+        return subprocess.Popen([self.program, *words], env=self.environ(env), **outputs)
 
     def ended_so(self, ended, status, text, told, of=None):
         """A command ended with this status, and printed and reported this."""

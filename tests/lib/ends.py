@@ -121,7 +121,7 @@ class Faults(list):
         return f"{label}: {'; '.join(self)}" if self else None
 
 
-class Speaker:
+class LinkPeer:
     """What a script says and hears over a connection."""
 
     def __init__(self, connection):
@@ -198,7 +198,7 @@ class Called(threading.Thread):
             connection, _ = self.listener.accept()
         except OSError:
             return
-        talk = Speaker(connection)
+        talk = LinkPeer(connection)
         self.is_called.set()
         self.is_let.wait(PATIENCE)
         if self.takes:
@@ -222,7 +222,7 @@ class Calls:
     """An end that calls this port."""
 
     def __init__(self, port):
-        self.talk = Speaker(socket.create_connection(("127.0.0.1", port), timeout=PATIENCE))
+        self.talk = LinkPeer(socket.create_connection(("127.0.0.1", port), timeout=PATIENCE))
 
     def bid(self):
         """Bids, and gives what is answered."""

@@ -11,7 +11,8 @@ from tests.lib.ran import typed
 
 ONE_JOB, NO_JOB = "handed 1 jobs, 1 whole\n", "handed 0 jobs, 0 whole\n"
 HUNG_UP = "rje: peer hung up\nrje: line failed\n"
-SENT_ONE = "counted 1 of 1 jobs\noutcome done\n"
+SENT_ONE, SENT_TWO = (f"counted {count} of {count} jobs\noutcome done\n" for count in (1, 2))
+LOOPED_TWO = "counted 2 of 2 jobs\nhanded 2 jobs, 2 whole\noutcome done\n"
 
 
 def without_short(told):

@@ -1,4 +1,5 @@
 """Ports that nobody uses, and whether somebody listens at one."""
+import fcntl
 import os
 import random
 import socket
@@ -10,24 +11,36 @@ PATIENCE = 20.0
 
 
 class Ports:
-    """Gives each port once. They lie below those that the system gives to whoever calls; the runner gives each process some of its own."""
+    """Gives each port once, also to the tests in other processes: the last one that was given stands in the file that TEST_PORTS names, where the
+    runner has one. They lie below those that the system gives to whoever calls."""
 
     FIRST, LAST = 10000, 32000
 
     def __init__(self):
-        self.lock = threading.Lock()
-        self.next = int(os.environ.get("TEST_PORTS", 0)) or random.randrange(self.FIRST, self.LAST)
+        self.lock, self.counter, self.last = threading.Lock(), os.environ.get("TEST_PORTS"), random.randrange(self.FIRST, self.LAST)
 
     def one(self):
         with self.lock:
-            while True:
-                self.next = self.next + 1 if self.next < self.LAST else self.FIRST
-                with socket.socket() as it:
-                    try:
-                        it.bind(("127.0.0.1", self.next))
-                        return self.next
-                    except OSError:
-                        pass
+            if not self.counter:
+                self.last = self.free_behind(self.last)
+                return self.last
+            with open(self.counter, "r+") as counter:
+                fcntl.flock(counter, fcntl.LOCK_EX)
+                port = self.free_behind(int(counter.read() or self.last))
+                counter.seek(0)
+                counter.write(str(port))
+                return port
+
+    def free_behind(self, port):
+        """The next port that nobody uses."""
+        while True:
+            port = port + 1 if port < self.LAST else self.FIRST
+            with socket.socket() as it:
+                try:
+                    it.bind(("127.0.0.1", port))
+                    return port
+                except OSError:
+                    pass
 
 
 PORTS = Ports()

@@ -203,10 +203,6 @@ def seconds_of(station):
     return (int(user) + int(system)) / os.sysconf("SC_CLK_TCK")
 
 
-def card(text):
-    return text.encode("cp037")
-
-
 def hears_block(peer):
     """The last block of a job, with its check."""
     heard = b""

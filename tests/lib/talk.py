@@ -107,7 +107,7 @@ def kept(jobs, state=WHOLE):
     return job_file(*(job.entry(state) for job in jobs))
 
 
-def counted(count, given, outcome):
+def counted(count, given, outcome="done"):
     return f"counted {count} of {given} jobs\noutcome {outcome}\n"
 
 

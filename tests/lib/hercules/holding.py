@@ -15,7 +15,8 @@ from tests.lib.hercules.texts import blocks_told, printed, shown
 from tests.lib.line import without_short
 from tests.lib.ports import free_port, is_listening, waits_for
 from tests.lib.relay import LateRelay
-from tests.lib.samples import CUT, SENT, WAITING, WHOLE, job_file
+from tests.lib.samples import CUT, WHOLE, job_file
+from tests.lib.talk import marked
 
 PATIENCE = 60.0
 
@@ -79,10 +80,6 @@ class Talk(typing.NamedTuple):
 def is_called(call):
     """Whether the program waits to be called."""
     return isinstance(call, Call) and "--listen" in call.words
-
-
-def marked(jobs, count):
-    return job_file(*(job.entry(SENT if number < count else WAITING) for number, job in enumerate(jobs)))
 
 
 class Folder:

@@ -9,7 +9,7 @@ LONGEST_TEXT, CARD, MOST_BLANKS = 510, 80, 63
 BLANK, RECORD_END, ESCAPE, BLANKS = 0x40, 0x1E, 0x27, 0x1D
 # The code of an action, and what the printer does after the line.
 ACTIONS = {0x00: "\n", 0x61: "\n", 0xE2: "\n\n", 0xE3: "\n\n\n", 0xD4: "\r", 0xC1: "\n\f"}
-ACTIONS |= {code: f"\n[channel {channel}]\n" for channel, code in enumerate([*range(0xC2, 0xCA), *range(0xD1, 0xD4)], 2)}
+ACTIONS.update({code: f"\n[channel {channel}]\n" for channel, code in enumerate([*range(0xC2, 0xCA), *range(0xD1, 0xD4)], 2)})
 
 
 class Job(typing.NamedTuple):
