@@ -40,7 +40,7 @@ def page_options(heading):
         if re.match(r"\.S[SH] ", line):
             words = line.replace('"', "").split()
             is_there = heading in words[1:3]
-        elif is_there:
+        if is_there:
             found += options_in(line.replace("\\-", "-"))
     return sorted(set(found))
 
@@ -256,9 +256,9 @@ class Names(Case):
         """The tables that the documents name: tests/talks/FILE, and a title. Several of one file stand with '; ' between."""
         told, known = set(), set()
         for name in documents():
-            for file, titles in re.findall(r"tests/talks/([a-z]+): ([^.|)]+)", document(name)) if name.startswith("docs/") else []:
-                for title in re.split(r"; ", re.sub(r"; tests/talks.*", "", titles, flags=re.DOTALL)):
-                    told.add((file, title.strip().lower()))
+            for line in document(name).replace("; tests/talks", "\ntests/talks").splitlines() if name.startswith("docs/") else []:
+                for file, titles in re.findall(r"tests/talks/([a-z]+): ([^.|)]+)", line):
+                    told |= {(file, title.lower()) for title in titles.split("; ")}
         for file in os.listdir(os.path.join(ROOT, "tests/talks")):
             known |= {(file, line[2:].lower()) for line in document("tests/talks", file).splitlines() if line.startswith("# ")}
         self.true(told, "the documents name no table")

@@ -33,7 +33,7 @@ from tests.lib.starter import Starter
 CALLER, CALLED = range(2)
 MAX_QUIET = 40
 # How many conversations there are at a time, and then of those for which this machine was too slow; and how many seconds one may take.
-AT_ONCE, LIMIT = (60, 20, 8, 3, 2), 60.0
+AT_ONCE, LIMIT = (60, 20, 8, 3, 2, 2, 1, 1), 60.0
 # A time-out of the seeded conversations, in seconds. In time-outs: a delay of one way, and one of a spoiled text or of its answer (which
 # comes a time-out later), at most; the round trip up to which this machine was fast enough; and how soon an end speaks again too soon.
 TIMEOUT, WAY, SPOILED_WAY, ROUND_TRIP, HASTE = 0.15, 0.92, 0.38, 1.95, 1.5
@@ -535,6 +535,7 @@ def hold(program, plans):
     outcomes, left = [], list(plans)
     for count, at_once in enumerate(AT_ONCE, 1):
         held = hold_once(program, left, at_once) if left else []
-        left = [plan for plan, outcome in held if outcome.is_slow and at_once != AT_ONCE[-1]]
-        outcomes += [(outcome, count) for plan, outcome in held if not outcome.is_slow or at_once == AT_ONCE[-1]]
+        is_last = count == len(AT_ONCE)
+        outcomes += [(outcome, count) for _, outcome in held if is_last or not outcome.is_slow]
+        left = [plan for plan, outcome in held if outcome.is_slow]
     return outcomes
