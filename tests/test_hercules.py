@@ -26,6 +26,7 @@ from tests.lib.hercules.machine import RUNNING  # noqa: E402
 from tests.lib.hercules.texts import DEFAULT, PRINTER, PUNCH, TRANSPARENT, Job, cards, normal  # noqa: E402
 from tests.lib.line import HUNG_UP  # noqa: E402
 from tests.lib.program import ROOT  # noqa: E402
+from tests.lib.pulse import held_steadily  # noqa: E402
 from tests.lib.samples import CUT, WHOLE  # noqa: E402
 from tests.lib.talk import counted, handed  # noqa: E402
 
@@ -445,7 +446,7 @@ class HerculesCase(Case):
 
     def faults(self, talk):
         try:
-            return list(faults_of(self.program, talk))
+            return held_steadily(lambda: faults_of(self.program, talk))
         except Exception as fault:  # (of a machine that doesn't come up, say)
             return [f"{type(fault).__name__}: {fault}"]
 
