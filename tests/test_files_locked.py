@@ -1,7 +1,7 @@
 """One process a job file: of commands that write one file at the same time, under one name or several, the first has it for itself until it ends, and
 every other one is refused before it does anything.
 
-More pairs of `receive`, and of `send`, and four times as many as rounds of eight `cards --append`: ROUNDS=2000 tests/test_files_locked.py
+More pairs of `receive`, and of `send`, and four times as many as rounds of eight `cards --append`: ROUNDS=2000 python3 tests/test_files_locked.py
 """
 import concurrent.futures
 import functools

@@ -2,7 +2,7 @@
 messages back, loses and spoils them (lib/conversation.py). Beyond the premise nine of ten directions with a job lost or doubled have to end with another
 status than 0.
 
-More conversations of each kind, and of each beyond the premise: CONVERSATIONS=20000,2000 tests/test_line_late.py
+More conversations of each kind, and of each beyond the premise: CONVERSATIONS=20000,2000 python3 tests/test_line_late.py
 """
 import collections
 import concurrent.futures

@@ -1,7 +1,7 @@
 """What `monitor` hears of bytes: beside a second program of the rules (lib/monitor.py), on random streams, and of a whole exchange, as a relay between two
 ends heard it: it tells the conversation that --trace told.
 
-More streams: STREAMS=20000 tests/test_line_monitor.py
+More streams: STREAMS=20000 python3 tests/test_line_monitor.py
 """
 import os
 import sys

@@ -6,7 +6,7 @@ where it is in out/, or held or taken back, none came but what is marked in it; 
 Where it is in doubt/ a job may have come or not.
 
 Run by root the stations are another user's, their folders are small file systems of their own, and some files belong to a third user; else that is
-left out, and a line says so. A long storm: STORM=500,300,100,1 tests/test_stations_storm.py, of so many files each way, kills and stops, with this seed.
+left out, and a line says so. A long storm: STORM=500,300,100,1 python3 tests/test_stations_storm.py, of so many files each way, kills and stops, with this seed.
 """
 import os
 import random
