@@ -8,7 +8,6 @@ from tests.lib.samples import NORMAL, PRINTER, WAITING, entry, job_file, record
 
 # Five jobs, each of six cards and so one block.
 FIVE_JOBS = job_file(*(entry(f"JOB{k}", WAITING, PRINTER, NORMAL, [record(bytes([0xC0 + k]) * 80)] * 6) for k in range(1, 6)))
-KILLED = 137
 
 
 def counted_of_five(printed):

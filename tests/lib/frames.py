@@ -2,7 +2,7 @@
 import re
 
 # The bytes that have a meaning there.
-STX, ETX, DLE, ETB, RECORD_END, SYN = 0x02, 0x03, 0x10, 0x26, 0x1E, 0x32
+STX, ETX, DLE, ETB, RECORD_END = 0x02, 0x03, 0x10, 0x26, 0x1E
 ENQ, ACK0, ACK1, WACK, RVI, NAK, EOT, TTD, NOISE = (
     bytes.fromhex(f"3232{body}FF") for body in ("2D", "1070", "1061", "106B", "107C", "3D", "37", "022D", "00")
 )
