@@ -268,7 +268,7 @@ class Names(Case):
 class Calls(Case):
     """The calls that the crates' READMEs show, each as a test, in a copy of the crates; nothing is proved."""
 
-    level, seconds = "whole", 60
+    level, seconds = "whole", 200
 
     def copy_crates(self):
         """Copies what the crates are built from."""
@@ -302,7 +302,7 @@ class Calls(Case):
             self.skipTest("it needs the command rt of the toolchain")
         self.copy_crates()
         wanted = self.write_tests()
-        told = self.run_words("rt", "try", "--test", cwd=self.at("crates/shown_calls"), timeout=600)
+        told = self.run_words("rt", "try", "--test", cwd=self.at("crates/shown_calls"), timeout=1500)
         text = told.printed + told.told
         results = re.findall(r"^test of_(\w+)::shown \.\.\. (\w+)$", text, re.MULTILINE)
         for crate, result in results:
