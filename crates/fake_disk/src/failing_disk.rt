@@ -3,7 +3,7 @@ ghost use Rattle.std.specs.Prelude.{[]};
 
 use crate::locking::Locking;
 use rje_folders::{FileIdentity, FolderDisk};
-use rje_stores::{ChangeTime, Disk, FileAccess, FileKind, FileStatus};
+use rje_stores::{ChangeTime, Disk, FileAccess, FileKind, FileStatus, NewAccess};
 use std::alloc::Global;
 use std::fs::TryLockError;
 use std::io::{self, Cursor, ErrorKind, Read};
@@ -397,7 +397,7 @@ impl Disk for FailingDisk {
         Ok(())
     }
 
-    fn create(&mut self, name: &str) -> io::Result<OpenFile> {
+    fn create(&mut self, name: &str, _access: NewAccess) -> io::Result<OpenFile> {
         if self.file_of(name).is_some() {
             return Err(io::Error::from(ErrorKind::AlreadyExists));
         }
@@ -409,10 +409,6 @@ impl Disk for FailingDisk {
         }
         self.ended()?;
         self.open_to_read(name)
-    }
-
-    fn create_private(&mut self, name: &str) -> io::Result<OpenFile> {
-        self.create(name)
     }
 
     fn open_to_copy(&mut self, name: &str) -> io::Result<OpenFile> {
@@ -438,7 +434,13 @@ impl Disk for FailingDisk {
         }
     }
 
-    fn set_access(&mut self, _file: &OpenFile, _access: FileAccess) -> io::Result<()> {
+    fn set_owner(&mut self, _file: &OpenFile, _owner: u32, _group: u32) -> io::Result<bool> {
+        self.begins();
+        self.ended()?;
+        Ok(true)
+    }
+
+    fn set_mode(&mut self, _file: &OpenFile, _mode: u32) -> io::Result<()> {
         self.begins();
         self.ended()
     }

@@ -3,7 +3,7 @@ ghost use Rattle.std.specs.Prelude.{[]};
 
 use crate::failing_disk::{FailingDisk, OpenFile};
 use rje_folders::{FileIdentity, FolderDisk};
-use rje_stores::{Disk, FileAccess, FileStatus};
+use rje_stores::{Disk, FileStatus, NewAccess};
 use std::alloc::Global;
 use std::cell::{Ref, RefCell, RefMut};
 use std::fs::TryLockError;
@@ -85,12 +85,8 @@ impl Disk for SharedDisk<'_> {
         self.seen()?.try_to_write(name)
     }
 
-    fn create(&mut self, name: &str) -> io::Result<OpenFile> {
-        self.changed()?.create(name)
-    }
-
-    fn create_private(&mut self, name: &str) -> io::Result<OpenFile> {
-        self.changed()?.create_private(name)
+    fn create(&mut self, name: &str, access: NewAccess) -> io::Result<OpenFile> {
+        self.changed()?.create(name, access)
     }
 
     fn open_to_copy(&mut self, name: &str) -> io::Result<OpenFile> {
@@ -112,8 +108,12 @@ impl Disk for SharedDisk<'_> {
         }
     }
 
-    fn set_access(&mut self, file: &OpenFile, access: FileAccess) -> io::Result<()> {
-        self.changed()?.set_access(file, access)
+    fn set_owner(&mut self, file: &OpenFile, owner: u32, group: u32) -> io::Result<bool> {
+        self.changed()?.set_owner(file, owner, group)
+    }
+
+    fn set_mode(&mut self, file: &OpenFile, mode: u32) -> io::Result<()> {
+        self.changed()?.set_mode(file, mode)
     }
 
     fn fill(&mut self, file: &OpenFile, bytes: &[u8]) -> io::Result<()> {

@@ -2,6 +2,7 @@
 use Rattle.std.proofs.Common.{◌≡◌, ◌≢◌, ℕ, ◌≤◌, inl, inr, List, [], ◌∷◌, ◌++◌, length, Option, Some, None, Result, Ok, Err, IfOk, Bool, true, false, if◌then◌else◌, refl, sym, ◌∙◌, ap, subst}
 use Rattle.std.specs.Prelude.{bytes_eq}
 use Rattle.std.specs.declared.io.Error.{Error}
+use Rattle.rje_stores.specs.declared.new_access.NewAccess.{NewAccess}
 use Rattle.rje_stores.specs.Disk.{Asked, Call, Opened, Done, Refused, Failed, Create, Remove, call_of, came_to, standing, bytes_of, is_synced, has_synced_name}
 use Rattle.rje_stores.specs.Replacing.{Adds, Each, IsOnDisk, IsWhole}
 use Rattle.rje_stores.specs.Inside.Filling.{AddsSync, Fills, MayFill}
@@ -15,11 +16,11 @@ use Rattle.rje_folders.proofs.Taken.{other_name}
 -- what a new file is: empty, and the one under its name
 pub new_is_empty : (folder : List ℕ) (file : Opened) (name : List ℕ) (after : List Asked) → IsNewIn folder file name after → bytes_of file.number after ≡ Some []
 new_is_empty folder file name after (before, made, is, temporary) =
-    subst (λ (l : List Asked). bytes_of file.number l ≡ Some []) (sym made) (subst (λ (x : Opened). bytes_of x.number (Done (Create name) ∷ before) ≡ Some []) (sym is) (new_bytes name before))
+    subst (λ (l : List Asked). bytes_of file.number l ≡ Some []) (sym made) (subst (λ (x : Opened). bytes_of x.number (Done (Create NewAccess.Private name) ∷ before) ≡ Some []) (sym is) (new_bytes NewAccess.Private name before))
 
 pub new_stands : (folder : List ℕ) (file : Opened) (name : List ℕ) (after : List Asked) → IsNewIn folder file name after → standing name after ≡ Some file.number
 new_stands folder file name after (before, made, is, temporary) =
-    subst (λ (l : List Asked). standing name l ≡ Some file.number) (sym made) (subst (λ (x : Opened). standing name (Done (Create name) ∷ before) ≡ Some x.number) (sym is) (new_name name before))
+    subst (λ (l : List Asked). standing name l ≡ Some file.number) (sym made) (subst (λ (x : Opened). standing name (Done (Create NewAccess.Private name) ∷ before) ≡ Some x.number) (sym is) (new_name NewAccess.Private name before))
 
 pub new_temporary : (folder : List ℕ) (file : Opened) (name : List ℕ) (after : List Asked) → IsNewIn folder file name after → IsTemporary folder name
 new_temporary folder file name after (before, made, is, temporary) = temporary

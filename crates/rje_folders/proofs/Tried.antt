@@ -3,6 +3,7 @@ use Rattle.std.proofs.Common.{◌≡◌, ℕ, inl, inr, List, ◌∷◌, length,
 use Rattle.std.specs.Prelude.{bytes_eq}
 use Rattle.std.specs.IoError.{error_kind}
 use Rattle.std.specs.declared.io.Error.{Error}
+use Rattle.rje_stores.specs.declared.new_access.NewAccess.{NewAccess}
 use Rattle.rje_stores.specs.Disk.{Asked, Call, Opened, Done, Refused, Failed, Create, Remove, call_of, came_to, standing}
 use Rattle.rje_stores.specs.Replacing.{Adds}
 use Rattle.rje_stores.specs.Inside.Filling.{Fills}
@@ -39,16 +40,16 @@ pub none_made : (a : List Asked) → LeavesNone a a
 none_made a name number is = standing_below name a number is
 
 -- a file that couldn't be made is none
-create_failed : {A : Type 0} (result : Result A Error) (error : Error) (path name : List ℕ) (a b : List Asked) → result ≡ Err error → b ≡ came_to result (Create path) ∷ a → standing name b ≡ standing name a
+create_failed : {A : Type 0} (result : Result A Error) (error : Error) (path name : List ℕ) (a b : List Asked) → result ≡ Err error → b ≡ came_to result (Create NewAccess.Private path) ∷ a → standing name b ≡ standing name a
 create_failed {A = A} result error path name a b failed made =
-    subst (λ (l : List Asked). standing name l ≡ standing name a) (sym (made ∙ ap (λ (r : Result A Error). came_to r (Create path) ∷ a) failed))
-    (failed_is (λ x. standing name (x ∷ a) ≡ standing name a) (error_kind error) (Create path) refl refl)
+    subst (λ (l : List Asked). standing name l ≡ standing name a) (sym (made ∙ ap (λ (r : Result A Error). came_to r (Create NewAccess.Private path) ∷ a) failed))
+    (failed_is (λ x. standing name (x ∷ a) ≡ standing name a) (error_kind error) (Create NewAccess.Private path) refl refl)
 
-pub none_failed : {A : Type 0} (result : Result A Error) (error : Error) (path : List ℕ) (a b c : List Asked) → result ≡ Err error → c ≡ came_to result (Create path) ∷ b → LeavesNone a b → LeavesNone a c
+pub none_failed : {A : Type 0} (result : Result A Error) (error : Error) (path : List ℕ) (a b c : List Asked) → result ≡ Err error → c ≡ came_to result (Create NewAccess.Private path) ∷ b → LeavesNone a b → LeavesNone a c
 none_failed result error path a b c failed made none name number is = none name number (sym (create_failed result error path name b c failed made) ∙ is)
 
 -- one that was made has its name alone
-pub one_made : (path : List ℕ) (a b c : List Asked) → c ≡ Done (Create path) ∷ b → LeavesNone a b → LeavesOne path a c
+pub one_made : (path : List ℕ) (a b c : List Asked) → c ≡ Done (Create NewAccess.Private path) ∷ b → LeavesNone a b → LeavesOne path a c
 one_made path a b c made none name number differ is =
     let under : (if bytes_eq name path then Some (length b) else standing name b) ≡ Some number = subst (λ (l : List Asked). standing name l ≡ Some number) made is in
     none name number (rw (other_name name path differ) at under)

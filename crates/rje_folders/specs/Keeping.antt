@@ -1,5 +1,6 @@
 -- How bytes become a new file of a folder, which is never in the place of another.
 use Rattle.std.specs.Prelude.{◌≡◌, ◌⊎◌, ℕ, ◌<◌, ◌≤◌, List, [], ◌∷◌, ◌++◌, length, Some, ⊤, codes, decimal}
+use Rattle.rje_stores.specs.declared.new_access.NewAccess.{NewAccess}
 use Rattle.rje_stores.specs.Disk.{Asked, Call, Done, Create, Fill, Sync, Link, Remove, SyncFolder, bytes_of, call_of, standing}
 use Rattle.rje_stores.specs.Replacing.{IsWhole}
 
@@ -7,11 +8,11 @@ use Rattle.rje_stores.specs.Replacing.{IsWhole}
 abbrev pub IsTemporary : (folder name : List ℕ) → Type 0
 IsTemporary folder name = (number : ℕ) × (name ≡ folder ++ (codes "/.rje-" ++ (decimal number ++ codes ".part")))
 
--- What may be asked, after these calls, to make these bytes a new file of a folder, under one of some names. A file is made under a name that is
--- left alone, and is written while it is empty; it gets one of the names, which no file has, once it has just the bytes and is on disk; and no
--- name is taken away but the one that is left alone, and one of the names that this file has. Nothing is renamed.
+-- What may be asked, after these calls, to make these bytes a new file of a folder, under one of some names. A file is made for its owner alone,
+-- under a name that is left alone, and is written while it is empty; it gets one of the names, which no file has, once it has just the bytes and
+-- is on disk; and no name is taken away but the one that is left alone, and one of the names that this file has. Nothing is renamed.
 abbrev pub MayKeep : (folder : List ℕ) → (IsNew : List ℕ → Type 0) → (bytes : List ℕ) → Call → List Asked → Type 0
-MayKeep folder IsNew bytes (Create name) before = IsTemporary folder name
+MayKeep folder IsNew bytes (Create NewAccess.Private name) before = IsTemporary folder name
 MayKeep folder IsNew bytes (Fill file _) before = IsTemporary folder file.name × (bytes_of file.number before ≡ Some [])
 MayKeep folder IsNew bytes (Sync _) before = ⊤
 MayKeep folder IsNew bytes (Link from to) before = IsTemporary folder from × IsNew to × IsWhole from bytes before
@@ -31,10 +32,10 @@ WasMade name before after = (number : ℕ) × (length before ≤ number) × (sta
 abbrev pub LeavesNone : (before after : List Asked) → Type 0
 LeavesNone before after = (name : List ℕ) (number : ℕ) → standing name after ≡ Some number → number < length before
 
--- What may be asked to see whether bytes can be kept in a folder: a file is made under a name that is left alone, is written while it is empty, and put
--- on disk; and such a name is taken away.
+-- What may be asked to see whether bytes can be kept in a folder: a file is made for its owner alone, under a name that is left alone, is written while
+-- it is empty, and put on disk; and such a name is taken away.
 abbrev pub MayTryToKeep : (folder : List ℕ) → Call → List Asked → Type 0
-MayTryToKeep folder (Create name) before = IsTemporary folder name
+MayTryToKeep folder (Create NewAccess.Private name) before = IsTemporary folder name
 MayTryToKeep folder (Fill file _) before = IsTemporary folder file.name × (bytes_of file.number before ≡ Some [])
 MayTryToKeep folder (Sync _) before = ⊤
 MayTryToKeep folder (Remove name) before = IsTemporary folder name

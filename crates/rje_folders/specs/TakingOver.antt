@@ -1,6 +1,7 @@
 -- How a file of out/ that can't get a second name is taken over: it gets a hidden name, a copy of the station's own comes in its place there, and that
 -- is moved to the name that the file had (own profile).
 use Rattle.std.specs.Prelude.{◌≡◌, ◌⊎◌, ℕ, List, [], ◌++◌, Option, Some, codes, decimal}
+use Rattle.rje_stores.specs.declared.new_access.NewAccess.{NewAccess}
 use Rattle.rje_stores.specs.Disk.{Asked, Call, Opened, Create, Fill, Sync, Rename, Remove, SyncFolder, bytes_of}
 use Rattle.rje_stores.specs.Replacing.{IsOnDisk, IsWhole}
 use Rattle.rje_folders.specs.declared.file_identity.FileIdentity.{FileIdentity}
@@ -21,10 +22,10 @@ IsTakenName name hidden = (number : ℕ) × (hidden ≡ codes "." ++ (name ++ (c
 abbrev pub IsTakenPath : (station name path : List ℕ) → Type 0
 IsTakenPath station name path = (hidden : List ℕ) × IsTakenName name hidden × (path ≡ path_in station Folder.Out hidden)
 
--- What may be asked to make a copy in a folder: a file is made under a name that is left alone, gets its bytes while it is empty, and is put on
--- disk; and such a name is taken away.
+-- What may be asked to make a copy in a folder: a file is made for its owner alone, under a name that is left alone, gets its bytes while it is
+-- empty, and is put on disk; and such a name is taken away.
 abbrev pub MayCopy : (folder : List ℕ) → Call → List Asked → Type 0
-MayCopy folder (Create name) before = IsTemporary folder name
+MayCopy folder (Create NewAccess.Private name) before = IsTemporary folder name
 MayCopy folder (Fill file _) before = IsTemporary folder file.name × (bytes_of file.number before ≡ Some [])
 MayCopy folder (Sync file) before = IsTemporary folder file.name
 MayCopy folder (Remove name) before = IsTemporary folder name

@@ -9,7 +9,7 @@ ghost use Rattle.rje_folders.specs.Inside.Calls.{IsKept, IsNewIn, LeavesOne, May
 
 use crate::file_names::FileNames;
 use crate::linking::{link_free, sync_names};
-use rje_stores::Disk;
+use rje_stores::{Disk, NewAccess};
 use std::alloc::Global;
 use std::io::{self, ErrorKind};
 
@@ -74,7 +74,7 @@ pub(crate) fn create_new<D: Disk>(
 {
     for number in 0..u32::MAX {
         let path = temporary_name(alloc, folder, number)?;
-        match disk.create_private(path.as_str()) {
+        match disk.create(path.as_str(), NewAccess::Private) {
             Ok(file) => return Ok(NewFile { file, path }),
             Err(error) if error.kind() == ErrorKind::AlreadyExists => {}
             Err(error) => return Err(error),

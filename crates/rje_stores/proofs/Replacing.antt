@@ -7,9 +7,10 @@ use Rattle.std.specs.declared.io.ErrorKind.{ErrorKind}
 use Rattle.std.proofs.lemmas.Slice.Eq.{bytes_eq-Decides}
 use Rattle.std.proofs.lemmas.Bool.{eq-eqb, false_from_ne_true}
 use Rattle.std.proofs.lemmas.Option.{same_Some}
-use Rattle.rje_stores.specs.Disk.{Asked, Call, Opened, Done, Refused, Failed, Create, Open, OpenLock, SetMode, Fill, GoOn, WriteAt, Sync, SyncBytes, Rename, Link, Remove, SyncFolder, WriteDevice, call_of, standing, bytes_of, is_synced, takes, came_to, failed_by}
-use Rattle.rje_stores.specs.Replacing.{Adds, Each, Either, HasTried, IsApart, IsBeside, IsNewBeside, IsWhole, MayReplace, MayTry}
-use Rattle.rje_stores.specs.Inside.Filling.{AddsSync, Fills, MayFill}
+use Rattle.rje_stores.specs.Disk.{Asked, Call, Opened, Done, Refused, Failed, Create, Open, OpenLock, SetOwner, SetMode, Fill, GoOn, WriteAt, Sync, SyncBytes, Rename, Link, Remove, SyncFolder, WriteDevice, call_of, standing, bytes_of, is_synced, takes, came_to, failed_by}
+use Rattle.rje_stores.specs.declared.new_access.NewAccess.{NewAccess}
+use Rattle.rje_stores.specs.Replacing.{Adds, Each, Either, HasTried, IsApart, IsBeside, IsNewBeside, IsPrivate, IsWhole, MayReplace, MayTry}
+use Rattle.rje_stores.specs.Inside.Filling.{AddsSync, Fills, MayFill, MayGive}
 
 -- nothing was asked
 pub added_none : (P : Call → List Asked → Type 0) (before : List Asked) → Adds P before before
@@ -59,7 +60,7 @@ added_weaker P Q h a b (calls, e, each) = (calls, e, each_weaker P Q h calls a e
 
 -- what is tried beside a path may be asked to replace its file
 pub tried_may : (path bytes : List ℕ) (call : Call) (before : List Asked) → MayTry path call before → MayReplace path bytes call before
-tried_may path bytes call before (name, beside, inl e) = subst (λ c. MayReplace path bytes c before) (sym e) beside
+tried_may path bytes call before (name, beside, inl (access, e)) = subst (λ c. MayReplace path bytes c before) (sym e) beside
 tried_may path bytes call before (name, beside, inr e) = subst (λ c. MayReplace path bytes c before) (sym e) beside
 
 -- a number, and a name, is itself
@@ -91,7 +92,7 @@ seen_below (Some n) count h = omega (arith, h n refl)
 -- the file under a name was seen before
 pub standing_below : (name : List ℕ) (asked : List Asked) (number : ℕ) → standing name asked ≡ Some number → number < length asked
 standing_below name [] number e = cc
-standing_below name (Done (Create other) ∷ before) number e =
+standing_below name (Done (Create _ other) ∷ before) number e =
     below_choice (bytes_eq name other) (Some (length before)) (standing name before) number (suc (length before)) (λ h. omega (arith, same_Some _ _ h)) (λ h. omega (arith, standing_below name before number h)) e
 standing_below name (Done (OpenLock other) ∷ before) number e =
     below_choice (bytes_eq name other) (Some (unwrap_or (standing other before) (length before))) (standing name before) number (suc (length before))
@@ -107,6 +108,7 @@ standing_below name (Done (Rename from to) ∷ before) number e =
     (below_one (bytes_eq name from) (standing name before) number (suc (length before)) (λ h. omega (arith, standing_below name before number h))) e
 standing_below name (Done (Remove other) ∷ before) number e =
     below_one (bytes_eq name other) (standing name before) number (suc (length before)) (λ h. omega (arith, standing_below name before number h)) e
+standing_below name (Done (SetOwner _) ∷ before) number e = omega (arith, standing_below name before number e)
 standing_below name (Done (SetMode _) ∷ before) number e = omega (arith, standing_below name before number e)
 standing_below name (Done (Fill _ _) ∷ before) number e = omega (arith, standing_below name before number e)
 standing_below name (Done (GoOn _ _ _ _) ∷ before) number e = omega (arith, standing_below name before number e)
@@ -121,14 +123,14 @@ standing_below name (Failed call ∷ before) number e =
     below_one (takes name call) (standing name before) number (suc (length before)) (λ h. omega (arith, standing_below name before number h)) e
 
 -- a new file is empty, has its name, and doesn't stand under the path that it was made beside
-pub new_bytes : (name : List ℕ) (before : List Asked) → bytes_of (length before) (Done (Create name) ∷ before) ≡ Some []
-new_bytes name before = rw (same_number (length before)) refl
+pub new_bytes : (access : NewAccess) (name : List ℕ) (before : List Asked) → bytes_of (length before) (Done (Create access name) ∷ before) ≡ Some []
+new_bytes access name before = rw (same_number (length before)) refl
 
-pub new_name : (name : List ℕ) (before : List Asked) → standing name (Done (Create name) ∷ before) ≡ Some (length before)
-new_name name before = rw (same_name name) refl
+pub new_name : (access : NewAccess) (name : List ℕ) (before : List Asked) → standing name (Done (Create access name) ∷ before) ≡ Some (length before)
+new_name access name before = rw (same_name name) refl
 
-pub new_apart : (path name : List ℕ) (before : List Asked) → IsBeside path name → standing path (Done (Create name) ∷ before) ≢ Some (length before)
-new_apart path name before beside e =
+pub new_apart : (access : NewAccess) (path name : List ℕ) (before : List Asked) → IsBeside path name → standing path (Done (Create access name) ∷ before) ≢ Some (length before)
+new_apart access path name before beside e =
     let before_is : standing path before ≡ Some (length before) = rw (not_beside path name beside) at e in
     omega (arith, standing_below path before (length before) before_is)
 
@@ -138,12 +140,17 @@ whatever_came P (Done call) p q r = p
 whatever_came P (Refused call) p q r = q
 whatever_came P (Failed call) p q r = r
 
+-- what is asked to give a file its access is to give it its owner or its mode
+pub giving_is : (P : Call → Type 0) (file : Opened) (call : Call) (before : List Asked) → MayGive file call before → P (SetOwner file) → P (SetMode file) → P call
+giving_is P file call before (private, inl e) owner mode = subst P (sym e) owner
+giving_is P file call before (private, inr (e, owned)) owner mode = subst P (sym e) mode
+
 -- what is asked to write a file leaves each name as it was
 abbrev KeepsName : (name : List ℕ) (before : List Asked) → Call → Type 0
 KeepsName name before call = (standing name (Done call ∷ before) ≡ standing name before) × (standing name (Refused call ∷ before) ≡ standing name before) × (standing name (Failed call ∷ before) ≡ standing name before)
 
 filling_keeps_name : (file : Opened) (name : List ℕ) (call : Call) (before : List Asked) → MayFill file call before → KeepsName name before call
-filling_keeps_name file name call before (inl e) = subst (KeepsName name before) (sym e) (refl, refl, refl)
+filling_keeps_name file name call before (inl may) = giving_is (KeepsName name before) file call before may (refl, refl, refl) (refl, refl, refl)
 filling_keeps_name file name call before (inr (inl (bytes, e))) = subst (KeepsName name before) (sym e) (refl, refl, refl)
 filling_keeps_name file name call before (inr (inr (inl e))) = subst (KeepsName name before) (sym e) (refl, refl, refl)
 filling_keeps_name file name call before (inr (inr (inr (inl (from, place, bytes, e))))) = subst (KeepsName name before) (sym e) (refl, refl, refl)
@@ -161,9 +168,27 @@ filling_keeps file name (asked ∷ calls) before (one, each) = filling_keeps_one
 pub filled_keeps : (file : Opened) (name : List ℕ) (a b : List Asked) → Adds (MayFill file) a b → standing name b ≡ standing name a
 filled_keeps file name a b (calls, e, each) = ap (standing name) e ∙ filling_keeps file name calls a each
 
+-- a file that was made for its owner alone stays one that was
+pub private_later : (file : Opened) (P : Call → List Asked → Type 0) (a b : List Asked) → Adds P a b → IsPrivate file a → IsPrivate file b
+private_later file P a b (later, e, each) (calls, before, made, number) = (
+  later ++ calls,
+  before,
+  e ∙ ap (λ (l : List Asked). later ++ l) made ∙ sym (append_assoc later calls (Done (Create NewAccess.Private file.name) ∷ before)),
+  number,
+)
+
+pub new_private : (path : List ℕ) (file : Opened) (name : List ℕ) (after : List Asked) → IsNewBeside NewAccess.Private path file name after → IsPrivate file after
+new_private path file name after (before, e, f, beside) =
+    subst (λ (x : Opened). IsPrivate x after) (sym f) ([], before, e, refl)
+
+-- a file that is apart may be given its access
+giving_may_one : (path bytes : List ℕ) (file : Opened) (call : Call) (before : List Asked) → IsApart path file before → MayGive file call before → MayReplace path bytes call before
+giving_may_one path bytes file call before apart (private, inl e) = subst (λ c. MayReplace path bytes c before) (sym e) (apart, private)
+giving_may_one path bytes file call before apart (private, inr (e, owned)) = subst (λ c. MayReplace path bytes c before) (sym e) (apart, private, owned)
+
 -- a file that is apart may be written
 filling_may_one : (path bytes : List ℕ) (file : Opened) (call : Call) (before : List Asked) → IsApart path file before → MayFill file call before → MayReplace path bytes call before
-filling_may_one path bytes file call before apart (inl e) = subst (λ c. MayReplace path bytes c before) (sym e) apart
+filling_may_one path bytes file call before apart (inl may) = giving_may_one path bytes file call before apart may
 filling_may_one path bytes file call before apart (inr (inl (written, e))) = subst (λ c. MayReplace path bytes c before) (sym e) apart
 filling_may_one path bytes file call before apart (inr (inr (inl e))) = subst (λ c. MayReplace path bytes c before) (sym e) tt
 filling_may_one path bytes file call before apart (inr (inr (inr (inl (from, place, written, e))))) = subst (λ c. MayReplace path bytes c before) (sym e) apart
@@ -203,23 +228,23 @@ pub whole_renamed : (name path bytes : List ℕ) (before : List Asked) → IsWho
 whole_renamed name path bytes before (number, stands, has, synced) = (number, rw (same_name path) stands, has, synced)
 
 -- what a new file beside a path is: apart from the file there, empty, and the one under its name
-pub new_is_apart : (path : List ℕ) (file : Opened) (name : List ℕ) (after : List Asked) → IsNewBeside path file name after → IsApart path file after
-new_is_apart path file name after (before, e, f, beside) =
-    subst (λ (l : List Asked). IsApart path file l) (sym e) (subst (λ (x : Opened). IsApart path x (Done (Create name) ∷ before)) (sym f) (beside, new_apart path name before beside))
+pub new_is_apart : (access : NewAccess) (path : List ℕ) (file : Opened) (name : List ℕ) (after : List Asked) → IsNewBeside access path file name after → IsApart path file after
+new_is_apart access path file name after (before, e, f, beside) =
+    subst (λ (l : List Asked). IsApart path file l) (sym e) (subst (λ (x : Opened). IsApart path x (Done (Create access name) ∷ before)) (sym f) (beside, new_apart access path name before beside))
 
-pub new_is_empty : (path : List ℕ) (file : Opened) (name : List ℕ) (after : List Asked) → IsNewBeside path file name after → bytes_of file.number after ≡ Some []
-new_is_empty path file name after (before, e, f, beside) =
-    subst (λ (l : List Asked). bytes_of file.number l ≡ Some []) (sym e) (subst (λ (x : Opened). bytes_of x.number (Done (Create name) ∷ before) ≡ Some []) (sym f) (new_bytes name before))
+pub new_is_empty : (access : NewAccess) (path : List ℕ) (file : Opened) (name : List ℕ) (after : List Asked) → IsNewBeside access path file name after → bytes_of file.number after ≡ Some []
+new_is_empty access path file name after (before, e, f, beside) =
+    subst (λ (l : List Asked). bytes_of file.number l ≡ Some []) (sym e) (subst (λ (x : Opened). bytes_of x.number (Done (Create access name) ∷ before) ≡ Some []) (sym f) (new_bytes access name before))
 
-pub new_stands : (path : List ℕ) (file : Opened) (name : List ℕ) (after : List Asked) → IsNewBeside path file name after → standing name after ≡ Some file.number
-new_stands path file name after (before, e, f, beside) =
-    subst (λ (l : List Asked). standing name l ≡ Some file.number) (sym e) (subst (λ (x : Opened). standing name (Done (Create name) ∷ before) ≡ Some x.number) (sym f) (new_name name before))
+pub new_stands : (access : NewAccess) (path : List ℕ) (file : Opened) (name : List ℕ) (after : List Asked) → IsNewBeside access path file name after → standing name after ≡ Some file.number
+new_stands access path file name after (before, e, f, beside) =
+    subst (λ (l : List Asked). standing name l ≡ Some file.number) (sym e) (subst (λ (x : Opened). standing name (Done (Create access name) ∷ before) ≡ Some x.number) (sym f) (new_name access name before))
 
 -- a new file that is written and put on disk is whole under its name
-pub filled_whole : (path : List ℕ) (file : Opened) (name bytes : List ℕ) (a b : List Asked) → IsNewBeside path file name a → Adds (MayFill file) a b → Fills file.number bytes a b → IsWhole name bytes b
-filled_whole path file name bytes a b new adds fills =
-    let has : (bytes_of file.number b ≡ Some bytes) × (is_synced file.number b ≡ true) = fills (new_is_empty path file name a new) in
-    (file.number, filled_keeps file name a b adds ∙ new_stands path file name a new, has.0, has.1)
+pub filled_whole : (access : NewAccess) (path : List ℕ) (file : Opened) (name bytes : List ℕ) (a b : List Asked) → IsNewBeside access path file name a → Adds (MayFill file) a b → Fills file.number bytes a b → IsWhole name bytes b
+filled_whole access path file name bytes a b new adds fills =
+    let has : (bytes_of file.number b ≡ Some bytes) × (is_synced file.number b ≡ true) = fills (new_is_empty access path file name a new) in
+    (file.number, filled_keeps file name a b adds ∙ new_stands access path file name a new, has.0, has.1)
 
 -- the path has it, where the rename is done
 pub renamed_whole : {A : Type 0} (result : Result A Error) (name path bytes : List ℕ) (a b : List Asked) → b ≡ came_to result (Rename name path) ∷ a → IsWhole name bytes a
@@ -227,15 +252,15 @@ pub renamed_whole : {A : Type 0} (result : Result A Error) (name path bytes : Li
 renamed_whole (Ok _) name path bytes a b e whole = subst (λ (l : List Asked). IsWhole path bytes l) (sym e) (whole_renamed name path bytes a whole)
 renamed_whole (Err _) name path bytes a b e whole = tt
 
-pub name_of_new : (path : List ℕ) (file : Opened) (name : List ℕ) (after : List Asked) → IsNewBeside path file name after → IsBeside path name
-name_of_new path file name after (before, e, f, beside) = beside
+pub name_of_new : (access : NewAccess) (path : List ℕ) (file : Opened) (name : List ℕ) (after : List Asked) → IsNewBeside access path file name after → IsBeside path name
+name_of_new access path file name after (before, e, f, beside) = beside
 
 -- what was asked by one rule, and then by another
 pub added_either : (P Q : Call → List Asked → Type 0) (a b c : List Asked) → Adds P a b → Adds Q b c → Adds (Either P Q) a c
 added_either P Q a b c p q = added_twice (Either P Q) a b c (added_weaker P (Either P Q) (λ call before x. inl x) a b p) (added_weaker Q (Either P Q) (λ call before x. inr x) b c q)
 
 -- the file that was made is removed again
-pub tried_done : {A : Type 0} (result : Result A Error) (path : List ℕ) (file : Opened) (name : List ℕ) (a b : List Asked) → IsNewBeside path file name a → b ≡ came_to result (Remove name) ∷ a
+pub tried_done : {A : Type 0} (result : Result A Error) (path : List ℕ) (file : Opened) (name : List ℕ) (a b : List Asked) → IsNewBeside NewAccess.Usual path file name a → b ≡ came_to result (Remove name) ∷ a
     → OnOk result (HasTried path b)
 tried_done (Err _) path file name a b new made = tt
 tried_done (Ok _) path file name a b (before, e, f, beside) made = (name, before, beside, made ∙ ap (λ (l : List Asked). Done (Remove name) ∷ l) e)

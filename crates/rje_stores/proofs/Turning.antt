@@ -11,13 +11,13 @@ use Rattle.std.proofs.lemmas.Option.{same_Some}
 use Rattle.std.proofs.lemmas.List.{drop-drop, drop-append-le, drop_all}
 use Rattle.rje_files.specs.Growth.{grown}
 use Rattle.rje_stores.specs.Disk.{Asked, Call, Opened, Done, Refused, Failed, Open, GoOn, WriteAt, Sync, Rename, Link, call_of, came_to, failed_by, standing, bytes_of, is_synced, overwritten, IsOpened}
-use Rattle.rje_stores.specs.Replacing.{Adds, Each, Either, IsBeside, IsOnDisk, IsWhole, LeadsTo, MayReplace, MayTry}
+use Rattle.rje_stores.specs.Replacing.{Adds, Each, Either, IsBeside, IsOnDisk, IsPrivate, IsWhole, LeadsTo, MayReplace, MayTry}
 use Rattle.rje_stores.specs.declared.file_store.growing.Growing.{Growing}
 use Rattle.rje_stores.specs.declared.file_store.growing.Older.{Older}
 use Rattle.rje_stores.specs.Growing.{Agrees, IsGrowing, IsNewest, IsOlder, IsOpening, MayGrow, MayOpen, bytes_under}
 use Rattle.rje_stores.specs.FileStore.{MaySettle}
 use Rattle.rje_stores.specs.Inside.Filling.{AreTwo, HasGrown, HasTurned, IsNamed, IsSecond, KeepsNames, MayFill, MayLink, Turns}
-use Rattle.rje_stores.proofs.Replacing.{added_none, added_call, added_weaker, filled_keeps, not_beside, same_name, same_number, standing_below, synced_keeps, whatever_came}
+use Rattle.rje_stores.proofs.Replacing.{added_none, added_call, added_weaker, filled_keeps, giving_is, not_beside, private_later, same_name, same_number, standing_below, synced_keeps, whatever_came}
 
 -- numbers that differ
 pub other_number : (m n : ℕ) → m ≢ n → nat_eq m n ≡ false
@@ -195,7 +195,7 @@ Tried path before after = (standing path after ≡ standing path before) × ((n 
 
 try_leaves : (path : List ℕ) (call : Call) (before : List Asked) → MayTry path call before
     → Tried path before (Done call ∷ before) × Tried path before (Refused call ∷ before) × Tried path before (Failed call ∷ before)
-try_leaves path call before (name, beside, inl e) =
+try_leaves path call before (name, beside, inl (access, e)) =
     let IsLeft : Call → Type 0 = λ c. Tried path before (Done c ∷ before) × Tried path before (Refused c ∷ before) × Tried path before (Failed c ∷ before) in
     subst IsLeft (sym e) ((rw (not_beside path name beside) refl, λ n less. rw (other_number n (length before) (λ same. omega (arith, same, less))) refl), (refl, λ n less. refl), (refl, λ n less. refl))
 try_leaves path call before (name, beside, inr e) =
@@ -223,7 +223,7 @@ other_left file number call before not may = first not may where
   Kept c = (bytes_of number (Done c ∷ before) ≡ bytes_of number before) × (bytes_of number (Refused c ∷ before) ≡ bytes_of number before) × (bytes_of number (Failed c ∷ before) ≡ bytes_of number before)
 
   first : nat_eq number file.number ≡ false → MayFill file call before → Kept call
-  first not (inl e) = subst Kept (sym e) (refl, refl, refl)
+  first not (inl may) = giving_is Kept file call before may (refl, refl, refl) (refl, refl, refl)
   first not (inr (inl (bytes, e))) = subst Kept (sym e) (rw not refl, rw not refl, rw not refl)
   first not (inr (inr (inl e))) = subst Kept (sym e) (refl, refl, refl)
   first not (inr (inr (inr (inl (from, place, bytes, e))))) = subst Kept (sym e) (rw not refl, rw not refl, rw not refl)
@@ -319,7 +319,7 @@ newest_kept opened had growing a b adds newest =
       stands = left.0 ∙ newest.stands;
       has = left.1 (opened growing.newest).number (standing_below (string_bytes growing.path) a (opened growing.newest).number newest.stands) ∙ newest.has;
       len = newest.len;
-      own = newest.own;
+      own = λ own. ((newest.own own).0, private_later (opened growing.newest) (MayTry (string_bytes growing.path)) a b adds (newest.own own).1);
     }
 
 pub grown_on_disk : (path : List ℕ) (file from : Opened) (bytes had : List ℕ) (after : List Asked) → HasGrown path file from bytes had after → IsOnDisk path bytes after
@@ -327,12 +327,13 @@ grown_on_disk path file from bytes had after grown = ((file.number, grown.stands
 
 -- the copy that the file is now: what it was before it grew
 second_is_older : {F : Type 0} (opened : F → Opened) (path : List ℕ) (newest : F) (file : Opened) (second : String Global) (len : ℕ) (piece tail had : List ℕ) (b c : List Asked)
-    → standing path b ≡ Some (opened newest).number → IsBeside path (opened newest).name → standing path b ≢ Some file.number → len ≡ length had → length piece ≤ length had
+    → standing path b ≡ Some (opened newest).number → IsBeside path (opened newest).name → IsPrivate (opened newest) c → standing path b ≢ Some file.number → len ≡ length had → length piece ≤ length had
     → HasGrown path file (opened newest) (grown piece tail had) had c → IsSecond path (string_bytes second) b c
     → IsOlder opened path (grown piece tail had) (record { file = newest; path = second; len = len; front = length piece }) c
-second_is_older opened path newest file second len piece tail had b c stands own apart long fits grown (beside, same) = record {
+second_is_older opened path newest file second len piece tail had b c stands own private apart long fits grown (beside, same) = record {
   bytes = had;
   apart = (own, λ e. apart (stands ∙ sym e ∙ grown.stands));
+  private = private;
   beside = beside;
   stands = same ∙ stands;
   has = grown.other;
@@ -341,26 +342,26 @@ second_is_older opened path newest file second len piece tail had b c stands own
 }
 
 -- a store goes on with a file that has grown
-pub grows_on : {D F G : Type 0} (opened : F → Opened) (growing next : Growing D F G) (older : Older F) (second : Option (String Global)) (piece tail had : List ℕ) (b c : List Asked)
-    → next.path ≡ growing.path → next.newest ≡ older.file → next.len ≡ growing.len + length tail
+pub grows_on : {D F G : Type 0} (opened : F → Opened) (growing next : Growing D F G) (older : Older F) (second : Option (String Global)) (piece tail had : List ℕ) (P : Call → List Asked → Type 0) (b c : List Asked)
+    → Adds P b c → next.path ≡ growing.path → next.newest ≡ older.file → next.len ≡ growing.len + length tail
     → next.older ≡ option_map (λ path. record { file = growing.newest; path = path; len = growing.len; front = length piece }) second
     → IsNewest opened had growing b → IsOlder opened (string_bytes growing.path) had older b → length piece ≤ length had
     → HasGrown (string_bytes growing.path) (opened older.file) (opened growing.newest) (grown piece tail had) had c
     → IfSome second (λ name. IsSecond (string_bytes growing.path) (string_bytes name) b c) → IfSome second (λ _. growing.own ≡ true)
     → IsGrowing opened (grown piece tail had) next c
-grows_on opened growing next older second piece tail had b c path_is newest_is len_is older_is newest is fits has_grown seconds owns = (
+grows_on opened growing next older second piece tail had P b c adds path_is newest_is len_is older_is newest is fits has_grown seconds owns = (
   record {
     stands = rw (path_is, newest_is) has_grown.stands;
     has = rw newest_is has_grown.has;
     len = len_is ∙ ap (λ (n : ℕ). n + length tail) newest.len ∙ sym (grown_long piece tail had fits);
-    own = λ own. rw (path_is, newest_is) is.apart.0;
+    own = λ own. rw (path_is, newest_is) (is.apart.0, private_later (opened older.file) P b c adds is.private);
   },
   rw older_is (rw path_is (copy second seconds owns)),
 ) where
   copy : (second : Option (String Global)) → IfSome second (λ name. IsSecond (string_bytes growing.path) (string_bytes name) b c) → IfSome second (λ _. growing.own ≡ true)
       → IfSome (option_map (λ path. record { file = growing.newest; path = path; len = growing.len; front = length piece }) second) (λ copy. IsOlder opened (string_bytes growing.path) (grown piece tail had) copy c)
   copy None seconds owns = tt
-  copy (Some name) second own = second_is_older opened (string_bytes growing.path) growing.newest (opened older.file) name growing.len piece tail had b c newest.stands (newest.own own) is.apart.1 newest.len fits has_grown second
+  copy (Some name) second own = second_is_older opened (string_bytes growing.path) growing.newest (opened older.file) name growing.len piece tail had b c newest.stands (newest.own own).0 (private_later (opened growing.newest) P b c adds (newest.own own).1) is.apart.1 newest.len fits has_grown second
 
 -- the file that a name leads to was opened
 pub opened_may : {A : Type 0} (result : Result A Error) (leads : List ℕ → List ℕ → Type 0) (name path : List ℕ) (a b : List Asked) → IsOpened result path a b → LeadsTo leads name path → Adds (MayOpen leads name) a b

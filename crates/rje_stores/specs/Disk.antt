@@ -3,6 +3,7 @@ use Rattle.std.specs.Prelude.{◌≡◌, ℕ, ◌+◌, List, [], ◌∷◌, ◌+
 use Rattle.std.specs.IoError.{error_kind}
 use Rattle.std.specs.declared.io.Error.{Error}
 use Rattle.std.specs.declared.io.ErrorKind.{ErrorKind}
+use Rattle.rje_stores.specs.declared.new_access.NewAccess.{NewAccess}
 
 -- an open file: the name that it was opened under, and the number by which it is known: how many calls there were before it was first seen
 pub record Opened : Type 0 where
@@ -11,13 +12,14 @@ pub record Opened : Type 0 where
 
 -- what a disk is asked
 pub data Call : Type 0 where
-  -- to make a new, empty file under a name that no file has
-  Create : (name : List ℕ) → Call
+  -- to make a new, empty file under a name that no file has, for those who may use it so far
+  Create : (access : NewAccess) → (name : List ℕ) → Call
   -- to open the file under a name, which has these bytes
   Open : (name bytes : List ℕ) → Call
   -- to open the file under a name, an empty one where there is none, for its lock
   OpenLock : (name : List ℕ) → Call
-  -- to give a file its mode
+  -- to give a file its owner and its group; and its mode
+  SetOwner : (file : Opened) → Call
   SetMode : (file : Opened) → Call
   -- to write these bytes into an empty file
   Fill : (file : Opened) → (bytes : List ℕ) → Call
@@ -68,8 +70,9 @@ writes number (GoOn file _ _ _) = nat_eq number file.number
 writes number (WriteAt file _ _) = nat_eq number file.number
 writes number _ = false
 
--- the call writes to this file, or gives it its mode
+-- the call writes to this file, or gives it its owner or its mode
 abbrev pub changes : ℕ → Call → Bool
+changes number (SetOwner file) = nat_eq number file.number
 changes number (SetMode file) = nat_eq number file.number
 changes number call = writes number call
 
@@ -81,7 +84,7 @@ takes name _ = false
 
 -- the call changes what stands under this name
 abbrev pub names : List ℕ → Call → Bool
-names name (Create other) = bytes_eq name other
+names name (Create _ other) = bytes_eq name other
 names name (OpenLock other) = bytes_eq name other
 names name (Link _ to) = bytes_eq name to
 names name call = takes name call
@@ -89,7 +92,7 @@ names name call = takes name call
 -- the file that stands under a name after these calls, where they show it
 abbrev pub standing : List ℕ → List Asked → Option ℕ
 standing name [] = None
-standing name (Done (Create other) ∷ before) = if bytes_eq name other then Some (length before) else standing name before
+standing name (Done (Create _ other) ∷ before) = if bytes_eq name other then Some (length before) else standing name before
 standing name (Done (OpenLock other) ∷ before) = if bytes_eq name other then Some (unwrap_or (standing other before) (length before)) else standing name before
 standing name (Done (Open other _) ∷ before) = if bytes_eq name other then Some (unwrap_or (standing other before) (length before)) else standing name before
 standing name (Done (Link from to) ∷ before) = if bytes_eq name to then standing from before else standing name before
@@ -119,7 +122,7 @@ overwritten place bytes had = if nat_lt (length had) place then None else Some (
 -- the bytes of a file after these calls, where they show them
 abbrev pub bytes_of : ℕ → List Asked → Option (List ℕ)
 bytes_of number [] = None
-bytes_of number (Done (Create _) ∷ before) = if nat_eq number (length before) then Some [] else bytes_of number before
+bytes_of number (Done (Create _ _) ∷ before) = if nat_eq number (length before) then Some [] else bytes_of number before
 bytes_of number (Done (Open other bytes) ∷ before) = if nat_eq number (seen_as other before) then Some bytes else bytes_of number before
 bytes_of number (Done (Fill file bytes) ∷ before) =
     if nat_eq number file.number then option_and_then (filled bytes) (bytes_of number before) else bytes_of number before

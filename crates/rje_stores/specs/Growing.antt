@@ -4,7 +4,7 @@ use Rattle.rje_files.specs.Growth.{grown}
 use Rattle.rje_stores.specs.declared.file_store.growing.Growing.{Growing}
 use Rattle.rje_stores.specs.declared.file_store.growing.Older.{Older}
 use Rattle.rje_stores.specs.Disk.{Asked, Call, Opened, Open, Remove, standing, bytes_of}
-use Rattle.rje_stores.specs.Replacing.{Adds, IsApart, IsBeside, IsOnDisk, LeadsTo, MayReplace}
+use Rattle.rje_stores.specs.Replacing.{Adds, IsApart, IsBeside, IsOnDisk, IsPrivate, LeadsTo, MayReplace}
 
 -- the bytes of the file under a path after these calls, where they show them
 abbrev pub bytes_under : List ℕ → List Asked → Option (List ℕ)
@@ -14,22 +14,24 @@ bytes_under path asked = option_and_then (λ number. bytes_of number asked) (sta
 abbrev pub Agrees : (front : ℕ) → (bytes had : List ℕ) → Type 0
 Agrees front bytes had = (length bytes ≤ length had) × (drop front (bytes ++ drop (length bytes) had) ≡ drop front had)
 
--- the copy beside the file of a path is open under its name, may be written, and is older than the file, which has these bytes
+-- the copy beside the file of a path was made for its owner alone, is open under its name, may be written, and is older than the file, which has
+-- these bytes
 pub record IsOlder {F : Type 0} (opened : F → Opened) (path had : List ℕ) (older : Older F) (asked : List Asked) : Type 0 where
   pub bytes : List ℕ
   pub apart : IsApart path (opened older.file) asked
+  pub private : IsPrivate (opened older.file) asked
   pub beside : IsBeside path (string_bytes older.path)
   pub stands : standing (string_bytes older.path) asked ≡ Some (opened older.file).number
   pub has : bytes_of (opened older.file).number asked ≡ Some bytes
   pub len : older.len ≡ length bytes
   pub agrees : Agrees older.front bytes had
 
--- the file that grows is the one under its path, has these bytes, and was made beside the path where it is the store's own
+-- the file that grows is the one under its path, has these bytes, and was made beside the path, for its owner alone, where it is the store's own
 pub record IsNewest {D F G : Type 0} (opened : F → Opened) (had : List ℕ) (growing : Growing D F G) (asked : List Asked) : Type 0 where
   pub stands : standing (string_bytes growing.path) asked ≡ Some (opened growing.newest).number
   pub has : bytes_of (opened growing.newest).number asked ≡ Some had
   pub len : growing.len ≡ length had
-  pub own : growing.own ≡ true → IsBeside (string_bytes growing.path) (opened growing.newest).name
+  pub own : growing.own ≡ true → IsBeside (string_bytes growing.path) (opened growing.newest).name × IsPrivate (opened growing.newest) asked
 
 -- what a store has for the growth of a file is that file, and a copy that is older, if any
 abbrev pub IsGrowing : {D F G : Type 0} → (F → Opened) → (had : List ℕ) → Growing D F G → List Asked → Type 0

@@ -1,7 +1,8 @@
 //! What the system is asked about files, one method for each thing.
 ghost use Rattle.std.specs.Prelude.{◌≡◌, ℕ, List, ◌∷◌, length, None, IfOk, IfSome, OnOk, string_bytes};
-ghost use Rattle.rje_stores.specs.Disk.{Asked, Opened, Create, OpenLock, SetMode, Fill, GoOn, WriteAt, Sync, SyncBytes, Rename, Link, Remove, SyncFolder, WriteDevice, IsOpened, came_to, seen_as, standing, bytes_of};
+ghost use Rattle.rje_stores.specs.Disk.{Asked, Opened, Create, OpenLock, SetOwner, SetMode, Fill, GoOn, WriteAt, Sync, SyncBytes, Rename, Link, Remove, SyncFolder, WriteDevice, IsOpened, came_to, seen_as, standing, bytes_of};
 
+use crate::new_access::NewAccess;
 use std::alloc::Global;
 use std::fs::{Metadata, TryLockError};
 use std::io::{self, Read};
@@ -146,18 +147,10 @@ pub trait Disk {
     /// Whether the file under a name can be opened to be written.
     fn try_to_write(&self, name: &str) -> io::Result<()>;
 
-    /// A new, empty file under a name that no file has, open to be read and written.
-    fn create(&mut self, name: &str) -> io::Result<Self::File>
+    /// A new, empty file under a name that no file has, open to be read and written, for those whom `access` says.
+    fn create(&mut self, name: &str, access: NewAccess) -> io::Result<Self::File>
         ensures asks { discloses
-            → asked self.new ≡ came_to result (Create name.now) ∷ asked self.old }
-        ensures free { discloses → OnOk result (standing name.now (asked self.old) ≡ None) }
-        ensures file { discloses → IfOk result (λ file.
-            opened file ≡ record { name = name.now; number = length (asked self.old) }) };
-
-    /// The same of a file that its owner alone may read and write, until it is given its access.
-    fn create_private(&mut self, name: &str) -> io::Result<Self::File>
-        ensures asks { discloses
-            → asked self.new ≡ came_to result (Create name.now) ∷ asked self.old }
+            → asked self.new ≡ came_to result (Create access name.now) ∷ asked self.old }
         ensures free { discloses → OnOk result (standing name.now (asked self.old) ≡ None) }
         ensures file { discloses → IfOk result (λ file.
             opened file ≡ record { name = name.now; number = length (asked self.old) }) };
@@ -184,8 +177,13 @@ pub trait Disk {
     /// Locks an open file, as long as it is open.
     fn try_lock(&self, file: &Self::File) -> Result<(), TryLockError>;
 
-    /// Gives a file its owner and its group, and then its mode. Where it can't have the group, nobody but its owner may read and write it.
-    fn set_access(&mut self, file: &Self::File, access: FileAccess) -> io::Result<()>
+    /// Gives a file this owner and this group, or the group alone where it can't have the owner. Whether it has the group.
+    fn set_owner(&mut self, file: &Self::File, owner: u32, group: u32) -> io::Result<bool>
+        ensures { discloses
+            → asked self.new ≡ came_to result (SetOwner (opened file.now)) ∷ asked self.old };
+
+    /// Gives a file this mode.
+    fn set_mode(&mut self, file: &Self::File, mode: u32) -> io::Result<()>
         ensures { discloses
             → asked self.new ≡ came_to result (SetMode (opened file.now)) ∷ asked self.old };
 

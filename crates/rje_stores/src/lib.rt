@@ -4,6 +4,7 @@
 mod disk;
 mod file_store;
 mod memory_store;
+mod new_access;
 mod reading;
 mod store;
 mod system_disk;
@@ -11,6 +12,7 @@ mod system_disk;
 pub use disk::{ChangeTime, Disk, FileAccess, FileKind, FileStatus};
 pub use file_store::FileStore;
 pub use memory_store::MemoryStore;
+pub use new_access::NewAccess;
 pub use reading::{MAX_INPUT, read_all};
 pub use store::{Place, Store, StoreFault, grown_bytes};
 pub use system_disk::SystemDisk;

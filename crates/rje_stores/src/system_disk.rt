@@ -1,7 +1,8 @@
 //! The system's disk.
 ghost use Rattle.std.specs.Prelude.{[]};
 
-use crate::disk::{Disk, FileAccess, FileStatus};
+use crate::disk::{Disk, FileStatus};
+use crate::new_access::NewAccess;
 use std::alloc::Global;
 use std::fs::{self, File, OpenOptions, Permissions, TryLockError};
 use std::io::{self, Seek, SeekFrom, Write};
@@ -80,20 +81,16 @@ impl<'a, R: Files<File = File>> Disk for SystemDisk<'a, R> {
         Ok(())
     }
 
-    fn create(&mut self, name: &str) -> io::Result<File> {
+    fn create(&mut self, name: &str, access: NewAccess) -> io::Result<File> {
+        let mode = match access {
+            NewAccess::Usual => 0o666,
+            NewAccess::Private => 0o600,
+        };
         OpenOptions::new()
             .read(true)
             .write(true)
             .create_new(true)
-            .open(self.rt, name)
-    }
-
-    fn create_private(&mut self, name: &str) -> io::Result<File> {
-        OpenOptions::new()
-            .read(true)
-            .write(true)
-            .create_new(true)
-            .mode(0o600)
+            .mode(mode)
             .open(self.rt, name)
     }
 
@@ -118,11 +115,14 @@ impl<'a, R: Files<File = File>> Disk for SystemDisk<'a, R> {
         file.try_lock()
     }
 
-    fn set_access(&mut self, file: &File, access: FileAccess) -> io::Result<()> {
-        let mode = match has_group(file, access) {
-            true => access.mode & 0o777,
-            false => access.mode & 0o700,
-        };
+    fn set_owner(&mut self, file: &File, owner: u32, group: u32) -> io::Result<bool> {
+        Ok(
+            fchown(file.as_fd(), Some(owner), Some(group)).is_ok()
+                || fchown(file.as_fd(), None, Some(group)).is_ok(),
+        )
+    }
+
+    fn set_mode(&mut self, file: &File, mode: u32) -> io::Result<()> {
         file.set_permissions(Permissions::from_mode(mode))
     }
 
@@ -183,15 +183,4 @@ impl<'a, R: Files<File = File>> Disk for SystemDisk<'a, R> {
     fn write_device(&mut self, name: &str, bytes: &[u8]) -> io::Result<()> {
         fs::write(self.rt, name, bytes)
     }
-}
-
-/// Gives a file its owner and its group, or where it can't have the owner the group alone. Whether it has the group.
-fn has_group(file: &File, access: FileAccess) -> bool {
-    let FileAccess {
-        mode: _,
-        owner,
-        group,
-    } = access;
-    fchown(file.as_fd(), Some(owner), Some(group)).is_ok()
-        || fchown(file.as_fd(), None, Some(group)).is_ok()
 }

@@ -1,5 +1,6 @@
 -- What is asked step by step, and what names come to.
 use Rattle.std.specs.Prelude.{◌≡◌, ◌≢◌, ◌⊎◌, ℕ, ◌<◌, List, [], ◌∷◌, ◌++◌, length, Option, Some, None, true}
+use Rattle.rje_stores.specs.declared.new_access.NewAccess.{NewAccess}
 use Rattle.rje_stores.specs.Disk.{Asked, Call, Opened, Done, Create, Fill, Sync, Rename, Link, Remove, standing, bytes_of, is_synced, has_synced_name}
 use Rattle.rje_stores.specs.Replacing.{IsOnDisk, IsWhole}
 use Rattle.rje_stores.specs.Inside.Filling.{AddsSync}
@@ -37,11 +38,11 @@ HasTaken kept name before after = (kept ≢ name) × AddsSync name (Done (Remove
 
 -- what may be asked to make a new file of a folder
 abbrev pub MayCreate : (folder : List ℕ) → Call → List Asked → Type 0
-MayCreate folder call before = (name : List ℕ) × IsTemporary folder name × (call ≡ Create name)
+MayCreate folder call before = (name : List ℕ) × IsTemporary folder name × (call ≡ Create NewAccess.Private name)
 
 -- the last of these calls made this file, new and empty, under a name of the folder that is left alone
 abbrev pub IsNewIn : (folder : List ℕ) → Opened → (name : List ℕ) → List Asked → Type 0
-IsNewIn folder file name after = (before : List Asked) × (after ≡ Done (Create name) ∷ before) × (file ≡ record { name = name; number = length before }) × IsTemporary folder name
+IsNewIn folder file name after = (before : List Asked) × (after ≡ Done (Create NewAccess.Private name) ∷ before) × (file ≡ record { name = name; number = length before }) × IsTemporary folder name
 
 -- what may be asked to write an empty file
 abbrev pub MayWrite : Opened → Call → List Asked → Type 0

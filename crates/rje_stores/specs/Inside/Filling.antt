@@ -1,11 +1,21 @@
 -- How a new file is written, and the names of a folder are put on disk.
-use Rattle.std.specs.Prelude.{◌≡◌, ◌≢◌, ◌⊎◌, ℕ, List, [], ◌∷◌, ◌++◌, length, drop, Some, true}
-use Rattle.rje_stores.specs.Disk.{Asked, Call, Opened, Done, Rename, SetMode, Fill, GoOn, WriteAt, Sync, SyncFolder, Link, call_of, standing, bytes_of, is_synced, has_synced_name}
-use Rattle.rje_stores.specs.Replacing.{IsBeside}
+use Rattle.std.specs.Prelude.{◌≡◌, ◌≢◌, ◌⊎◌, ℕ, List, [], ◌∷◌, ◌++◌, length, drop, Option, Some, None, true}
+use Rattle.rje_stores.specs.declared.new_access.NewAccess.{NewAccess}
+use Rattle.rje_stores.specs.Disk.{Asked, Call, Opened, Done, Rename, SetOwner, SetMode, Fill, GoOn, WriteAt, Sync, SyncFolder, Link, call_of, standing, bytes_of, is_synced, has_synced_name}
+use Rattle.rje_stores.specs.Replacing.{HasOwner, IsBeside, IsPrivate}
+
+-- for whom a new file is made that gets the access of another one, or the usual
+abbrev pub new_access : {A : Type 0} → Option A → NewAccess
+new_access None = NewAccess.Usual
+new_access (Some _) = NewAccess.Private
+
+-- what may be asked to give a file its access: first its owner and its group, and only where it was made for its owner alone
+abbrev pub MayGive : Opened → Call → List Asked → Type 0
+MayGive file call before = IsPrivate file before × ((call ≡ SetOwner file) ⊎ ((call ≡ SetMode file) × HasOwner file before))
 
 -- what may be asked to write a file beside another
 abbrev pub MayFill : Opened → Call → List Asked → Type 0
-MayFill file call before = (call ≡ SetMode file) ⊎ ((bytes : List ℕ) × (call ≡ Fill file bytes)) ⊎ (call ≡ Sync file)
+MayFill file call before = MayGive file call before ⊎ ((bytes : List ℕ) × (call ≡ Fill file bytes)) ⊎ (call ≡ Sync file)
     ⊎ ((from : Opened) × (place : ℕ) × (bytes : List ℕ) × (call ≡ GoOn file from place bytes))
     ⊎ ((place : ℕ) × (bytes : List ℕ) × (call ≡ WriteAt file place bytes))
 

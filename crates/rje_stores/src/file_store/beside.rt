@@ -1,10 +1,11 @@
 //! Files beside a file, by way of which it is replaced whole or not at all.
-ghost use Rattle.std.specs.Prelude.{◌≡◌, ◌∷◌, IfOk, OnOk, IsErrOf, ℕ, List, None, length, true, string_bytes};
-ghost use Rattle.rje_stores.specs.Disk.{Asked, Call, Create, SyncFolder, call_of, came_to, is_synced, has_synced_name, standing};
-ghost use Rattle.rje_stores.specs.Replacing.{Adds, HasTried, IsBeside, IsNewBeside, IsOnDisk, IsWhole, LeadsTo, MayReplace, MayTry};
-ghost use Rattle.rje_stores.specs.Inside.Filling.{AddsSync, Fills, IsSecond, KeepsNames, MayFill, MayLink};
+ghost use Rattle.std.specs.Prelude.{◌≡◌, ◌∷◌, IfOk, OnOk, IsErrOf, ℕ, List, None, length, true, string_bytes, IfSome};
+ghost use Rattle.rje_stores.specs.Disk.{Asked, Call, SyncFolder, bytes_of, call_of, is_synced, has_synced_name};
+ghost use Rattle.rje_stores.specs.Replacing.{Adds, HasTried, IsBeside, IsNewBeside, IsOnDisk, IsPrivate, IsWhole, LeadsTo, MayReplace, MayTry};
+ghost use Rattle.rje_stores.specs.Inside.Filling.{AddsSync, Fills, IsSecond, KeepsNames, MayFill, MayGive, MayLink, new_access};
 
 use crate::disk::{Disk, FileAccess, FileKind};
+use crate::new_access::NewAccess;
 use crate::store::StoreFault;
 use std::alloc::Global;
 use std::io::{self, ErrorKind};
@@ -78,7 +79,7 @@ pub(super) fn try_beside<D: Disk>(disk: &mut D, alloc: Global, path: &str) -> io
     ensures tried { D.discloses → OnOk result (HasTried path.now (D.asked disk.new)) }
 {
     disk.open_folder(path)?;
-    let beside = create_beside(disk, alloc, path, false)?;
+    let beside = create_beside(disk, alloc, path, NewAccess::Usual)?;
     disk.remove(beside.path.as_str())
 }
 
@@ -99,13 +100,23 @@ pub(super) fn replace<D: Disk>(
 {
     // Opened before anything is written, since a name that was changed in a folder that can't be opened is not known to be on disk.
     let folder = disk.open_folder(path)?;
-    let beside = create_beside(disk, alloc, path, access.is_some())?;
+    let beside = create_beside(disk, alloc, path, access_until(access))?;
     match put_in_place(disk, &beside, path, access, bytes) {
         Ok(()) => sync_folder(disk, &folder),
         Err(error) => {
             let _ = disk.remove(beside.path.as_str());
             Err(StoreFault::from(error))
         }
+    }
+}
+
+/// For whom a new file is made that is to get this access, or has the usual.
+fn access_until(access: Option<FileAccess>) -> NewAccess
+    ensures { result ≡ new_access access }
+{
+    match access {
+        Some(_) => NewAccess::Private,
+        None => NewAccess::Usual,
     }
 }
 
@@ -117,8 +128,8 @@ fn put_in_place<D: Disk>(
     access: Option<FileAccess>,
     bytes: &[u8],
 ) -> io::Result<()>
-    requires { D.discloses → IsNewBeside path.now (D.opened beside.now.file)
-        (string_bytes beside.now.path) (D.asked disk.old) }
+    requires { D.discloses → IsNewBeside (new_access access) path.now
+        (D.opened beside.now.file) (string_bytes beside.now.path) (D.asked disk.old) }
     ensures asks { D.discloses
         → Adds (MayReplace path.now bytes.now) (D.asked disk.old) (D.asked disk.new) }
     ensures whole { D.discloses → OnOk result (IsWhole path.now bytes.now (D.asked disk.new)) }
@@ -134,42 +145,26 @@ fn name_beside(alloc: Global, path: &str, number: u32) -> io::Result<String>
     Ok(format!(in alloc; "{path}.rje-{number}")?)
 }
 
-/// A new file beside this one: a private one, of which nobody but its owner may read anything before it is given its access, or one with the access that
-/// the system gives a new file.
+/// A new file beside this one, for those whom `access` says: where it gets the access of another file, nobody but its owner may read anything before.
 pub(super) fn create_beside<D: Disk>(
     disk: &mut D,
     alloc: Global,
     path: &str,
-    private: bool,
+    access: NewAccess,
 ) -> io::Result<Beside<D::File>>
     ensures asks { D.discloses → Adds (MayTry path.now) (D.asked disk.old) (D.asked disk.new) }
-    ensures new { D.discloses → IfOk result (λ beside. IsNewBeside path.now
+    ensures new { D.discloses → IfOk result (λ beside. IsNewBeside access path.now
         (D.opened beside.file) (string_bytes beside.path) (D.asked disk.new)) }
 {
     for number in 0..MAX_NAMES {
         let beside = name_beside(alloc, path, number)?;
-        match create_one(disk, beside.as_str(), private) {
+        match disk.create(beside.as_str(), access) {
             Ok(file) => return Ok(Beside { file, path: beside }),
             Err(error) if error.kind() == ErrorKind::AlreadyExists => {}
             Err(error) => return Err(error),
         }
     }
     Err(io::Error::from(ErrorKind::AlreadyExists))
-}
-
-/// A new file under a name that no file has, which is private or isn't.
-fn create_one<D: Disk>(disk: &mut D, name: &str, private: bool) -> io::Result<D::File>
-    ensures asks { D.discloses
-        → D.asked disk.new ≡ came_to result (Create name.now) ∷ D.asked disk.old }
-    ensures free { D.discloses → OnOk result (standing name.now (D.asked disk.old) ≡ None) }
-    ensures file { D.discloses → IfOk result (λ file. D.opened file
-        ≡ record { name = name.now; number = length (D.asked disk.old) }) }
-{
-    if private {
-        disk.create_private(name)
-    } else {
-        disk.create(name)
-    }
 }
 
 /// A second name, beside the first, for the file that is there; not the one that is said to be taken, for which the system isn't asked.
@@ -206,17 +201,36 @@ fn fill<D: Disk>(
     bytes: &[u8],
 ) -> io::Result<()>
     ensures asks { D.discloses
+        → IfSome access (λ _. IsPrivate (D.opened file.now) (D.asked disk.old))
         → Adds (MayFill (D.opened file.now)) (D.asked disk.old) (D.asked disk.new) }
     ensures filled { D.discloses → OnOk result
         (Fills (D.opened file.now).number bytes.now (D.asked disk.old) (D.asked disk.new)) }
 {
     match access {
         Some(access) => {
-            disk.set_access(file, access)?;
+            give_access(disk, file, access)?;
             fill_on_disk(disk, file, bytes)
         }
         None => fill_on_disk(disk, file, bytes),
     }
+}
+
+/// Gives a file its owner and its group, and then its mode. Where it can't have the group, nobody but its owner may read and write it.
+pub(super) fn give_access<D: Disk>(
+    disk: &mut D,
+    file: &D::File,
+    access: FileAccess,
+) -> io::Result<()>
+    ensures asks { D.discloses → IsPrivate (D.opened file.now) (D.asked disk.old)
+        → Adds (MayGive (D.opened file.now)) (D.asked disk.old) (D.asked disk.new) }
+    ensures same { D.discloses → (number : ℕ)
+        → bytes_of number (D.asked disk.new) ≡ bytes_of number (D.asked disk.old) }
+{
+    let mode = match disk.set_owner(file, access.owner, access.group)? {
+        true => access.mode & 0o777,
+        false => access.mode & 0o700,
+    };
+    disk.set_mode(file, mode)
 }
 
 /// Writes the bytes and has them on disk.

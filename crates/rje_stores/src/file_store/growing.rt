@@ -7,13 +7,14 @@
 ghost use Rattle.std.specs.Prelude.{◌≡◌, ◌+◌, ◌<◌, ◌≤◌, ◌^◌, ℕ, List, Option, true, length, None, IfOk, IfSome, OnOk, string_bytes, option_map};
 ghost use Rattle.rje_files.specs.Growth.{grown};
 ghost use Rattle.rje_stores.specs.Disk.{bytes_of, has_synced_name};
-ghost use Rattle.rje_stores.specs.Replacing.{Adds, IsBeside, IsOnDisk, IsWhole, MayReplace, MayTry};
+ghost use Rattle.rje_stores.specs.Replacing.{Adds, IsBeside, IsOnDisk, IsPrivate, IsWhole, MayReplace, MayTry};
 ghost use Rattle.rje_stores.specs.FileStore.{MaySettle, older_name};
 ghost use Rattle.rje_stores.specs.Growing.{HasGrowing, IsGrowing, IsNewest, IsOlder, MayOpen};
 ghost use Rattle.rje_stores.specs.Inside.Filling.{AreTwo, HasGrown, HasTurned, IsNamed, IsSecond, KeepsNames, MayFill, MayLink, Turns};
 
-use super::beside::{create_beside, link_beside, resolved, sync_folder};
+use super::beside::{create_beside, give_access, link_beside, resolved, sync_folder};
 use crate::disk::{Disk, FileKind};
+use crate::new_access::NewAccess;
 use crate::store::StoreFault;
 use std::alloc::Global;
 use std::io::{self, ErrorKind};
@@ -292,7 +293,7 @@ fn first_copy<D: Disk>(disk: &mut D, alloc: Global, path: &str) -> io::Result<Ol
         → IsOlder D.opened path.now had older (D.asked disk.new)) }
     ensures front { IfOk result (λ older. older.front ≡ 0) }
 {
-    let beside = create_beside(disk, alloc, path, true)?;
+    let beside = create_beside(disk, alloc, path, NewAccess::Private)?;
     Ok(Older {
         file: beside.file,
         path: beside.path,
@@ -392,7 +393,7 @@ fn grown<D: Disk>(
     front: &[u8],
     tail: &[u8],
 ) -> io::Result<()>
-    ensures asks { D.discloses
+    ensures asks { D.discloses → IsPrivate (D.opened older.now.file) (D.asked disk.old)
         → Adds (MayFill (D.opened older.now.file)) (D.asked disk.old) (D.asked disk.new) }
     ensures room { OnOk result (length front.now ≤ len) }
     ensures fits { OnOk result (len + length tail.now < 2 ^ 64) }
@@ -410,7 +411,7 @@ fn grown<D: Disk>(
     }
     if older.len == 0 {
         let found = disk.status_of(newest)?;
-        disk.set_access(&older.file, found.access)?;
+        give_access(disk, &older.file, found.access)?;
         return gone_on(disk, newest, older, front, tail);
     }
     gone_on(disk, newest, older, front, tail)

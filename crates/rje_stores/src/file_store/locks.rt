@@ -4,7 +4,8 @@
 //! given up. The file itself is locked too, where it is there, since it may have a second name. The system gives up both when the process
 //! ends.
 use super::beside::resolved;
-use crate::disk::{Disk, FileAccess, FileKind};
+use crate::disk::{Disk, FileKind};
+use crate::new_access::NewAccess;
 use crate::store::StoreFault;
 use std::alloc::Global;
 use std::fs::TryLockError;
@@ -131,17 +132,12 @@ pub(super) fn has_name<D: Disk>(disk: &D, file: &D::File) -> bool {
 
 /// A lock's file, which is empty, and which any user may read: so one that was left keeps no one out. It is made where nothing stands under its name.
 fn open_lock<D: Disk>(disk: &mut D, path: &str) -> io::Result<Option<D::File>> {
-    let file = match disk.create(path) {
+    let file = match disk.create(path, NewAccess::Usual) {
         Ok(file) => file,
         Err(error) if error.kind() == ErrorKind::AlreadyExists => return found_lock(disk, path),
         Err(error) => return Err(error),
     };
-    let made = disk.status_of(&file)?.access;
-    let access = FileAccess {
-        mode: 0o644,
-        ..made
-    };
-    let _ = disk.set_access(&file, access);
+    let _ = disk.set_mode(&file, 0o644);
     Ok(Some(file))
 }
 

@@ -1,4 +1,4 @@
-//! Which call serves which command, and an input that fails. What commands print, and what they refuse, stands in commands/.
+//! Which call serves which command, and an input that fails. What commands print, and what they refuse, stands in tests/.
 use super::{FILE, Written, store_of};
 use rje_program::{command, is_for_sockets, is_for_station, socket_command};
 use rje_stores::{MAX_INPUT, MemoryStore};

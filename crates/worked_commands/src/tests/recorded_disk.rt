@@ -1,7 +1,7 @@
 //! A disk of the tests' own that records what it is asked to change, and fails at one of these calls.
 ghost use Rattle.std.specs.Prelude.{[]};
 
-use rje_stores::{ChangeTime, Disk, FileAccess, FileKind, FileStatus};
+use rje_stores::{ChangeTime, Disk, FileAccess, FileKind, FileStatus, NewAccess};
 use std::alloc::Global;
 use std::cell::Cell;
 use std::fs::TryLockError;
@@ -169,13 +169,11 @@ impl Disk for RecordedDisk {
         Ok(())
     }
 
-    fn create(&mut self, name: &str) -> io::Result<RecordedFile> {
-        self.note(&[b"create ", name.as_bytes()])?;
-        self.opened(name)
-    }
-
-    fn create_private(&mut self, name: &str) -> io::Result<RecordedFile> {
-        self.note(&[b"create private ", name.as_bytes()])?;
+    fn create(&mut self, name: &str, access: NewAccess) -> io::Result<RecordedFile> {
+        match access {
+            NewAccess::Usual => self.note(&[b"create ", name.as_bytes()])?,
+            NewAccess::Private => self.note(&[b"create private ", name.as_bytes()])?,
+        }
         self.opened(name)
     }
 
@@ -198,8 +196,13 @@ impl Disk for RecordedDisk {
         Ok(())
     }
 
-    fn set_access(&mut self, file: &RecordedFile, _access: FileAccess) -> io::Result<()> {
-        self.note(&[b"access of ", file.name.as_bytes()])
+    fn set_owner(&mut self, file: &RecordedFile, _owner: u32, _group: u32) -> io::Result<bool> {
+        self.note(&[b"owner of ", file.name.as_bytes()])?;
+        Ok(true)
+    }
+
+    fn set_mode(&mut self, file: &RecordedFile, _mode: u32) -> io::Result<()> {
+        self.note(&[b"mode of ", file.name.as_bytes()])
     }
 
     fn fill(&mut self, file: &RecordedFile, bytes: &[u8]) -> io::Result<()> {

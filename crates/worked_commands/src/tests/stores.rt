@@ -1,4 +1,4 @@
-//! What no clause says: that files in memory are there. What the system's files do stands in commands/.
+//! What no clause says: that files in memory are there. What the system's files do stands in tests/.
 use super::recorded_disk::RecordedDisk;
 use super::{assert_file, joined};
 use rje_stores::{Disk, FileKind, FileStore, MemoryStore, Store, StoreFault, SystemDisk};
@@ -59,38 +59,44 @@ fn a_file_is_on_disk_before_it_gets_its_name(rt: HostRuntime) {
         &rt,
         alloc,
         0,
-        b"create private a.job.rje-0\naccess of a.job.rje-0\nfill a.job.rje-0 with one\nsync a.job.rje-0\nrename a.job.rje-0 to a.job\nsync folder of a.job\n",
+        b"create private a.job.rje-0\nowner of a.job.rje-0\nmode of a.job.rje-0\nfill a.job.rje-0 with one\nsync a.job.rje-0\nrename a.job.rje-0 to a.job\nsync folder of a.job\n",
     );
     asked_to_write(&rt, alloc, 1, b"create private a.job.rje-0\n");
     asked_to_write(
         &rt,
         alloc,
         2,
-        b"create private a.job.rje-0\naccess of a.job.rje-0\nremove a.job.rje-0\n",
+        b"create private a.job.rje-0\nowner of a.job.rje-0\nremove a.job.rje-0\n",
     );
     asked_to_write(
         &rt,
         alloc,
         3,
-        b"create private a.job.rje-0\naccess of a.job.rje-0\nfill a.job.rje-0 with one\nremove a.job.rje-0\n",
+        b"create private a.job.rje-0\nowner of a.job.rje-0\nmode of a.job.rje-0\nremove a.job.rje-0\n",
     );
     asked_to_write(
         &rt,
         alloc,
         4,
-        b"create private a.job.rje-0\naccess of a.job.rje-0\nfill a.job.rje-0 with one\nsync a.job.rje-0\nremove a.job.rje-0\n",
+        b"create private a.job.rje-0\nowner of a.job.rje-0\nmode of a.job.rje-0\nfill a.job.rje-0 with one\nremove a.job.rje-0\n",
     );
     asked_to_write(
         &rt,
         alloc,
         5,
-        b"create private a.job.rje-0\naccess of a.job.rje-0\nfill a.job.rje-0 with one\nsync a.job.rje-0\nrename a.job.rje-0 to a.job\nremove a.job.rje-0\n",
+        b"create private a.job.rje-0\nowner of a.job.rje-0\nmode of a.job.rje-0\nfill a.job.rje-0 with one\nsync a.job.rje-0\nremove a.job.rje-0\n",
     );
     asked_to_write(
         &rt,
         alloc,
         6,
-        b"create private a.job.rje-0\naccess of a.job.rje-0\nfill a.job.rje-0 with one\nsync a.job.rje-0\nrename a.job.rje-0 to a.job\nsync folder of a.job\n",
+        b"create private a.job.rje-0\nowner of a.job.rje-0\nmode of a.job.rje-0\nfill a.job.rje-0 with one\nsync a.job.rje-0\nrename a.job.rje-0 to a.job\nremove a.job.rje-0\n",
+    );
+    asked_to_write(
+        &rt,
+        alloc,
+        7,
+        b"create private a.job.rje-0\nowner of a.job.rje-0\nmode of a.job.rje-0\nfill a.job.rje-0 with one\nsync a.job.rje-0\nrename a.job.rje-0 to a.job\nsync folder of a.job\n",
     );
 }
 
@@ -106,7 +112,7 @@ fn a_file_grows_by_way_of_a_copy(rt: HostRuntime) {
     files.settle();
     assert!(rt;
         files.disk().asked()
-            == b"open a.job\ncreate private a.job.rje-0\naccess of a.job.rje-0\ngo on with a.job.rje-0 as a.job and s\nwrite to a.job.rje-0: 2\nsync a.job.rje-0\nrename a.job.rje-0 to a.job\nsync folder of a.job\ncreate private a.job.rje-0\naccess of a.job.rje-0\ngo on with a.job.rje-0 as a.job.rje-0 and t\nwrite to a.job.rje-0: 3\nsync a.job.rje-0\nlink a.job as a.job.rje-1\nrename a.job.rje-0 to a.job\nsync folder of a.job\nremove a.job.rje-1\n".as_slice()
+            == b"open a.job\ncreate private a.job.rje-0\nowner of a.job.rje-0\nmode of a.job.rje-0\ngo on with a.job.rje-0 as a.job and s\nwrite to a.job.rje-0: 2\nsync a.job.rje-0\nrename a.job.rje-0 to a.job\nsync folder of a.job\ncreate private a.job.rje-0\nowner of a.job.rje-0\nmode of a.job.rje-0\ngo on with a.job.rje-0 as a.job.rje-0 and t\nwrite to a.job.rje-0: 3\nsync a.job.rje-0\nlink a.job as a.job.rje-1\nrename a.job.rje-0 to a.job\nsync folder of a.job\nremove a.job.rje-1\n".as_slice()
     );
 }
 
@@ -159,9 +165,9 @@ fn a_file_stays_open_from_one_byte_to_the_next(rt: HostRuntime) {
 #[test]
 fn names_that_a_file_system_does_not_keep_are_no_fault(rt: HostRuntime) {
     let alloc = rt.alloc();
-    let mut files = store_failing_at(alloc, 6, ErrorKind::InvalidInput);
+    let mut files = store_failing_at(alloc, 7, ErrorKind::InvalidInput);
     assert!(rt; files.write("a.job", b"one") == Ok(()));
-    let mut files = store_failing_at(alloc, 6, ErrorKind::StorageFull);
+    let mut files = store_failing_at(alloc, 7, ErrorKind::StorageFull);
     assert!(rt; files.write("a.job", b"one") == Err(StoreFault::Unsynced));
 }
 
@@ -170,7 +176,7 @@ fn a_growth_that_fails_leaves_nothing_beside_the_file(rt: HostRuntime) {
     let alloc = rt.alloc();
 
     // The copy can't be put on disk.
-    let mut files = store_failing_at(alloc, 6, ErrorKind::StorageFull);
+    let mut files = store_failing_at(alloc, 7, ErrorKind::StorageFull);
     assert!(rt; files.extend(alloc, "a.job", b"2", b"s") == Err(FULL));
     assert!(rt;
         files
@@ -180,7 +186,7 @@ fn a_growth_that_fails_leaves_nothing_beside_the_file(rt: HostRuntime) {
     );
 
     // It can't have the name in the second growth, by which the file has a second one.
-    let mut files = store_failing_at(alloc, 15, ErrorKind::StorageFull);
+    let mut files = store_failing_at(alloc, 17, ErrorKind::StorageFull);
     assert!(rt; files.extend(alloc, "a.job", b"2", b"s").is_ok());
     assert!(rt; files.extend(alloc, "a.job", b"3", b"t") == Err(FULL));
     assert!(rt;
@@ -190,7 +196,7 @@ fn a_growth_that_fails_leaves_nothing_beside_the_file(rt: HostRuntime) {
     );
 
     // A copy whose front is longer than the one that is to be written is of no use.
-    let mut files = store_failing_at(alloc, 18, ErrorKind::StorageFull);
+    let mut files = store_failing_at(alloc, 20, ErrorKind::StorageFull);
     assert!(rt; files.extend(alloc, "a.job", b"22", b"s").is_ok());
     assert!(rt; files.extend(alloc, "a.job", b"33", b"t").is_ok());
     assert!(rt; files.extend(alloc, "a.job", b"4", b"u") == Err(FULL));
@@ -233,7 +239,7 @@ fn asked_to_lock(rt: &(impl Abort + AllocGlobal), links: u64, asked: &[u8]) {
 
 #[test]
 fn the_file_of_a_lock_that_was_taken_away_is_not_removed(rt: HostRuntime) {
-    let lock = b"create .a.job.rje-lock\naccess of .a.job.rje-lock\n".as_slice();
+    let lock = b"create .a.job.rje-lock\nmode of .a.job.rje-lock\n".as_slice();
     let removed = joined(&rt, &[lock, b"remove .a.job.rje-lock\n"]);
     asked_to_lock(&rt, 1, removed.as_slice());
     asked_to_lock(&rt, 0, lock);

@@ -28,4 +28,4 @@ returns-clause-asks g c =
     (added_weaker (MayTry path) (MayReplace path bytes) (tried_may path bytes) _ _ (c.create_beside.ensures.asks told))
     (c.put_in_place.ensures.asks told))
     (c.remove.ensures told)
-    (subst (IsBeside path) (sym c.as_str.ensures.value) (name_of_new path _ _ _ (c.in_ok-beside.ensures.new told)))
+    (subst (IsBeside path) (sym c.as_str.ensures.value) (name_of_new _ path _ _ _ (c.in_ok-beside.ensures.new told)))

@@ -1,6 +1,7 @@
 use Rattle.std.proofs.Common.{[], refl, arith}
 use Rattle.std.specs.Prelude.{string_bytes}
-use Rattle.rje_stores.proofs.Replacing.{name_of_new, new_is_apart, new_is_empty, new_stands}
+use Rattle.rje_stores.proofs.Replacing.{name_of_new, new_is_apart, new_is_empty, new_private, new_stands}
+use Rattle.rje_stores.specs.declared.new_access.NewAccess.{NewAccess}
 use Rattle.rje_stores.proofs.file_store.growing.first_copy.Goals as goal
 
 pub returns-clause-older : goal.returns-clause-older
@@ -10,10 +11,11 @@ returns-clause-older g c = λ told had.
     let new = c.in_ok-beside.ensures.new told in
     record {
       bytes = [];
-      apart = new_is_apart path file (string_bytes c.in_ok-beside.beside.path) _ new;
-      beside = name_of_new path file (string_bytes c.in_ok-beside.beside.path) _ new;
-      stands = new_stands path file (string_bytes c.in_ok-beside.beside.path) _ new;
-      has = new_is_empty path file (string_bytes c.in_ok-beside.beside.path) _ new;
+      apart = new_is_apart NewAccess.Private path file (string_bytes c.in_ok-beside.beside.path) _ new;
+      private = new_private path file (string_bytes c.in_ok-beside.beside.path) _ new;
+      beside = name_of_new NewAccess.Private path file (string_bytes c.in_ok-beside.beside.path) _ new;
+      stands = new_stands NewAccess.Private path file (string_bytes c.in_ok-beside.beside.path) _ new;
+      has = new_is_empty NewAccess.Private path file (string_bytes c.in_ok-beside.beside.path) _ new;
       len = refl;
       agrees = (omega arith, refl);
     }

@@ -49,7 +49,8 @@ returns-in-Ok-clause-growing g c = λ told folder had growing.
     let older : IsOlder g.D.Disk.opened path had c.in_ok-older.older (g.D.Disk.asked c.copy_to_grow.new.disk) = rw c.as_str.ensures.value at (c.in_ok-older.ensures.older told had older_was) in
     let kept : IsNewest g.D.Disk.opened had c.args.self (g.D.Disk.asked c.copy_to_grow.new.disk) = newest_kept g.D.Disk.opened had c.args.self _ _ tried growing.0 in
     let fits : length c.args.front.now ≤ length had = omega (arith, kept.len, c.in-Ok.ensures.fits.0) in
-    grows_on g.D.Disk.opened c.args.self c.turned.result c.in_ok-older.older c.in-Ok.second c.args.front.now c.args.tail.now had _ _
+    grows_on g.D.Disk.opened c.args.self c.turned.result c.in_ok-older.older c.in-Ok.second c.args.front.now c.args.tail.now had (MayReplace path bytes) _ _
+    (c.turn.ensures.asks told folder had (record { stands = kept.stands; has = kept.has; len = kept.len; own = kept.own }) older)
     c.turned.ensures.path c.turned.ensures.newest (c.turned.ensures.len c.in-Ok.ensures.fits.1) c.turned.ensures.older kept older fits
     (c.in-Ok.ensures.grows told folder had (record { stands = kept.stands; has = kept.has; len = kept.len; own = kept.own }) older)
     (c.in-Ok.ensures.second told folder had (record { stands = kept.stands; has = kept.has; len = kept.len; own = kept.own }) older)
