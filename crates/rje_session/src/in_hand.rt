@@ -13,6 +13,7 @@ ghost use Rattle.rje_session.specs.Breaking.{breaks as broken_by, heard_end as i
 ghost use Rattle.rje_session.specs.Keeping.{AreKept, cutting, keeping, kept_with};
 ghost use Rattle.rje_session.specs.Ledger.{Entry as Record, MayArrive, MayBeEntered};
 ghost use Rattle.rje_session.specs.Turns.{Carried as Held, Notes, announcing, goes_out, is_of_block as speaks_of_block, settling, may_come_after, LeavesOwn, EntersLeavingOwn, LeavesOthers, EntersLeavingOthers};
+ghost use Rattle.rje_session.specs.declared.parting.Parting.TheVariants.{HungUp};
 
 use crate::breaking::{breaks, heard_end, is_answer, is_word};
 use crate::keeping::{keep_cut, keep_next};
@@ -105,8 +106,10 @@ impl<'a> InHand<'a> {
         self.broken
     }
 
-    /// How the connection came to its end, where it did.
-    pub fn parting(&self) -> Parting {
+    /// How the connection came to its end, where it did: never as if nothing had been in hand where it broke.
+    pub fn parting(&self) -> Parting
+        ensures broken { result ≡ HungUp → self.now.broken ≡ false }
+    {
         match self.parting {
             Parting::HungUp if self.broken => Parting::Unanswered,
             parting => parting,

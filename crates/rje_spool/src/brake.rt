@@ -1,5 +1,5 @@
 //! When a station stops sending, and when it tries again.
-ghost use Rattle.std.specs.Prelude.{◌≡◌, ◌+◌, min, nat_le, true};
+ghost use Rattle.std.specs.Prelude.{◌≡◌, ◌+◌, is_some, min, nat_le, true};
 ghost use Rattle.rje_spool.specs.Pace.{longer_wait as longer_wait_after};
 
 use std::time::{Clock, Duration, Instant};
@@ -65,7 +65,9 @@ impl Brake {
     }
 
     /// Whether so much time has passed that one file is tried.
-    pub(crate) fn is_over<C: Clock>(&self, clock: &C) -> bool {
+    pub(crate) fn is_over<C: Clock>(&self, clock: &C) -> bool
+        ensures known { result ≡ true → is_some self.now.since ≡ true }
+    {
         let Some(since) = self.since else {
             return false;
         };

@@ -1,4 +1,6 @@
 //! A stream on which the hearings between transmissions are short.
+ghost use Rattle.std.specs.Prelude.{◌≡◌, ◌*◌, max, min};
+ghost use Rattle.std.specs.Duration.{as_nanos, max_nanos};
 
 use bsc_codes::{EOT, PAD, SYN};
 use std::cell::Cell;
@@ -88,10 +90,7 @@ impl<C: Clock, S: OpenStream> PacedStream<C, S> {
         let short = match wait {
             Wait::Hearing => return self.time.get(),
             Wait::Idle => Duration::from_millis(MAX_IDLE),
-            Wait::Pause => self
-                .slowest
-                .saturating_mul(2)
-                .max(Duration::from_millis(MIN_PAUSE)),
+            Wait::Pause => pause_after(self.slowest),
             Wait::Turn => Duration::from_millis(TURN),
         };
         match self.time.get() {
@@ -127,6 +126,15 @@ impl<C: Clock, S: OpenStream> PacedStream<C, S> {
             self.wrote = None;
         }
     }
+}
+
+/// How long the pause is after its own EOT, where the slowest answer took so long: twice that, and 20 milliseconds at least.
+fn pause_after(slowest: Duration) -> Duration
+    ensures { as_nanos result ≡ max (min (as_nanos slowest * 2) max_nanos) 20000000 }
+{
+    slowest
+        .saturating_mul(2)
+        .max(Duration::from_millis(MIN_PAUSE))
 }
 
 /// Whether this is EOT, as it stands on the line or as a line adapter takes it.
