@@ -110,6 +110,25 @@ class ManyJobs(LineCase):
         self.same("came.job", job_file(*[CAME_A] * 1200), "many jobs that came")
 
 
+class Many(LineCase):
+    """More jobs, turns and bytes of a capture than other tests have."""
+
+    seconds = 3
+
+    def test_jobs_and_turns(self):
+        self.write("many.job", job_file(*[WAITING_A] * 1200))
+        self.prints("".join(f"{number} unset normal waiting 1 records\n" for number in range(1, 1201)), "show", "many.job")
+        self.write("clean.script", GOOD * 1202)
+        self.prints(clean_turns(1200, 1200), "try", "many.job", "clean.script")
+
+    def test_captures(self):
+        """70,000 bytes, and as many as text: 17,500 times SYN SYN ENQ and a pad."""
+        self.write("capture", bytes.fromhex("32322DFF") * 17500)
+        self.prints("".join(f"{4 * number} enq\n" for number in range(17500)), "monitor", "capture")
+        self.write("turns", "32 32 2D FF\n" * 17500)
+        self.prints("".join(f"{number} enq\n" for number in range(1, 17501)), "monitor", "--hex", "turns")
+
+
 # Inputs and job files of just so many bytes, and of one byte more. A file of one job has 33 bytes and its records, a further job 19.
 MOST = 16777216
 

@@ -1,4 +1,4 @@
-//! Fair lines, and how many turns are enough on them. What becomes of jobs on them stands in talks/fair.
+//! Fair lines, and how many turns are enough on them. What becomes of jobs on them stands in tests/talks/fair.
 use super::schedules::{GOOD, HOLD, PAUSE, Place, TURN, Way, bad_jobs, job_of, schedule_of};
 use line_world::{is_fair, turns_needed};
 use std::alloc::AllocGlobal;
@@ -66,7 +66,7 @@ static SCHEDULES: &[(&[Place], bool)] = &[
     (&[LOST, LOST, LOST, LOST, LOST, LOST, NOISE, GOOD], false),
     (&[LOST, LOST, LOST, LOST, LOST, LOST, GOOD, NOISE], false),
     (&[GOOD, LOST, GOOD, LOST, GOOD, LOST, GOOD, LOST], false),
-    // The schedules of the first and the third table of talks/fair.
+    // The schedules of the first and the third table of tests/talks/fair.
     (
         &[
             LOST, LOST, LOST, LOST, LOST, GOOD, GOOD, LOST, LOST, LOST, LOST, LOST, GOOD, GOOD,

@@ -1,4 +1,4 @@
-//! Calls that take memory, with ample memory and with a growth of memory refused: the script refusals/run runs these tests with each
+//! Calls that take memory, with ample memory and with a growth of memory refused: tests/test_refusals.py runs these tests with each
 //! growth refused in turn.
 use super::pairs::{Call, report_by};
 use super::schedules::{GOOD, TURN, assert_same_jobs, pair_schedule, record_of, schedule};

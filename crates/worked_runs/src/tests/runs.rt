@@ -1,4 +1,4 @@
-//! Stations that are driven over a schedule, and what they note. The conversations of runs stand in talks/, as tables.
+//! Stations that are driven over a schedule, and what they note. The conversations of runs stand in tests/talks/, as tables.
 use super::schedules::{
     ASK_ACK1, BID, BLOCK_UNHEARD, DOWN_LOST, END, GOOD, assert_same_jobs, assert_turns, jobs_of,
     schedule_of,

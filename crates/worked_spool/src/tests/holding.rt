@@ -50,7 +50,7 @@ fn is_held(rt: &(impl Abort + AllocGlobal), spool: &mut TestSpool<'_>, blocks: u
 }
 
 /// 750,000 records are held of each transmission, and not of all together: 740 blocks have 377,400. That more aren't held of one is a test of the
-/// built program (commands/endless).
+/// built program (tests/test_line_endless.py).
 #[test]
 fn each_transmission_is_held_for_itself(rt: HostRuntime) {
     let ground = Ground::new(rt.alloc());

@@ -263,6 +263,7 @@ fn a_block_with_a_bad_check_is_not_acknowledged(rt: HostRuntime) {
     line.put(piece_of(&rt, &bytes));
     assert!(rt; receiver.hear(&mut line, Wish::Go) == Ok(Some(Reply::Nak)));
     assert!(rt; receiver.jobs().is_empty());
+    assert!(rt; receiver.heard_length() == 0);
 }
 
 #[test]
@@ -273,12 +274,14 @@ fn a_block_that_cannot_be_read_leaves_the_jobs(rt: HostRuntime) {
     assert!(rt; receiver.refusal().is_none());
     assert!(rt; receiver.hear(&mut line, Wish::Go) == Ok(Some(Reply::Nak)));
     assert!(rt; receiver.refusal() == Some(TextFault::CardsNot80));
+    assert!(rt; receiver.heard_length() == 79);
     assert!(rt; receiver.jobs().is_empty());
     assert!(rt; receiver.trace().get(2) == Some(Event::Heard(Sound::Block)));
     assert!(rt; receiver.trace().get(3) == Some(Event::Refused));
     line.put(cards);
     assert!(rt; receiver.hear(&mut line, Wish::Go) == Ok(Some(Reply::Ack1)));
     assert!(rt; receiver.refusal().is_none());
+    assert!(rt; receiver.heard_length() == 480);
     let jobs = receiver.jobs();
     assert!(rt; jobs.len() == 1);
     assert!(rt; jobs[0].mode == Mode::Transparent);
