@@ -54,3 +54,8 @@ IsInSent station name _ after = ⊥
 abbrev pub IsDoubted : Place → Type 0
 IsDoubted (Place.Doubted doubt) = Unit {0}
 IsDoubted _ = ⊥
+
+-- it does so under this path
+abbrev pub IsDoubtedUnder : Place → (path : List ℕ) → Type 0
+IsDoubtedUnder (Place.Doubted doubt) path = path ≡ string_bytes doubt
+IsDoubtedUnder _ path = ⊥

@@ -1,12 +1,14 @@
 -- The files of out/ whose jobs are in a transmission, in the order of their jobs (own profile). A job goes by its number there, from 0.
-use Rattle.std.specs.Prelude.{◌≡◌, ◌≢◌, ℕ, ◌+◌, ◌-◌, ◌==◌, Bool, true, ◌&&◌, List, length, min, position, slice_get, slice_set, nat_lt, nat_le, Option, Some, option_and_then, string_bytes}
+use Rattle.std.specs.Prelude.{◌≡◌, ◌≢◌, ℕ, ◌+◌, ◌-◌, ◌==◌, Bool, true, ◌&&◌, List, length, min, position, slice_get, slice_set, nat_lt, nat_le, Option, Some, None, if◌then◌else◌, option_and_then, string_bytes}
 use Rattle.std.specs.Option.{option_map_or}
 use Rattle.rje_day.specs.declared.disposition.Disposition.{Disposition}
 use Rattle.rje_day.specs.declared.disposition.Disposition.TheVariants as disposition
 use Rattle.rje_folders.specs.declared.file_identity.FileIdentity.{FileIdentity}
+use Rattle.rje_folders.specs.Marking.{IsMarked}
 use Rattle.rje_stores.specs.Disk.{Asked}
 use Rattle.rje_spool.specs.declared.given_file.GivenFile.{GivenFile}
 use Rattle.rje_spool.specs.declared.given_file.Place.{Place}
+use Rattle.rje_spool.specs.declared.given_file.Place.TheVariants.{Promised}
 use Rattle.rje_spool.specs.GivenFile.{HasSecondName, IsDoubted, IsInSent, IsOfRead, IsPromised}
 
 -- the job is one of the file's
@@ -16,6 +18,15 @@ is_of job file = nat_le file.first job && nat_lt (job - file.first) file.count
 -- it is the last one of the file's: from it on there is one
 abbrev pub is_last_of : ℕ → GivenFile → Bool
 is_last_of job file = is_of job file && (file.count - (job - file.first) == 1)
+
+-- where a job is marked as sent in the file, if it is of a job file that has it
+abbrev pub mark_of : ℕ → GivenFile → Option ℕ
+mark_of job file = if nat_le file.first job then slice_get file.places.items (job - file.first) else None
+
+-- the job is marked as sent in its own place, and nowhere else, where the file has a name in doubt/: by that name, and on disk
+abbrev pub HasMark : (job : ℕ) → GivenFile → (before after : List Asked) → Type 0
+HasMark job file before after =
+    (doubt : _) (place : ℕ) → file.place ≡ Promised doubt → mark_of job file ≡ Some place → IsMarked (string_bytes doubt) place 1 before after
 
 -- how many jobs the files have: those of each follow those of the one before
 abbrev pub jobs_of : List GivenFile → ℕ

@@ -2,6 +2,7 @@ pub mod Holding
 pub mod Outgoing
 pub mod Pace
 pub mod Paper
+pub mod RefusedFile
 pub mod GivenFile
 pub mod GivenFiles
 pub mod Keeping

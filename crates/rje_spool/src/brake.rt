@@ -1,5 +1,5 @@
 //! When a station stops sending, and when it tries again.
-ghost use Rattle.std.specs.Prelude.{◌≡◌, ◌+◌, is_some, min, nat_le, true};
+ghost use Rattle.std.specs.Prelude.{◌≡◌, ◌↔◌, ◌+◌, IsTrue, is_some, min, nat_le, true, false};
 ghost use Rattle.rje_spool.specs.Pace.{longer_wait as longer_wait_after};
 
 use std::time::{Clock, Duration, Instant};
@@ -24,7 +24,10 @@ pub(crate) struct Brake {
 
 impl Brake {
     /// That of a station that hasn't sent anything.
-    pub(crate) fn new() -> Brake {
+    pub(crate) fn new() -> Brake
+        ensures sends { result.doubts ≡ 0 }
+        ensures wait { result.wait ≡ 60 }
+    {
         Brake {
             doubts: 0,
             wait: FIRST_WAIT,
@@ -44,6 +47,9 @@ impl Brake {
     pub(crate) fn doubted<C: Clock>(&mut self, clock: &C) -> bool
         ensures doubts { self.new.doubts ≡ min (self.old.doubts + 1) 4294967295 }
         ensures wait { self.old.tries ≡ true → self.new.wait ≡ longer_wait_after self.old.wait }
+        ensures same { self.old.tries ≡ false → self.new.wait ≡ self.old.wait }
+        ensures tried { self.new.tries ≡ false }
+        ensures stops { IsTrue result ↔ (self.old.doubts ≡ 2) }
     {
         let was_on = self.is_on();
         self.doubts = self.doubts.saturating_add(1);
@@ -58,6 +64,8 @@ impl Brake {
     /// A file was counted, or none is in doubt any more: the station sends.
     pub(crate) fn release(&mut self)
         ensures sends { self.new.doubts ≡ 0 }
+        ensures wait { self.new.wait ≡ 60 }
+        ensures tries { self.new.tries ≡ false }
     {
         self.doubts = 0;
         self.wait = FIRST_WAIT;
@@ -80,7 +88,7 @@ impl Brake {
     /// A transmission begins.
     pub(crate) fn begin(&mut self)
         ensures tries { self.new.tries ≡ nat_le 3 self.old.doubts }
-        ensures doubts { self.new.doubts ≡ self.old.doubts }
+        ensures rest { self.new ≡ record self.old { tries = self.new.tries } }
     {
         self.tries = self.is_on();
     }

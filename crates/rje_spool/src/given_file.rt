@@ -1,5 +1,5 @@
 //! A file whose jobs are in a transmission.
-ghost use Rattle.std.specs.Prelude.{◌≡◌, IfOk, OnErr, OnOk, false, true, string_bytes};
+ghost use Rattle.std.specs.Prelude.{◌≡◌, IfNone, IfOk, IfSome, OnErr, OnOk, false, true, string_bytes};
 ghost use Rattle.rje_stores.specs.Disk.{has_synced_name};
 ghost use Rattle.rje_stores.specs.Replacing.{Adds};
 ghost use Rattle.rje_folders.specs.declared.folder.Folder.{Folder};
@@ -9,8 +9,8 @@ ghost use Rattle.rje_folders.specs.Moving.{IsGone};
 ghost use Rattle.rje_folders.specs.Promising.{MayPromise, MaySettle};
 ghost use Rattle.rje_spool.specs.declared.given_file.Place.TheVariants.{Promised, Ready};
 ghost use Rattle.rje_spool.specs.Backed.{GoesOn};
-ghost use Rattle.rje_spool.specs.GivenFile.{HasSecondName, HasSent, IsDoubted, IsInSent, IsUnsettled, OfPromised, StaysInDoubt};
-ghost use Rattle.rje_spool.specs.GivenFiles.{HasBeenCounted, HasGoneOut, is_last_of, is_of};
+ghost use Rattle.rje_spool.specs.GivenFile.{HasSecondName, HasSent, IsDoubted, IsDoubtedUnder, IsInSent, IsUnsettled, OfPromised, StaysInDoubt};
+ghost use Rattle.rje_spool.specs.GivenFiles.{HasBeenCounted, HasGoneOut, HasMark, is_last_of, is_of, mark_of};
 
 use rje_day::Disposition;
 use rje_files::MARK;
@@ -66,7 +66,9 @@ impl GivenFile {
     }
 
     /// Where a job of the transmission is marked in the file, if it is.
-    fn mark_of(&self, job: usize) -> Option<usize> {
+    fn mark_of(&self, job: usize) -> Option<usize>
+        ensures { result ≡ mark_of job self.now }
+    {
         self.places.get(job.checked_sub(self.first)?).copied()
     }
 
@@ -157,6 +159,8 @@ impl GivenFile {
         job: usize,
         folder: &mut StationFolder<D>,
     ) -> Result<(), FolderFault>
+        ensures marked { D.discloses → OnOk result (HasMark job self.old
+            (D.asked folder.old.disk) (D.asked folder.new.disk)) }
         ensures rest { self.new ≡ record self.old { file = self.new.file } }
         ensures on { D.discloses
             → GoesOn (D.asked folder.old.disk) (D.asked folder.new.disk) }
@@ -248,6 +252,8 @@ impl GivenFile {
         folder: &mut StationFolder<D>,
     ) -> Result<bool, FolderFault>
         ensures doubted { OnOk result (IsDoubted self.new.place) }
+        ensures again { IfOk result (λ is_new. IsDoubted self.old.place → is_new ≡ false) }
+        ensures first { IfOk result (λ is_new. (IsDoubted self.old.place → ⊥) → is_new ≡ true) }
         ensures failed { OnErr result (HasSecondName self.old.place → IsDoubted self.new.place) }
         ensures rest { self.new
             ≡ record self.old { place = self.new.place; out = self.new.out } }
@@ -294,7 +300,10 @@ impl GivenFile {
     }
 
     /// Where it stands in doubt/, if it does.
-    pub(crate) fn doubt_path(&self) -> Option<&str> {
+    pub(crate) fn doubt_path(&self) -> Option<&str>
+        ensures path { IfSome result (λ path. IsDoubtedUnder self.now.place path.now) }
+        ensures none { IfNone result (IsDoubted self.now.place → ⊥) }
+    {
         match &self.place {
             Place::Doubted(path) => Some(path.as_str()),
             _ => None,

@@ -1,7 +1,7 @@
 //! How much a station sends before it leaves the line to the other end.
-ghost use Rattle.std.specs.Prelude.{◌≡◌, ◌/◌};
+ghost use Rattle.std.specs.Prelude.{◌≡◌, ◌/◌, None, false};
 ghost use Rattle.std.specs.Duration.{as_nanos};
-ghost use Rattle.rje_spool.specs.Pace.{most_after as most_jobs_after};
+ghost use Rattle.rje_spool.specs.Pace.{has_as_much, most_after as most_jobs_after};
 
 use std::time::{Clock, Duration, Instant};
 
@@ -25,7 +25,9 @@ pub(crate) struct Pace {
 
 impl Pace {
     /// That of a station that hasn't sent anything.
-    pub(crate) fn new() -> Pace {
+    pub(crate) fn new() -> Pace
+        ensures most { result.most ≡ 64 }
+    {
         Pace {
             most: FIRST_JOBS,
             began: None,
@@ -33,12 +35,17 @@ impl Pace {
     }
 
     /// Whether a transmission that has so many jobs, of so many cards, is given no more files.
-    pub(crate) fn is_full(&self, jobs: usize, cards: usize) -> bool {
+    pub(crate) fn is_full(&self, jobs: usize, cards: usize) -> bool
+        ensures { result ≡ has_as_much self.now.most jobs cards }
+    {
         self.most <= jobs || self.most.saturating_mul(JOB_CARDS) <= cards
     }
 
     /// A transmission begins that was given so many jobs, of so many cards.
-    pub(crate) fn begin<C: Clock>(&mut self, clock: &C, jobs: usize, cards: usize) {
+    pub(crate) fn begin<C: Clock>(&mut self, clock: &C, jobs: usize, cards: usize)
+        ensures most { self.new.most ≡ self.old.most }
+        ensures less { has_as_much self.old.most jobs cards ≡ false → self.new.began ≡ None }
+    {
         self.began = match self.is_full(jobs, cards) {
             true => Instant::now(clock).ok(),
             false => None,
@@ -46,7 +53,10 @@ impl Pace {
     }
 
     /// All jobs of that transmission were counted.
-    pub(crate) fn end<C: Clock>(&mut self, clock: &C) {
+    pub(crate) fn end<C: Clock>(&mut self, clock: &C)
+        ensures once { self.new.began ≡ None }
+        ensures less { self.old.began ≡ None → self.new.most ≡ self.old.most }
+    {
         if let Some(began) = self.began.take() {
             if let Ok(took) = began.elapsed(clock) {
                 self.most = most_after(self.most, took);

@@ -1,4 +1,9 @@
 //! The files of out/ that are passed over.
+ghost use Rattle.std.specs.Prelude.{◌≡◌, is_some, IfSome, None, OnOk, Some, string_bytes};
+ghost use Rattle.std.specs.BTreeMap.{get_by_text};
+ghost use Rattle.rje_folders.specs.declared.folder.Folder.{Folder};
+ghost use Rattle.rje_folders.specs.Folder.{path_in};
+ghost use Rattle.rje_spool.specs.declared.passed_files.Until.TheVariants.{NextLook, Replaced, ThisLook};
 
 use rje_folders::{FileIdentity, FolderDisk, StationFolder};
 use std::alloc::{AllocError, Global};
@@ -32,7 +37,9 @@ impl PassedFiles {
     }
 
     /// The file of this name is passed over so long.
-    pub(crate) fn add(&mut self, name: String, until: Until) -> Result<(), AllocError> {
+    pub(crate) fn add(&mut self, name: String, until: Until) -> Result<(), AllocError>
+        ensures added { OnOk result (get_by_text self.new.files (string_bytes name) ≡ Some until) }
+    {
         match self.files.insert(name, until) {
             Ok(_) => Ok(()),
             Err(_) => Err(AllocError),
@@ -40,7 +47,9 @@ impl PassedFiles {
     }
 
     /// Whether the file of this name is passed over.
-    pub(crate) fn has(&self, name: &str) -> bool {
+    pub(crate) fn has(&self, name: &str) -> bool
+        ensures { result ≡ is_some (get_by_text self.now.files name.now) }
+    {
         self.files.contains_key(name)
     }
 
@@ -70,7 +79,15 @@ impl Until {
         folder: &StationFolder<D>,
         name: &str,
         names: &[String],
-    ) -> Option<Until> {
+    ) -> Option<Until>
+        ensures next { self ≡ NextLook → result ≡ Some ThisLook }
+        ensures this { self ≡ ThisLook → result ≡ None }
+        ensures same { (file : _) → self ≡ Replaced file → IfSome result (λ still. still ≡ self) }
+        // It is passed over only as long as the disk says that this file has the name.
+        ensures is_file { (file : _) → self ≡ Replaced (Some file) → IfSome result (λ still.
+            D.is_file (D.asked folder.now.disk)
+            (path_in (string_bytes folder.now.path) Folder.Out name.now) file) }
+    {
         match self {
             Until::NextLook => Some(Until::ThisLook),
             Until::ThisLook => None,

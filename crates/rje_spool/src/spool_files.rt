@@ -1,11 +1,18 @@
 //! The files of a station's spool, and its console.
-ghost use Rattle.std.specs.Prelude.{◌≡◌, length, IfOk, OnErr, OnOk, string_bytes};
-ghost use Rattle.rje_folders.specs.Keeping.{WasMade, WasNamed};
+ghost use Rattle.std.specs.Prelude.{◌≡◌, ◌≢◌, ◌<◌, ◌↔◌, ◌||◌, ◌&&◌, [], length, nat_le, nat_lt, true, false, IfOk, IfSome, IsTrue, None, OnErr, OnOk, Some, string_bytes};
+ghost use Rattle.std.specs.BTreeMap.{get_by_text};
+ghost use Rattle.rje_folders.specs.declared.folder_fault.FolderFault.TheVariants.{BeingWritten};
+ghost use Rattle.rje_folders.specs.Folder.{path_of};
+ghost use Rattle.rje_folders.specs.Keeping.{HasTriedToKeep, WasMade, WasNamed};
 ghost use Rattle.rje_spool.specs.Backed.{GoesOn, WasPut};
 ghost use Rattle.rje_spool.specs.declared.given_file.Place.TheVariants.{Ready};
+ghost use Rattle.rje_spool.specs.declared.passed_files.Until.TheVariants.{NextLook, Replaced};
+ghost use Rattle.rje_spool.specs.declared.spool_fault.SpoolFault.TheVariants.{OutOfMemory};
 ghost use Rattle.rje_spool.specs.GivenFile.{HasSecondName, IsDoubted};
 ghost use Rattle.rje_spool.specs.GivenFiles.{HasBeenCounted, HasGoneOut, IsSettledSo, OfFile, jobs_of};
 ghost use Rattle.rje_spool.specs.Keeping.{IsKeptIn};
+ghost use Rattle.rje_spool.specs.Pace.{has_as_much};
+ghost use Rattle.rje_spool.specs.RefusedFile.{is_want_of_memory as is_want};
 
 use crate::brake::Brake;
 use crate::console::Console;
@@ -115,6 +122,9 @@ impl<D: FolderDisk + Drop, C: Clock, W: Write, L: Write> SpoolFiles<D, C, W, L> 
 
     /// What lies ready, and what the operator wants.
     pub(crate) fn seen(&mut self) -> Seen
+        ensures held { result.held ≡ true → result.ready ≡ false }
+        ensures call { result.call_due ≡ false }
+        ensures line { result.line_wanted ≡ false }
         ensures folder { self.new.folder ≡ self.old.folder }
     {
         let held = self.is_held();
@@ -155,6 +165,12 @@ impl<D: FolderDisk + Drop, C: Clock, W: Write, L: Write> SpoolFiles<D, C, W, L> 
 
     /// Whether what comes can be kept: after a job that couldn't be, once a file of its length can.
     pub(crate) fn can_receive(&mut self) -> bool
+        ensures first { self.old.unkept.len ≡ None → result ≡ true }
+        ensures tried { D.discloses → result ≡ true → IfSome self.old.unkept.len (λ len.
+            HasTriedToKeep (path_of (string_bytes self.old.folder.path) Folder.In) len
+            (D.asked self.new.folder.disk)) }
+        ensures again { result ≡ true → self.new.unkept.len ≡ None }
+        ensures still { result ≡ false → self.new.unkept.len ≡ self.old.unkept.len }
         ensures on { D.discloses
             → GoesOn (D.asked self.old.folder.disk) (D.asked self.new.folder.disk) }
         ensures path { self.new.folder.path ≡ self.old.folder.path }
@@ -274,6 +290,7 @@ impl<D: FolderDisk + Drop, C: Clock, W: Write, L: Write> SpoolFiles<D, C, W, L> 
 
     /// A job can't be kept, for this reason: where that isn't want of memory, nothing is received until a file of its length can be.
     fn note_unkept(&mut self, job: &Job, why: &SpoolFault)
+        ensures memory { why.now ≡ OutOfMemory → self.new.unkept ≡ self.old.unkept }
         ensures folder { self.new.folder ≡ self.old.folder }
     {
         if matches!(why, SpoolFault::OutOfMemory) {
@@ -347,6 +364,8 @@ impl<D: FolderDisk + Drop, C: Clock, W: Write, L: Write> SpoolFiles<D, C, W, L> 
 
     /// Whether the station sends: one that has stopped does so again after a while, or once doubt/ is empty.
     fn may_send(&mut self) -> bool
+        ensures sends { nat_le 3 self.old.brake.doubts ≡ false → result ≡ true }
+        ensures stopped { result ≡ false → self.new.brake ≡ self.old.brake }
         ensures folder { self.new.folder ≡ self.old.folder }
     {
         if !self.brake.is_on() || self.brake.is_over(self.console.stamps().clock()) {
@@ -361,6 +380,8 @@ impl<D: FolderDisk + Drop, C: Clock, W: Write, L: Write> SpoolFiles<D, C, W, L> 
 
     /// Something lies ready. Where the list of names is used up, the folder is read anew.
     fn has_ready(&mut self) -> bool
+        ensures ready { IsTrue result ↔ (self.new.ready.items ≢ []) }
+        ensures rest { self.old.ready.items ≢ [] → self.new.ready ≡ self.old.ready }
         ensures folder { self.new.folder ≡ self.old.folder }
     {
         if self.ready.is_empty() {
@@ -445,7 +466,10 @@ impl<D: FolderDisk + Drop, C: Clock, W: Write, L: Write> SpoolFiles<D, C, W, L> 
     }
 
     /// Whether a transmission that has so many jobs, of so many cards, is given no more files: a station that has stopped sending tries one.
-    fn is_enough(&self, jobs: usize, cards: usize) -> bool {
+    fn is_enough(&self, jobs: usize, cards: usize) -> bool
+        ensures { result ≡ (has_as_much self.now.pace.most jobs cards
+            || nat_le 3 self.now.brake.doubts && nat_lt 0 jobs) }
+    {
         self.pace.is_full(jobs, cards) || self.brake.is_on() && 0 < jobs
     }
 
@@ -482,6 +506,9 @@ impl<D: FolderDisk + Drop, C: Clock, W: Write, L: Write> SpoolFiles<D, C, W, L> 
         file: Option<FileIdentity>,
         fault: FolderFault,
     ) -> Result<(), SpoolFault>
+        // One that is being written is passed over at the next look, and not after that.
+        ensures written { OnOk result ((folder : _) → fault ≡ BeingWritten folder
+            → get_by_text self.new.passed.files (string_bytes name) ≡ Some NextLook) }
         ensures given { self.new.given ≡ self.old.given }
         ensures on { D.discloses
             → GoesOn (D.asked self.old.folder.disk) (D.asked self.new.folder.disk) }
@@ -609,6 +636,8 @@ impl<D: FolderDisk + Drop, C: Clock, W: Write, L: Write> SpoolFiles<D, C, W, L> 
         file: Option<FileIdentity>,
         why: &FolderFault,
     ) -> Result<(), SpoolFault>
+        ensures passed { OnOk result (get_by_text self.new.passed.files (string_bytes name)
+            ≡ Some (Replaced file)) }
         ensures folder { self.new.folder ≡ self.old.folder }
         ensures given { self.new.given ≡ self.old.given }
     {
@@ -639,6 +668,7 @@ impl<D: FolderDisk + Drop, C: Clock, W: Write, L: Write> SpoolFiles<D, C, W, L> 
 
     /// Tells that the file of a job stands in doubt/.
     fn tell_doubt(&mut self, job: usize)
+        ensures ready { self.new.ready ≡ self.old.ready }
         ensures folder { self.new.folder ≡ self.old.folder }
         ensures given { self.new.given ≡ self.old.given }
     {
@@ -656,6 +686,7 @@ impl<D: FolderDisk + Drop, C: Clock, W: Write, L: Write> SpoolFiles<D, C, W, L> 
 
     /// A job was counted.
     fn count(&mut self, job: usize) -> Result<(), SpoolFault>
+        ensures sends { OnOk result (self.new.brake.doubts ≡ 0) }
         ensures sent { D.discloses → OnOk result (OfFile job
             (λ file now. HasBeenCounted job (string_bytes self.old.folder.path) file now
             (D.asked self.new.folder.disk))
@@ -681,6 +712,7 @@ impl<D: FolderDisk + Drop, C: Clock, W: Write, L: Write> SpoolFiles<D, C, W, L> 
 
     /// Tells that a job was counted, and where it is the last one of the transmission notes how long that took.
     fn tell_sent(&mut self, job: usize)
+        ensures sends { self.new.brake.doubts ≡ 0 }
         ensures folder { self.new.folder ≡ self.old.folder }
         ensures given { self.new.given ≡ self.old.given }
     {
@@ -697,6 +729,8 @@ impl<D: FolderDisk + Drop, C: Clock, W: Write, L: Write> SpoolFiles<D, C, W, L> 
     /// Tells what became of the name in out/ of a job's file, where it wasn't the station that took it away. One that can't be taken away isn't taken
     /// for ready again.
     fn tell_left(&mut self, job: usize)
+        ensures brake { self.new.brake ≡ self.old.brake }
+        ensures ready { self.new.ready ≡ self.old.ready }
         ensures folder { self.new.folder ≡ self.old.folder }
         ensures given { self.new.given ≡ self.old.given }
     {
@@ -717,6 +751,7 @@ impl<D: FolderDisk + Drop, C: Clock, W: Write, L: Write> SpoolFiles<D, C, W, L> 
 
     /// A job lies ready still. The folder is read anew, since its file comes before those that were to be next.
     fn take_back(&mut self, job: usize) -> Result<(), SpoolFault>
+        ensures anew { self.new.ready.items ≡ [] }
         ensures ready { OnOk result (OfFile job
             (λ file now. HasSecondName file.place → now.place ≡ Ready)
             self.old.given.files.items self.new.given.files.items) }
@@ -739,6 +774,10 @@ impl<D: FolderDisk + Drop, C: Clock, W: Write, L: Write> SpoolFiles<D, C, W, L> 
 
     /// The number of what is kept next, with its time.
     fn number_anew(&mut self) -> Result<(), SpoolFault>
+        ensures same { string_bytes self.new.stamp ≡ string_bytes self.old.stamp
+            → self.new.number ≡ self.old.number }
+        ensures other { string_bytes self.new.stamp ≢ string_bytes self.old.stamp
+            → self.new.number ≡ 1 }
         ensures folder { self.new.folder ≡ self.old.folder }
     {
         let stamp = self.console.stamps().stamp()?;
@@ -751,6 +790,9 @@ impl<D: FolderDisk + Drop, C: Clock, W: Write, L: Write> SpoolFiles<D, C, W, L> 
 
     /// Keeps a job in a folder, as a job file of it alone, under the time and the number that comes next. Its path. On disk when it returns.
     fn keep_in(&mut self, folder: Folder, job: &Job) -> Result<String, SpoolFault>
+        // No number is used twice with one time.
+        ensures number { OnOk result (string_bytes self.new.stamp ≡ string_bytes self.old.stamp
+            → self.old.number < self.new.number) }
         ensures kept { D.discloses → IfOk result (λ path.
             IsKeptIn (string_bytes self.old.folder.path) folder job.now (string_bytes path)
             (D.asked self.new.folder.disk)) }
@@ -784,7 +826,9 @@ fn cards_of(jobs: &[Job]) -> usize {
 }
 
 /// Whether a file isn't sent for want of memory alone.
-fn is_want_of_memory(why: RefusedFile) -> bool {
+fn is_want_of_memory(why: RefusedFile) -> bool
+    ensures { result ≡ is_want why }
+{
     matches!(
         why,
         RefusedFile::OutOfMemory

@@ -1,5 +1,5 @@
 //! What couldn't be kept, as long as the station receives nothing for that.
-ghost use Rattle.std.specs.Prelude.{◌≡◌, None, Some};
+ghost use Rattle.std.specs.Prelude.{◌≡◌, None, Some, true, false};
 
 use std::time::{Clock, Duration, Instant};
 
@@ -44,6 +44,8 @@ impl Unkept {
     /// Whether it is time to try, which is noted as done now. Where the clock can't be read it is.
     pub(crate) fn tries<C: Clock>(&mut self, clock: &C) -> bool
         ensures len { self.new.len ≡ self.old.len }
+        ensures first { self.old.tried ≡ None → result ≡ true }
+        ensures waits { result ≡ false → self.new.tried ≡ self.old.tried }
     {
         let is_due = match self.tried {
             Some(tried) => match tried.elapsed(clock) {

@@ -1,4 +1,5 @@
 //! What is told of a transmission while it goes on.
+ghost use Rattle.std.specs.Prelude.{◌≡◌, ◌≤◌, None, false};
 
 use crate::console::Console;
 use crate::given_files::GivenFiles;
@@ -77,7 +78,9 @@ impl Watching {
         station: &Station<'a>,
         files: &GivenFiles,
         console: &mut Console<C, W, L>,
-    ) {
+    )
+        ensures once { self.old.sending ≤ self.new.sending }
+    {
         let sender = station.sender();
         let counted = sender.counted();
         if counted < self.sending || counted >= sender.jobs().len() {
@@ -143,7 +146,9 @@ impl Watching {
     }
 
     /// Whether a while has passed since something was told.
-    fn is_due<C: Clock>(&self, clock: &C) -> bool {
+    fn is_due<C: Clock>(&self, clock: &C) -> bool
+        ensures first { self.now.told ≡ None → result ≡ false }
+    {
         let Some(told) = self.told else {
             return false;
         };

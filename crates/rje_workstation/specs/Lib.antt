@@ -1,2 +1,5 @@
 pub mod Doorway
 pub mod Calling
+pub mod Guarding
+pub mod Pausing
+pub mod Running

@@ -1,5 +1,5 @@
 //! A spool, attended to with the calls that come in meanwhile.
-ghost use Rattle.std.specs.Prelude.{◌≡◌, List, ◌∷◌, IfOk, OnErr};
+ghost use Rattle.std.specs.Prelude.{◌≡◌, List, ◌∷◌, IfOk, None, OnErr, false, true};
 ghost use Rattle.rje_jobs.specs.declared.job.Job.{Job as Item};
 ghost use Rattle.rje_session.specs.Ledger.{Given, IsEntered, Kept, KeptCut, MayArrive, MayBeEntered, Settled};
 
@@ -38,7 +38,13 @@ impl<'o, C: Clock + Drop, S: Drop, L: OpenListener + Drop> Attendant<'o, C, S, L
         spool: S,
         door: Option<Door<'o, L>>,
         progress: u32,
-    ) -> Attendant<'o, C, S, L> {
+    ) -> Attendant<'o, C, S, L>
+        ensures spool { result.spool ≡ spool }
+        ensures progress { result.progress ≡ progress }
+        ensures nobody { result.peer ≡ None }
+        ensures none { result.since ≡ None }
+        ensures receives { result.receives ≡ true }
+    {
         Attendant {
             clock,
             spool,
@@ -52,13 +58,18 @@ impl<'o, C: Clock + Drop, S: Drop, L: OpenListener + Drop> Attendant<'o, C, S, L
     }
 
     /// A connection begins: with this one, where it called.
-    pub(crate) fn begin(&mut self, peer: Option<SocketAddr>) {
+    pub(crate) fn begin(&mut self, peer: Option<SocketAddr>)
+        ensures begun { self.new ≡ record self.old { peer = peer; since = self.new.since } }
+    {
         self.peer = peer;
         self.since = Instant::now(&self.clock).ok();
     }
 
     /// Whether the other end has had the line for too long. Where the clock can't be read it hasn't.
-    fn is_overdue(&self) -> bool {
+    fn is_overdue(&self) -> bool
+        ensures for_ever { self.now.progress ≡ 0 → result ≡ false }
+        ensures unknown { self.now.since ≡ None → result ≡ false }
+    {
         match self.since {
             Some(since) if self.progress > 0 => match since.elapsed(&self.clock) {
                 Ok(passed) => passed >= Duration::from_secs(u64::from(self.progress)),
@@ -70,14 +81,15 @@ impl<'o, C: Clock + Drop, S: Drop, L: OpenListener + Drop> Attendant<'o, C, S, L
 
     /// A job came whole, or was counted.
     fn note_job(&mut self)
-        ensures spool { self.new.spool ≡ self.old.spool }
+        ensures noted { self.new ≡ record self.old { since = self.new.since } }
     {
         self.since = Instant::now(&self.clock).ok();
     }
 
     /// Whether the end that is on the line calls again: it doesn't know of this connection any more.
     fn is_called_again(&mut self) -> bool
-        ensures spool { self.new.spool ≡ self.old.spool }
+        ensures nobody { self.old.peer ≡ None → result ≡ false }
+        ensures rest { self.new ≡ record self.old { door = self.new.door } }
     {
         match (&mut self.door, self.peer) {
             (Some(door), Some(peer)) => door.is_called_again(peer),

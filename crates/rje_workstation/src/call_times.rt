@@ -1,4 +1,6 @@
 //! When a station calls again.
+ghost use Rattle.std.specs.Prelude.{◌≡◌, ◌*◌, None, false, true};
+ghost use Rattle.std.specs.Duration.{as_nanos};
 
 use std::time::{Clock, Duration, Instant};
 
@@ -11,7 +13,10 @@ pub(crate) struct CallTimes {
 
 impl CallTimes {
     /// It hasn't called yet.
-    pub(crate) fn new(every: u32) -> CallTimes {
+    pub(crate) fn new(every: u32) -> CallTimes
+        ensures every { as_nanos result.every ≡ every * 1_000_000_000 }
+        ensures none { result.last ≡ None }
+    {
         CallTimes {
             every: Duration::from_secs(u64::from(every)),
             last: None,
@@ -19,7 +24,9 @@ impl CallTimes {
     }
 
     /// Whether it is time to call. Where the clock can't be read it is.
-    pub(crate) fn is_due<C: Clock>(&self, clock: &C) -> bool {
+    pub(crate) fn is_due<C: Clock>(&self, clock: &C) -> bool
+        ensures first { self.now.last ≡ None → result ≡ true }
+    {
         let Some(last) = self.last else {
             return true;
         };
@@ -30,7 +37,10 @@ impl CallTimes {
     }
 
     /// It called now, or its connection is over now; or it didn't call.
-    pub(crate) fn note<C: Clock>(&mut self, clock: &C, called: bool) {
+    pub(crate) fn note<C: Clock>(&mut self, clock: &C, called: bool)
+        ensures every { self.new.every ≡ self.old.every }
+        ensures uncalled { called ≡ false → self.new.last ≡ self.old.last }
+    {
         if called {
             self.last = Instant::now(clock).ok();
         }

@@ -1,6 +1,7 @@
 //! How a station comes to a connection.
-ghost use Rattle.std.specs.Prelude.{IfOk};
-ghost use Rattle.rje_workstation.specs.Doorway.{IsOneOf};
+ghost use Rattle.std.specs.Prelude.{◌≡◌, ◌≢◌, ◌↔◌, IfOk, IfSome, IsSome, IsTrue, None, true};
+ghost use Rattle.std.specs.Net.Socket.{socket_ip};
+ghost use Rattle.rje_workstation.specs.Doorway.{IsNoneOf, IsOf, IsOneOf, is_nobody as is_none};
 
 use rje_orders::Callers;
 use std::io::{self, ErrorKind};
@@ -33,7 +34,11 @@ pub(crate) struct Door<'o, L: OpenListener + Drop> {
 
 impl<'o, L: OpenListener + Drop> Door<'o, L> {
     /// The calls of these callers come in at this listener.
-    pub(crate) fn new(listener: L, callers: Callers<'o>) -> Door<'o, L> {
+    pub(crate) fn new(listener: L, callers: Callers<'o>) -> Door<'o, L>
+        ensures callers { result.callers ≡ callers.entry }
+        ensures nobody { result.waiting ≡ None }
+        ensures fault { result.fault ≡ None }
+    {
         Door {
             listener,
             callers,
@@ -45,6 +50,11 @@ impl<'o, L: OpenListener + Drop> Door<'o, L> {
     /// The call that waits, if one does. A caller that isn't let in is hung up.
     pub(crate) fn next_caller(&mut self) -> io::Result<Caller<L::Stream>>
         ensures let_in { IfOk result (IsOneOf self.old.callers) }
+        ensures hung_up { IfOk result (IsNoneOf self.old.callers) }
+        // The call that waits is the one that is answered, and waits no more.
+        ensures first { IfSome self.old.waiting (λ came. IfOk result (IsOf came.1)) }
+        ensures gone { self.new.waiting ≡ None }
+        ensures callers { self.new.callers ≡ self.old.callers }
     {
         let came = match self.waiting.take() {
             Some(came) => Ok(came),
@@ -59,7 +69,13 @@ impl<'o, L: OpenListener + Drop> Door<'o, L> {
     }
 
     /// Whether one calls that is let in, and has the address of this one, which is on the line: that is gone then. The call waits.
-    pub(crate) fn is_called_again(&mut self, peer: SocketAddr) -> bool {
+    pub(crate) fn is_called_again(&mut self, peer: SocketAddr) -> bool
+        ensures again { result ≡ true → IsSome self.new.waiting }
+        ensures same { result ≡ true → IfSome self.new.waiting (λ call.
+            socket_ip call.1 ≡ socket_ip peer) }
+        ensures waits { IsSome self.old.waiting → self.new.waiting ≡ self.old.waiting }
+        ensures callers { self.new.callers ≡ self.old.callers }
+    {
         if self.waiting.is_none() {
             if let Ok(Caller::LetIn(stream, caller)) = self.next_caller() {
                 self.waiting = Some((stream, caller));
@@ -72,7 +88,12 @@ impl<'o, L: OpenListener + Drop> Door<'o, L> {
     }
 
     /// Whether it is new that no call can be taken for this reason.
-    pub(crate) fn is_new_fault(&mut self, fault: Option<ErrorKind>) -> bool {
+    pub(crate) fn is_new_fault(&mut self, fault: Option<ErrorKind>) -> bool
+        ensures told { IsTrue result ↔ (IsSome fault × (fault ≢ self.old.fault)) }
+        ensures noted { self.new.fault ≡ fault }
+        ensures waits { self.new.waiting ≡ self.old.waiting }
+        ensures callers { self.new.callers ≡ self.old.callers }
+    {
         let is_new = fault.is_some() && fault != self.fault;
         self.fault = fault;
         is_new
@@ -80,7 +101,9 @@ impl<'o, L: OpenListener + Drop> Door<'o, L> {
 }
 
 /// Whether a call that can't be taken so is no reason to take no more.
-fn is_nobody(kind: ErrorKind) -> bool {
+fn is_nobody(kind: ErrorKind) -> bool
+    ensures { result ≡ is_none kind }
+{
     matches!(
         kind,
         ErrorKind::WouldBlock

@@ -1,4 +1,6 @@
 //! Whether a station's folder is its owner's alone to change.
+ghost use Rattle.std.specs.Prelude.{◌≡◌};
+ghost use Rattle.rje_workstation.specs.Guarding.{may_others_write as others_may_write};
 
 use rje_stores::{Disk, FileAccess, FileKind};
 use std::alloc::{AllocError, Global};
@@ -74,6 +76,8 @@ fn found_access<D: Disk>(
 }
 
 /// Whether others than its owner may write to it. A group of the owner's own number is the owner's alone, as many systems give each user one.
-fn may_others_write(access: FileAccess) -> bool {
+fn may_others_write(access: FileAccess) -> bool
+    ensures { result ≡ others_may_write access }
+{
     access.mode & 0o002 != 0 || access.mode & 0o020 != 0 && access.group != access.owner
 }

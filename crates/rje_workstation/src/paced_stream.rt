@@ -1,6 +1,8 @@
 //! A stream on which the hearings between transmissions are short.
-ghost use Rattle.std.specs.Prelude.{◌≡◌, ◌*◌, max, min};
+ghost use Rattle.std.specs.Prelude.{◌≡◌, ◌≤◌, ◌↔◌, ◌*◌, IsTrue, None, OnOk, false, max, min, true};
 ghost use Rattle.std.specs.Duration.{as_nanos, max_nanos};
+ghost use Rattle.rje_workstation.specs.Pausing.{IsEnd, IsShort, after_nothing as next_after_nothing};
+ghost use Rattle.rje_workstation.specs.declared.paced_stream.Wait.TheVariants.{Hearing, Idle};
 
 use bsc_codes::{EOT, PAD, SYN};
 use std::cell::Cell;
@@ -60,7 +62,11 @@ pub struct PacedStream<C, S> {
 
 impl<C: Clock, S: OpenStream> PacedStream<C, S> {
     /// The same stream, to which nothing was written.
-    pub fn new(clock: C, stream: S) -> PacedStream<C, S> {
+    pub fn new(clock: C, stream: S) -> PacedStream<C, S>
+        ensures stream { result.stream ≡ stream }
+        ensures idle { result.next ≡ Idle }
+        ensures unheard { result.heard ≡ false }
+    {
         PacedStream {
             clock,
             stream,
@@ -75,7 +81,9 @@ impl<C: Clock, S: OpenStream> PacedStream<C, S> {
     }
 
     /// Whether bytes come for too long.
-    fn is_endless(&self) -> bool {
+    fn is_endless(&self) -> bool
+        ensures nothing { self.now.comes ≡ None → result ≡ false }
+    {
         let (Some(comes), Some(time)) = (self.comes, self.time.get()) else {
             return false;
         };
@@ -86,7 +94,9 @@ impl<C: Clock, S: OpenStream> PacedStream<C, S> {
     }
 
     /// How long a read waits that waits so.
-    fn time_of(&self, wait: Wait) -> Option<Duration> {
+    fn time_of(&self, wait: Wait) -> Option<Duration>
+        ensures short { IsShort wait (as_nanos self.now.slowest) result }
+    {
         let short = match wait {
             Wait::Hearing => return self.time.get(),
             Wait::Idle => Duration::from_millis(MAX_IDLE),
@@ -100,7 +110,10 @@ impl<C: Clock, S: OpenStream> PacedStream<C, S> {
     }
 
     /// The next read waits as it is to. A pause begins anew to look for the slowest answer, and what was written before it needs none.
-    fn set_wait(&mut self) -> io::Result<()> {
+    fn set_wait(&mut self) -> io::Result<()>
+        ensures waits { OnOk result (self.new.waits ≡ self.old.next) }
+        ensures next { self.new.next ≡ self.old.next }
+    {
         if self.waits != self.next {
             let time = self.time_of(self.next);
             self.stream.set_read_timeout(time)?;
@@ -114,7 +127,11 @@ impl<C: Clock, S: OpenStream> PacedStream<C, S> {
     }
 
     /// Something came: the answer to what was written, where that wasn't answered yet.
-    fn note_answer(&mut self) {
+    fn note_answer(&mut self)
+        ensures heard { self.new.heard ≡ true }
+        ensures answered { self.new.wrote ≡ None }
+        ensures slowest { as_nanos self.old.slowest ≤ as_nanos self.new.slowest }
+    {
         self.heard = true;
         if self.comes.is_none() {
             self.comes = Instant::now(&self.clock).ok();
@@ -138,17 +155,24 @@ fn pause_after(slowest: Duration) -> Duration
 }
 
 /// Whether this is EOT, as it stands on the line or as a line adapter takes it.
-fn is_end(bytes: &[u8]) -> bool {
+fn is_end(bytes: &[u8]) -> bool
+    ensures { IsTrue result ↔ IsEnd bytes.now }
+{
     bytes == [EOT].as_slice() || bytes == [SYN, SYN, EOT, PAD].as_slice()
 }
 
 /// How the next read waits where these bytes were written or read last: after its own EOT in one way, after the other end's in another.
-fn wait_after(bytes: &[u8], end: Wait) -> Wait {
+fn wait_after(bytes: &[u8], end: Wait) -> Wait
+    ensures end { IsEnd bytes.now → result ≡ end }
+    ensures other { (IsEnd bytes.now → ⊥) → result ≡ Hearing }
+{
     if is_end(bytes) { end } else { Wait::Hearing }
 }
 
 /// How the next read waits where one that waited so brought nothing.
-fn after_nothing(waited: Wait) -> Wait {
+fn after_nothing(waited: Wait) -> Wait
+    ensures { result ≡ next_after_nothing waited }
+{
     match waited {
         Wait::Hearing => Wait::Hearing,
         Wait::Pause => Wait::Turn,

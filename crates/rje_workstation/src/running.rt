@@ -1,4 +1,6 @@
 //! One run of the program as a station.
+ghost use Rattle.std.specs.Prelude.{◌≡◌, ◌==◌, if◌then◌else◌};
+ghost use Rattle.rje_workstation.specs.Running.{IsStationStatus, calls, is_want_of_memory as is_want};
 
 use crate::attendant::Attendant;
 use crate::attending::attend;
@@ -35,6 +37,7 @@ pub fn station_command<R, O: Write, E: Write>(
 ) -> u8
 where
     R: Net + Clock + Files<File = File> + Alloc + Clone + Drop,
+    ensures status { IsStationStatus result }
 {
     let order = match parse(alloc, words) {
         Ok(Order::Station(order)) => order,
@@ -48,7 +51,9 @@ where
 }
 
 /// Tells why a station in this folder ends that wasn't to, and returns the exit status.
-fn tell_end<E: Write>(end: &StationEnd, folder: &str, err: &mut E) -> u8 {
+fn tell_end<E: Write>(end: &StationEnd, folder: &str, err: &mut E) -> u8
+    ensures { result ≡ (if is_want end.now then 5 else 3) }
+{
     if end.is_want_of_memory() {
         return tell(&CommandFault::OutOfMemory, err);
     }
@@ -89,7 +94,9 @@ enum StationEnd {
 
 impl StationEnd {
     /// Whether there was no memory for it.
-    fn is_want_of_memory(&self) -> bool {
+    fn is_want_of_memory(&self) -> bool
+        ensures { result ≡ is_want self.now }
+    {
         match self {
             StationEnd::Folder(fault) => *fault == FolderFault::OutOfMemory,
             StationEnd::Log(error) => error.kind() == ErrorKind::OutOfMemory,
@@ -205,7 +212,12 @@ fn stay_on<
 }
 
 /// How the station spends its day.
-fn settings_of(order: &StationOrder) -> Settings {
+fn settings_of(order: &StationOrder) -> Settings
+    ensures calls { result.calls ≡ calls order.now.partner }
+    ensures once { result.once ≡ order.now.once }
+    ensures patience { result.patience ≡ (if order.now.patience == 0 then 4_294_967_295
+        else order.now.patience) }
+{
     Settings {
         calls: matches!(order.partner, Partner::Calls(_)),
         once: order.once,

@@ -1,4 +1,5 @@
 //! What a station does on a connection.
+ghost use Rattle.std.specs.Prelude.{◌≡◌, ◌==◌, if◌then◌else◌};
 ghost use Rattle.rje_session.specs.Staying.{GoesOnAsDay};
 ghost use Rattle.rje_workstation.specs.Calling.{SeeksConnection};
 
@@ -150,7 +151,9 @@ fn tell_failed<F: Display, D: FolderDisk + Drop, C: Clock + Drop, W: Write + Dro
 }
 
 /// So many hearings in a row are without a word at most, where so much patience is asked for: with 0 any number.
-pub(crate) fn most_quiet(patience: u32) -> u32 {
+pub(crate) fn most_quiet(patience: u32) -> u32
+    ensures { result ≡ (if patience == 0 then 4_294_967_295 else patience) }
+{
     match patience {
         0 => u32::MAX,
         patience => patience,

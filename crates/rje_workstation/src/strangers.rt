@@ -1,4 +1,5 @@
 //! What is told of callers that aren't let in.
+ghost use Rattle.std.specs.Prelude.{◌≡◌, None, false, true};
 
 use std::time::{Clock, Duration, Instant};
 
@@ -14,12 +15,17 @@ pub(crate) struct Strangers {
 
 impl Strangers {
     /// None called yet.
-    pub(crate) fn new() -> Strangers {
+    pub(crate) fn new() -> Strangers
+        ensures none { result.told ≡ None }
+    {
         Strangers { told: None }
     }
 
     /// One called: whether that is told. Where the clock can't be read it is.
-    pub(crate) fn is_told<C: Clock>(&mut self, clock: &C) -> bool {
+    pub(crate) fn is_told<C: Clock>(&mut self, clock: &C) -> bool
+        ensures first { self.old.told ≡ None → result ≡ true }
+        ensures untold { result ≡ false → self.new.told ≡ self.old.told }
+    {
         let is_due = match self.told {
             Some(told) => match told.elapsed(clock) {
                 Ok(passed) => Duration::from_secs(PAUSE) <= passed,

@@ -85,21 +85,27 @@ fn a_file_that_is_taken_back_too_late_may_be_in_doubt(rt: HostRuntime) {
 /// A file that has taken the name meanwhile stays, lies ready, and nothing is told of it.
 #[test]
 fn a_file_that_takes_the_name_lies_ready(rt: HostRuntime) {
-    for what in [Disposition::Sent, Disposition::InDoubt] {
+    for (what, folder, told) in [
+        (
+            Disposition::Sent,
+            "sent",
+            b"2026-11-28 13:05:09 sent a.deck\n".as_slice(),
+        ),
+        (
+            Disposition::InDoubt,
+            "doubt",
+            b"2026-11-28 13:05:09 DOUBT a.deck may have arrived: doubt/a.deck\n".as_slice(),
+        ),
+    ] {
         let ground = Ground::new(rt.alloc());
         let mut spool = deck_out(&rt, &ground);
         ground.replace(&rt, "s/out/a.deck", b"B\n");
         assert!(rt; spool.settle(0, what).is_ok());
-        let folder = if what == Disposition::Sent {
-            "sent"
-        } else {
-            "doubt"
-        };
         let path = format!(in rt.alloc(); "s/{folder}/a.deck").expect(&rt, "memory");
         ground.assert_file(&rt, path.as_str(), b"A\n");
         ground.assert_file(&rt, "s/out/a.deck", b"B\n");
         assert!(rt; given(&rt, &mut spool) == 1);
-        assert!(rt; !Page::new(&ground.page).has(b"out/a.deck"));
+        ground.assert_told(&rt, told);
     }
 }
 

@@ -45,6 +45,28 @@ fn nothing_is_sent_while_the_operator_holds_it(rt: HostRuntime) {
     assert!(rt; seen.drained);
 }
 
+/// What can't be looked at is taken for held. That is told once as long as it can't be, and again once it could.
+#[test]
+fn what_cannot_be_looked_at_is_taken_for_held(rt: HostRuntime) {
+    let ground = Ground::new(rt.alloc());
+    ground.put(&rt, "s/out/a.deck", b"A\n");
+    let mut spool = ground.spool(&rt);
+    for _ in 0..2 {
+        if let Ok(_disk) = ground.disk.try_borrow_mut() {
+            for _ in 0..2 {
+                let seen = spool.seen();
+                assert!(rt; seen.held && !seen.ready && !seen.drained);
+            }
+        }
+        assert!(rt; given(&rt, &mut spool) == 1);
+        settled(&rt, &mut spool, 1, Disposition::Ready);
+    }
+    ground.assert_told(
+        &rt,
+        b"2026-11-28 13:05:09 resource busy\n2026-11-28 13:05:09 resource busy\n",
+    );
+}
+
 /// What can't be sent goes to refused/, and why stands beside it.
 #[test]
 fn a_file_that_cannot_be_sent_is_put_aside(rt: HostRuntime) {
@@ -198,6 +220,20 @@ fn a_transmission_has_so_many_cards(rt: HostRuntime) {
     }
     let mut spool = ground.spool(&rt);
     assert!(rt; given(&rt, &mut spool) == 3);
+}
+
+/// A transmission that has as many cards as it may has as much as it may: after one that took no time the next one has twice as many jobs.
+#[test]
+fn a_transmission_of_many_cards_is_a_full_one(rt: HostRuntime) {
+    let ground = Ground::new(rt.alloc());
+    let mut cards = Vec::new(rt.alloc());
+    assert!(rt; cards.resize(6400, b'\n').is_ok());
+    ground.put(&rt, "s/out/many.deck", cards.as_slice());
+    let mut spool = ground.spool(&rt);
+    assert!(rt; given(&rt, &mut spool) == 1);
+    settled(&rt, &mut spool, 1, Disposition::Sent);
+    put_decks(&rt, &ground, 70);
+    assert!(rt; given(&rt, &mut spool) == 70);
 }
 
 /// A file of more bytes than are read is refused, and one of as many is no deck for its long lines alone.
