@@ -1,0 +1,2 @@
+-- What private functions cite; no promise rests on it.
+pub mod Calls

@@ -1,0 +1,14 @@
+-- What is asked step by step.
+use Rattle.std.specs.Prelude.{◌≡◌, ◌≢◌, ◌⊎◌, ℕ, List, ◌∷◌, string_bytes, String}
+use Rattle.std.specs.declared.alloc.Global.{Global}
+use Rattle.rje_stores.specs.Disk.{Asked, Remove, call_of}
+use Rattle.rje_folders.specs.declared.folder.Folder.{Folder}
+use Rattle.rje_folders.specs.Folder.{path_in}
+
+-- nothing was asked, or a name was to be taken away that isn't the one that is kept, whatever came of it
+abbrev pub IsRemovalBeside : (name kept : List ℕ) → List Asked → List Asked → Type 0
+IsRemovalBeside name kept before after = (after ≡ before) ⊎ ((kept ≢ name) × ((asked : Asked) × (after ≡ asked ∷ before) × (call_of asked ≡ Remove name)))
+
+-- a path is that of a file of in/
+abbrev pub IsInIn : (station : List ℕ) → String Global → Type 0
+IsInIn station path = (name : List ℕ) × (string_bytes path ≡ path_in station Folder.In name)

@@ -1,0 +1,10 @@
+pub mod Paths
+pub mod Noting
+pub mod Promising
+pub mod Receiving
+pub mod BringingIn
+pub mod Inside
+pub mod Names
+pub mod Accounts
+pub mod Reading
+pub mod Finishing

@@ -1,0 +1,72 @@
+//! How the accounts are read.
+ghost use Rattle.std.specs.Prelude.{◌≡◌, IfOk, OnOk, List};
+ghost use Rattle.rje_stores.specs.Replacing.{Adds};
+ghost use Rattle.rje_settle.specs.declared.settle_name.SettleName.{SettleName as Named};
+ghost use Rattle.rje_accounts.specs.Accounts.{AreAccounts};
+ghost use Rattle.rje_accounts.specs.Names.{AreSorted};
+ghost use Rattle.rje_accounts.specs.Reading.{AreSynced, MayRead};
+
+use crate::accounts::Accounts;
+use crate::accounts_fault::AccountsFault;
+use crate::naming::{settle_folder, settle_path};
+use crate::settle_names::SettleNames;
+use crate::syncing::sync_names;
+use rje_folders::FolderDisk;
+use rje_settle::SettleName;
+use rje_stores::Disk;
+use std::alloc::Global;
+use std::io;
+
+/// The accounts on disk. Their folder is made, for its owner alone, where there is none, and its names are put on disk before they are read: so what is
+/// read stands whatever comes.
+pub fn read_accounts<D: FolderDisk>(
+    disk: &mut D,
+    alloc: Global,
+    station: &str,
+) -> Result<Accounts, AccountsFault>
+    ensures asks { D.discloses → Adds (MayRead station.now) (D.asked disk.old) (D.asked disk.new) }
+    ensures synced { D.discloses → OnOk result (AreSynced station.now (D.asked disk.new)) }
+    ensures accounts { IfOk result (λ accounts. (all : List Named) × AreAccounts all accounts) }
+{
+    make_folder(disk, alloc, station)?;
+    sync_accounts(disk, alloc, station)?;
+    let names = read_names(disk, alloc, station)?;
+    Accounts::of_names(names)
+}
+
+/// Makes the folder of the accounts, for its owner alone, where there is none; its name is on disk then.
+fn make_folder<D: FolderDisk>(disk: &mut D, alloc: Global, station: &str) -> io::Result<()>
+    ensures { D.discloses → Adds (MayRead station.now) (D.asked disk.old) (D.asked disk.new) }
+{
+    let path = settle_folder(alloc, station)?;
+    disk.make_folder(path.as_str())?;
+    let folder = disk.open_folder(path.as_str())?;
+    sync_names(disk, &folder)
+}
+
+/// Puts the names of the accounts on disk.
+fn sync_accounts<D: Disk>(disk: &mut D, alloc: Global, station: &str) -> io::Result<()>
+    ensures asks { D.discloses → Adds (MayRead station.now) (D.asked disk.old) (D.asked disk.new) }
+    ensures synced { D.discloses → OnOk result (AreSynced station.now (D.asked disk.new)) }
+{
+    let path = settle_path(alloc, station, SettleName::Come(0))?;
+    let folder = disk.open_folder(path.as_str())?;
+    sync_names(disk, &folder)
+}
+
+/// The names of the accounts, which are on disk.
+fn read_names<D: FolderDisk>(
+    disk: &D,
+    alloc: Global,
+    station: &str,
+) -> Result<SettleNames, AccountsFault>
+    requires { D.discloses → AreSynced station.now (D.asked disk.now) }
+    ensures { IfOk result (λ names. (all : List Named) × AreSorted all names) }
+{
+    let folder = settle_folder(alloc, station)?;
+    let mut names = SettleNames::new(alloc);
+    for text in disk.names_in(alloc, folder.as_str())? {
+        names.push_text(text.as_str())?;
+    }
+    Ok(names)
+}
