@@ -1,6 +1,6 @@
-"""What the documents say: the man page and the completions of bash name every command and every option of the program, and no others; README, the man
-page, the help and docs/FORMATS.md agree; what README shows is what is printed; each name that the documents use stands in the sources; and the calls
-that the crates' READMEs show are made."""
+"""What the documents say: the man page and the completions of bash name every command and every option of the program, and no others;
+docs/OPERATING.md, the man page, the help and docs/FORMATS.md agree; what README and docs/OPERATING.md show is what is printed; each name that the
+documents use stands in the sources; and the calls that the crates' READMEs show are made."""
 import functools
 import os
 import re
@@ -46,9 +46,9 @@ def page_options(heading):
 
 
 def texts():
-    """README, the man page and FORMATS, without what marks their words."""
+    """OPERATING, the man page and FORMATS, without what marks their words."""
     return {
-        "README.md": re.sub(r"[`*]", "", document("README.md")), "manual/rje.1": page(),
+        "docs/OPERATING.md": re.sub(r"[`*]", "", document("docs/OPERATING.md")), "manual/rje.1": page(),
         "docs/FORMATS.md": re.sub(r"[`*]", "", document("docs/FORMATS.md")),
     }
 
@@ -101,10 +101,45 @@ class Manual(HelpCase):
         self.equal(self.completed("rje", "send", "--to", ""), [], "the words after an option with a value")
         self.equal(self.completed("rje", "show", "pay.de"), ["pay.deck"], "a file that is begun")
 
+    def test_fish(self):
+        """What fish completes, where it is installed."""
+        if not shutil.which("fish"):
+            self.skipTest("fish isn't installed")
+
+        def completed(line):
+            script = 'source "$argv[1]"; complete -C "$argv[2]"'
+            ended = self.run_words("fish", "-c", script, os.path.join(ROOT, "manual/rje.fish"), line, env={"HOME": self.folder})
+            return sorted(it.split("\t")[0] for it in ended.printed.splitlines())
+
+        self.equal(completed("rje "), self.commands(), "the commands")
+        self.equal(completed("rje --"), self.options(), "the options")
+        self.equal(completed("rje help "), self.commands(), "the commands after help")
+        for command in self.commands():
+            if command != "help":
+                self.equal(completed(f"rje {command} --"), self.options(command), f"the options of {command} that fish completes")
+
+    def test_zsh(self):
+        """What the completions for zsh hand to its own functions, where it is installed."""
+        if not shutil.which("zsh"):
+            self.skipTest("zsh isn't installed")
+        given = """_arguments() { [[ $1 = -C && -n $COMMAND ]] && { state=argument line=($COMMAND); return 1 }; print -rl -- "$@"; [[ $1 = -C ]] && state=command; return 1 }
+                   _describe() { print -rl -- ${(P)2} }; source $0"""
+
+        def handed(command):
+            ended = self.run_words("zsh", "-f", "-c", given, os.path.join(ROOT, "manual/rje.zsh"), env={"COMMAND": command})
+            self.equal(ended.told, "", f"the completions for zsh of '{command}' report")
+            return ended.printed
+
+        self.equal(sorted(re.findall(r"^([a-z]+):", handed(""), re.MULTILINE)), self.commands(), "the commands")
+        self.equal(options_in(handed("")), self.options(), "the options")
+        for command in self.commands():
+            if command != "help":
+                self.equal(options_in(handed(command)), self.options(command), f"the options of {command} that zsh completes")
+
 
 class Agreement(HelpCase):
-    """README, the man page, the help and docs/FORMATS.md name the same commands, options and statuses, and the same time-out; the man page says
-    what to do after each fault that FORMATS lists; one version stands everywhere."""
+    """docs/OPERATING.md, the man page, the help and docs/FORMATS.md name the same commands, options and statuses, and the same time-out; README names
+    no others; the man page says what to do after each fault that FORMATS lists; one version stands everywhere."""
 
     def all_have(self, word, what):
         for name, text in texts().items():
@@ -114,15 +149,18 @@ class Agreement(HelpCase):
         options = self.all_options()
         for option in options:
             self.all_have(option, "the option")
-        # (README has one option each of ./install, ./build and ./test too)
         for name, text in texts().items():
-            found = [it for it in options_in(text) if it not in ("--remove", "--static", "--quick")]
+            # (some are of the system's commands)
+            found = [it for it in options_in(text) if it not in ("--home", "--install", "--now", "--purge", "--remove", "--shell", "--system")]
             self.equal(found, options, f"the options of {name}")
+        # (of ./install and ./test)
+        scripts = ["--quick", "--remove"]
+        self.equal(sorted(set(options_in(document("README.md"))) - set(options)), scripts, "the options that README alone has")
 
     def test_commands(self):
-        readme, formats = texts()["README.md"], texts()["docs/FORMATS.md"]
+        operating, formats = texts()["docs/OPERATING.md"], texts()["docs/FORMATS.md"]
         for command in self.commands():
-            self.true(re.search(rf"^\| rje {command} ", readme, re.MULTILINE), f"README's table lacks {command}")
+            self.true(re.search(rf"^\| rje {command} ", operating, re.MULTILINE), f"OPERATING's table lacks {command}")
             is_there = command == "help" or re.search(rf"(^|[^a-z]){command}([^a-z]|$)", formats, re.MULTILINE)
             self.true(is_there, f"FORMATS lacks {command}")
 
@@ -131,9 +169,9 @@ class Agreement(HelpCase):
         told = self.rje("--help").printed
         statuses = re.findall(r"^  ([0-9]+) +(\S.*)$", told[told.index("\nExit status:"):], re.MULTILINE)
         self.equal([status for status, _ in statuses], "0 1 2 3 4 5 141".split(), "the statuses of the help")
-        readme, formats = texts()["README.md"], texts()["docs/FORMATS.md"]
+        operating, formats = texts()["docs/OPERATING.md"], texts()["docs/FORMATS.md"]
         for status, meaning in statuses:
-            self.true(f"{status} ({meaning})" in readme, f"README: status {status} isn't '{meaning}'")
+            self.true(f"{status} ({meaning})" in operating, f"OPERATING: status {status} isn't '{meaning}'")
             self.true(re.search(rf"^\| {status} \| {re.escape(meaning)}", formats, re.MULTILINE), f"FORMATS: status {status} isn't '{meaning}'")
             self.true(re.search(rf"^{status}\n{re.escape(meaning)}", page(), re.MULTILINE), f"the man page: status {status} isn't '{meaning}'")
 
@@ -159,9 +197,9 @@ class Agreement(HelpCase):
         self.true(is_there, f"the man page isn't of {self.version}")
 
 
-class Readme(LineCase):
-    """What README shows is what is printed, standard output and standard error alike: its commands are run in their order, in a folder with the program
-    and the examples. An end that listens runs beside the one that calls it, at a port that is free."""
+class Shown(LineCase):
+    """What README and docs/OPERATING.md show is what is printed, standard output and standard error alike: the commands of a page are run in their
+    order, in a folder with the program and the examples. An end that listens runs beside the one that calls it, at a port that is free."""
 
     level, seconds = "quick", 2
 
@@ -170,9 +208,9 @@ class Readme(LineCase):
         os.symlink(self.program, self.at("rje"))
         shutil.copytree(os.path.join(ROOT, "examples"), self.at("examples"))
 
-    def shown(self):
-        """The commands that README shows, each with what stands after it."""
-        for block in re.findall(r"(?:^    .*\n)+", document("README.md"), re.MULTILINE):
+    def shown(self, name):
+        """The commands that a page shows, each with what stands after it."""
+        for block in re.findall(r"(?:^    .*\n)+", document(name), re.MULTILINE):
             lines = [line[4:] for line in block.splitlines(keepends=True)]
             for number, line in enumerate(lines):
                 if line.startswith("$ "):
@@ -181,11 +219,18 @@ class Readme(LineCase):
                     yield line[2:].rstrip("\n"), "".join(rest[:end])
 
     def prints_so(self, command, found, text):
-        self.equal(found.decode("utf-8", "surrogateescape"), text, f"README: $ {command}")
+        self.equal(found.decode("utf-8", "surrogateescape"), text, f"$ {command}")
 
-    def test_shown(self):
+    def test_readme(self):
+        self.are_printed("README.md", 8)
+
+    def test_operating(self):
+        self.are_printed("docs/OPERATING.md", 7)
+
+    def are_printed(self, name, least):
+        """What this page shows, which are so many commands at least."""
         port, number, listens = free_port(), 0, None
-        for command, text in self.shown():
+        for command, text in self.shown(name):
             words = ["bash", "-c", command.replace("3780", str(port))]
             both = {"stdin": subprocess.DEVNULL, "stdout": subprocess.PIPE, "stderr": subprocess.STDOUT, "cwd": self.folder}
             number += 1
@@ -198,13 +243,15 @@ class Readme(LineCase):
                 process, command, text = listens
                 self.prints_so(command, process.communicate(timeout=60)[0], text)
                 port = free_port()
-        self.true(number >= 12, f"README shows {number} commands alone")
+        self.true(number >= least, f"{name} shows {number} commands alone")
 
     def test_lengths(self):
-        """The files that it names with their lines have so many, and it is no longer than can be read at once."""
+        """The files that README names with their lines have so many, and it can be read in two minutes on a terminal of 80 columns."""
         for file, lines in re.findall(r"(crates/[A-Za-z_/]+\.(?:antt|rt)) \((\d+)", document("README.md")):
             self.equal(document(file).count("\n"), int(lines), f"README: the lines of {file}")
-        self.true(document("README.md").count("\n") <= 120, "README is longer than 120 lines")
+        self.true(document("README.md").count("\n") <= 130, "README is longer than 130 lines")
+        self.true(len(document("README.md").split()) <= 900, "README is longer than 900 words")
+        self.equal([line for line in document("README.md").splitlines() if len(line) > 80], [], "the lines of README that are too long")
 
 
 def documents():

@@ -358,9 +358,13 @@ class Install(CopyCase):
     def test_prefix(self):
         prefix = self.at("prefix")
         ended = self.installs(prefix, env={"PATH": f"{prefix}/bin:/usr/bin:/bin", "STANDS": self.root})
-        places = ["bin/rje", "share/bash-completion/completions/rje", "share/man/man1/rje.1"]
+        manual = {
+            "share/bash-completion/completions/rje": "rje.bash", "share/fish/vendor_completions.d/rje.fish": "rje.fish", "share/man/man1/rje.1": "rje.1",
+            "share/zsh/site-functions/_rje": "rje.zsh",
+        }
+        places = ["bin/rje", *manual]
         self.equal((ended.status, ended.told, self.files("prefix")), (0, "", places), f"./install: {ended.printed}")
-        sources = [self.at("copy/program/rje-x86_64-linux"), os.path.join(ROOT, "manual/rje.bash"), os.path.join(ROOT, "manual/rje.1")]
+        sources = [self.at("copy/program/rje-x86_64-linux"), *(os.path.join(ROOT, "manual", name) for name in manual.values())]
         for place, source in zip(places, sources):
             with open(source, "rb") as file:
                 self.same(f"prefix/{place}", file.read(), "what is installed")
