@@ -189,30 +189,68 @@ class Stations(UserCase):
             os.remove(self.at(f"begun/{part}"))
         self.check(self.read("elsewhere") and "through a link a station wrote its log")
 
-    def test_exchanged_links(self):
-        """A link that takes the place of a file of out/ between a look and the open isn't followed, and the file that takes its place then is sent."""
-        self.put("private.txt", b"PRIVATE\n", 0o600)
-        os.makedirs(self.at("exchanged/out"))
-        name, hidden = self.at("exchanged/out/x.deck"), self.at("exchanged/out/.x")
-        self.put(name, b"OPEN\n")
-        os.symlink(self.at("private.txt"), hidden)
+    def exchanges(self, make, at):
+        """A station with the decks x and y, of which another user exchanges x with what `make` makes, at the moment that the file `at` of its folder is
+        opened or gets a second name. The station is drained after that: what was heard of it."""
+        folder = self.at(f"exchanged-{at.replace('/', '-')}")
+        os.makedirs(f"{folder}/out")
+        name, hidden = f"{folder}/out/x.deck", f"{folder}/out/.x"
+        for deck, text in ("x.deck", "OPEN\n"), ("y.deck", "OTHER\n"):
+            with open(f"{folder}/out/{deck}", "w") as file:
+                file.write(text)
+        make(hidden)
         door = Door()
-        words = [self.program, "station", self.at("exchanged"), "--to", door.address, "--every", "1", "--timeout", "100"]
-        quick = {**os.environ, **shim.under(f"exchange {name} {hidden}")}
+        words = [self.program, "station", folder, "--to", door.address, "--every", "1", "--timeout", "100"]
+        quick = {**os.environ, **shim.under(f"exchange {name} {hidden} {folder}/{at}")}
         process = subprocess.Popen(words, env=quick, stdin=subprocess.DEVNULL, stdout=subprocess.DEVNULL, stderr=subprocess.DEVNULL)
-        threading.Timer(4, process.terminate).start()
-        heard = serves(door)
-        process.wait()
-        self.check((os.path.exists(hidden) or not os.path.islink(name)) and "the name wasn't exchanged")
-        self.true(ebcdic("PRIVATE") not in heard, "a link that took the place of a file was followed")
-        # (as another user would)
-        os.remove(name)
-        self.put(name, b"OPEN AGAIN\n")
-        process = subprocess.Popen(words, stdin=subprocess.DEVNULL, stdout=subprocess.DEVNULL, stderr=subprocess.DEVNULL)
-        threading.Timer(3, process.terminate).start()
-        heard = serves(door)
-        process.wait()
-        self.true(ebcdic("OPEN AGAIN") in heard, "the file that took its place isn't sent")
+
+        def drain():
+            with open(f"{folder}/drain", "w"):
+                pass
+        threading.Timer(3, drain).start()
+        ends = threading.Timer(8, process.kill)
+        ends.start()
+        heard = b""
+        while process.poll() is None:
+            heard += serves(door)
+        self.equal(process.wait(), 0, f"a station whose file was exchanged at {at} isn't drained (-9: it had to be killed)")
+        ends.cancel()
+        self.check((os.path.lexists(hidden) or not os.path.lexists(name)) and f"the name wasn't exchanged at {at}")
+        self.true(ebcdic("OTHER") in heard, f"the deck beside one that was exchanged at {at} isn't sent")
+        for part in "refused", "doubt":
+            self.equal(os.listdir(f"{folder}/{part}"), [], f"what is left in {part}/ of a file that was exchanged at {at}")
+        return heard
+
+    def test_exchanged_links(self):
+        """A link that takes the place of a file of out/ while it is read isn't followed."""
+        self.put("private.txt", b"PRIVATE\n", 0o600)
+        for at in "out/x.deck", "refused/.rje-0.part":
+            heard = self.exchanges(lambda hidden: os.symlink(self.at("private.txt"), hidden), at)
+            self.true(ebcdic("PRIVATE") not in heard, f"a link that took the place of a file at {at} was followed")
+
+    def test_exchanged_pipes(self):
+        """A pipe that takes the place of a file of out/ while it is read isn't waited for, and one that does before its last block gets no name in doubt/."""
+        for at in "out/x.deck", "refused/.rje-0.part", "doubt":
+            self.exchanges(os.mkfifo, at)
+
+    def test_exchanged_for_nothing(self):
+        """A link to nowhere that takes the place of a file of out/ before its last block gets no name in doubt/."""
+        self.exchanges(lambda hidden: os.symlink("/nowhere/at/all", hidden), "doubt")
+
+    def test_links_in_circles(self):
+        """Links in out/ that lead in a circle, through a file or by too long a name keep no station from beginning; those that lie ready are told."""
+        door = Door()
+        station = self.station("circles", "--to", door.address, "--every", "1")
+        os.makedirs(station.at("out"))
+        for name, target in (".l", ".l"), ("a.deck", "a.deck"), ("b.deck", "/etc/passwd/x"), ("c.deck", "n" * 300):
+            os.symlink(target, station.at("out", name))
+        station.start()
+        self.true(door.takes_call(8), "a station with links in circles doesn't call")
+        wanted = [f"{name}: out: unsupported" for name in ("a.deck", "b.deck", "c.deck")]
+        self.true(waits_for(lambda: has_logged(station, "c.deck: out: unsupported"), 8), lambda: f"of links in circles it told {told_by(station)}")
+        told = [line for line in told_by(station) if "unsupported" in line]
+        self.equal(sorted(told), wanted, "what it told of links in circles")
+        station.kill()
 
     def test_many_strangers(self):
         """Callers that aren't let in are told once in a minute."""

@@ -126,7 +126,7 @@ class OneStation(StationCase):
         self.hears_too_much(peer)
         self.drains()
         wanted = [
-            f"station of {self.one.folder}", "a.folder.deck: out: is a directory", "a.pipe.deck: out: unsupported", "a.second.deck: out: unsupported",
+            f"station of {self.one.folder}", "a.folder.deck: out: is a directory", "a.link.deck: out: unsupported", "a.pipe.deck: out: unsupported", "a.second.deck: out: unsupported",
             "out: names that are no text: 1", "refused b.txt: neither a deck nor a job file, by its name", f"refused c.deck: {BAD_DECK}", "bid",
             "sending d.punch.deck punch 2 cards", "sent d.punch.deck", "received in/TIME.job unset whole 1 records", "receiving job 2",
             "received cut/TIME.job unset CUT 1 records", "bid", "sending e.deck unset 1 cards", "sent e.deck",

@@ -69,7 +69,7 @@ def is_caught_reading(station, path):
     while time.monotonic() < until and os.path.exists(path):
         for number in os.listdir(folder):
             try:
-                if os.readlink(f"{folder}/{number}") != path:
+                if not os.path.samestat(os.stat(f"{folder}/{number}"), os.stat(path)):
                     continue
                 station.process.send_signal(signal.SIGSTOP)
                 with open(f"/proc/{station.process.pid}/fdinfo/{number}") as file:

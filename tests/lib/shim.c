@@ -10,7 +10,8 @@
    delay MILLISECONDS            A slow disk: each sync of a file or a folder takes so much longer.
    lose PASS COUNT               Of the transmissions PASS pass, and then COUNT are lost on their way.
    error PASS NUMBER             Of the transmissions PASS pass (with those that are lost), and then all fail with this number (errno).
-   exchange NAME OTHER           Another user who is quick: before the file NAME is opened the file OTHER takes its place, once.
+   exchange NAME OTHER AT        Another user who is quick: before the file AT is opened, or gets a second name, the file OTHER takes the place of
+                                 NAME, once.
    clock PATH                    All clocks but the time of day are ahead by as many seconds as stand in the file of this path.
    options PATH                  Adds what is asked of connections to this file: small pieces at once, and how many milliseconds a call may take.
    record PATH                   Writes each call that changes a file or a folder, has one on disk, or says or hears something over a
@@ -191,7 +192,7 @@ static int is_met(const char *name, const char *path, int does, int is_any)
 static void exchange(const char *path)
 {
     char words[MOST_WORDS][MOST_LETTERS];
-    if (order("exchange", words) && strcmp(path, words[0]) == 0)
+    if (order("exchange", words) && strcmp(path, words[2]) == 0)
         syscall(SYS_rename, words[1], words[0]);
 }
 
@@ -279,7 +280,7 @@ CALL(int, ftruncate, (int file, off_t length), (file, length), of(file), TAKES_R
      note("record", NULL, 0, "truncate %d %lld", file, (long long)length))
 CALL(off_t, lseek, (int file, off_t offset, int whence), (file, offset, whence), of(file), LOOKS, 1, )
 CALL(int, flock, (int file, int operation), (file, operation), of(file), CHANGES, 1, )
-CALL(int, link, (const char *from, const char *to), (from, to), named(from), TAKES_ROOM, 1, note("record", NULL, 0, "link %s %s", from, to))
+CALL(int, link, (const char *from, const char *to), (from, to), (exchange(from), named(from)), TAKES_ROOM, 1, note("record", NULL, 0, "link %s %s", from, to))
 CALL(int, rename, (const char *from, const char *to), (from, to), named(from), TAKES_ROOM, 1, note("record", NULL, 0, "rename %s %s", from, to))
 CALL(int, unlink, (const char *path), (path), named(path), CHANGES, 1, note("record", NULL, 0, "unlink %s", path))
 CALL(int, statx, (int folder, const char *path, int flags, unsigned mask, struct statx *found), (folder, path, flags, mask, found),

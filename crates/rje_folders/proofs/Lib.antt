@@ -8,3 +8,4 @@ pub mod Settling
 pub mod TakenOver
 pub mod Tried
 pub mod Opened
+pub mod Read

@@ -5,8 +5,8 @@ use Rattle.std.proofs.lemmas.List.{append_assoc, append_cancel_left}
 use Rattle.std.specs.declared.io.Error.{Error}
 use Rattle.rje_stores.specs.Disk.{Asked, Call, Opened, Done, Refused, Failed, Rename, Remove, call_of, came_to, standing, bytes_of, is_synced}
 use Rattle.rje_stores.specs.Replacing.{Adds, Each, IsOnDisk, IsWhole}
-use Rattle.rje_stores.specs.Inside.Filling.{AddsSync, Fills, MayFill}
-use Rattle.rje_stores.proofs.Replacing.{added_call, added_none, added_weaker, call_came, filled_keeps, whatever_came, whole_renamed, whole_synced, same_name}
+use Rattle.rje_stores.specs.Inside.Filling.{AddsSync, Fills}
+use Rattle.rje_stores.proofs.Replacing.{added_call, added_none, added_weaker, filled_keeps, whatever_came, whole_renamed, whole_synced, same_name}
 use Rattle.rje_folders.specs.declared.file_identity.FileIdentity.{FileIdentity}
 use Rattle.rje_folders.specs.declared.folder.Folder.{Folder}
 use Rattle.rje_folders.specs.declared.reading.FileRead.{FileRead}

@@ -1,7 +1,7 @@
 -- What becomes of the file of a job while the job may have arrived, and after that: at each moment it has a name on disk that says so.
-use Rattle.std.specs.Prelude.{◌≡◌, ◌⊎◌, ℕ, List, ◌∷◌, ◌++◌, true, codes}
+use Rattle.std.specs.Prelude.{◌≡◌, ◌⊎◌, ℕ, List, ◌++◌, true, codes}
 use Rattle.rje_day.specs.declared.disposition.Disposition.{Disposition}
-use Rattle.rje_stores.specs.Disk.{Asked, Call, Done, Link, OpenLock, Remove, SyncFolder, standing, has_synced_name}
+use Rattle.rje_stores.specs.Disk.{Asked, Call, OpenLock, Remove, SyncFolder, standing, has_synced_name}
 use Rattle.rje_folders.specs.declared.file_identity.FileIdentity.{FileIdentity}
 use Rattle.rje_folders.specs.declared.folder.Folder.{Folder}
 use Rattle.rje_folders.specs.FileNames.{IsNamedAfter, IsNumbered}
@@ -50,12 +50,6 @@ lock_path station = station ++ codes "/lock"
 -- what may be asked to clear a folder in which a station makes new files: to take a name away under which one was made that was not done
 abbrev pub MayClear : (station : List ℕ) → Call → List Asked → Type 0
 MayClear station call before = (folder : Folder) × (has_new_files folder ≡ true) × ((name : List ℕ) × IsTemporary (path_of station folder) name × (call ≡ Remove name))
-
--- What may be asked to see whether a file in out/ can get a second name: to give it one in refused/ that is left alone, and to take that away, which the
--- call before gave to it.
-abbrev pub MayTry : (station name : List ℕ) → Call → List Asked → Type 0
-MayTry station name call before = (second : List ℕ) × IsTemporary (path_of station Folder.Refused) second
-    × ((call ≡ Link (path_in station Folder.Out name) second) ⊎ ((call ≡ Remove second) × ((earlier : List Asked) × (before ≡ Done (Link (path_in station Folder.Out name) second) ∷ earlier))))
 
 -- what may be asked to take a file of cut/ away: that, once the disk said that it is this one
 abbrev pub MayDropCut : (is_file : List Asked → List ℕ → FileIdentity → Type 0) → (path : List ℕ) → FileIdentity → Call → List Asked → Type 0

@@ -10,7 +10,7 @@ use crate::folder::Folder;
 use crate::folder_disk::FolderDisk;
 use crate::folder_fault::FolderFault;
 use crate::keeping::{create_new, fill_new};
-use crate::reading::{FileRead, read_ready};
+use crate::reading::{FileRead, read_named};
 use std::alloc::Global;
 use std::io;
 
@@ -41,7 +41,7 @@ pub(crate) fn copied<D: FolderDisk>(
     ensures named { D.discloses → IfOk result (λ copy.
         IsTemporary (path_of station.now Folder.Refused) (string_bytes copy.path)) }
 {
-    let read = read_ready(disk, alloc, station, name, most)?;
+    let read = read_named(disk, alloc, station, name, most)?;
     match new_copy(disk, alloc, station, read.bytes.as_slice()) {
         Ok(path) => Ok(FileCopy { path, read }),
         Err(error) => Err(FolderFault::of(Folder::Out, &error)),

@@ -21,7 +21,7 @@ pub trait FolderDisk: Disk {
     /// After these calls, the disk said that an open file is this one.
     ghost is_open: { List Asked → Self.File → Identity → Type 0 };
 
-    /// Whether two names are of one file. Not found where nothing stands under one of them.
+    /// Whether two names are of one file, which is a symbolic link itself where they are names of one. Not found where nothing stands under one of them.
     fn is_one_file(&self, one: &str, other: &str) -> io::Result<bool>
         ensures { IfOk result (λ is_one. is_one ≡ true
             → are_one (Self.asked self.now) one.now other.now) };
@@ -53,8 +53,8 @@ impl<'a, R: Files<File = File> + Alloc + Clone + Drop> FolderDisk for SystemDisk
     ghost is_open = { λ _ _ _. Unit {0} };
 
     fn is_one_file(&self, one: &str, other: &str) -> io::Result<bool> {
-        let found = self.status(one)?;
-        let also = self.status(other)?;
+        let found = self.status_of_name(one)?;
+        let also = self.status_of_name(other)?;
         Ok(found.device == also.device && found.inode == also.inode)
     }
 

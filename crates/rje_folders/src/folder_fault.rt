@@ -48,7 +48,9 @@ impl FolderFault {
     }
 
     /// Why a file can't get a second name, nor be taken over.
-    pub(crate) fn no_second_name(error: &io::Error) -> FolderFault {
+    pub(crate) fn no_second_name(error: &io::Error) -> FolderFault
+        ensures { (other : Folder) → result ≢ TooLarge other }
+    {
         match error.kind() {
             ErrorKind::OutOfMemory => FolderFault::OutOfMemory,
             kind => FolderFault::NoSecondName(kind),

@@ -20,6 +20,7 @@ mod probing;
 mod promising;
 mod reading;
 mod ready_file;
+mod ready_opening;
 mod receiving;
 mod settled;
 mod station_folder;

@@ -132,8 +132,12 @@ fn tidy_out<D: FolderDisk>(disk: &mut D, alloc: Global, station: &str) -> Result
     let kept = KeptNames::listed(disk, alloc, station);
     let kept = kept.map_err(|error| FolderFault::of(Folder::Sent, &error))?;
     for name in &names {
-        let tidied = tidy_ready(disk, alloc, station, name.as_str(), &kept);
-        tidied.map_err(|error| FolderFault::of(Folder::Out, &error))?;
+        match tidy_ready(disk, alloc, station, name.as_str(), &kept) {
+            // (a name that another user keeps there, which doesn't lie ready all the same)
+            Err(error) if error.kind() == ErrorKind::PermissionDenied => {}
+            Err(error) => return Err(FolderFault::of(Folder::Out, &error)),
+            Ok(()) => {}
+        }
     }
     Ok(())
 }

@@ -1,17 +1,18 @@
 //! How a file is read.
 ghost use Rattle.std.specs.Prelude.{◌≡◌, ◌≢◌, ◌<◌, ◌≤◌, length, IfErr, IfOk, IfSome, IsErrOf, OnOk};
 ghost use Rattle.std.specs.Io.KnownBytes.{IsAtEnd};
+ghost use Rattle.rje_stores.specs.Replacing.{Adds};
 ghost use Rattle.rje_folders.specs.Folder.{path_in};
-ghost use Rattle.rje_folders.specs.Reading.{IsLongerThan, IsReadOf, IsWholeRead};
+ghost use Rattle.rje_folders.specs.Reading.{IsLongerThan, IsReadOf, IsWholeRead, MayRead, OfSecond};
 ghost use Rattle.rje_folders.specs.declared.folder_fault.FolderFault.TheVariants.{TooLarge};
 
 use crate::file_identity::FileIdentity;
 use crate::folder::Folder;
 use crate::folder_disk::FolderDisk;
 use crate::folder_fault::FolderFault;
-use rje_stores::FileKind;
+use crate::ready_opening::{NamedFile, open_named, open_ready};
 use std::alloc::Global;
-use std::io::{self, ErrorKind, Read};
+use std::io::{self, Read};
 
 /// How many bytes are read at once.
 const PIECE: usize = 65_536;
@@ -25,16 +26,33 @@ pub struct FileRead {
     pub file: FileIdentity,
 }
 
-/// A file that is open to be read, and which file stood under its name before that.
-#[derive(Drop)]
-struct NamedFile<F: Drop> {
-    file: F,
-    named: FileIdentity,
+/// What there is to be read of a file in out/, and which file it is: the one that stands under the name itself. Too large where it has more than `most`;
+/// being written where it was written to, or another one took the name, meanwhile; without a second name where it can't get one in refused/.
+pub(crate) fn read_ready<D: FolderDisk>(
+    disk: &mut D,
+    alloc: Global,
+    station: &str,
+    name: &str,
+    most: u64,
+) -> Result<FileRead, FolderFault>
+    ensures asks { D.discloses → Adds (MayRead station.now name.now)
+        (D.asked disk.old) (D.asked disk.new) }
+    ensures all { D.discloses → IfOk result (λ read. OfSecond station.now name.now
+        (D.asked disk.old) (D.asked disk.new) (λ second.
+        IsReadOf D.opened D.File.remaining (D.is_open (D.asked disk.new)) second read)) }
+    ensures named { IfOk result (λ read. D.is_file (D.asked disk.new)
+        (path_in station.now Folder.Out name.now) read.file) }
+    ensures limit { IfOk result (λ read. length read.bytes.items ≤ most) }
+    ensures long { D.discloses → IsErrOf result (TooLarge Folder.Out)
+        → OfSecond station.now name.now (D.asked disk.old) (D.asked disk.new)
+        (λ second. IsLongerThan D.opened D.File.remaining second most) }
+{
+    let NamedFile { mut file, named } = open_ready(disk, alloc, station, name)?;
+    read_whole(disk, alloc, &mut file, named, most)
 }
 
-/// What there is to be read of a file in out/, and which file it is: the one that stands under the name itself. Too large where it has more than `most`;
-/// being written where it was written to, or another one took the name, meanwhile.
-pub(crate) fn read_ready<D: FolderDisk>(
+/// The same of a file that can't get a second name, which is opened by its own.
+pub(crate) fn read_named<D: FolderDisk>(
     disk: &D,
     alloc: Global,
     station: &str,
@@ -46,17 +64,9 @@ pub(crate) fn read_ready<D: FolderDisk>(
     ensures named { IfOk result (λ read. D.is_file (D.asked disk.now)
         (path_in station.now Folder.Out name.now) read.file) }
     ensures limit { IfOk result (λ read. length read.bytes.items ≤ most) }
-    ensures long { D.discloses → IsErrOf result (TooLarge Folder.Out)
-        → IsLongerThan D.opened D.File.remaining
-        (path_in station.now Folder.Out name.now) most }
 {
-    match open_ready(disk, alloc, station, name) {
-        Ok(NamedFile { mut file, named }) => read_whole(disk, alloc, &mut file, named, most),
-        Err(error) if error.kind() == ErrorKind::ResourceBusy => {
-            Err(FolderFault::BeingWritten(Folder::Out))
-        }
-        Err(error) => Err(FolderFault::of(Folder::Out, &error)),
-    }
+    let NamedFile { mut file, named } = open_named(disk, alloc, station, name)?;
+    read_whole(disk, alloc, &mut file, named, most)
 }
 
 /// What there is to be read of an open file of out/, which is this one before its first byte and behind its last.
@@ -104,51 +114,6 @@ pub(crate) fn identity<D: FolderDisk>(
 {
     let ready = Folder::Out.path(alloc, station, name)?;
     disk.identity(ready.as_str())
-}
-
-/// A file in out/, open to be read: the one that stands under its name itself. A symbolic link is refused, since its names in other folders can't be told
-/// from others, and so are a folder, a device, and a pipe, which would be waited for; busy where another file took the name meanwhile.
-fn open_ready<D: FolderDisk>(
-    disk: &D,
-    alloc: Global,
-    station: &str,
-    name: &str,
-) -> io::Result<NamedFile<D::File>>
-    ensures opened { D.discloses → IfOk result (λ ready.
-        (D.opened ready.file).name ≡ path_in station.now Folder.Out name.now) }
-    ensures is { IfOk result (λ ready. D.is_open (D.asked disk.now) ready.file ready.named) }
-    ensures named { IfOk result (λ ready. D.is_file (D.asked disk.now)
-        (path_in station.now Folder.Out name.now) ready.named) }
-{
-    let ready = Folder::Out.path(alloc, station, name)?;
-    let named = disk.identity(ready.as_str())?;
-    if disk.is_link(ready.as_str())? {
-        return Err(io::Error::from(ErrorKind::Unsupported));
-    }
-    match disk.status(ready.as_str())?.kind {
-        FileKind::Regular => open_named(disk, ready.as_str(), named),
-        FileKind::Folder => Err(io::Error::from(ErrorKind::IsADirectory)),
-        FileKind::Device => Err(io::Error::from(ErrorKind::Unsupported)),
-    }
-}
-
-/// The file under a name, open to be read, where it is the one that was seen to stand there. So a link that takes the name between the look and the open
-/// leads nowhere.
-fn open_named<D: FolderDisk>(
-    disk: &D,
-    path: &str,
-    named: FileIdentity,
-) -> io::Result<NamedFile<D::File>>
-    ensures opened { D.discloses → IfOk result (λ ready. (D.opened ready.file).name ≡ path.now) }
-    ensures is { IfOk result (λ ready. D.is_open (D.asked disk.now) ready.file ready.named) }
-    ensures named { IfOk result (λ ready. ready.named ≡ named) }
-{
-    let file = disk.open_to_read(path)?;
-    if disk.identity_of(&file)? == named {
-        Ok(NamedFile { file, named })
-    } else {
-        Err(io::Error::from(ErrorKind::ResourceBusy))
-    }
 }
 
 /// All bytes of an open file of a folder. Too large where it has more than `most`.

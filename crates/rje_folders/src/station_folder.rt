@@ -7,8 +7,8 @@ ghost use Rattle.rje_folders.specs.Folder.{path_in, path_of, why_path};
 ghost use Rattle.rje_folders.specs.Keeping.{HasTriedToKeep, LeavesNone, MayKeep, MayTryToKeep, WasMade, WasNamed};
 ghost use Rattle.rje_folders.specs.Marking.{IsMarked, IsSaid, MayMark, WasSaid};
 ghost use Rattle.rje_folders.specs.Moving.{IsGone, IsMoved, IsSecond, MayMove};
-ghost use Rattle.rje_folders.specs.Promising.{IsSent, IsSettled, MayDropCut, MayOpen, MayPromise, MaySettle, MayTry, WasOnDisk};
-ghost use Rattle.rje_folders.specs.Reading.{IsLongerThan, IsReadOf};
+ghost use Rattle.rje_folders.specs.Promising.{IsSent, IsSettled, MayDropCut, MayOpen, MayPromise, MaySettle, WasOnDisk};
+ghost use Rattle.rje_folders.specs.Reading.{IsLongerThan, IsReadOf, MayRead, OfSecond};
 ghost use Rattle.rje_folders.specs.ReadyFile.{AreInOrder};
 ghost use Rattle.rje_folders.specs.TakingOver.{IsTakenOver, MayFinish, MayTakeOver};
 ghost use Rattle.rje_folders.specs.declared.folder_fault.FolderFault.TheVariants.{TooLarge};
@@ -24,7 +24,7 @@ use crate::marking::set_mark;
 use crate::opening::{
     clear_up, is_there, locked, make_folders, names_of, names_ready, tidy_up, unreadable_names,
 };
-use crate::probing::{try_second_name, try_to_keep};
+use crate::probing::try_to_keep;
 use crate::promising::{promise, put_in_doubt, settle};
 use crate::reading::{FileRead, identity, read_ready};
 use crate::receiving::{drop_cut, explain, keep_in, refuse};
@@ -97,20 +97,27 @@ impl<D: FolderDisk + Drop> StationFolder<D> {
         ))
     }
 
-    /// All bytes of a file in out/, and which file it is. Too large where it has more than `most`; being written where it was written to meanwhile.
-    pub fn read(&self, name: &str, most: u64) -> Result<FileRead, FolderFault>
-        ensures all { D.discloses → IfOk result (IsReadOf D.opened D.File.remaining
-            (D.is_open (D.asked self.now.disk))
-            (path_in (string_bytes self.now.path) Folder.Out name.now)) }
+    /// All bytes of a file in out/, and which file it is. Too large where it has more than `most`; being written where it was written to meanwhile;
+    /// without a second name where it can't get one, as it has to before its last block is said.
+    pub fn read(&mut self, name: &str, most: u64) -> Result<FileRead, FolderFault>
+        ensures asks { D.discloses → Adds (MayRead (string_bytes self.old.path) name.now)
+            (D.asked self.old.disk) (D.asked self.new.disk) }
+        // It is read by a second name, which nobody else can give to another file.
+        ensures all { D.discloses → IfOk result (λ read.
+            OfSecond (string_bytes self.old.path) name.now
+            (D.asked self.old.disk) (D.asked self.new.disk) (λ second. IsReadOf D.opened
+            D.File.remaining (D.is_open (D.asked self.new.disk)) second read)) }
         // It is the file that stands under the name itself, as the disk said.
-        ensures named { IfOk result (λ read. D.is_file (D.asked self.now.disk)
-            (path_in (string_bytes self.now.path) Folder.Out name.now) read.file) }
+        ensures named { IfOk result (λ read. D.is_file (D.asked self.new.disk)
+            (path_in (string_bytes self.old.path) Folder.Out name.now) read.file) }
         ensures limit { IfOk result (λ read. length read.bytes.items ≤ most) }
         ensures long { D.discloses → IsErrOf result (TooLarge Folder.Out)
-            → IsLongerThan D.opened D.File.remaining
-            (path_in (string_bytes self.now.path) Folder.Out name.now) most }
+            → OfSecond (string_bytes self.old.path) name.now
+            (D.asked self.old.disk) (D.asked self.new.disk)
+            (λ second. IsLongerThan D.opened D.File.remaining second most) }
+        ensures path { self.new.path ≡ self.old.path }
     {
-        read_ready(&self.disk, self.alloc, self.path.as_str(), name, most)
+        read_ready(&mut self.disk, self.alloc, self.path.as_str(), name, most)
     }
 
     /// Whether the operator holds back what lies ready: a file `hold` is there.
@@ -121,17 +128,6 @@ impl<D: FolderDisk + Drop> StationFolder<D> {
     /// Whether the operator drains the station: a file `drain` is there.
     pub fn is_drained(&self) -> Result<bool, FolderFault> {
         is_there(&self.disk, self.alloc, self.path.as_str(), "drain")
-    }
-
-    /// Whether the file of this name in out/ can get a second name, as it has to before its last block is said.
-    pub fn try_second_name(&mut self, name: &str) -> Result<(), FolderFault>
-        ensures asks { D.discloses → Adds (MayTry (string_bytes self.old.path) name.now)
-            (D.asked self.old.disk) (D.asked self.new.disk) }
-        ensures path { self.new.path ≡ self.old.path }
-    {
-        try_second_name(&mut self.disk, self.alloc, self.path.as_str(), name).map_err(
-            |error| FolderFault::no_second_name(&error),
-        )
     }
 
     /// Takes a file of out/ over that can't get a second name, as one of another user can't: a copy of the station's own, of at most so many bytes,

@@ -90,7 +90,7 @@ fn tidy_counted<D: FolderDisk>(
 
 /// Whether the file of a path has no other name, or is there no more.
 pub(crate) fn has_one_name<D: FolderDisk>(disk: &D, path: &str) -> io::Result<bool> {
-    match disk.status(path) {
+    match disk.status_of_name(path) {
         Ok(found) => Ok(found.links < 2),
         Err(error) if error.kind() == ErrorKind::NotFound => Ok(true),
         Err(error) => Err(error),
@@ -105,7 +105,7 @@ pub(crate) fn names_of_file<D: FolderDisk>(
     name: &str,
 ) -> io::Result<u64> {
     let ready = Folder::Out.path(alloc, station, name)?;
-    match disk.status(ready.as_str()) {
+    match disk.status_of_name(ready.as_str()) {
         Ok(found) => Ok(found.links),
         Err(error) if error.kind() == ErrorKind::NotFound => Ok(0),
         Err(error) => Err(error),

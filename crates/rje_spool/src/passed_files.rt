@@ -1,6 +1,7 @@
 //! The files of out/ that are passed over.
-ghost use Rattle.std.specs.Prelude.{◌≡◌, is_some, IfSome, None, OnOk, Some, string_bytes};
+ghost use Rattle.std.specs.Prelude.{◌≡◌, false, is_some, IfSome, None, OnOk, Some, string_bytes};
 ghost use Rattle.std.specs.BTreeMap.{get_by_text};
+ghost use Rattle.std.specs.declared.io.ErrorKind.TheVariants.{StorageFull};
 ghost use Rattle.rje_folders.specs.declared.folder.Folder.{Folder};
 ghost use Rattle.rje_folders.specs.Folder.{path_in};
 ghost use Rattle.rje_spool.specs.declared.passed_files.Until.TheVariants.{NextLook, Replaced, ThisLook};
@@ -8,6 +9,7 @@ ghost use Rattle.rje_spool.specs.declared.passed_files.Until.TheVariants.{NextLo
 use rje_folders::{FileIdentity, FolderDisk, StationFolder};
 use std::alloc::{AllocError, Global};
 use std::collections::BTreeMap;
+use std::io::ErrorKind;
 
 /// How long a file is passed over.
 #[derive(Clone, Copy, Debug, PartialEq, Eq)]
@@ -98,4 +100,17 @@ impl Until {
             Until::Replaced(_) => None,
         }
     }
+}
+
+/// Whether a file that got no second name for this gets none later either. One for which there was no room may.
+pub(crate) fn is_lasting(kind: ErrorKind) -> bool
+    ensures room { kind ≡ StorageFull → result ≡ false }
+{
+    matches!(
+        kind,
+        ErrorKind::PermissionDenied
+            | ErrorKind::CrossesDevices
+            | ErrorKind::TooManyLinks
+            | ErrorKind::Unsupported
+    )
 }

@@ -1,7 +1,8 @@
 //! The files of a station's spool, and its console.
 ghost use Rattle.std.specs.Prelude.{◌≡◌, ◌≢◌, ◌<◌, ◌↔◌, ◌||◌, ◌&&◌, [], length, nat_le, nat_lt, true, false, IfOk, IfSome, IsTrue, None, OnErr, OnOk, Some, string_bytes};
 ghost use Rattle.std.specs.BTreeMap.{get_by_text};
-ghost use Rattle.rje_folders.specs.declared.folder_fault.FolderFault.TheVariants.{BeingWritten};
+ghost use Rattle.std.specs.declared.io.ErrorKind.TheVariants.{StorageFull};
+ghost use Rattle.rje_folders.specs.declared.folder_fault.FolderFault.TheVariants.{BeingWritten, Failed, NoSecondName};
 ghost use Rattle.rje_folders.specs.Folder.{path_of};
 ghost use Rattle.rje_folders.specs.Keeping.{HasTriedToKeep, WasMade, WasNamed};
 ghost use Rattle.rje_spool.specs.Backed.{GoesOn, WasPut};
@@ -23,7 +24,7 @@ use crate::notice::{JobLabel, Notice};
 use crate::outgoing::{Outgoing, outgoing_of};
 use crate::pace::{MOST_JOBS, Pace};
 use crate::paper::received_file;
-use crate::passed_files::{PassedFiles, Until};
+use crate::passed_files::{PassedFiles, Until, is_lasting};
 use crate::refused_file::RefusedFile;
 use crate::spool_fault::SpoolFault;
 use crate::unkept::Unkept;
@@ -74,6 +75,8 @@ pub(crate) struct SpoolFiles<D: FolderDisk + Drop, C, W, L> {
     unkept: Unkept,
     // Why the folder couldn't be looked at last, as it was told.
     look: Option<FolderFault>,
+    // Why there was no room for a second name or a copy of a file last, as it was told, since one was read.
+    no_room: Option<FolderFault>,
 }
 
 impl<D: FolderDisk + Drop, C: Clock, W: Write, L: Write> SpoolFiles<D, C, W, L> {
@@ -103,6 +106,7 @@ impl<D: FolderDisk + Drop, C: Clock, W: Write, L: Write> SpoolFiles<D, C, W, L> 
             cut: None,
             unkept: Unkept::new(),
             look: None,
+            no_room: None,
         }
     }
 
@@ -473,7 +477,8 @@ impl<D: FolderDisk + Drop, C: Clock, W: Write, L: Write> SpoolFiles<D, C, W, L> 
         self.pace.is_full(jobs, cards) || self.brake.is_on() && 0 < jobs
     }
 
-    /// Takes this file for a transmission that has these jobs, and adds its own. How many cards they have.
+    /// Takes this file for a transmission that has these jobs, and adds its own. How many cards they have. A file that can't get a second name is taken
+    /// over, or passed over.
     fn take_file(&mut self, name: String, jobs: &mut Vec<Job>) -> Result<usize, SpoolFault>
         ensures numbered { OnOk result (jobs_of self.old.given.files.items ≡ length jobs.old.items
             → jobs_of self.new.given.files.items ≡ length jobs.new.items) }
@@ -484,11 +489,16 @@ impl<D: FolderDisk + Drop, C: Clock, W: Write, L: Write> SpoolFiles<D, C, W, L> 
         let file = self.folder.identity(name.as_str()).ok();
         let read = match self.folder.read(name.as_str(), MAX_INPUT as u64) {
             Ok(read) => read,
+            Err(FolderFault::NoSecondName(ErrorKind::PermissionDenied)) => {
+                self.take_over(name, file)?;
+                return Ok(0);
+            }
             Err(fault) => {
                 self.leave(name, file, fault)?;
                 return Ok(0);
             }
         };
+        self.no_room = None;
         match outgoing_of(self.alloc, name.as_str(), read.bytes.as_slice()) {
             Ok(outgoing) => self.give(name, read.file, outgoing, jobs),
             Err(why) if is_want_of_memory(why) => Err(SpoolFault::OutOfMemory),
@@ -499,7 +509,7 @@ impl<D: FolderDisk + Drop, C: Clock, W: Write, L: Write> SpoolFiles<D, C, W, L> 
         }
     }
 
-    /// Leaves a file that can't be read: one that is gone is forgotten, and one that is being written is looked at again.
+    /// Leaves a file that can't be read: one that is gone is forgotten, and one that is being written, or for which there is no room, is tried again.
     fn leave(
         &mut self,
         name: String,
@@ -508,6 +518,11 @@ impl<D: FolderDisk + Drop, C: Clock, W: Write, L: Write> SpoolFiles<D, C, W, L> 
     ) -> Result<(), SpoolFault>
         // One that is being written is passed over at the next look, and not after that.
         ensures written { OnOk result ((folder : _) → fault ≡ BeingWritten folder
+            → get_by_text self.new.passed.files (string_bytes name) ≡ Some NextLook) }
+        // So is one for whose second name, or copy, there is no room.
+        ensures room { OnOk result (fault ≡ NoSecondName StorageFull
+            → get_by_text self.new.passed.files (string_bytes name) ≡ Some NextLook) }
+        ensures copy { OnOk result ((folder : _) → fault ≡ Failed folder StorageFull
             → get_by_text self.new.passed.files (string_bytes name) ≡ Some NextLook) }
         ensures given { self.new.given ≡ self.old.given }
         ensures on { D.discloses
@@ -521,40 +536,39 @@ impl<D: FolderDisk + Drop, C: Clock, W: Write, L: Write> SpoolFiles<D, C, W, L> 
             (FolderFault::TooLarge(_), Some(file)) => {
                 self.refuse(name, file, RefusedFile::TooLong)
             }
+            (FolderFault::NoSecondName(kind), _) if !is_lasting(kind) => self.try_later(
+                name, fault,
+            ),
+            (FolderFault::Failed(_, ErrorKind::StorageFull | ErrorKind::QuotaExceeded), _) => {
+                self.try_later(name, fault)
+            }
             (fault, file) => self.pass_over(name, file, &fault),
         }
     }
 
-    /// The jobs of this file are in the transmission. How many cards they have. A file that can't get a second name is taken over, or passed over.
-    fn give(
-        &mut self,
-        name: String,
-        file: FileIdentity,
-        outgoing: Outgoing,
-        jobs: &mut Vec<Job>,
-    ) -> Result<usize, SpoolFault>
-        ensures numbered { OnOk result (jobs_of self.old.given.files.items ≡ length jobs.old.items
-            → jobs_of self.new.given.files.items ≡ length jobs.new.items) }
-        ensures on { D.discloses
-            → GoesOn (D.asked self.old.folder.disk) (D.asked self.new.folder.disk) }
-        ensures path { self.new.folder.path ≡ self.old.folder.path }
+    /// Passes this file over for one look, as there is no room for a second name or a copy of it now. That is told once until a file is read.
+    fn try_later(&mut self, name: String, why: FolderFault) -> Result<(), SpoolFault>
+        ensures later { OnOk result (get_by_text self.new.passed.files (string_bytes name)
+            ≡ Some NextLook) }
+        ensures folder { self.new.folder ≡ self.old.folder }
+        ensures given { self.new.given ≡ self.old.given }
     {
-        match self.folder.try_second_name(name.as_str()) {
-            Ok(()) => self.add(name, file, outgoing, jobs),
-            Err(FolderFault::NoSecondName(ErrorKind::PermissionDenied)) => {
-                self.take_over(name, file)?;
-                Ok(0)
+        if self.no_room != Some(why) {
+            let place = match why {
+                FolderFault::NoSecondName(_) => "out: ",
+                _ => "",
+            };
+            if let Ok(text) = format!(in self.alloc; "{place}{why}") {
+                self.console.tell(Notice::Failed(text.as_str()));
             }
-            Err(fault) => {
-                self.leave(name, Some(file), fault)?;
-                Ok(0)
-            }
+            self.no_room = Some(why);
         }
+        Ok(self.passed.add(name, Until::NextLook)?)
     }
 
     /// Takes this file over, which can't get a second name, as one of another user can't: a file of the station's own lies ready then, at the next look
     /// at the folder.
-    fn take_over(&mut self, name: String, file: FileIdentity) -> Result<(), SpoolFault>
+    fn take_over(&mut self, name: String, file: Option<FileIdentity>) -> Result<(), SpoolFault>
         ensures given { self.new.given ≡ self.old.given }
         ensures on { D.discloses
             → GoesOn (D.asked self.old.folder.disk) (D.asked self.new.folder.disk) }
@@ -562,12 +576,12 @@ impl<D: FolderDisk + Drop, C: Clock, W: Write, L: Write> SpoolFiles<D, C, W, L> 
     {
         match self.folder.take_over(name.as_str(), MAX_INPUT as u64) {
             Ok(_) | Err(FolderFault::Replaced) => Ok(()),
-            Err(fault) => self.leave(name, Some(file), fault),
+            Err(fault) => self.leave(name, file, fault),
         }
     }
 
-    /// The same of a file that can get a second name.
-    fn add(
+    /// The jobs of this file are in the transmission. How many cards they have.
+    fn give(
         &mut self,
         name: String,
         file: FileIdentity,

@@ -43,7 +43,7 @@ fn names_lie_ready_in_their_order(rt: HostRuntime) -> Result<(), Fail> {
 #[test]
 fn a_file_is_read_whole_or_not_at_all(rt: HostRuntime) -> Result<(), Fail> {
     let alloc = rt.alloc();
-    let station = opened(&rt, alloc, disk_with(alloc, 0, false, "s/out/A.job")?);
+    let mut station = opened(&rt, alloc, disk_with(alloc, 0, false, "s/out/A.job")?);
     let whole = station.read("A.job", 5).expect(&rt, "bytes");
     assert!(rt; whole.bytes.as_slice() == b"12345".as_slice());
     assert!(rt; station.identity("A.job").ok() == Some(whole.file));
@@ -201,17 +201,51 @@ fn what_a_killed_station_was_writing_is_taken_away(rt: HostRuntime) -> Result<()
 }
 
 #[test]
-fn a_file_that_cannot_be_linked_is_found(rt: HostRuntime) -> Result<(), Fail> {
+fn a_file_that_gets_no_second_name_is_not_read(rt: HostRuntime) -> Result<(), Fail> {
     let alloc = rt.alloc();
     let mut disk = disk_with(alloc, 0, false, "s/out/A.job")?;
     let other = disk.put("s/out/B.job")?;
     disk.deny(other);
     let mut station = opened(&rt, alloc, disk);
-    assert!(rt; station.try_second_name("A.job").is_ok());
-    let refused = station.try_second_name("B.job").err();
+    assert!(rt; station.read("A.job", 5).is_ok());
+    let refused = station.read("B.job", 5).err();
     assert!(rt; refused == Some(FolderFault::NoSecondName(ErrorKind::PermissionDenied)));
     let disk = station.close();
     assert!(rt; disk.count() == 3 && disk.file_of("s/out/B.job") == Some(other));
+    Ok(())
+}
+
+/// Whichever of the two calls fails by which a file is read, done or not, it lies ready, and has its one name again at the next begin.
+#[test]
+fn a_file_that_is_read_keeps_its_name(rt: HostRuntime) -> Result<(), Fail> {
+    let alloc = rt.alloc();
+    for is_done in [false, true] {
+        for fails_at in 0..3 {
+            let disk = disk_with(alloc, fails_at, is_done, "s/out/A.job")?;
+            let mut station = opened(&rt, alloc, disk);
+            let read = station.read("A.job", 5);
+            // A second name that stays keeps nothing from being read.
+            assert!(rt; read.is_ok() == (fails_at != 1));
+            let again = station.read("A.job", 5).expect(&rt, "bytes");
+            assert!(rt; again.bytes.as_slice() == b"12345".as_slice());
+            let disk = opened(&rt, alloc, station.close().mended()).close();
+            assert!(rt; disk.count() == 2 && disk.file_of("s/out/A.job").is_some());
+        }
+    }
+    Ok(())
+}
+
+/// A file that takes the name between the link and the look isn't read for the one that had it.
+#[test]
+fn a_file_that_took_the_name_is_not_read(rt: HostRuntime) -> Result<(), Fail> {
+    let alloc = rt.alloc();
+    let mut disk = disk_with(alloc, 0, false, "s/out/A.job")?;
+    disk.put_meanwhile(2, "s/out/A.job")?;
+    let mut station = opened(&rt, alloc, disk);
+    let refused = station.read("A.job", 5).err();
+    assert!(rt; refused == Some(FolderFault::BeingWritten(Folder::Out)));
+    let read = station.read("A.job", 5).expect(&rt, "bytes");
+    assert!(rt; read.bytes.as_slice() == b"NEW".as_slice());
     Ok(())
 }
 

@@ -26,16 +26,23 @@ fn disk_of_another(alloc: Global, fails_at: usize, is_done: bool) -> io::Result<
     Ok(disk)
 }
 
-/// How many files lie ready in out/ whose bytes are these.
-fn count_ready(rt: &impl Abort, station: &StationFolder<FailingDisk>, bytes: &[u8]) -> usize {
+/// Lets a station's folder go. Its disk, and how many files lay ready in out/ whose bytes are these.
+fn closed(
+    rt: &impl Abort,
+    alloc: Global,
+    station: StationFolder<FailingDisk>,
+    bytes: &[u8],
+) -> io::Result<(FailingDisk, usize)> {
+    let names = station.names_ready().expect(rt, "names");
+    let disk = station.close();
     let mut count: usize = 0;
-    for name in &station.names_ready().expect(rt, "names") {
-        let read = station.read(name.as_str(), 5).expect(rt, "a file");
-        if read.bytes.as_slice() == bytes {
+    for name in &names {
+        let path = format!(in alloc; "s/out/{name}")?;
+        if disk.has(path.as_str(), bytes) {
             count = count.saturating_add(1);
         }
     }
-    count
+    Ok((disk, count))
 }
 
 /// Whichever call fails, done or not, a station that begins then has the file once, as its own.
@@ -46,16 +53,16 @@ fn a_file_of_another_user_is_taken_over(rt: HostRuntime) -> Result<(), Fail> {
         for is_done in [false, true] {
             let mut station = opened(&rt, alloc, disk_of_another(alloc, fails_at, is_done)?);
             let taken = station.take_over("A.deck", 5);
-            assert!(rt; count_ready(&rt, &station, b"12345") <= 1);
-            let disk = station.close();
+            let (disk, count) = closed(&rt, alloc, station, b"12345")?;
+            assert!(rt; count <= 1);
             if let Ok(path) = &taken {
                 assert!(rt; path.as_str() == "s/out/A.deck" && disk.count() == 2);
                 assert!(rt; disk.file_of("s/out/A.deck") != Some(1));
             }
             assert!(rt; fails_at != 0 || taken.is_ok());
             let station = opened(&rt, alloc, disk.mended());
-            assert!(rt; count_ready(&rt, &station, b"12345") == 1);
-            assert!(rt; station.close().count() == 2);
+            let (disk, count) = closed(&rt, alloc, station, b"12345")?;
+            assert!(rt; count == 1 && disk.count() == 2);
         }
     }
     Ok(())
@@ -71,8 +78,8 @@ fn a_file_that_was_being_taken_over_is_there_once(rt: HostRuntime) -> Result<(),
         let mut station = opened(&rt, alloc, disk);
         let _ = station.take_over("A.deck", 5);
         let station = opened(&rt, alloc, station.close().mended());
-        assert!(rt; count_ready(&rt, &station, b"12345") == 1);
-        let disk = station.close();
+        let (disk, count) = closed(&rt, alloc, station, b"12345")?;
+        assert!(rt; count == 1);
         assert!(rt; disk.count() == 2 && disk.file_of("s/out/A.deck").is_some());
     }
     Ok(())
@@ -91,9 +98,9 @@ fn a_file_that_is_put_there_meanwhile_stays(rt: HostRuntime) -> Result<(), Fail>
         let disk = station.close();
         let was_free = disk.was_free();
         assert!(rt; was_free.is_some() && disk.has("s/out/A.deck", b"NEW"));
-        let station = opened(&rt, alloc, disk);
-        assert!(rt; count_ready(&rt, &station, b"NEW") == 1);
-        let others = count_ready(&rt, &station, b"12345");
+        let (disk, count) = closed(&rt, alloc, opened(&rt, alloc, disk), b"NEW")?;
+        assert!(rt; count == 1);
+        let (_, others) = closed(&rt, alloc, opened(&rt, alloc, disk), b"12345")?;
         if was_free == Some(true) {
             frees = frees.saturating_add(1);
             assert!(rt; others == 1);

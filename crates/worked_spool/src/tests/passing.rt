@@ -44,3 +44,27 @@ fn a_file_that_is_passed_over_keeps_no_other_back(rt: HostRuntime) {
     ground.put(&rt, "s/out/c.deck", b"C\n");
     assert!(rt; given(&rt, &mut spool) == 1);
 }
+
+/// A file for whose second name there is no room is passed over for one look, and told once until one is read.
+#[test]
+fn a_file_without_room_for_a_second_name_goes_later(rt: HostRuntime) {
+    let ground = Ground::new(rt.alloc());
+    ground.put(&rt, "s/out/a.deck", b"A\n");
+    let mut spool = ground.spool(&rt);
+    for _ in 0..2 {
+        for _ in 0..2 {
+            assert!(rt; spool.seen().ready);
+            ground.fail_next(&rt);
+            assert!(rt; given(&rt, &mut spool) == 0);
+            assert!(rt; !spool.seen().ready);
+        }
+        assert!(rt; given(&rt, &mut spool) == 1);
+        settled(&rt, &mut spool, 1, Disposition::Ready);
+    }
+    ground.assert_told(
+        &rt,
+        b"2026-11-28 13:05:09 out: can't get a second name: no storage space
+2026-11-28 13:05:09 out: can't get a second name: no storage space
+",
+    );
+}

@@ -1,9 +1,5 @@
-use Rattle.std.proofs.Common.{◌≡◌, List, subst, sym, ◌∙◌}
+use Rattle.std.proofs.Common.{◌∙◌}
 use Rattle.std.specs.Prelude.{string_bytes}
-use Rattle.rje_day.specs.declared.disposition.Disposition.{Disposition}
-use Rattle.rje_stores.specs.Disk.{Asked}
-use Rattle.rje_stores.specs.Replacing.{Adds}
-use Rattle.rje_folders.specs.Promising.{MaySettle}
 use Rattle.rje_folders.proofs.Settling.{drop_settles, move_settles, sent_is}
 use Rattle.rje_folders.proofs.promising.put_in_sent.Goals as goal
 
