@@ -10,11 +10,12 @@ sys.path.insert(0, os.path.dirname(os.path.dirname(os.path.abspath(__file__))))
 from tests.lib import case  # noqa: E402
 from tests.lib.frames import ACK0, ACK1, ENQ, EOT, NAK, text_of  # noqa: E402
 from tests.lib.ports import free_port, waits_for  # noqa: E402
-from tests.lib.stations import StationCase, seconds_of, told_by  # noqa: E402
+from tests.lib.stations import StationCase, has_logged, seconds_of, told_by  # noqa: E402
+from tests.lib.terminal import OnTerminal  # noqa: E402
 
 
 class Calls(StationCase):
-    seconds = 22
+    seconds = 26
 
     def test_calls_again(self):
         """After the first connection that broke a station calls again at once, after the second when it is time to; an end that answers nothing breaks it."""
@@ -69,8 +70,57 @@ class Calls(StationCase):
         station.kill()
 
 
+    def test_waits_for_an_answer(self):
+        """Where nobody answers a call a station waits for three seconds at least, also with a shorter time-out."""
+        with socket.socket() as full:
+            full.bind(("127.0.0.1", 0))
+            # (one call waits to be taken, and what comes then isn't answered)
+            full.listen(0)
+            for _ in range(2):
+                waits = socket.socket()
+                self.addCleanup(waits.close)
+                waits.setblocking(False)
+                waits.connect_ex(full.getsockname())
+            station = self.station("answers", "--to", f"127.0.0.1:{full.getsockname()[1]}", "--every", "60", timeout="200")
+            station.start()
+            self.true(waits_for(lambda: has_logged(station, "calling")), "answers: it doesn't call")
+            began = time.monotonic()
+            self.true(waits_for(lambda: has_logged(station, "can't connect"), 10), "answers: it waits for ever")
+            took = time.monotonic() - began
+            self.check(took < 2.5 and f"answers: it gave up after {took:.1f} s")
+            station.kill()
+
+
 class Callers(StationCase):
-    seconds = 18
+    seconds = 20
+
+    def test_strangers(self):
+        """Callers that aren't let in are hung up, each of them; that is told once a minute."""
+        station, port = self.is_called("strangers", "--from", "127.0.0.2")
+        for _ in range(3):
+            stranger = self.peer(port)
+            self.true(stranger.is_hung_up(), "strangers: one is let in")
+            stranger.close()
+        told = [line for line in told_by(station) if line.startswith("hung up on ")]
+        self.equal(len(told), 1, f"strangers: of three it told {told}")
+        station.kill()
+
+    def test_slow_blocks(self):
+        """A block whose bytes come slowly, as over a slow line, is taken: it may take as long as ten time-outs."""
+        station, port = self.is_called("slow")
+        peer = self.peer(port)
+        peer.connection.setsockopt(socket.IPPROTO_TCP, socket.TCP_NODELAY, 1)
+        peer.says(ENQ)
+        self.true(peer.hears(ACK0), "slow: it grants no bid")
+        # (five time-outs of 200 ms in all, and half a one between two bytes)
+        text = text_of([b"\xC8\xC9"])
+        for place in range(len(text)):
+            peer.says(text[place:place + 1])
+            time.sleep(1 / len(text))
+        self.true(peer.hears(ACK1), "slow: it acknowledges no block that came slowly")
+        self.true(waits_for(lambda: len(station.names("in")) == 1), lambda: f"slow: in/ has {station.names('in')}")
+        peer.says(EOT)
+        station.kill()
 
     def test_idle_end(self):
         """An end that says no word any more is hung up after a word too; one that calls again from the same address ends its old connection."""
@@ -245,7 +295,7 @@ class Endings(StationCase):
 
 
 class Told(StationCase):
-    seconds = 10
+    seconds = 20
 
     def test_partings(self):
         """What is told of a connection that is over: hung up where nothing was in hand, and else why the line failed."""
@@ -313,6 +363,38 @@ class Told(StationCase):
             wanted = ["station of", "calling", "can't connect:", "ended"]
             self.check((len(told) != 4 or not all(line.startswith(begin) for line, begin in zip(told, wanted))) and f"log: it told {told[-6:]}")
             lines = text
+
+    def test_terminal(self):
+        """On a terminal how far a job is stands in one line, which is gone once the job is kept and its transmission ended; with --quiet nothing of it does."""
+        for words in ([], ["--quiet"]):
+            port, name = free_port(), "".join(["terminal", *words])
+            os.mkdir(f"{self.folder}/{name}")
+            shown = OnTerminal([self.program, "station", f"{self.folder}/{name}", "--listen", f"127.0.0.1:{port}", "--timeout", "1000", *words])
+            self.addCleanup(shown.process.kill)
+            self.true(shown.until("listening"), f"{name}: it doesn't listen")
+            peer = self.peer(port)
+            peer.says(ENQ)
+            peer.hears(ACK0)
+            for answer in (ACK1, ACK0):
+                peer.says(text_of([b"\xC8\xC9"], False))
+                self.true(peer.hears(answer), f"{name}: it acknowledges no block")
+                # (a line that stands is left for a tenth of a second)
+                time.sleep(0.2)
+            if not words:
+                self.true(shown.until("receiving job 1: 2 records, 2 blocks"), lambda: f"{name}: it shows {shown.screen.text()}")
+            peer.says(text_of([b"\xC8\xC9"]))
+            self.true(peer.hears(ACK1), f"{name}: it acknowledges no last block")
+            peer.says(EOT)
+            # (the line is that of the next hearing, by which the transmission is over)
+            time.sleep(0.5)
+            self.true(shown.until("whole 3 records"), lambda: f"{name}: it shows {shown.screen.text()}")
+            while shown.step(0.2) and time.monotonic() < shown.began + 4:
+                pass
+            last = shown.screen.text().rstrip().rsplit("\n", 1)[-1]
+            self.check(not last.endswith("whole 3 records") and f"{name}: after its transmission it shows {last}")
+            self.check((b"\r" in shown.raw.replace(b"\r\n", b"")) == bool(words) and f"{name}: it wrote {shown.raw}")
+            shown.process.kill()
+            shown.ended()
 
     def test_no_folder(self):
         """A folder of no name is refused, and what ends a station stands in its log."""

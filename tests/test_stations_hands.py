@@ -156,6 +156,7 @@ class FullDisk(StationCase):
             self.check(answer_of(port) is not None and "with a disk that takes nothing a bid is granted")
         told = told_by(station)
         self.equal(told.count("STOPPED RECEIVING: a job can't be kept"), 1, f"of a disk that takes nothing it told {told}")
+        self.true(any(line.startswith("in: ") for line in told), f"why it can't be kept isn't told: {told}")
         os.remove(station.at("in"))
         os.rename(station.at("in.away"), station.at("in"))
         self.true(waits_for(lambda: "receiving again: a job can be kept" in told_by(station), 15), lambda: f"it told {told_by(station)}")
