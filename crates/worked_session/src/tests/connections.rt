@@ -400,3 +400,78 @@ fn an_answer_after_a_transmission_of_the_other_end_leaves_all_in_doubt(rt: HostR
             .as_slice()
     );
 }
+
+/// The bid is granted by ACK0, and the blocks are acknowledged by ACK1 and ACK0 in turn (GA27-3004): nothing asks the other end to wait or to stop.
+#[test]
+fn what_comes_is_acknowledged_and_nothing_else(rt: HostRuntime) {
+    let mut line = Script::new(&[&ENQ, &MORE, &BLOCK, &EOT], 0);
+    let mut spool = book(&rt, 0, 2, 0);
+    assert!(rt; stays(&rt, Rank::Primary, &mut line, &mut spool));
+    assert!(rt; spool.notes() == [Note::Kept].as_slice());
+    assert!(rt; line.replies() == [0x70, 0x61, 0x70].as_slice());
+}
+
+/// With no patience the first hearing without a word is the last, and one that brings a word isn't.
+#[test]
+fn no_patience_is_for_words_all_the_same(rt: HostRuntime) {
+    let impatient = Terms {
+        patience: 0,
+        ..terms(false)
+    };
+    let mut line = Script::new(&[&ENQ, &MORE, &BLOCK, &EOT], 0);
+    let mut spool = book(&rt, 0, 2, 0);
+    assert!(rt; parts(&rt, impatient, &mut line, &mut spool) == Some(Parting::HungUp));
+    assert!(rt; spool.notes() == [Note::Kept].as_slice());
+}
+
+/// A transmission may take as long as it takes: a hundred and fifty thousand hearings bring nothing, and the block that comes then ends its job.
+#[test]
+fn endless_patience_has_no_end(rt: HostRuntime) {
+    let patient = Terms {
+        patience: u32::MAX,
+        ..terms(false)
+    };
+    let mut line = Script::new(&[&ENQ, &MORE, &BLOCK, &EOT], 0);
+    line.pause(2, 150_000);
+    let mut spool = book(&rt, 0, 2, 0);
+    assert!(rt; parts(&rt, patient, &mut line, &mut spool) == Some(Parting::HungUp));
+    assert!(rt; spool.notes() == [Note::Kept].as_slice());
+}
+
+/// A secondary listens before each of its bids, so that the other end's is heard where both bid.
+#[test]
+fn a_secondary_listens_before_each_bid(rt: HostRuntime) {
+    let mut line = Script::new(&[&[], &[], &ENQ, &BLOCK, &EOT], 0);
+    let mut spool = book(&rt, 1, 9, 0);
+    assert!(rt; stays(&rt, Rank::Secondary, &mut line, &mut spool));
+    assert!(rt; line.said() == [SAID_BID, SAID_ACK, SAID_ACK].as_slice());
+    assert!(rt; spool.notes().contains(&Note::Kept));
+}
+
+/// An end that says words stays all day, thirty thousand hearings of three seconds, also where none of them begins a transmission: patience, for forty
+/// hearings here, is for those that bring none.
+#[test]
+fn an_end_that_says_words_is_not_hung_up(rt: HostRuntime) {
+    let mut line = Script::new(&[&ACK0], 0);
+    line.repeat(29_999);
+    let mut spool = book(&rt, 0, 30_001, 0);
+    assert!(rt; parts(&rt, terms(false), &mut line, &mut spool) == Some(Parting::HungUp));
+    assert!(rt; line.is_heard());
+}
+
+/// A transmission of its own is left, too, where the spool says so: before the block is said whose turn is next, whoever gives way to whom.
+#[test]
+fn a_transmission_of_its_own_that_does_not_go_on_is_left(rt: HostRuntime) {
+    for (rank, turns) in [(Rank::Primary, 1), (Rank::Secondary, 2)] {
+        // (a secondary listens before it bids)
+        let mut line = match rank {
+            Rank::Primary => Script::new(&[&ACK0, &ACK1], 0),
+            Rank::Secondary => Script::new(&[&[], &ACK0, &ACK1], 0),
+        };
+        let mut spool = book(&rt, 1, 9, 0);
+        spool.leave_after(turns);
+        assert!(rt; stays(&rt, rank, &mut line, &mut spool));
+        assert!(rt; line.said() == [SAID_BID].as_slice());
+        assert!(rt; spool.notes().last() == Some(&Note::Settled(0, Disposition::Ready)));
+    }
+}

@@ -17,8 +17,12 @@ pub(super) struct Script {
     hung_up: bool,
     /// It begins anew so often once there is nothing more to hear.
     again: u32,
+    /// At this place so many hearings bring nothing.
+    pause: Option<(usize, u32)>,
     /// The third byte of each transmission, by which its kind is known.
     said: ArrayVec<u8, 64>,
+    /// The fourth byte of each reply of two bytes, by which it is known which one it is.
+    replies: ArrayVec<u8, 64>,
     transmissions: u64,
     failures: u64,
     last_fault: Option<LineFault>,
@@ -33,7 +37,9 @@ impl Script {
             strays: false,
             hung_up: false,
             again: 0,
+            pause: None,
             said: ArrayVec::new(),
+            replies: ArrayVec::new(),
             transmissions: 0,
             failures: 0,
             last_fault: None,
@@ -48,6 +54,21 @@ impl Script {
     /// All is heard so many times more.
     pub(super) fn repeat(&mut self, times: u32) {
         self.again = times;
+    }
+
+    /// At this place so many hearings bring nothing.
+    pub(super) fn pause(&mut self, place: usize, hearings: u32) {
+        self.pause = Some((place, hearings));
+    }
+
+    /// The fourth byte of each reply of two bytes.
+    pub(super) fn replies(&self) -> &[u8] {
+        self.replies.as_slice()
+    }
+
+    /// Whether all was heard.
+    pub(super) fn is_heard(&self) -> bool {
+        self.place >= self.pieces.len() && self.again == 0
     }
 
     /// How often the station spoke.
@@ -82,6 +103,9 @@ impl Line for Script {
         if bytes.len() > 2 {
             let _ = self.said.try_push(bytes[2]);
         }
+        if bytes.len() > 3 && bytes[2] == 0x10 {
+            let _ = self.replies.try_push(bytes[3]);
+        }
         Ok(())
     }
 
@@ -98,6 +122,12 @@ impl Line for Script {
         }
         if self.place >= self.pieces.len() {
             return Ok(Came::Quiet);
+        }
+        if let Some((place, hearings)) = self.pause {
+            if place == self.place && hearings > 0 {
+                self.pause = Some((place, hearings - 1));
+                return Ok(Came::Quiet);
+            }
         }
         let bytes = self.pieces[self.place];
         self.place += 1;
