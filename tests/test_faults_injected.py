@@ -287,7 +287,8 @@ def on_disk(program, options):
             roomy = functools.partial(subprocess.run, ["mount", "-o", "remount,size=1m,nr_inodes=100", folder.at("disk")], check=True)
             return sends_all_or_nothing(folder, "disk/pay.job", f"a sender on a disk of {options}", given, ["send", "disk/pay.job"], room=roomy)
         finally:
-            subprocess.run(["umount", folder.at("disk")], check=True)
+            # (a process that is being started in another thread may have a file of it open for a moment)
+            subprocess.run(["umount", "-l", folder.at("disk")], check=True)
 
 
 # With the last of them not even the file can be found in the folder.

@@ -241,7 +241,7 @@ def can_mount(folder):
     os.mkdir(place)
     can = subprocess.run(["mount", "-t", "tmpfs", "tmpfs", place], stderr=subprocess.DEVNULL, check=False).returncode == 0
     if can:
-        subprocess.run(["umount", place], check=True)
+        subprocess.run(["umount", "-l", place], check=True)
     return can
 
 
