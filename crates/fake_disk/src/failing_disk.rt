@@ -31,6 +31,12 @@ pub struct FailingDisk {
     are_on_disk: bool,
     // What comes of each lock.
     locking: Locking,
+    // A folder whose names can't be seen.
+    hidden: Option<String>,
+    // A name that is listed though no file has it any more.
+    listed: Option<String>,
+    // The most bytes that a file has room for.
+    room: usize,
 }
 
 /// At a call of this number another file is put in the place of the one under a path.
@@ -38,6 +44,7 @@ pub struct FailingDisk {
 struct Meanwhile {
     at: usize,
     path: String,
+    bytes: Vec<u8>,
     // Whether it was put there, and then whether no file had the path.
     was_free: Option<bool>,
 }
@@ -82,6 +89,9 @@ impl FailingDisk {
             folders: None,
             are_on_disk: true,
             locking: Locking::Done,
+            hidden: None,
+            listed: None,
+            room: usize::MAX,
         }
     }
 
@@ -97,13 +107,38 @@ impl FailingDisk {
 
     /// Right before the call of this number, of those that change something, a file of the bytes NEW is put in the place of the one under a path.
     pub fn put_meanwhile(&mut self, at: usize, path: &str) -> io::Result<()> {
+        self.put_bytes_meanwhile(at, path, b"NEW")
+    }
+
+    /// The same with a file of these bytes.
+    pub fn put_bytes_meanwhile(&mut self, at: usize, path: &str, bytes: &[u8]) -> io::Result<()> {
         let path = String::from_str(self.alloc, path)?;
+        let mut own = Vec::new(self.alloc);
+        own.extend_from_slice(bytes)?;
         self.meanwhile = Some(Meanwhile {
             at,
             path,
+            bytes: own,
             was_free: None,
         });
         Ok(())
+    }
+
+    /// From now on the names in this folder can't be seen.
+    pub fn hide_folder(&mut self, folder: &str) -> io::Result<()> {
+        self.hidden = Some(String::from_str(self.alloc, folder)?);
+        Ok(())
+    }
+
+    /// From now on this name is listed, though no file has it: as if its file was taken away once the list was made.
+    pub fn list_too(&mut self, path: &str) -> io::Result<()> {
+        self.listed = Some(String::from_str(self.alloc, path)?);
+        Ok(())
+    }
+
+    /// From now on no file gets more bytes than these.
+    pub fn set_room(&mut self, bytes: usize) {
+        self.room = bytes;
     }
 
     /// Whether what was to be put meanwhile was put there, and then whether no file had the path.
@@ -132,6 +167,11 @@ impl FailingDisk {
     /// The next call that changes something fails.
     pub fn fail_next(&mut self) {
         self.fails_at = self.calls.saturating_add(1);
+    }
+
+    /// The number of the next call that changes something.
+    pub fn next_call(&self) -> usize {
+        self.calls.saturating_add(1)
     }
 
     /// From now on this comes of each lock.
@@ -272,7 +312,7 @@ impl FailingDisk {
         let mut other = other;
         if other.at == self.calls {
             other.was_free = Some(self.file_of(other.path.as_str()).is_none());
-            self.replace(other.path.as_str(), b"NEW")?;
+            self.replace(other.path.as_str(), other.bytes.as_slice())?;
         }
         self.meanwhile = Some(other);
         Ok(())
@@ -447,6 +487,9 @@ impl Disk for FailingDisk {
 
     fn fill(&mut self, file: &OpenFile, bytes: &[u8]) -> io::Result<()> {
         if self.begins() {
+            if self.room < bytes.len() {
+                return Err(io::Error::from(ErrorKind::StorageFull));
+            }
             self.write(file.file, bytes)?;
         }
         self.ended()
@@ -559,12 +602,20 @@ impl FolderDisk for FailingDisk {
     }
 
     fn names_in(&self, alloc: Global, folder: &str) -> io::Result<Vec<String>> {
+        if let Some(hidden) = &self.hidden {
+            if hidden.as_str() == folder {
+                return Err(io::Error::from(ErrorKind::PermissionDenied));
+            }
+        }
         let mut names = Vec::new(alloc);
         for name in &self.names {
-            if let Some((of, own)) = name.path.as_str().rsplit_once('/') {
-                if of == folder {
-                    names.push(String::from_str(alloc, own)?)?;
-                }
+            if let Some(own) = own_name(name.path.as_str(), folder) {
+                names.push(String::from_str(alloc, own)?)?;
+            }
+        }
+        if let Some(listed) = &self.listed {
+            if let Some(own) = own_name(listed.as_str(), folder) {
+                names.push(String::from_str(alloc, own)?)?;
             }
         }
         Ok(names)
@@ -583,5 +634,13 @@ impl FolderDisk for FailingDisk {
             self.are_on_disk = false;
         }
         self.ended()
+    }
+}
+
+/// The name that a path has in this folder, if it is there.
+fn own_name<'a>(path: &'a str, folder: &str) -> Option<&'a str> {
+    match path.rsplit_once('/') {
+        Some((of, own)) if of == folder => Some(own),
+        _ => None,
     }
 }

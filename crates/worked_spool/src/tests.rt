@@ -131,21 +131,49 @@ impl Ground {
         self.disk().changed().expect(rt, "a disk").fail_next();
     }
 
+    /// At the next call that changes something on the disk another file of these bytes is put in the place of one.
+    fn put_meanwhile(&self, rt: &impl Abort, path: &str, bytes: &[u8]) {
+        let mut disk = self.disk().changed().expect(rt, "a disk");
+        let next = disk.next_call();
+        assert!(rt; disk.put_bytes_meanwhile(next, path, bytes).is_ok());
+    }
+
+    /// Somebody took the folders away: each is made again where it is needed.
+    fn drop_folders(&self, rt: &impl Abort) {
+        self.disk().changed().expect(rt, "a disk").drop_folders();
+    }
+
+    /// The names in this folder can't be seen from now on.
+    fn hide_folder(&self, rt: &impl Abort, folder: &str) {
+        let mut disk = self.disk().changed().expect(rt, "a disk");
+        assert!(rt; disk.hide_folder(folder).is_ok());
+    }
+
+    /// No file on the disk gets more bytes than these from now on.
+    fn set_room(&self, rt: &impl Abort, bytes: usize) {
+        self.disk().changed().expect(rt, "a disk").set_room(bytes);
+    }
+
     /// How many names there are on the disk.
     fn count(&self, rt: &impl Abort) -> usize {
         self.disk().seen().expect(rt, "a disk").count()
     }
 
-    /// A console whose lines go to the page and to the log.
-    fn console(&self) -> Console<TestClock<'_>, Page<'_>, Page<'_>> {
+    /// A console whose lines go to the page, which is a terminal or none, and to the log.
+    fn console_on(&self, is_terminal: bool) -> Console<TestClock<'_>, Page<'_>, Page<'_>> {
         let clock = TestClock::new(&self.clock);
         Console::new(
             clock,
             self.alloc,
             Page::new(&self.page),
             Page::new(&self.log),
-            false,
+            is_terminal,
         )
+    }
+
+    /// A console whose lines go to the page and to the log.
+    fn console(&self) -> Console<TestClock<'_>, Page<'_>, Page<'_>> {
+        self.console_on(false)
     }
 
     /// Just this stands on the page and in the log.
@@ -158,5 +186,11 @@ impl Ground {
     fn spool(&self, rt: &impl Abort) -> TestSpool<'_> {
         let folder = StationFolder::open(self.disk(), self.alloc, "s").expect(rt, "a folder");
         FolderSpool::new(self.alloc, folder, self.console())
+    }
+
+    /// The same where the page is a terminal.
+    fn spool_on_terminal(&self, rt: &impl Abort) -> TestSpool<'_> {
+        let folder = StationFolder::open(self.disk(), self.alloc, "s").expect(rt, "a folder");
+        FolderSpool::new(self.alloc, folder, self.console_on(true))
     }
 }

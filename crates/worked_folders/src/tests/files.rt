@@ -235,6 +235,20 @@ fn a_file_that_is_read_keeps_its_name(rt: HostRuntime) -> Result<(), Fail> {
     Ok(())
 }
 
+/// A file that is taken back as a station begins, once the names in its folder were listed, keeps it from nothing.
+#[test]
+fn a_file_that_is_taken_back_as_a_station_begins_is_forgotten(rt: HostRuntime) -> Result<(), Fail> {
+    let alloc = rt.alloc();
+    for path in ["s/out/B.job", "s/doubt/B.job", "s/out/.B.job.taken-0"] {
+        let mut disk = disk_with(alloc, 0, false, "s/out/A.job")?;
+        disk.list_too(path)?;
+        let station = opened(&rt, alloc, disk);
+        let ready = station.names_ready().expect(&rt, "names");
+        assert!(rt; ready.len() == 1 && ready.first().is_some_and(|name| name.as_str() == "A.job"));
+    }
+    Ok(())
+}
+
 /// A file that takes the name between the link and the look isn't read for the one that had it.
 #[test]
 fn a_file_that_took_the_name_is_not_read(rt: HostRuntime) -> Result<(), Fail> {

@@ -146,3 +146,31 @@ fn a_hidden_name_is_brought_to_its_end(rt: HostRuntime) -> Result<(), Fail> {
     assert!(rt; disk.count() == 6);
     Ok(())
 }
+
+/// A file of more bytes than are read at once gets its name back where it was being taken over, as the station's own.
+#[test]
+fn a_long_file_gets_its_name_back(rt: HostRuntime) -> Result<(), Fail> {
+    let alloc = rt.alloc();
+    let mut bytes = Vec::new(alloc);
+    assert!(rt; bytes.resize(70_000, b'A').is_ok());
+    let mut disk = FailingDisk::new(alloc, 0, false);
+    let file = disk.put_bytes("s/out/.A.deck.taken-0", bytes.as_slice())?;
+    disk.deny(file);
+    let disk = opened(&rt, alloc, disk).close();
+    assert!(rt; disk.file_of("s/out/.A.deck.taken-0").is_none());
+    assert!(rt; disk.has("s/out/A.deck", bytes.as_slice()));
+    Ok(())
+}
+
+/// A hidden file that can't get its name back stays as it is, and keeps no station from beginning.
+#[test]
+fn a_hidden_file_that_stays_hidden_stops_no_station(rt: HostRuntime) -> Result<(), Fail> {
+    let alloc = rt.alloc();
+    // The first call is that by which it would get its name.
+    let mut disk = FailingDisk::new(alloc, 1, false);
+    let file = disk.put_bytes("s/out/.A.deck.taken-0", b"12345")?;
+    let disk = opened(&rt, alloc, disk).close();
+    assert!(rt; disk.file_of("s/out/.A.deck.taken-0") == Some(file));
+    assert!(rt; disk.file_of("s/out/A.deck").is_none());
+    Ok(())
+}

@@ -122,3 +122,14 @@ fn no_file_is_tried_without_a_clock(rt: HostRuntime) {
     ground.clock.set(Some(BEGIN + 86400));
     assert!(rt; given(&rt, &mut spool) == 0);
 }
+
+/// Where it can't be seen whether doubt/ has a file, nothing is sent before its time.
+#[test]
+fn doubt_that_cannot_be_seen_is_not_empty(rt: HostRuntime) {
+    let ground = Ground::new(rt.alloc());
+    let mut spool = stopped(&rt, &ground, 5);
+    ground.hide_folder(&rt, "s/doubt");
+    assert!(rt; given(&rt, &mut spool) == 0);
+    ground.clock.set(Some(BEGIN + 60));
+    assert!(rt; given(&rt, &mut spool) == 1);
+}

@@ -183,6 +183,50 @@ fn a_file_that_cannot_be_in_doubt_keeps_no_other_from_it(rt: HostRuntime) {
     assert!(rt; ground.stands("s/doubt/c.deck"));
 }
 
+/// A file of which can't be seen whether it is in doubt doesn't lie ready: it would be sent twice.
+#[test]
+fn a_file_that_may_be_in_doubt_does_not_lie_ready(rt: HostRuntime) {
+    let ground = Ground::new(rt.alloc());
+    let mut spool = deck_out(&rt, &ground);
+    ground.hide_folder(&rt, "s/doubt");
+    assert!(rt; given(&rt, &mut spool) == 0);
+}
+
+/// A job file is taken back while the last block of its first job is out. That job is counted, and what is left can't lie ready any more: the file is
+/// in doubt, as the operator is told.
+#[test]
+fn a_job_file_that_is_taken_back_too_late_is_told(rt: HostRuntime) {
+    let ground = Ground::new(rt.alloc());
+    ground.put(&rt, "s/out/a.job", &two_jobs(0));
+    let mut spool = ground.spool(&rt);
+    assert!(rt; given(&rt, &mut spool) == 2);
+    assert!(rt; spool.goes_out(0).is_ok());
+    ground.remove(&rt, "s/out/a.job");
+    assert!(rt; spool.settle(0, Disposition::Sent).is_err());
+    ground.assert_file(&rt, "s/doubt/a.job", &two_jobs(1));
+    ground.assert_told(
+        &rt,
+        b"2026-11-28 13:05:09 DOUBT a.job may have arrived: doubt/a.job
+2026-11-28 13:05:09 a.job was taken out of out/ when its last block was out
+",
+    );
+}
+
+/// Where the name in doubt/ can't be had the last block isn't said, and why is told.
+#[test]
+fn why_a_last_block_is_not_said_is_told(rt: HostRuntime) {
+    let ground = Ground::new(rt.alloc());
+    ground.put(&rt, "s/out/a.deck", b"A\n");
+    let mut spool = ground.spool(&rt);
+    assert!(rt; given(&rt, &mut spool) == 1);
+    ground.fail_next(&rt);
+    assert!(rt; spool.goes_out(0).is_err());
+    ground.assert_told(
+        &rt,
+        b"2026-11-28 13:05:09 a.deck: doubt: no storage space\n",
+    );
+}
+
 /// Two decks and a job file of two jobs were counted, and the page is empty.
 fn counted<'a>(rt: &(impl Abort + AllocGlobal), ground: &'a Ground) -> TestSpool<'a> {
     ground.put(rt, "s/out/a.job", &two_jobs(0));

@@ -23,16 +23,28 @@ pub(super) fn new_station(rt: &(impl Abort + AllocGlobal)) -> Station<'static> {
     Station::new(rt.alloc(), Rank::Secondary, &[]).expect(rt, "memory")
 }
 
-/// The station hears this, and replies.
-pub(super) fn bring(rt: &(impl Abort + AllocGlobal), station: &mut Station<'_>, bytes: &[u8]) {
+/// A line on which this is heard.
+fn line_of(rt: &(impl Abort + AllocGlobal), bytes: &[u8]) -> MemoryLine {
     let alloc = rt.alloc();
     let mut pieces = Vec::new(alloc);
     let piece = Vec::from_slice(alloc, bytes).expect(rt, "memory");
     assert!(rt; pieces.push(piece).is_ok());
     let mut line = MemoryLine::new(alloc);
     line.put(pieces);
+    line
+}
+
+/// The station hears this, and replies.
+pub(super) fn bring(rt: &(impl Abort + AllocGlobal), station: &mut Station<'_>, bytes: &[u8]) {
+    let mut line = line_of(rt, bytes);
     assert!(rt; station.hear_other(&mut line, Wish::Go).is_ok());
     assert!(rt; station.reply(&mut line).is_ok());
+}
+
+/// The station hears this, and replies nothing.
+pub(super) fn hear(rt: &(impl Abort + AllocGlobal), station: &mut Station<'_>, bytes: &[u8]) {
+    let mut line = line_of(rt, bytes);
+    assert!(rt; station.hear_other(&mut line, Wish::Go).is_ok());
 }
 
 /// Whether a transmission of one job of so many such blocks, which is new to the spool, is held.

@@ -2,6 +2,7 @@
 use super::Ground;
 use rje_jobs::{Job, job_of_deck};
 use rje_session::Spool;
+use rje_spool::Notice;
 use rje_text::{Mode, Select};
 use std::process::Abort;
 
@@ -90,4 +91,30 @@ fn a_job_that_cannot_be_kept_stops_a_station(rt: HostRuntime) {
 2026-11-28 13:05:29 receiving again: a job can be kept
 ",
     );
+}
+
+/// Nothing is received as long as there is room for a short file, and none for one as long as the job's: 33 bytes, and for each record two and its data
+/// (docs/FORMATS.md).
+#[test]
+fn room_for_a_shorter_file_is_none(rt: HostRuntime) {
+    let ground = Ground::new(rt.alloc());
+    let mut spool = ground.spool(&rt);
+    ground.set_room(&rt, 37);
+    assert!(rt; spool.keep(&job_of(&rt, b"ONE", Select::Unset)).is_err());
+    for (time, room, receives) in [(1795871119, 37, false), (1795871129, 38, true)] {
+        ground.set_room(&rt, room);
+        ground.clock.set(Some(time));
+        assert!(rt; spool.can_receive() == receives);
+    }
+    assert!(rt; spool.keep(&job_of(&rt, b"ONE", Select::Unset)).is_ok());
+}
+
+/// A station that ends makes the paper of the job that came last.
+#[test]
+fn a_station_that_ends_leaves_no_job_without_paper(rt: HostRuntime) {
+    let ground = Ground::new(rt.alloc());
+    let mut spool = ground.spool(&rt);
+    assert!(rt; spool.keep(&job_of(&rt, b"ONE", Select::Punch)).is_ok());
+    spool.tell(Notice::Ended);
+    ground.assert_file(&rt, "s/punch/20261128T130509Z-1.deck", b"ONE\n");
 }

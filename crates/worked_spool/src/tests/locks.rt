@@ -1,7 +1,8 @@
 //! Locks that are had, that another process has, and that fail.
+use super::Ground;
 use fake_disk::{FailingDisk, Locking};
 use rje_folders::{FolderFault, StationFolder};
-use rje_stores::{FileStore, Store, StoreFault};
+use rje_stores::{Disk, FileStore, Store, StoreFault};
 use std::alloc::Global;
 use std::io::ErrorKind;
 use std::process::Abort;
@@ -38,4 +39,25 @@ fn a_store_has_a_file_only_where_it_has_the_lock(rt: HostRuntime) {
     assert!(rt; lock_of(&rt, Locking::Fails) == failed);
     let busy = Err(StoreFault::Failed(ErrorKind::ResourceBusy));
     assert!(rt; lock_of(&rt, Locking::OfNoName) == busy);
+}
+
+/// A folder that another station has is left as it is: what that one is writing, and both names of a file whose last block it has out.
+#[test]
+fn a_folder_in_use_is_left_as_it_is(rt: HostRuntime) {
+    let ground = Ground::new(rt.alloc());
+    ground.put(&rt, "s/lock", b"");
+    ground.put(&rt, "s/in/.rje-0.part", b"1 job");
+    ground.put(&rt, "s/out/a.deck", b"A\n");
+    assert!(rt; ground.disk().link("s/out/a.deck", "s/doubt/a.deck").is_ok());
+    ground
+        .disk()
+        .changed()
+        .expect(&rt, "a disk")
+        .lock_so(Locking::InUse);
+    let refused = StationFolder::open(ground.disk(), rt.alloc(), "s").err();
+    assert!(rt; refused == Some(FolderFault::InUse));
+    ground.assert_file(&rt, "s/in/.rje-0.part", b"1 job");
+    ground.assert_file(&rt, "s/out/a.deck", b"A\n");
+    ground.assert_file(&rt, "s/doubt/a.deck", b"A\n");
+    assert!(rt; ground.count(&rt) == 4);
 }

@@ -38,6 +38,14 @@ impl<'a> Page<'a> {
         false
     }
 
+    /// Whether this stands at its end.
+    pub(super) fn ends_with(&self, text: &[u8]) -> bool {
+        match self.text.try_borrow() {
+            Ok(written) => written.ends_with(text),
+            Err(_) => false,
+        }
+    }
+
     /// Takes away what stands on it.
     pub(super) fn clear(&self) {
         if let Ok(mut written) = self.text.try_borrow_mut() {
