@@ -1,5 +1,5 @@
 -- The ledger stays in step with a transmission in hand, turn by turn.
-use Rattle.std.proofs.Common.{◌≡◌, ◌≢◌, ◌⊎◌, inl, inr, ℕ, ◌+◌, ◌≤◌, ◌<◌, Bool, true, false, not, ◌||◌, List, [], ◌∷◌, ◌++◌, length, Option, Some, None, Result, Ok, Err, IfErr, OnOk, refl, ap, sym, ◌∙◌, subst, arith}
+use Rattle.std.proofs.Common.{slice_get, if◌then◌else◌, ◌≡◌, ◌≢◌, ◌⊎◌, inl, inr, ℕ, ◌+◌, ◌≤◌, ◌<◌, Bool, true, false, not, ◌||◌, List, [], ◌∷◌, ◌++◌, length, Option, Some, None, Result, Ok, Err, IfErr, OnOk, refl, ap, sym, ◌∙◌, subst, arith}
 use Rattle.std.proofs.lemmas.Grind.{common_steps}
 use Rattle.std.proofs.lemmas.Bool.{true≢false}
 use Rattle.std.specs.Result.{IsErrAnd}
@@ -25,7 +25,7 @@ use Rattle.rje_station.specs.Sending.{Sending, after_hearing, counted_after, cou
 use Rattle.rje_station.specs.Station.{Contending, after_answer, after_other, after_other_ended, after_other_refusal, after_own_refusal, after_own_speaking, due_at, gives_way, lets_in}
 use Rattle.rje_station.proofs.Due.{answered_of_due, spoken_of_due}
 use Rattle.rje_session.specs.declared.leaving.Leaving.{Leaving}
-use Rattle.rje_session.specs.Account.{ComesOf, IfLineFailed, IsAccounted, IsInStep, IsSettled, SettlesRest, became, ended_of, may_arrive}
+use Rattle.rje_session.specs.Account.{ComesOf, UnlessSpoolFailed, IsAccounted, IsInStep, IsSettled, KeepsCut, SettlesRest, became, ended_of, may_arrive}
 use Rattle.rje_session.specs.Keeping.{cutting, keeping}
 use Rattle.rje_session.specs.Ledger.{Entry, Given}
 use Rattle.rje_session.specs.Staying.{AreSettled}
@@ -137,6 +137,18 @@ refusal_stays fault s s' is = subst (λ (x : Contending). StaysSo s x) (sym is) 
 pub heard_stays : (s : Contending) (what : Heard) (refused : Bool) → StaysSo s (after_other s what refused Wish.Go)
 heard_stays s what refused = let_in_stays s what refused _ refl
 
+ended_at : (s : Contending) (over : Bool) → s.receiver.over ≡ over → StaysSo s (after_other_ended s)
+ended_at s true is = (refl, refl)
+ended_at s false is = (refl, refl)
+
+pub ended_stays : (s s' : Contending) → s' ≡ after_other_ended s → StaysSo s s'
+ended_stays s s' is = subst (λ (x : Contending). StaysSo s x) (sym is) (ended_at s s.receiver.over refl)
+
+-- nor does it where it heard something, and left without a reply
+unanswered_stays : (s s' : Contending) (what : Heard) (refused : Bool) → s' ≡ after_other_ended (after_other s what refused Wish.Go) → StaysSo s s'
+unanswered_stays s s' what refused is =
+    stays_along s (after_other s what refused Wish.Go) s' (heard_stays s what refused) (ended_stays (after_other s what refused Wish.Go) s' is)
+
 own_refusal_at : (fault : StationFault) (s : Contending) → StaysSo s (after_own_refusal fault s)
 own_refusal_at fault.Over s = (refl, refl)
 own_refusal_at _ s = (refl, refl)
@@ -186,8 +198,10 @@ own_fault_in_step c c' before after stays may is in_step = record {
 }
 
 others_left : {F : Type 0} (unsaid : Type 0) (c c' : Carried) (next : Option Job) (before after : List Entry) (leaving : Leaving F) → LeavesOthers unsaid c c' leaving → c'.may_have_come ≡ c.may_have_come
-    → EntersLeavingOthers unsaid next before after leaving → IsInStep c before → IfLineFailed leaving (IsInStep c' after)
+    → EntersLeavingOthers unsaid next before after leaving → IsInStep c before → UnlessSpoolFailed leaving (IsInStep c' after)
 others_left unsaid c c' next before after (Leaving.Spool fault) left may enters in_step = tt
+others_left unsaid c c' next before after Leaving.TooMuch (unsaid_is, (what, refused, may_refuse, is)) may enters in_step =
+    subst (λ (l : List Entry). IsInStep c' l) (sym enters) (still_in_step c c' before (unanswered_stays c.station c'.station what refused is) may in_step)
 others_left {F = F} unsaid c c' next before after (Leaving.Line fault) left may enters in_step = entered enters where
   stays_of : LeavesOthers {F = F} unsaid c c' (Leaving.Line fault) → StaysSo c.station c'.station
   stays_of (inl is) = refusal_stays fault c.station c'.station is
@@ -200,44 +214,48 @@ others_left {F = F} unsaid c c' next before after (Leaving.Line fault) left may 
 
 -- a turn of the other's that fails is left so
 pub others_leave : {A F : Type 0} (unsaid : Type 0) (c c' : Carried) (next : Option Job) (before after : List Entry) (r : Result A (Leaving F)) → IfErr r (LeavesOthers unsaid c c')
-    → c'.may_have_come ≡ c.may_have_come → IfErr r (EntersLeavingOthers unsaid next before after) → IsInStep c before → IfErr r (λ leaving. IfLineFailed leaving (IsInStep c' after))
+    → c'.may_have_come ≡ c.may_have_come → IfErr r (EntersLeavingOthers unsaid next before after) → IsInStep c before → IfErr r (λ leaving. UnlessSpoolFailed leaving (IsInStep c' after))
 others_leave unsaid c c' next before after (Ok x) left may enters in_step = tt
 others_leave unsaid c c' next before after (Err leaving) left may enters in_step = others_left unsaid c c' next before after leaving left may enters in_step
 
 own_left : {F : Type 0} (unsaid : Type 0) (c c' : Carried) (before after : List Entry) (leaving : Leaving F) → LeavesOwn unsaid c c' leaving → EntersLeavingOwn c c' before after leaving → IsInStep c before
-    → IfLineFailed leaving (IsInStep c' after)
+    → UnlessSpoolFailed leaving (IsInStep c' after)
 own_left unsaid c c' before after (Leaving.Spool fault) left enters in_step = tt
+own_left unsaid c c' before after Leaving.TooMuch left enters in_step = absurd left
 own_left unsaid c c' before after (Leaving.Line fault) left enters in_step =
     own_fault_in_step c c' before after (own_fault_stays fault c.station c'.station left.0) left.1 enters in_step
 
 -- the jobs stay, where the line fails
-others_left_jobs : {F : Type 0} (unsaid : Type 0) (c c' : Carried) (leaving : Leaving F) → LeavesOthers unsaid c c' leaving → IfLineFailed leaving (c'.station.sender.jobs ≡ c.station.sender.jobs)
+others_left_jobs : {F : Type 0} (unsaid : Type 0) (c c' : Carried) (leaving : Leaving F) → LeavesOthers unsaid c c' leaving → UnlessSpoolFailed leaving (c'.station.sender.jobs ≡ c.station.sender.jobs)
 others_left_jobs unsaid c c' (Leaving.Spool fault) left = tt
+others_left_jobs unsaid c c' Leaving.TooMuch (unsaid_is, (what, refused, may_refuse, is)) = (unanswered_stays c.station c'.station what refused is).0
 others_left_jobs unsaid c c' (Leaving.Line fault) (inl is) = (refusal_stays fault c.station c'.station is).0
 others_left_jobs unsaid c c' (Leaving.Line fault) (inr (what, refused, may, is)) =
     (stays_along c.station (after_other c.station what refused Wish.Go) c'.station (heard_stays c.station what refused) (refusal_stays fault (after_other c.station what refused Wish.Go) c'.station is)).0
 
-own_left_jobs : {F : Type 0} (unsaid : Type 0) (c c' : Carried) (leaving : Leaving F) → LeavesOwn unsaid c c' leaving → IfLineFailed leaving (c'.station.sender.jobs ≡ c.station.sender.jobs)
+own_left_jobs : {F : Type 0} (unsaid : Type 0) (c c' : Carried) (leaving : Leaving F) → LeavesOwn unsaid c c' leaving → UnlessSpoolFailed leaving (c'.station.sender.jobs ≡ c.station.sender.jobs)
 own_left_jobs unsaid c c' (Leaving.Spool fault) left = tt
+own_left_jobs unsaid c c' Leaving.TooMuch left = absurd left
 own_left_jobs unsaid c c' (Leaving.Line fault) left = (own_fault_stays fault c.station c'.station left.0).0
 
-left_along : {F : Type 0} (leaving : Leaving F) (a b d : List Job) → a ≡ b → IfLineFailed leaving (d ≡ a) → IfLineFailed leaving (d ≡ b)
+left_along : {F : Type 0} (leaving : Leaving F) (a b d : List Job) → a ≡ b → UnlessSpoolFailed leaving (d ≡ a) → UnlessSpoolFailed leaving (d ≡ b)
 left_along (Leaving.Spool fault) a b d e left = tt
+left_along Leaving.TooMuch a b d e left = left ∙ e
 left_along (Leaving.Line fault) a b d e left = left ∙ e
 
 pub others_leave_jobs : {A F : Type 0} (unsaid : Type 0) (c c' : Carried) (jobs : List Job) (r : Result A (Leaving F)) → c.station.sender.jobs ≡ jobs → IfErr r (LeavesOthers unsaid c c')
-    → IfErr r (λ leaving. IfLineFailed leaving (c'.station.sender.jobs ≡ jobs))
+    → IfErr r (λ leaving. UnlessSpoolFailed leaving (c'.station.sender.jobs ≡ jobs))
 others_leave_jobs unsaid c c' jobs (Ok x) same left = tt
 others_leave_jobs unsaid c c' jobs (Err leaving) same left = left_along leaving c.station.sender.jobs jobs c'.station.sender.jobs same (others_left_jobs unsaid c c' leaving left)
 
 pub own_leaves_jobs : {A F : Type 0} (unsaid : Type 0) (c c' : Carried) (jobs : List Job) (r : Result A (Leaving F)) → c.station.sender.jobs ≡ jobs → IfErr r (LeavesOwn unsaid c c')
-    → IfErr r (λ leaving. IfLineFailed leaving (c'.station.sender.jobs ≡ jobs))
+    → IfErr r (λ leaving. UnlessSpoolFailed leaving (c'.station.sender.jobs ≡ jobs))
 own_leaves_jobs unsaid c c' jobs (Ok x) same left = tt
 own_leaves_jobs unsaid c c' jobs (Err leaving) same left = left_along leaving c.station.sender.jobs jobs c'.station.sender.jobs same (own_left_jobs unsaid c c' leaving left)
 
 -- and so is its own
 pub own_leaves : {A F : Type 0} (unsaid : Type 0) (c c' : Carried) (before after : List Entry) (r : Result A (Leaving F)) → IfErr r (LeavesOwn unsaid c c') → IfErr r (EntersLeavingOwn c c' before after)
-    → IsInStep c before → IfErr r (λ leaving. IfLineFailed leaving (IsInStep c' after))
+    → IsInStep c before → IfErr r (λ leaving. UnlessSpoolFailed leaving (IsInStep c' after))
 own_leaves unsaid c c' before after (Ok x) left enters in_step = tt
 own_leaves unsaid c c' before after (Err leaving) left enters in_step = own_left unsaid c c' before after leaving left enters in_step
 
@@ -246,12 +264,10 @@ pub fails_on : {A X F : Type 0} (r : Result A F) (e : F) (s : Result X F) (P : F
 fails_on r e (Ok x) P is holds same = tt
 fails_on {A = A} r e (Err x) P is holds same = let here : IfErr {T = A} (Err e) P = subst (λ (y : Result A _). IfErr y P) is holds in subst P (sym same) here
 
-ended_at : (s : Contending) (over : Bool) → s.receiver.over ≡ over → StaysSo s (after_other_ended s)
-ended_at s true is = (refl, refl)
-ended_at s false is = (refl, refl)
-
-pub ended_stays : (s s' : Contending) → s' ≡ after_other_ended s → StaysSo s s'
-ended_stays s s' is = subst (λ (x : Contending). StaysSo s x) (sym is) (ended_at s s.receiver.over refl)
+-- as many quiet turns in a row as turns at most
+pub few_quiet : (now quiet n : ℕ) (b : Bool) → now ≡ (if b then quiet + 1 else 0) → quiet ≤ n → now ≤ n + 1
+few_quiet now quiet n true is few = omega (arith, is, few)
+few_quiet now quiet n false is few = omega (arith, is, few)
 
 -- ---- Once it is over.
 
@@ -322,11 +338,26 @@ settled_else Event.Quiet c ledger not accounted = accounted
 settled_else Event.Heard c ledger not accounted = accounted
 settled_else Event.OwnBegan c ledger not accounted = accounted
 
+-- what was cut is kept as the last entry, unless the other end's transmission begins
+pub keeps_cut : (event : Event) (c : Carried) (ledger : List Entry) → ((past : List Entry) × (ledger ≡ cutting (slice_get c.station.receiver.jobs c.kept) ++ past)) → KeepsCut event c ledger
+keeps_cut Event.OtherBegan c ledger cut = tt
+keeps_cut Event.OtherEnded c ledger cut = cut
+keeps_cut Event.Disconnected c ledger cut = cut
+keeps_cut (Event.OwnEnded ended) c ledger cut = cut
+keeps_cut Event.Connected c ledger cut = cut
+keeps_cut Event.NoConnection c ledger cut = cut
+keeps_cut Event.Quiet c ledger cut = cut
+keeps_cut Event.Heard c ledger cut = cut
+keeps_cut Event.OwnBegan c ledger cut = cut
+
+pub begun_cut : (event : Event) (c : Carried) (ledger : List Entry) → event ≡ Event.OtherBegan → KeepsCut event c ledger
+begun_cut event c ledger is = subst (λ (e : Event). KeepsCut e c ledger) (sym is) tt
+
 -- the other end's transmission doesn't begin while it is in hand
 pub begins_once : (first second : Event) (c near c' : Carried) → first ≡ Event.OtherBegan → ComesOf c near first → ComesOf near c' second → second ≡ Event.OtherBegan → ⊥
-begins_once first second c near c' is comes then again =
+begins_once first second c near c' is comes later again =
     let one : ComesOf c near Event.OtherBegan = subst (λ (e : Event). ComesOf c near e) is comes in
-    let two : ComesOf near c' Event.OtherBegan = subst (λ (e : Event). ComesOf near c' e) again then in
+    let two : ComesOf near c' Event.OtherBegan = subst (λ (e : Event). ComesOf near c' e) again later in
     true≢false (sym one.1 ∙ two.0)
 
 pub still_begun : (event : Event) (c : Carried) (ledger : List Entry) → event ≡ Event.OtherBegan → IsAccounted event c ledger → IsInStep c ledger

@@ -17,9 +17,12 @@ use Rattle.rje_station.specs.Hearing.{sound_heard}
 use Rattle.rje_station.specs.JoinedJobs.{begun_in, with_block, with_read}
 use Rattle.rje_station.specs.Receiving.{jobs_after, sound_taken}
 use Rattle.rje_station.specs.Sending.{Sending}
-use Rattle.rje_station.specs.Station.{Contending, after_other, after_other_ended, gives_way, lets_in}
+use Rattle.rje_station.specs.Station.{Contending, after_other, after_other_refusal, gives_way, lets_in}
+use Rattle.rje_station.specs.declared.station_fault.StationFault.{StationFault}
+use Rattle.rje_station.specs.declared.station_fault.StationFault.TheVariants as fault
 use Rattle.rje_session.specs.Keeping.{AreKept, kept_with}
 use Rattle.rje_session.specs.Outstanding.{BeginsAt}
+use Rattle.rje_session.specs.Stations.{after_answering_other}
 
 -- ---- What is kept.
 
@@ -92,12 +95,21 @@ others_kept n now s mid jobs what refused is are kept next =
     let on : KeptOn n mid.receiver.jobs = subst (λ (x : Contending). KeptOn n x.receiver.jobs) (sym is) (let_in_kept n s what refused _ refl kept) in
     subst (λ m. AreKept m mid.receiver.jobs) (sym (next ∙ ap (λ l. kept_with n (slice_get l n)) are)) on
 
-ended_at : (now : ℕ) (mid : Contending) (over : Bool) → mid.receiver.over ≡ over → AreKept now mid.receiver.jobs → AreKept now (after_other_ended mid).receiver.jobs
-ended_at now mid true is kept = rw is kept
-ended_at now mid false is kept = rw is kept
+-- and once it is answered
+answering_jobs : (s : Contending) (over : Bool) → s.receiver.over ≡ over → (after_answering_other s).receiver.jobs ≡ s.receiver.jobs
+answering_jobs s true is = rw is refl
+answering_jobs s false is = rw is refl
 
-pub ended_kept : (now : ℕ) (mid s : Contending) → s ≡ after_other_ended mid → AreKept now mid.receiver.jobs → AreKept now s.receiver.jobs
-ended_kept now mid s is kept = subst (λ (x : Contending). AreKept now x.receiver.jobs) (sym is) (ended_at now mid mid.receiver.over refl kept)
+pub answered_kept : (n : ℕ) (mid s : Contending) → s ≡ after_answering_other mid → AreKept n mid.receiver.jobs → AreKept n s.receiver.jobs
+answered_kept n mid s is kept = subst (λ (l : List Job). AreKept n l) (sym (ap (λ (x : Contending). x.receiver.jobs) is ∙ answering_jobs mid mid.receiver.over refl)) kept
+
+-- and where the line fails
+refused_jobs : (fault : StationFault) (s : Contending) → (after_other_refusal fault s).receiver.jobs ≡ s.receiver.jobs
+refused_jobs fault.Over s = refl
+refused_jobs _ s = refl
+
+pub failed_kept : (n : ℕ) (mid s : Contending) (fault : StationFault) → s ≡ after_other_refusal fault mid → AreKept n mid.receiver.jobs → AreKept n s.receiver.jobs
+failed_kept n mid s fault is kept = subst (λ (l : List Job). AreKept n l) (sym (ap (λ (x : Contending). x.receiver.jobs) is ∙ refused_jobs fault mid)) kept
 
 -- ---- Which block is outstanding.
 
@@ -112,3 +124,17 @@ module _ (s : Contending) (what : Heard) (refused : Bool) where
 
   pub others_begin : (mid : Contending) (from : ℕ) → mid ≡ after_other s what refused Wish.Go → BeginsAt s.sender from → BeginsAt mid.sender from
   others_begin mid from is begins = subst (λ (x : Contending). BeginsAt x.sender from) (sym is) (let_in_begins _ refl from begins)
+
+answering_sender : (s : Contending) (over : Bool) → s.receiver.over ≡ over → (after_answering_other s).sender ≡ s.sender
+answering_sender s true is = rw is refl
+answering_sender s false is = rw is refl
+
+pub answered_begins : (mid s : Contending) (from : ℕ) → s ≡ after_answering_other mid → BeginsAt mid.sender from → BeginsAt s.sender from
+answered_begins mid s from is begins = subst (λ (x : Sending). BeginsAt x from) (sym (ap (λ (x : Contending). x.sender) is ∙ answering_sender mid mid.receiver.over refl)) begins
+
+refused_sender : (fault : StationFault) (s : Contending) → (after_other_refusal fault s).sender ≡ s.sender
+refused_sender fault.Over s = refl
+refused_sender _ s = refl
+
+pub failed_begins : (mid s : Contending) (fault : StationFault) (from : ℕ) → s ≡ after_other_refusal fault mid → BeginsAt mid.sender from → BeginsAt s.sender from
+failed_begins mid s fault from is begins = subst (λ (x : Sending). BeginsAt x from) (sym (ap (λ (x : Contending). x.sender) is ∙ refused_sender fault mid)) begins

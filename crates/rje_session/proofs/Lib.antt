@@ -1,3 +1,4 @@
+pub mod OwnTurn
 pub mod Places
 pub mod Passed
 pub mod Keeps

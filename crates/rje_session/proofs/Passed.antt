@@ -1,5 +1,5 @@
 -- What passed over a line that tells its bytes, in a turn.
-use Rattle.std.proofs.Common.{◌≡◌, ◌≢◌, ℕ, Bool, true, false, List, Option, Some, None, Result, Ok, Err, IfErr, IfOk, inr, if◌then◌else◌, refl, ap, sym, ◌∙◌}
+use Rattle.std.proofs.Common.{◌≡◌, ◌≢◌, ℕ, Bool, true, false, List, Option, Some, None, Result, Ok, Err, IfErr, if◌then◌else◌, refl, ap, sym, subst, ◌∙◌}
 use Rattle.std.proofs.lemmas.Bool.{true≢false}
 use Rattle.bsc_codes.specs.declared.block.Block.{Block}
 use Rattle.bsc_frame.specs.declared.heard.Heard.{Heard}
@@ -10,16 +10,19 @@ use Rattle.bsc_link.specs.declared.sound.Sound.{Sound}
 use Rattle.bsc_link.specs.declared.wish.Wish.{Wish}
 use Rattle.bsc_link.specs.Receiver.{ReceiverState, receiver_news}
 use Rattle.rje_station.specs.declared.arrival.Arrival.{Arrival}
+use Rattle.rje_station.specs.declared.line_fault.LineFault.{LineFault}
 use Rattle.rje_station.specs.declared.station_fault.StationFault.{StationFault}
+use Rattle.rje_station.specs.declared.station_fault.StationFault.TheVariants as fault
+use Rattle.rje_station.specs.StationFault.{IsCause}
 use Rattle.rje_station.specs.Hearing.{Hearing, HearsSound, sound_heard}
 use Rattle.rje_station.specs.JoinedJobs.{begun_in}
 use Rattle.rje_station.specs.Line.{Passes, Talk, one_more}
 use Rattle.rje_station.specs.Receiving.{MayRefuse, Replied, sound_taken, with_reply}
 use Rattle.rje_station.specs.Sending.{Spoke, is_end}
-use Rattle.rje_station.specs.Station.{Contending, HeardAnswer, after_answer, SpokeDue, after_other, after_other_ended, after_own_refusal, after_own_reply, after_own_speaking, due_at, is_deaf, lets_in, with_said}
+use Rattle.rje_station.specs.Station.{Contending, HeardAnswer, HeardOther, SpokeDue, after_answer, after_other, after_other_ended, after_own_reply, after_own_speaking, due_at, is_deaf, lets_in, with_said}
 use Rattle.rje_station.proofs.Due.{answer_heard, due_kept, not_end}
 use Rattle.rje_station.proofs.PassedOver.{passed_enq, passed_unrefused}
-use Rattle.rje_session.specs.Stations.{Answers, FailsInOwn, HeardAndReplied, LineTells, SpokeAndHeard, TakesOthers, TakesOwn, after_answering_other, after_own_turn}
+use Rattle.rje_session.specs.Stations.{Answers, AnswersOther, HeardAndReplied, HearsOther, IsOfRun, LineTells, SpokeAndHeard, TakesOthers, TakesOwn, after_answering_other, after_own_turn, reply_sent}
 
 -- ---- What was said and heard.
 
@@ -82,30 +85,28 @@ own_turn_is s Say.Delay heard more = refl
 own_turn_is s Say.Ask heard more = refl
 own_turn_is s Say.Nothing heard more = refl
 
-module _ (s mid s' : Contending) (said : Say) (t u : LineTells) (asked : Option Talk) (live : s.failed ≡ false) (is : said ≡ due_at s) (due : due_at s ≢ Say.Nothing) (more : said ≢ Say.End)
-    (spoke : mid ≡ after_own_speaking s) (sent : Passes t.0 asked (SpokeDue (due_at s) s.sender.rest)) (once : u.1 ≡ with_said (due_at s) t.1) where
-  own_taken : (heard : Sound) → s' ≡ after_answer mid heard false → HeardAnswer asked u.0 (due_at mid) heard
-      → (word : Say) × TakesOwn s s' word heard × SpokeAndHeard s.sender.rest t u word heard
-  own_taken heard after hears = (
-    said,
-    record {
-      live = live;
-      due = λ none. due (sym is ∙ none);
-      said_is = is;
-      done = λ end. absurd (more end);
-      state = after ∙ ap (λ (x : Contending). after_answer x heard false) spoke ∙ sym (own_turn_is s said heard more);
-    },
-    own_passed s mid said heard t u asked is due more spoke (said_due s said t.0 asked is due sent) (said_once s t.1 u.1 due once) hears,
-  )
+pub own_taken : (s mid s' : Contending) (said : Say) (heard : Sound) → s.failed ≡ false → said ≡ due_at s → due_at s ≢ Say.Nothing → said ≢ Say.End → mid ≡ after_own_speaking s
+    → s' ≡ after_answer mid heard false → TakesOwn s s' said heard
+own_taken s mid s' said heard live is due more spoke after = record {
+  live = live;
+  due = λ none. due (sym is ∙ none);
+  said_is = is;
+  done = λ end. absurd (more end);
+  state = after ∙ ap (λ (x : Contending). after_answer x heard false) spoke ∙ sym (own_turn_is s said heard more);
+}
 
-  pub answer_taken : {F : Type 0} (r : Result Sound F) → IfOk r (λ heard. s' ≡ after_answer mid heard false) → IfOk r (HeardAnswer asked u.0 (due_at mid))
-      → IfOk r (λ heard. (word : Say) × TakesOwn s s' word heard × SpokeAndHeard s.sender.rest t u word heard)
-  answer_taken (Ok heard) after hears = own_taken heard after hears
-  answer_taken (Err fault) after hears = tt
+-- where it says EOT
+end_due : Say.End ≡ Say.Nothing → ⊥
+end_due e = cc
 
-pub answer_fails : {A : Type 0} (r : Result A StationFault) (s mid s' : Contending) → mid ≡ after_own_speaking s → IfErr r (λ fault. s' ≡ after_own_refusal fault mid) → IfErr r (FailsInOwn s s')
-answer_fails (Ok x) s mid s' spoke after = tt
-answer_fails (Err fault) s mid s' spoke after = inr (after ∙ ap (after_own_refusal fault) spoke)
+pub end_taken : (s s' : Contending) (said : Say) → s.failed ≡ false → said ≡ due_at s → said ≡ Say.End → s' ≡ after_own_speaking s → TakesOwn s s' said Sound.Quiet
+end_taken s s' said live is end spoke = record {
+  live = live;
+  due = λ none. end_due (sym end ∙ none);
+  said_is = is;
+  done = λ _. refl;
+  state = subst (λ (word : Say). s' ≡ after_own_turn s word Sound.Quiet) (sym end) spoke;
+}
 
 -- ---- What was heard and replied.
 
@@ -173,21 +174,83 @@ others_arrived s mid what refused arrival may is came =
     let known : Some arrival ≡ Some (arrival_of what refused) = came ∙ ap (λ (x : Contending). x.receiver.arrival) is ∙ other_arrival s what refused _ refl may in
     cc
 
-pub others_taken : (s mid s' : Contending) (what : Heard) (refused : Bool) (arrival : Arrival) (reply : Option Reply) (over : Bool) → is_deaf s ≡ false
-    → MayRefuse what (begun_in s.receiver.jobs) refused → mid ≡ after_other s what refused Wish.Go → reply ≡ mid.receiver.due → Some arrival ≡ mid.receiver.arrival
-    → over ≡ mid.receiver.over → s' ≡ (if over then after_other_ended mid else after_own_reply mid)
-    → (takes : TakesOthers s s' arrival reply) × (takes.what ≡ what) × (s'.receiver.arrival ≡ Some arrival)
-others_taken s mid s' what refused arrival reply over live may is due came ends answers =
-    let same = others_arrived s mid what refused arrival may is came in (
-      record {
-        live = live;
-        what = what;
-        came = ap (λ (a : Arrival). a.sound) same;
-        may = rw same may;
-        reply_is = due ∙ ap (λ (x : Contending). x.receiver.due) is ∙ ap (λ (a : Arrival). (after_other s what a.refused Wish.Go).receiver.due) (sym same);
-        state = answers ∙ ap (λ (o : Bool). if o then after_other_ended mid else after_own_reply mid) ends ∙ ap after_answering_other is
-            ∙ ap (λ (a : Arrival). after_answering_other (after_other s what a.refused Wish.Go)) (sym same);
-      },
-      refl,
-      ap (λ (x : Contending). x.receiver.arrival) answers ∙ answered_arrival mid over ends ∙ sym came,
+-- what was heard, and isn't answered yet
+pub hears_other : (s mid : Contending) (arrival : Arrival) (reply : Option Reply) (t u : Option Talk) → is_deaf s ≡ false
+    → HeardOther s mid Wish.Go reply (λ what. Passes t u (λ t u. Hearing t u what)) → Some arrival ≡ mid.receiver.arrival → HearsOther s mid arrival reply t u
+hears_other s mid arrival reply t u live heard came =
+    let same = others_arrived s mid heard.what heard.refused arrival heard.may heard.state came in record {
+      live = live;
+      what = heard.what;
+      told = heard.told;
+      came = ap (λ (a : Arrival). a.sound) same;
+      may = rw same heard.may;
+      state = heard.state ∙ ap (λ (a : Arrival). after_other s heard.what a.refused Wish.Go) (sym same);
+      reply_is = heard.reply_is;
+      arrived = sym came;
+    }
+
+if_true : {X : Type 0} (b : Bool) (x y : X) → b ≡ true → (if b then x else y) ≡ x
+if_true true x y is = refl
+if_true false x y is = absurd (true≢false (sym is))
+
+if_false : {X : Type 0} (b : Bool) (x y : X) → b ≡ false → (if b then x else y) ≡ y
+if_false true x y is = absurd (true≢false is)
+if_false false x y is = refl
+
+-- it left its receiving side, or replied
+pub ends_other : (s s' : Contending) (t u : LineTells) → s.receiver.over ≡ true → s' ≡ after_other_ended s → u ≡ t → AnswersOther s s' t u
+ends_other s s' t u over is same =
+    let none : reply_sent s ≡ None = if_true s.receiver.over None s.receiver.due over in (
+      is ∙ sym (if_true s.receiver.over (after_other_ended s) (after_own_reply s) over),
+      subst (λ (r : Option Reply). Passes t.0 u.0 (Replied r)) (sym none) (replied_none t.0 u.0 (ap (λ (x : LineTells). x.0) same)),
+      ap (λ (x : LineTells). x.1) same ∙ ap (λ (r : Option Reply). with_reply r t.1) (sym none),
     )
+
+pub replies_other : (s s' : Contending) (t u : LineTells) → s.receiver.over ≡ false → s' ≡ after_own_reply s → Passes t.0 u.0 (Replied s.receiver.due) → u.1 ≡ with_reply s.receiver.due t.1
+    → AnswersOther s s' t u
+replies_other s s' t u over is sent once =
+    let due : reply_sent s ≡ s.receiver.due = if_false s.receiver.over None s.receiver.due over in (
+      is ∙ sym (if_false s.receiver.over (after_other_ended s) (after_own_reply s) over),
+      subst (λ (r : Option Reply). Passes t.0 u.0 (Replied r)) (sym due) sent,
+      once ∙ ap (λ (r : Option Reply). with_reply r t.1) (sym due),
+    )
+
+-- the reply that is sent is the one that was due
+sent_is : (s mid : Contending) (what : Heard) (refused over : Bool) → mid ≡ after_other s what refused Wish.Go → mid.receiver.over ≡ over → reply_sent mid ≡ mid.receiver.due
+sent_is s mid what refused true is over = if_true mid.receiver.over None mid.receiver.due over ∙ sym (other_owes s mid what refused is over)
+sent_is s mid what refused false is over = if_false mid.receiver.over None mid.receiver.due over
+
+-- what was heard and then answered is a turn of the other's
+pub others_answered : (s mid s' : Contending) (arrival : Arrival) (reply : Option Reply) (t m u : LineTells) → HearsOther s mid arrival reply t.0 m.0 → m.1 ≡ t.1 → AnswersOther mid s' m u
+    → (takes : TakesOthers s s' arrival reply) × HeardAndReplied takes.what t u reply × (s'.receiver.arrival ≡ Some arrival)
+others_answered s mid s' arrival reply t m u heard none said =
+    let due : reply_sent mid ≡ reply = sent_is s mid heard.what arrival.refused mid.receiver.over heard.state refl ∙ sym heard.reply_is in (
+      record {
+        live = heard.live;
+        what = heard.what;
+        came = heard.came;
+        may = heard.may;
+        reply_is = heard.reply_is ∙ ap (λ (x : Contending). x.receiver.due) heard.state;
+        state = said.0 ∙ ap after_answering_other heard.state;
+      },
+      (
+        m.0,
+        heard.told,
+        subst (λ (r : Option Reply). Passes m.0 u.0 (Replied r)) due said.1,
+        said.2 ∙ ap (λ (r : Option Reply). with_reply r m.1) due ∙ ap (with_reply reply) none,
+      ),
+      ap (λ (x : Contending). x.receiver.arrival) said.0 ∙ answered_arrival mid mid.receiver.over refl ∙ heard.arrived,
+    )
+
+-- ---- Why a station on its way fails.
+
+pub of_run : (f : StationFault) (failed : LineFault → Type 0) (babbled : Type 0) (over : Bool) → IsCause failed babbled over f → IsOfRun f
+of_run (fault.Line f) failed babbled over cause = tt
+of_run fault.Babble failed babbled over cause = tt
+of_run fault.Over failed babbled over cause = tt
+of_run (fault.BadJob n) failed babbled over cause = absurd cause
+of_run fault.OutOfMemory failed babbled over cause = absurd cause
+
+pub runs_fail : {A : Type 0} (r : Result A StationFault) (failed : LineFault → Type 0) (babbled : Type 0) (over : Bool) → IfErr r (IsCause failed babbled over) → IfErr r IsOfRun
+runs_fail (Ok x) failed babbled over cause = tt
+runs_fail (Err f) failed babbled over cause = of_run f failed babbled over cause

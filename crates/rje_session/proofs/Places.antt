@@ -1,5 +1,6 @@
 -- With which record the outstanding block begins, after a hearing.
-use Rattle.std.proofs.Common.{◌≡◌, ◌≢◌, ℕ, zero, suc, ◌+◌, ◌-◌, ◌<◌, Bool, true, false, List, [], ◌∷◌, ◌++◌, length, drop, get_or, slice_get, Some, refl, ap, sym, ◌∙◌, subst, arith}
+use Rattle.std.proofs.Common.{◌≡◌, ◌≢◌, ℕ, zero, suc, ◌+◌, ◌-◌, ◌<◌, Bool, true, false, List, [], ◌∷◌, ◌++◌, length, drop, get_or, slice_get, Some, inl, inr, ◌⊎◌, refl, ap, sym, ◌∙◌, subst, arith}
+use Rattle.std.proofs.lemmas.Bool.{true≢false}
 use Rattle.std.proofs.lemmas.List.{get_or-drop, length-append, length-drop}
 use Rattle.std.proofs.lemmas.Option.{slice_get-get_or}
 use Rattle.std.proofs.Math.Seq.{get_or-append_seam}
@@ -8,18 +9,22 @@ use Rattle.bsc_codes.specs.declared.block.Closing.{Closing}
 use Rattle.bsc_codes.specs.declared.block.Closing.TheVariants.{Etb, Etx}
 use Rattle.bsc_link.specs.declared.say.Say.{Say}
 use Rattle.bsc_link.specs.declared.sound.Sound.{Sound}
-use Rattle.bsc_link.specs.Sender.{counts_block, line_for}
+use Rattle.bsc_link.specs.Sender.{counts_block, line_for, say_in}
 use Rattle.rje_text.specs.NextBlock.{blocks_after, cut_from}
 use Rattle.rje_jobs.specs.declared.job.Job.{Job}
 use Rattle.rje_jobs.specs.Blocks.{blocks}
 use Rattle.rje_station.specs.declared.event.Event.{Event}
 use Rattle.rje_station.specs.declared.event.Event.TheVariants as event
-use Rattle.rje_station.specs.Sending.{Sending, GoesOnAt, after_hearing, counted_after, counted_by, counted_events, first_sending, rest_after}
-use Rattle.rje_station.specs.Station.{Contending, after_answer, due_at}
+use Rattle.rje_station.specs.declared.station_fault.StationFault.{StationFault}
+use Rattle.rje_station.specs.declared.station_fault.StationFault.TheVariants as fault
+use Rattle.rje_station.specs.Sending.{Sending, GoesOnAt, after_hearing, after_speaking, counted_after, counted_by, counted_events, first_sending, rest_after}
+use Rattle.rje_station.specs.Station.{Contending, after_answer, after_own_refusal, after_own_speaking, due_at}
 use Rattle.rje_station.specs.Trace.{last_events}
-use Rattle.rje_station.proofs.Due.{answered_of_due}
+use Rattle.rje_station.proofs.Due.{answered_of_due, due_kept, spoken_of_due}
 use Rattle.rje_station.proofs.Uncounted.{begun_append, cut_begun, cut_is}
 use Rattle.rje_session.specs.Outstanding.{BeginsAt, blocks_from, counts_last, is_counted}
+use Rattle.rje_session.specs.Stations.{FailsInOwn, TakesOwn, after_own_turn}
+use Rattle.rje_session.proofs.OwnTurn.{own_speaking, own_turn}
 
 -- ---- At first.
 
@@ -129,28 +134,80 @@ module _ (s : Sending) (from next : ℕ) (heard : Sound) (begins : BeginsAt s fr
   heard_nothing : counts_last (after_hearing s heard false).trace ≡ false → BeginsAt (after_hearing s heard false) from
   heard_nothing last = still_at counts (sym (trace_tells s.trace heard counts) ∙ last)
 
--- ---- One that sends and receives.
+-- ---- One that sends and receives, after its own turn.
 
-pub answer_sender : (s s' : Contending) (heard : Sound) → due_at s ≢ Say.Nothing → s' ≡ after_answer s heard false → s'.sender ≡ after_hearing s.sender heard false
-answer_sender s s' heard due is = ap (λ (x : Contending). x.sender) (is ∙ answered_of_due s (due_at s) heard false refl due)
+spoken_sender : (s : Contending) → due_at s ≢ Say.Nothing → (after_own_speaking s).sender ≡ after_speaking s.sender
+spoken_sender s due = ap (λ (x : Contending). x.sender) (spoken_of_due s (due_at s) refl due)
 
-pub answer_receiver : (s s' : Contending) (heard : Sound) → due_at s ≢ Say.Nothing → s' ≡ after_answer s heard false → s'.receiver ≡ s.receiver
-answer_receiver s s' heard due is = ap (λ (x : Contending). x.receiver) (is ∙ answered_of_due s (due_at s) heard false refl due)
+heard_sender : (s : Contending) (said : Say) (heard : Sound) → said ≡ due_at s → said ≢ Say.Nothing → said ≢ Say.End
+    → (after_answer (after_own_speaking s) heard false).sender ≡ after_hearing (after_speaking s.sender) heard false
+heard_sender s said heard is due more =
+    let at : due_at (after_own_speaking s) ≡ said = due_kept s said (sym is) due more in
+    ap (λ (x : Contending). x.sender) (answered_of_due (after_own_speaking s) said heard false at due)
+    ∙ ap (λ (x : Sending). after_hearing x heard false) (spoken_sender s (λ none. due (is ∙ none)))
 
-module _ (s s' : Contending) (heard : Sound) (from next : ℕ) (due : due_at s ≢ Say.Nothing) (is : s' ≡ after_answer s heard false) (begins : BeginsAt s.sender from)
+-- it spoke, and but for EOT it heard something
+abbrev WentOn : Sending → Sending → Sound → Type 0
+WentOn s s' heard = (s' ≡ after_speaking s) ⊎ (s' ≡ after_hearing (after_speaking s) heard false)
+
+turned_sender : (s : Contending) (said : Say) (heard : Sound) → said ≡ due_at s → said ≢ Say.Nothing → WentOn s.sender (after_own_turn s said heard).sender heard
+turned_sender s Say.End heard is due = inl (spoken_sender s (λ none. due (is ∙ none)))
+turned_sender s Say.Bid heard is due = inr (heard_sender s Say.Bid heard is due (λ x. cc))
+turned_sender s Say.Block heard is due = inr (heard_sender s Say.Block heard is due (λ x. cc))
+turned_sender s Say.Again heard is due = inr (heard_sender s Say.Again heard is due (λ x. cc))
+turned_sender s Say.Delay heard is due = inr (heard_sender s Say.Delay heard is due (λ x. cc))
+turned_sender s Say.Ask heard is due = inr (heard_sender s Say.Ask heard is due (λ x. cc))
+turned_sender s Say.Nothing heard is due = absurd (due refl)
+
+own_sender : (s s' : Contending) (said : Say) (heard : Sound) → TakesOwn s s' said heard → WentOn s.sender s'.sender heard
+own_sender s s' said heard takes = subst (λ (x : Contending). WentOn s.sender x.sender heard) (sym takes.state) (turned_sender s said heard takes.said_is takes.due)
+
+pub own_receiver : (s s' : Contending) (said : Say) (heard : Sound) → TakesOwn s s' said heard → s'.receiver ≡ s.receiver
+own_receiver s s' said heard takes = ap (λ (x : Contending). x.receiver) takes.state ∙ own_turn (λ (x : Contending). x.receiver) (λ x sender contender. refl) s said heard
+
+module _ (s s' : Contending) (said : Say) (heard : Sound) (from next : ℕ) (takes : TakesOwn s s' said heard) (begins : BeginsAt s.sender from)
     (goes : GoesOnAt s.sender.rest (drop s.sender.counted s.sender.jobs) next) where
-  pub answer_job : (s'.sender.counted ≡ s.sender.counted → ⊥) → BeginsAt s'.sender 0
-  answer_job not =
-      let e = answer_sender s s' heard due is in
-      subst (λ (x : Sending). BeginsAt x 0) (sym e) (heard_job s.sender from next heard begins goes (λ same. not (ap (λ (x : Sending). x.counted) e ∙ same)))
+  spoken_counts : counts_last (after_speaking s.sender).trace ≡ false
+  spoken_counts = last_of_trace s.sender.trace (event.Said (say_in s.sender.core.place))
 
-  pub answer_block : counts_last s'.sender.trace ≡ true → s'.sender.counted ≡ s.sender.counted → BeginsAt s'.sender next
-  answer_block last same =
-      let e = answer_sender s s' heard due is in
-      subst (λ (x : Sending). BeginsAt x next) (sym e)
-      (heard_block s.sender from next heard begins goes (ap (λ (x : Sending). counts_last x.trace) (sym e) ∙ last) (ap (λ (x : Sending). x.counted) (sym e) ∙ same))
+  pub turn_job : (s'.sender.counted ≡ s.sender.counted → ⊥) → BeginsAt s'.sender 0
+  turn_job not = elim (own_sender s s' said heard takes) [
+    | inl spoke ↦ absurd (not (ap (λ (x : Sending). x.counted) spoke))
+    | inr went ↦ subst (λ (x : Sending). BeginsAt x 0) (sym went) (heard_job (after_speaking s.sender) from next heard begins goes (λ same. not (ap (λ (x : Sending). x.counted) went ∙ same)))
+  ]
 
-  pub answer_nothing : counts_last s'.sender.trace ≡ false → BeginsAt s'.sender from
-  answer_nothing last =
-      let e = answer_sender s s' heard due is in
-      subst (λ (x : Sending). BeginsAt x from) (sym e) (heard_nothing s.sender from next heard begins goes (ap (λ (x : Sending). counts_last x.trace) (sym e) ∙ last))
+  pub turn_block : counts_last s'.sender.trace ≡ true → s'.sender.counted ≡ s.sender.counted → BeginsAt s'.sender next
+  turn_block last same = elim (own_sender s s' said heard takes) [
+    | inl spoke ↦ absurd (true≢false (sym last ∙ ap (λ (x : Sending). counts_last x.trace) spoke ∙ spoken_counts))
+    | inr went ↦
+        subst (λ (x : Sending). BeginsAt x next) (sym went)
+        (heard_block (after_speaking s.sender) from next heard begins goes (ap (λ (x : Sending). counts_last x.trace) (sym went) ∙ last) (ap (λ (x : Sending). x.counted) (sym went) ∙ same))
+  ]
+
+  pub turn_nothing : counts_last s'.sender.trace ≡ false → BeginsAt s'.sender from
+  turn_nothing last = elim (own_sender s s' said heard takes) [
+    | inl spoke ↦ subst (λ (x : Sending). BeginsAt x from) (sym spoke) begins
+    | inr went ↦
+        subst (λ (x : Sending). BeginsAt x from) (sym went) (heard_nothing (after_speaking s.sender) from next heard begins goes (ap (λ (x : Sending). counts_last x.trace) (sym went) ∙ last))
+  ]
+
+-- ---- After a fault in it.
+
+refused_begins : (fault : StationFault) (s : Contending) (from : ℕ) → BeginsAt s.sender from → BeginsAt (after_own_refusal fault s).sender from
+refused_begins fault.Over s from begins = begins
+refused_begins _ s from begins = begins
+
+refused_receiver : (fault : StationFault) (s : Contending) → (after_own_refusal fault s).receiver ≡ s.receiver
+refused_receiver fault.Over s = refl
+refused_receiver _ s = refl
+
+pub fault_begins : (s s' : Contending) (fault : StationFault) (from : ℕ) → due_at s ≢ Say.Nothing → FailsInOwn s s' fault → BeginsAt s.sender from → BeginsAt s'.sender from
+fault_begins s s' fault from due (inl is) begins = subst (λ (x : Contending). BeginsAt x.sender from) (sym is) (refused_begins fault s from begins)
+fault_begins s s' fault from due (inr is) begins =
+    subst (λ (x : Contending). BeginsAt x.sender from) (sym is)
+    (refused_begins fault (after_own_speaking s) from (subst (λ (x : Sending). BeginsAt x from) (sym (spoken_sender s due)) begins))
+
+pub fault_receiver : (s s' : Contending) (fault : StationFault) → FailsInOwn s s' fault → s'.receiver ≡ s.receiver
+fault_receiver s s' fault (inl is) = ap (λ (x : Contending). x.receiver) is ∙ refused_receiver fault s
+fault_receiver s s' fault (inr is) =
+    ap (λ (x : Contending). x.receiver) is ∙ refused_receiver fault (after_own_speaking s) ∙ own_speaking (λ (x : Contending). x.receiver) (λ x sender contender. refl) s

@@ -68,10 +68,12 @@ ComesOf c c' Event.OtherEnded =
 ComesOf c c' Event.Disconnected = Unit {0}
 ComesOf c c' _ = ⊥
 
--- where a line failed, the ledger is in step still; where the spool did, nothing is known of the entry it was about
-abbrev pub IfLineFailed : {F : Type 0} → Leaving F → Type 0 → Type 0
-IfLineFailed (Leaving.Line fault) P = P
-IfLineFailed (Leaving.Spool fault) P = Unit {0}
+-- Where a line failed, or what came can't be held, the ledger is in step still; where the spool failed, nothing is known of the entry it was
+-- about.
+abbrev pub UnlessSpoolFailed : {F : Type 0} → Leaving F → Type 0 → Type 0
+UnlessSpoolFailed (Leaving.Line fault) P = P
+UnlessSpoolFailed Leaving.TooMuch P = P
+UnlessSpoolFailed (Leaving.Spool fault) P = Unit {0}
 
 -- what was cut is kept so, as the last entry of a transmission that is over
 abbrev pub KeepsCut : Event → Carried → List Entry → Type 0

@@ -1,5 +1,5 @@
 -- A station that sends and receives over a line that may tell its bytes, in one turn (own profile).
-use Rattle.std.specs.Prelude.{◌≡◌, ◌≢◌, ◌⊎◌, ℕ, false, List, Option, if◌then◌else◌}
+use Rattle.std.specs.Prelude.{◌≡◌, ◌≢◌, ◌⊎◌, ℕ, false, List, Option, Some, None, if◌then◌else◌}
 use Rattle.bsc_codes.specs.declared.block.Block.{Block}
 use Rattle.bsc_frame.specs.declared.heard.Heard.{Heard}
 use Rattle.bsc_link.specs.declared.reply.Reply.{Reply}
@@ -8,6 +8,7 @@ use Rattle.bsc_link.specs.declared.sound.Sound.{Sound}
 use Rattle.bsc_link.specs.declared.wish.Wish.{Wish}
 use Rattle.rje_station.specs.declared.arrival.Arrival.{Arrival}
 use Rattle.rje_station.specs.declared.station_fault.StationFault.{StationFault}
+use Rattle.rje_station.specs.declared.station_fault.StationFault.TheVariants as fault
 use Rattle.rje_station.specs.Hearing.{Hearing, HearsSound, sound_heard}
 use Rattle.rje_station.specs.JoinedJobs.{begun_in}
 use Rattle.rje_station.specs.Line.{Passes, Talk, one_more}
@@ -31,6 +32,17 @@ pub record TakesOwn (s s' : Contending) (said : Say) (heard : Sound) : Type 0 wh
 -- it replies to what it heard; where that ended the other's transmission, it leaves its receiving side
 abbrev pub after_answering_other : Contending → Contending
 after_answering_other s = if s.receiver.over then after_other_ended s else after_own_reply s
+
+-- It heard something of the other, which isn't answered yet: this came, this reply is due, and the line gave it.
+pub record HearsOther (s s' : Contending) (arrival : Arrival) (reply : Option Reply) (t u : Option Talk) : Type 0 where
+  pub live : is_deaf s ≡ false
+  pub what : Heard
+  pub told : Passes t u (λ t u. Hearing t u what)
+  pub came : arrival.sound ≡ sound_heard what
+  pub may : MayRefuse what (begun_in s.receiver.jobs) arrival.refused
+  pub state : s' ≡ after_other s what arrival.refused Wish.Go
+  pub reply_is : reply ≡ s'.receiver.due
+  pub arrived : s'.receiver.arrival ≡ Some arrival
 
 -- the other's turn: it heard something of the other, and replied where a reply was due
 pub record TakesOthers (s s' : Contending) (arrival : Arrival) (reply : Option Reply) : Type 0 where
@@ -63,3 +75,17 @@ SpokeAndHeard rest t u said heard =
 abbrev pub HeardAndReplied : Heard → (t u : LineTells) → Option Reply → Type 0
 HeardAndReplied what t u reply =
     (heard : Option Talk) × Passes t.0 heard (λ t u. Hearing t u what) × Passes heard u.0 (Replied reply) × (u.1 ≡ with_reply reply t.1)
+
+-- the reply that is sent: none where what came ended the other's transmission
+abbrev pub reply_sent : Contending → Option Reply
+reply_sent s = if s.receiver.over then None else s.receiver.due
+
+-- it answered what it had heard: the line sent just the reply, or nothing
+abbrev pub AnswersOther : Contending → Contending → (t u : LineTells) → Type 0
+AnswersOther s s' t u = (s' ≡ after_answering_other s) × Passes t.0 u.0 (Replied (reply_sent s)) × (u.1 ≡ with_reply (reply_sent s) t.1)
+
+-- The fault of a station on its way: the line failed or babbled, or the station was over. New stations have others.
+abbrev pub IsOfRun : StationFault → Type 0
+IsOfRun (fault.BadJob number) = ⊥
+IsOfRun fault.OutOfMemory = ⊥
+IsOfRun _ = Unit {0}

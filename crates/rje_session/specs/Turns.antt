@@ -66,6 +66,7 @@ abbrev pub LeavesOwn : {F : Type 0} → (unsaid : Type 0) → Carried → Carrie
 LeavesOwn unsaid c c' (Leaving.Line fault) = FailsInOwn c.station c'.station fault × (c'.may_have_come ≡ (c.may_have_come || goes_out c))
 LeavesOwn unsaid c c' (Leaving.Spool fault) =
     (unsaid × (c' ≡ c)) ⊎ ((said : Say) × (heard : Sound) × TakesOwn c.station c'.station said heard × (c.station.sender.counted ≢ c'.station.sender.counted))
+LeavesOwn unsaid c c' Leaving.TooMuch = ⊥
 
 -- what is entered then
 abbrev pub EntersLeavingOwn : {F : Type 0} → Carried → Carried → (before after : List Entry) → Leaving F → Type 0
@@ -74,21 +75,30 @@ EntersLeavingOwn c c' before after (Leaving.Spool fault) =
     let counted = c.station.sender.counted in
     MatchBool (counted == c'.station.sender.counted) (MayBeEntered (MayArrive counted) before after)
     (MayBeEntered (Settled counted Disposition.Sent) (announcing c ++ before) after)
+EntersLeavingOwn c c' before after Leaving.TooMuch = ⊥
 
 -- ---- The other's turn.
 
--- Why the other's turn was left. The line failed, as the station listened or as it replied. Or a job couldn't be kept, and nothing was replied.
+-- it heard something, and left without a reply
+abbrev pub LeavesUnanswered : (unsaid : Type 0) → Carried → Carried → Type 0
+LeavesUnanswered unsaid c c' =
+    unsaid
+    × ((what : Heard) × (refused : Bool) × MayRefuse what (begun_in c.station.receiver.jobs) refused
+    × (c'.station ≡ after_other_ended (after_other c.station what refused Wish.Go)))
+
+-- Why the other's turn was left. The line failed, as the station listened or as it replied. Or what came couldn't be held, or a job not be kept,
+-- and nothing was replied.
 abbrev pub LeavesOthers : {F : Type 0} → (unsaid : Type 0) → Carried → Carried → Leaving F → Type 0
 LeavesOthers unsaid c c' (Leaving.Line fault) =
     (c'.station ≡ after_other_refusal fault c.station)
     ⊎ ((what : Heard) × (refused : Bool) × MayRefuse what (begun_in c.station.receiver.jobs) refused
     × (c'.station ≡ after_other_refusal fault (after_other c.station what refused Wish.Go)))
-LeavesOthers unsaid c c' (Leaving.Spool fault) =
-    unsaid
-    × ((what : Heard) × (refused : Bool) × MayRefuse what (begun_in c.station.receiver.jobs) refused
-    × (c'.station ≡ after_other_ended (after_other c.station what refused Wish.Go)))
+LeavesOthers unsaid c c' (Leaving.Spool fault) = LeavesUnanswered unsaid c c'
+LeavesOthers unsaid c c' Leaving.TooMuch = LeavesUnanswered unsaid c c'
 
--- What is entered then. Where a reply was begun, a job that came whole was kept before; where one couldn't be kept, it may be entered.
+-- What is entered then. Where a reply was begun, a job that came whole was kept before; where one couldn't be kept, it may be entered; where
+-- what came couldn't be held, nothing is.
 abbrev pub EntersLeavingOthers : {F : Type 0} → (unsaid : Type 0) → (next : Option Job) → (before after : List Entry) → Leaving F → Type 0
 EntersLeavingOthers unsaid next before after (Leaving.Line fault) = (unsaid × (after ≡ before)) ⊎ (after ≡ keeping next ++ before)
 EntersLeavingOthers unsaid next before after (Leaving.Spool fault) = (job : Job) × (next ≡ Some job) × (job.whole ≡ true) × MayBeEntered (Kept job) before after
+EntersLeavingOthers unsaid next before after Leaving.TooMuch = after ≡ before

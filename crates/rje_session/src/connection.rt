@@ -133,6 +133,10 @@ fn hear<L: Line, S: Spool>(
             day.note(Event::Disconnected);
             Ok(parting_of(fault))
         }
+        Err(Leaving::TooMuch) => {
+            day.note(Event::Disconnected);
+            Ok(Parting::HungUp)
+        }
         Err(Leaving::Spool(fault)) => {
             day.note(Event::Disconnected);
             Err(StayFault::Spool(fault))

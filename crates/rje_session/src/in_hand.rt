@@ -8,7 +8,7 @@ ghost use Rattle.rje_station.specs.Station.{due_at, is_receiving, first_contendi
 ghost use Rattle.rje_station.specs.StationFault.{IsNewCause};
 ghost use Rattle.rje_session.specs.Stations.{FailsInOwn, TakesOwn, TakesOthers};
 ghost use Rattle.rje_session.specs.Stations.{HeardAndReplied, SpokeAndHeard};
-ghost use Rattle.rje_session.specs.Account.{ended_of, ComesOf, IfLineFailed, IsAccounted, IsInStep, IsSettled, KeepsCut};
+ghost use Rattle.rje_session.specs.Account.{ended_of, ComesOf, UnlessSpoolFailed, IsAccounted, IsInStep, IsSettled, KeepsCut};
 ghost use Rattle.rje_session.specs.Breaking.{breaks as broken_by, heard_end as is_ended, is_answer as has_answered, is_word as says_word};
 ghost use Rattle.rje_session.specs.Keeping.{AreKept, cutting, keeping, kept_with};
 ghost use Rattle.rje_session.specs.Ledger.{Entry as Record, MayArrive, MayBeEntered};
@@ -20,8 +20,8 @@ use crate::keeping::{keep_cut, keep_next};
 use crate::leaving::Leaving;
 use crate::outstanding::{counts_last, is_last};
 use crate::settling::settle_rest;
-use crate::{Parting, Spool, Terms};
-use bsc_link::{Rank, Say, Sound, Wish};
+use crate::{Parting, Spool, Terms, turns};
+use bsc_link::{Rank, Say, Sound};
 use rje_day::{Disposition, Ended, Event};
 use rje_jobs::Job;
 use rje_station::{Arrival, Line, Station, StationFault};
@@ -157,8 +157,8 @@ impl<'a> InHand<'a> {
         Ok(heard)
     }
 
-    /// The other's turn: the station listens, keeps the job that came whole, and then replies where a reply is due. Where the job can't be
-    /// kept it doesn't reply. What came.
+    /// The other's turn: the station listens, keeps the job that came whole, and then replies where a reply is due. Where what came can't be held,
+    /// or the job not be kept, it doesn't reply. What came.
     pub(crate) fn take_others_turn<L: Line, S: Spool>(
         &mut self,
         line: &mut L,
@@ -187,30 +187,26 @@ impl<'a> InHand<'a> {
             (slice_get self.new.station.receiver.jobs self.old.kept)
             (S.ledger spool.old) (S.ledger spool.new)) }
     {
-        self.station.hear_other(line, Wish::Go)?;
-        let receiver = self.station.receiver();
-        let Some(arrival) = receiver.arrival() else {
-            unreachable!()
-        };
-        match keep_next(receiver.jobs(), self.kept, spool) {
+        let (arrival, _) = turns::hear_other(&mut self.station, line)?;
+        if !spool.can_hold(&self.station) {
+            self.station.other_ended();
+            return Err(Leaving::TooMuch);
+        }
+        match keep_next(self.station.receiver().jobs(), self.kept, spool) {
             Ok(kept) => self.kept = kept,
             Err(fault) => {
                 self.station.other_ended();
                 return Err(Leaving::Spool(fault));
             }
         }
-        if self.station.receiver().is_over() {
-            self.station.other_ended();
-        } else {
-            self.station.reply(line)?;
-        }
+        turns::answer_other(&mut self.station, line)?;
         Ok(arrival)
     }
 
     /// Goes on with the transmission in hand until something comes of it that the day is told: the other end's transmission begins, which leaves
     /// its own in hand, or either ends, or the connection is over. Then what is left of its jobs is settled, and a job that was cut is kept.
     /// The other end's ends so by its EOT alone. The connection is over where the line failed, where the transmission broke, after as many
-    /// hearings in a row that brought no word as there is patience for, where the spool says so, and after a billion turns.
+    /// hearings in a row that brought no word as there is patience for, where the spool says so or can't hold what came, and after a billion turns.
     pub fn go_on<L: Line, S: Spool>(
         &mut self,
         line: &mut L,
@@ -231,6 +227,7 @@ impl<'a> InHand<'a> {
                 self.parting = Parting::Failed(fault);
                 Event::Disconnected
             }
+            Err(Leaving::TooMuch) => Event::Disconnected,
             Err(Leaving::Spool(fault)) => return Err(fault),
         };
         if event != Event::OtherBegan {
@@ -251,10 +248,10 @@ impl<'a> InHand<'a> {
         ensures comes { IfOk result (ComesOf self.old self.new) }
         ensures left { S.discloses → IsInStep self.old (S.ledger spool.old)
             → IfErr result (λ leaving.
-            IfLineFailed leaving (IsInStep self.new (S.ledger spool.new))) }
+            UnlessSpoolFailed leaving (IsInStep self.new (S.ledger spool.new))) }
         ensures jobs { OnOk result (self.new.station.sender.jobs
             ≡ self.old.station.sender.jobs) }
-        ensures left_jobs { IfErr result (λ leaving. IfLineFailed leaving
+        ensures left_jobs { IfErr result (λ leaving. UnlessSpoolFailed leaving
             (self.new.station.sender.jobs ≡ self.old.station.sender.jobs)) }
     {
         let was_receiving = self.station.is_receiving();
@@ -268,14 +265,14 @@ impl<'a> InHand<'a> {
             if let Some(event) = self.came_of_it(was_receiving) {
                 return Ok(event);
             }
-            if self.is_own_turn(has_listened) {
+            if turns::is_own_turn(self.station(), has_listened) {
                 self.take_own_turn(line, terms.host, spool)?;
                 has_listened = at_once;
                 continue;
             }
             let arrival = self.take_others_turn(line, spool)?;
             has_listened = true;
-            quiet = quiet_after(quiet, arrival);
+            quiet = turns::quiet_after(quiet, !is_word(arrival.sound));
             if was_receiving && quiet > 0 && quiet >= terms.patience {
                 self.station.other_ended();
                 self.parting = Parting::Silent;
@@ -327,21 +324,6 @@ impl<'a> InHand<'a> {
         let outcome = self.station.sender().outcome();
         self.answered = self.answered || is_answer(said, heard);
         self.broken = self.broken || breaks(host, said, heard, outcome);
-    }
-
-    /// Whether the station speaks next. One that has to listen before it bids does so as long as there is something to hear.
-    fn is_own_turn(&self, has_listened: bool) -> bool
-        ensures speaks { result ≡ true → due_at self.now.station ≢ say.Nothing }
-        ensures bids { result ≡ true → due_at self.now.station ≡ say.Bid
-            → (has_listened ≡ true) ⊎ (self.now.station.receiver.over ≡ true) }
-        ensures listens { result ≡ false → (due_at self.now.station ≡ say.Nothing)
-            ⊎ ((due_at self.now.station ≡ say.Bid) × (has_listened ≡ false)) }
-    {
-        match self.station.due() {
-            Say::Nothing => false,
-            Say::Bid => has_listened || self.station.receiver().is_over(),
-            _ => true,
-        }
     }
 
     /// How its own transmission ended.
@@ -397,7 +379,7 @@ impl<'a> InHand<'a> {
         Ok(())
     }
 
-    /// Says what is due, and but for EOT listens for the answer. What was heard; quiet after EOT.
+    /// Takes a turn of its own at the line, and notes which block is outstanding then. What was heard; quiet after EOT.
     fn speak_and_hear<L: Line>(&mut self, line: &mut L) -> Result<Sound, StationFault>
         requires due { due_at self.old.station ≢ say.Nothing }
         ensures takes { IfOk result (λ heard. (said : Word)
@@ -412,32 +394,9 @@ impl<'a> InHand<'a> {
         } }
         ensures fault { IfErr result (FailsInOwn self.old.station self.new.station) }
     {
-        match self.station.speak(line)? {
-            Say::End => Ok(Sound::Quiet),
-            _ => self.hear_answer(line),
-        }
-    }
-
-    /// Hears the answer to what was said, and notes which block is outstanding then.
-    fn hear_answer<L: Line>(&mut self, line: &mut L) -> Result<Sound, StationFault>
-        requires due { due_at self.old.station ≢ say.Nothing }
-        ensures heard { IfOk result (λ heard.
-            HeardAnswer (L.talk line.old) (L.talk line.new) (due_at self.old.station) heard) }
-        ensures state { IfOk result (λ heard.
-            self.new.station ≡ after_answer self.old.station heard false) }
-        ensures none { L.transmissions line.new ≡ L.transmissions line.old }
-        ensures counted { self.new.may_have_come ≡ (self.old.may_have_come
-            && (self.old.station.sender.counted == self.new.station.sender.counted)) }
-        ensures rest { self.new ≡ record self.old {
-          station = self.new.station;
-          may_have_come = self.new.may_have_come;
-        } }
-        ensures fault { IfErr result (λ fault.
-            self.new.station ≡ after_own_refusal fault self.old.station) }
-    {
         let counted = self.station.sender().counted();
         let next = self.station.sender().next_record();
-        let heard = self.station.hear_answer(line, false)?;
+        let (_, heard) = turns::take_own_turn(&mut self.station, line)?;
         let sender = self.station.sender();
         if sender.counted() != counted {
             self.from = 0;
@@ -454,15 +413,4 @@ fn is_of_block(say: Say) -> bool
     ensures { result ≡ speaks_of_block say }
 {
     matches!(say, Say::Block | Say::Again | Say::Ask)
-}
-
-/// How many hearings in a row brought no word, with the last one.
-fn quiet_after(quiet: u32, arrival: Arrival) -> u32
-    ensures { result ≡ (if says_word arrival.sound then 0 else min (quiet + 1) 4294967295) }
-{
-    if is_word(arrival.sound) {
-        0
-    } else {
-        quiet.saturating_add(1)
-    }
 }

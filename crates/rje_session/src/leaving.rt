@@ -11,6 +11,8 @@ pub(crate) enum Leaving<F> {
     Line(StationFault),
     /// The spool failed. Nothing was said after that.
     Spool(F),
+    /// What came can't be held. Nothing was said after that.
+    TooMuch,
 }
 
 impl<F> From<StationFault> for Leaving<F> {

@@ -14,6 +14,7 @@ mod stay_fault;
 mod steps;
 mod tally;
 mod terms;
+pub mod turns;
 
 pub use connection::{MAX_TRANSMISSIONS, stay};
 pub use in_hand::{InHand, MAX_TURNS};

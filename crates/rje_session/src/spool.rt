@@ -31,9 +31,13 @@ pub trait Spool {
         ensures failed { discloses → OnErr result ((jobs : List Item)
             × MayBeEntered (Given jobs) (ledger self.old) (ledger self.new)) };
 
-    /// A turn of the transmission of this station is next: for whoever looks on. Whether it goes on: else the connection is left, as where
-    /// more came than can be kept.
+    /// A turn of the transmission of this station is next: for whoever looks on. Whether it goes on: else the connection is left.
     fn look_on<'a>(&mut self, station: &Station<'a>) -> bool
+        ensures none { discloses → ledger self.new ≡ ledger self.old };
+
+    /// Something came that is neither kept nor answered yet. Whether it can be held: else it isn't answered, and the connection is left, as where
+    /// more came than can be kept.
+    fn can_hold<'a>(&mut self, station: &Station<'a>) -> bool
         ensures none { discloses → ledger self.new ≡ ledger self.old };
 
     /// The last block of this job goes out next: from now on it may have arrived. On disk when it returns.

@@ -141,6 +141,10 @@ impl<D: FolderDisk + Drop, C: Clock, W: Write, L: Write, B: Book + Drop> Spool
         self.files.look_on(station)
     }
 
+    fn can_hold<'a>(&mut self, station: &Station<'a>) -> bool {
+        self.files.can_hold(station.receiver().jobs())
+    }
+
     fn goes_out(&mut self, job: usize) -> Result<(), SpoolFault>
         ensures entered { B.discloses
             → IsEntered result (MayArrive job) self.old.entries self.new.entries }

@@ -210,7 +210,17 @@ impl<D: FolderDisk + Drop, C: Clock, W: Write, L: Write> SpoolFiles<D, C, W, L> 
     {
         self.watching
             .look_on(station, &self.given, &mut self.console);
-        self.can_hold(station.receiver().jobs())
+        self.has_room(station.receiver().jobs())
+    }
+
+    /// Whether these jobs, which came so far, can be held. One that came whole can be, as it is kept next.
+    pub(crate) fn can_hold(&mut self, jobs: &[Job]) -> bool
+        ensures folder { self.new.folder ≡ self.old.folder }
+    {
+        match jobs.last() {
+            Some(job) if job.whole => true,
+            _ => self.has_room(jobs),
+        }
     }
 
     /// The last block of this job goes out next: from now on its file has a name in doubt/, on disk.
@@ -426,8 +436,9 @@ impl<D: FolderDisk + Drop, C: Clock, W: Write, L: Write> SpoolFiles<D, C, W, L> 
         self.unreadable = count;
     }
 
-    /// Whether these jobs, which came so far, can be held, and each be kept in a file that can be read again. It is told where they can't.
-    fn can_hold(&mut self, jobs: &[Job]) -> bool
+    /// Whether there is room for more than these jobs, which came so far, and each can be kept in a file that can be read again. It is told where
+    /// there isn't.
+    fn has_room(&mut self, jobs: &[Job]) -> bool
         ensures folder { self.new.folder ≡ self.old.folder }
     {
         self.tally = if jobs.is_empty() {

@@ -122,6 +122,10 @@ impl<'o, C: Clock + Drop, S: Spool + Drop, L: OpenListener + Drop> Spool
         self.spool.look_on(station) && !self.is_overdue()
     }
 
+    fn can_hold<'a>(&mut self, station: &Station<'a>) -> bool {
+        self.spool.can_hold(station)
+    }
+
     fn goes_out(&mut self, job: usize) -> Result<(), S::Fault> {
         self.spool.goes_out(job)
     }

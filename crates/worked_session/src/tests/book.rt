@@ -33,6 +33,8 @@ pub(super) struct Book {
     notes: ArrayVec<Note, 16>,
     /// So many turns go on.
     turns: u32,
+    /// Nothing that comes can be held.
+    full: bool,
 }
 
 /// Why the spool failed.
@@ -49,6 +51,7 @@ impl Book {
             calls: 0,
             notes: ArrayVec::new(),
             turns: u32::MAX,
+            full: false,
         }
     }
 
@@ -60,6 +63,11 @@ impl Book {
     /// The turn after so many doesn't go on.
     pub(super) fn leave_after(&mut self, turns: u32) {
         self.turns = turns;
+    }
+
+    /// Nothing that comes can be held.
+    pub(super) fn fill(&mut self) {
+        self.full = true;
     }
 
     /// What was entered, the oldest first.
@@ -105,6 +113,10 @@ impl Spool for Book {
         let goes_on = self.turns > 0;
         self.turns = self.turns.saturating_sub(1);
         goes_on
+    }
+
+    fn can_hold<'a>(&mut self, station: &Station<'a>) -> bool {
+        !self.full || station.receiver().jobs().is_empty()
     }
 
     fn goes_out(&mut self, job: usize) -> Result<(), Broken> {

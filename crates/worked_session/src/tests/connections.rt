@@ -231,6 +231,16 @@ fn nothing_is_acknowledged_that_is_not_kept(rt: HostRuntime) {
 }
 
 #[test]
+fn nothing_is_acknowledged_that_can_not_be_held(rt: HostRuntime) {
+    let mut line = Script::new(&[&ENQ, &MORE, &EOT], 0);
+    let mut spool = book(&rt, 0, 2, 0);
+    spool.fill();
+    assert!(rt; parts(&rt, terms(false), &mut line, &mut spool) == Some(Parting::HungUp));
+    assert!(rt; spool.notes() == [Note::KeptCut].as_slice());
+    assert!(rt; line.said() == [SAID_ACK].as_slice());
+}
+
+#[test]
 fn what_is_held_is_not_bid_for(rt: HostRuntime) {
     let mut line = Script::new(&[], 0);
     let mut spool = book(&rt, 1, 2, 0);

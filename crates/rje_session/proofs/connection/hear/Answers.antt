@@ -34,6 +34,11 @@ returns-in-Err-Line g c = record {
   day = free_step c.args.day.now c.note-in-Err-Line.new.self c.args.seen Duty.Hear Event.Disconnected c.requires.next c.requires.free refl refl c.note-in-Err-Line.ensures.exact;
 }
 
+pub returns-in-Err-TooMuch : goal.returns-in-Err-TooMuch
+returns-in-Err-TooMuch g c = record {
+  day = free_step c.args.day.now c.note-in-Err-TooMuch.new.self c.args.seen Duty.Hear Event.Disconnected c.requires.next c.requires.free refl refl c.note-in-Err-TooMuch.ensures.exact;
+}
+
 pub returns : goal.returns
 returns g c = record {
   day = free_step c.args.day.now c.note-in-Err-Spool.new.self c.args.seen Duty.Hear Event.Disconnected c.requires.next c.requires.free refl refl c.note-in-Err-Spool.ensures.exact;

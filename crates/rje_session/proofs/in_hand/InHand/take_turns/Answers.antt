@@ -1,8 +1,8 @@
-use Rattle.std.proofs.Common.{◌≡◌, ◌∙◌, ap, rules, slice_get, sym}
+use Rattle.std.proofs.Common.{◌≡◌, ◌∙◌, ap, arith, rules, slice_get, sym}
 use Rattle.rje_station.specs.Station.{Contending}
-use Rattle.rje_session.specs.Account.{IfLineFailed, IsInStep}
+use Rattle.rje_session.specs.Account.{UnlessSpoolFailed, IsInStep}
 use Rattle.rje_session.specs.Turns.{Carried}
-use Rattle.rje_session.proofs.InStep.{ended_stays, fails_on, others_in_step, others_leave, others_leave_jobs, others_stay, own_in_step, own_leaves, own_leaves_jobs, own_steps, still_in_step}
+use Rattle.rje_session.proofs.InStep.{ended_stays, fails_on, few_quiet, others_in_step, others_leave, others_leave_jobs, others_stay, own_in_step, own_leaves, own_leaves_jobs, own_steps, still_in_step}
 use Rattle.rje_session.proofs.in_hand.InHand.take_turns.Goals as goal
 
 pub loop-preserved-then-is_own_turn : goal.loop-preserved-then-is_own_turn
@@ -12,6 +12,7 @@ loop-preserved-then-is_own_turn g c =
       step = λ shows in_step. own_in_step c.loop.self c.take_own_turn.new.self (g.S.Spool.ledger c.show.new.spool) (g.S.Spool.ledger c.take_own_turn.new.spool) steps
           (c.in_ok-take_own_turn.ensures.entered shows) c.in_ok-take_own_turn.ensures.may_have_come (rw (c.show.ensures shows) (c.loop.invariant.step shows in_step));
       jobs = steps.0 ∙ c.loop.invariant.jobs;
+      few = omega (arith, c.loop.invariant.few);
     }
 
 pub loop-preserved : goal.loop-preserved
@@ -21,6 +22,7 @@ loop-preserved g c =
       step = λ shows in_step. others_in_step c.loop.self c.take_others_turn.new.self (slice_get c.take_others_turn.new.self.station.receiver.jobs c.loop.self.kept) (g.S.Spool.ledger c.show.new.spool)
           (g.S.Spool.ledger c.take_others_turn.new.spool) stays (ap (λ (x : Carried). x.may_have_come) c.take_others_turn.ensures.rest) (c.in_ok-arrival.ensures.entered shows) (rw (c.show.ensures shows) (c.loop.invariant.step shows in_step));
       jobs = stays.0 ∙ c.loop.invariant.jobs;
+      few = few_quiet c.quiet_after-quiet.result c.loop.quiet c.loop.counter _ c.quiet_after-quiet.ensures c.loop.invariant.few;
     }
 
 pub returns-then-quiet-terms-clause-jobs : goal.returns-then-quiet-terms-clause-jobs
@@ -35,14 +37,14 @@ returns-in_err-arrival-clause-left_jobs g c =
     let left = others_leave_jobs (g.L.Line.transmissions c.take_others_turn.new.line ≡ g.L.Line.transmissions c.loop.line) c.loop.self c.take_others_turn.new.self c.args.self.now.station.sender.jobs
     c.take_others_turn.result c.loop.invariant.jobs c.take_others_turn.ensures.left in
     fails_on c.take_others_turn.result c.in_err-arrival.field-0.0 c.from_residual-in_err-arrival.result
-    (λ leaving. IfLineFailed leaving (c.take_others_turn.new.self.station.sender.jobs ≡ c.args.self.now.station.sender.jobs)) c.in_err-arrival.was left c.from_residual-in_err-arrival.ensures.1
+    (λ leaving. UnlessSpoolFailed leaving (c.take_others_turn.new.self.station.sender.jobs ≡ c.args.self.now.station.sender.jobs)) c.in_err-arrival.was left c.from_residual-in_err-arrival.ensures.1
 
 pub returns-in_err-take_own_turn-clause-left_jobs : goal.returns-in_err-take_own_turn-clause-left_jobs
 returns-in_err-take_own_turn-clause-left_jobs g c =
     let left = own_leaves_jobs (c.take_own_turn.new.line ≡ c.loop.line) c.loop.self c.take_own_turn.new.self c.args.self.now.station.sender.jobs
     c.take_own_turn.result c.loop.invariant.jobs c.take_own_turn.ensures.left in
     fails_on c.take_own_turn.result c.in_err-take_own_turn.field-0.0 c.from_residual.result
-    (λ leaving. IfLineFailed leaving (c.take_own_turn.new.self.station.sender.jobs ≡ c.args.self.now.station.sender.jobs)) c.in_err-take_own_turn.was left c.from_residual.ensures.1
+    (λ leaving. UnlessSpoolFailed leaving (c.take_own_turn.new.self.station.sender.jobs ≡ c.args.self.now.station.sender.jobs)) c.in_err-take_own_turn.was left c.from_residual.ensures.1
 
 pub returns-then-quiet-terms-clause-in_step : goal.returns-then-quiet-terms-clause-in_step
 returns-then-quiet-terms-clause-in_step g c shows in_step =
@@ -62,7 +64,7 @@ returns-in_err-arrival-clause-left g c shows in_step =
     (slice_get c.take_others_turn.new.self.station.receiver.jobs c.loop.self.kept) (g.S.Spool.ledger c.show.new.spool) (g.S.Spool.ledger c.take_others_turn.new.spool) c.take_others_turn.result
     c.take_others_turn.ensures.left (ap (λ (x : Carried). x.may_have_come) c.take_others_turn.ensures.rest) (c.take_others_turn.ensures.left_entered shows) (rw (c.show.ensures shows) (c.loop.invariant.step shows in_step)) in
     fails_on c.take_others_turn.result c.in_err-arrival.field-0.0 c.from_residual-in_err-arrival.result
-    (λ leaving. IfLineFailed leaving (IsInStep c.take_others_turn.new.self (g.S.Spool.ledger c.take_others_turn.new.spool))) c.in_err-arrival.was left c.from_residual-in_err-arrival.ensures.1
+    (λ leaving. UnlessSpoolFailed leaving (IsInStep c.take_others_turn.new.self (g.S.Spool.ledger c.take_others_turn.new.spool))) c.in_err-arrival.was left c.from_residual-in_err-arrival.ensures.1
 
 pub returns-in_err-take_own_turn-clause-left : goal.returns-in_err-take_own_turn-clause-left
 returns-in_err-take_own_turn-clause-left g c shows in_step =
@@ -70,4 +72,4 @@ returns-in_err-take_own_turn-clause-left g c shows in_step =
     own_leaves (c.take_own_turn.new.line ≡ c.loop.line) c.loop.self c.take_own_turn.new.self (g.S.Spool.ledger c.show.new.spool) (g.S.Spool.ledger c.take_own_turn.new.spool) c.take_own_turn.result
     c.take_own_turn.ensures.left (c.take_own_turn.ensures.left_entered shows) (rw (c.show.ensures shows) (c.loop.invariant.step shows in_step)) in
     fails_on c.take_own_turn.result c.in_err-take_own_turn.field-0.0 c.from_residual.result
-    (λ leaving. IfLineFailed leaving (IsInStep c.take_own_turn.new.self (g.S.Spool.ledger c.take_own_turn.new.spool))) c.in_err-take_own_turn.was left c.from_residual.ensures.1
+    (λ leaving. UnlessSpoolFailed leaving (IsInStep c.take_own_turn.new.self (g.S.Spool.ledger c.take_own_turn.new.spool))) c.in_err-take_own_turn.was left c.from_residual.ensures.1
