@@ -247,9 +247,11 @@ class Outputs(FaultCase):
         self.fails(3, "can't read nope", "show", "nope", why=NO_FILE)
 
 
-# The control characters of a name or a word, C0, DEL and C1, are question marks where it is printed, so that a message has its own lines alone;
-# other characters are as they are.
-ODD, SHOWN = "no\nsuch\t\x1b\x7f\u0085é", "no?such????é"
+# The control characters of a name or a word (C0, DEL and C1), the separators of lines and paragraphs, and the marks that turn the direction of the
+# text (Unicode's Bidi_Control), are question marks where it is printed, so that a message has its own lines alone and says what the name is; other
+# characters are as they are, those beside these too.
+ODD, SHOWN = "no\nsuch\t\x1b\x7f\u0085é\u2028\u2029\u200e\u061c", "no?such????é????"
+TURNED, AS_SHOWN = "a\u202ebed\u202a\u2066\u2069.job\u200d\u202f\u2065", "a?bed???.job\u200d\u202f\u2065"
 
 
 class OddNames(FaultCase):
@@ -257,6 +259,7 @@ class OddNames(FaultCase):
         for word in "show", "check", "print", "loop":
             self.fails(3, f"can't read {SHOWN}", word, ODD, why=f"{SHOWN}: no such file")
         self.fails(3, f"can't read {SHOWN}", "send", ODD, "--to", TO, why=f"{SHOWN}: no such file")
+        self.fails(3, f"can't read {AS_SHOWN}", "show", TURNED, why=f"{AS_SHOWN}: no such file")
 
     def test_there(self):
         self.have(**{ODD: "pay.deck"})
