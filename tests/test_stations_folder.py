@@ -10,7 +10,7 @@ from tests.lib import case  # noqa: E402
 from tests.lib.frames import ACK0, ACK1, ENQ, EOT, text_of  # noqa: E402
 from tests.lib.ports import PATIENCE, free_port, waits_for  # noqa: E402
 from tests.lib.samples import WHOLE  # noqa: E402
-from tests.lib.stations import FIRST_JOBS, LAST, Door, Peer, StationCase, file_text, has_logged, told_by  # noqa: E402
+from tests.lib.stations import FIRST_JOBS, LAST, Door, Peer, StationCase, file_text, has_logged, serves, told_by  # noqa: E402
 
 
 def touch(path, text=""):
@@ -45,6 +45,8 @@ class OneStation(StationCase):
         os.symlink("../c.txt", self.one.at("out", "a.second.deck"))
         touch(self.one.at("c.txt"), "NO\n")
         os.mkdir(self.one.at("out", "a.folder.deck"))
+        # (what can't get a second name, as a folder, is opened by its own once nobody has written to it for three seconds)
+        os.utime(self.one.at("out", "a.folder.deck"), (0, 0))
         os.mkfifo(self.one.at("out", "a.pipe.deck"))
         touch(self.one.at("out", "b.txt"), "B\n")
         touch(self.one.at("out", "c.deck"), "C\tC\n")
@@ -134,6 +136,23 @@ class OneStation(StationCase):
         ]
         self.equal(sorted(self.told()), sorted(wanted), "what it told")
         self.equal(len(self.one.names("print")), 1, "how many listings there are")
+
+    def test_many_names(self):
+        """A file with 10,000 names is passed over, and reported; one with a name less goes."""
+        os.makedirs(self.at("names"))
+        for deck, names in (("many.deck", 10_000), ("most.deck", 9_999)):
+            self.one.put(deck, [deck])
+            for number in range(names - 1):
+                os.link(self.one.at("out", deck), self.at("names", f"{deck}-{number}"))
+        self.one.start()
+        until = time.monotonic() + PATIENCE
+        while time.monotonic() < until and not (os.path.isdir(self.one.at("sent")) and self.one.names("sent")):
+            serves(self.door)
+        self.equal(self.one.names("sent"), ["most.deck"], "what is sent")
+        self.equal(self.one.names("out"), ["many.deck"], "what is left in out/")
+        told = [line for line in told_by(self.one) if "many.deck" in line]
+        self.equal(told, ["many.deck: out: too many links"], f"it told {told}")
+        self.one.kill()
 
     def test_callers(self):
         """Who isn't let in is hung up, and so is who says nothing, or nothing any more; the next one is taken. After one connection it ends."""

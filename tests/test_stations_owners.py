@@ -3,6 +3,7 @@ import os
 import shutil
 import subprocess
 import sys
+import threading
 import time
 
 sys.path.insert(0, os.path.dirname(os.path.dirname(os.path.abspath(__file__))))
@@ -33,6 +34,15 @@ def sends(door, station, names):
     while time.monotonic() < until and station.names("sent") != names:
         came += serves(door)
     return came
+
+
+def writes_slowly(path, lines, seconds):
+    """Writes a file in place, a line after so many seconds, as a copy over a slow line does."""
+    with open(path, "w") as file:
+        for line in lines:
+            file.write(line + "\n")
+            file.flush()
+            time.sleep(seconds)
 
 
 def protects_links():
@@ -119,6 +129,25 @@ class Owners(StationCase):
         self.check(os.listdir(station.at("out")) and f"hidden: out/ has {os.listdir(station.at('out'))}")
         station.kill()
 
+    def test_written_slowly(self):
+        """A deck that root writes in place, slowly, is taken over once it is left alone, and goes whole, once."""
+        door, station = self.calls("slowly")
+        for deck in MODES:
+            os.remove(station.at("out", deck))
+        lines = [f"LINE {number}" for number in range(12)]
+        writer = threading.Thread(target=writes_slowly, args=(station.at("out", "slow.deck"), lines, 0.3))
+        station.start()
+        self.true(waits_for(lambda: os.path.isdir(station.at("sent"))), "slowly: the station makes no folders")
+        writer.start()
+        came = sends(door, station, ["slow.deck"])
+        writer.join()
+        for line in lines:
+            times = came.count(ebcdic(line) + b"\x1e")
+            self.equal(times, 1, f"slowly: {line} came {times} times")
+        self.equal(file_text(station, "sent", "slow.deck"), "".join(f"{line}\n" for line in lines), "slowly: another text is in sent/")
+        for name in ("out", "doubt", "refused"):
+            self.check(os.listdir(station.at(name)) and f"slowly: {name}/ has {os.listdir(station.at(name))}")
+        station.kill()
 
 
 if __name__ == "__main__":

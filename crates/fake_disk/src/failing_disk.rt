@@ -39,12 +39,13 @@ pub struct FailingDisk {
     room: usize,
 }
 
-/// At a call of this number another file is put in the place of the one under a path.
+/// At a call of this number another file is put in the place of the one under a path, or that one is written to.
 #[derive(Drop)]
 struct Meanwhile {
     at: usize,
     path: String,
-    bytes: Vec<u8>,
+    // What the other file has; none where the one that is there is written to.
+    bytes: Option<Vec<u8>>,
     // Whether it was put there, and then whether no file had the path.
     was_free: Option<bool>,
 }
@@ -118,7 +119,19 @@ impl FailingDisk {
         self.meanwhile = Some(Meanwhile {
             at,
             path,
-            bytes: own,
+            bytes: Some(own),
+            was_free: None,
+        });
+        Ok(())
+    }
+
+    /// Right before the call of this number, of those that change something, the first byte of the file under a path becomes an X.
+    pub fn write_meanwhile(&mut self, at: usize, path: &str) -> io::Result<()> {
+        let path = String::from_str(self.alloc, path)?;
+        self.meanwhile = Some(Meanwhile {
+            at,
+            path,
+            bytes: None,
             was_free: None,
         });
         Ok(())
@@ -311,8 +324,15 @@ impl FailingDisk {
         };
         let mut other = other;
         if other.at == self.calls {
-            other.was_free = Some(self.file_of(other.path.as_str()).is_none());
-            self.replace(other.path.as_str(), other.bytes.as_slice())?;
+            let found = self.file_of(other.path.as_str());
+            other.was_free = Some(found.is_none());
+            match (&other.bytes, found) {
+                (Some(bytes), _) => {
+                    self.replace(other.path.as_str(), bytes.as_slice())?;
+                }
+                (None, Some(file)) => self.set(file, 0, b'X'),
+                (None, None) => {}
+            }
         }
         self.meanwhile = Some(other);
         Ok(())

@@ -18,6 +18,7 @@ pub use accounts::Accounts;
 pub use accounts_fault::AccountsFault;
 pub use bringing_in::{BroughtIn, bring_in};
 pub use finishing::finish_job;
+pub use naming::settle_path;
 pub use noting::note_sent;
 pub use promising::{drop_promise, promise};
 pub use reading::read_accounts;

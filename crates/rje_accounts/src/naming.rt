@@ -16,7 +16,7 @@ pub(crate) fn settle_folder(alloc: Global, station: &str) -> io::Result<String>
 }
 
 /// The path of a name there.
-pub(crate) fn settle_path(alloc: Global, station: &str, name: SettleName) -> io::Result<String>
+pub fn settle_path(alloc: Global, station: &str, name: SettleName) -> io::Result<String>
     ensures { IfOk result (λ path. string_bytes path ≡ settle_path station.now name) }
 {
     let text = name.text();

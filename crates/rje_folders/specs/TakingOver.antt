@@ -1,6 +1,6 @@
 -- How a file of out/ that can't get a second name is taken over: it gets a hidden name, a copy of the station's own comes in its place there, and that
 -- is moved to the name that the file had (own profile).
-use Rattle.std.specs.Prelude.{◌≡◌, ◌⊎◌, ℕ, List, [], ◌++◌, Option, Some, codes, decimal}
+use Rattle.std.specs.Prelude.{◌≡◌, ◌⊎◌, ℕ, ℤ, pos, ◌<ℤ◌, ◌+ℤ◌, List, [], ◌++◌, Option, Some, None, ⊤, codes, decimal}
 use Rattle.rje_stores.specs.declared.new_access.NewAccess.{NewAccess}
 use Rattle.rje_stores.specs.Disk.{Asked, Call, Opened, Create, Fill, Sync, Rename, Remove, SyncFolder, bytes_of}
 use Rattle.rje_stores.specs.Replacing.{IsOnDisk, IsWhole}
@@ -13,6 +13,12 @@ use Rattle.rje_folders.specs.Keeping.{IsTemporary, WasMade}
 use Rattle.rje_folders.specs.Moving.{MayDrop, MayMove}
 use Rattle.rje_folders.specs.Promising.{IsKeptElsewhere}
 use Rattle.rje_folders.specs.Reading.{IsReadOf}
+
+-- A file whose bytes last changed at one time is at rest at another, both in seconds since 1970: that is more than three seconds later; or it is before,
+-- so the clocks don't agree, and nothing can be told. Where the time isn't known, each file is.
+abbrev pub IsAtRest : (changed : ℤ) → (now : Option ℤ) → Type 0
+IsAtRest changed (Some now) = (now <ℤ changed) ⊎ ((changed +ℤ pos 3) <ℤ now)
+IsAtRest changed None = ⊤
 
 -- a hidden name under which a file of this name is taken over
 abbrev pub IsTakenName : (name hidden : List ℕ) → Type 0

@@ -4,7 +4,7 @@ ghost use Rattle.rje_stores.specs.Replacing.{Adds, IsWhole};
 ghost use Rattle.rje_folders.specs.Folder.{path_in, path_of};
 ghost use Rattle.rje_folders.specs.Keeping.{IsTemporary, WasMade};
 ghost use Rattle.rje_folders.specs.Reading.{IsReadOf};
-ghost use Rattle.rje_folders.specs.TakingOver.{MayCopy};
+ghost use Rattle.rje_folders.specs.TakingOver.{IsAtRest, MayCopy};
 
 use crate::folder::Folder;
 use crate::folder_disk::FolderDisk;
@@ -22,18 +22,21 @@ pub(crate) struct FileCopy {
     pub(crate) read: FileRead,
 }
 
-/// A copy of a file of out/, on disk. Too large where it has more than `most` bytes; being written where it was written to meanwhile.
+/// A copy of a file of out/, on disk. Too large if it has more than `most` bytes; being written if it was written to meanwhile, or isn't at rest at this
+/// time.
 pub(crate) fn copied<D: FolderDisk>(
     disk: &mut D,
     alloc: Global,
     station: &str,
     name: &str,
     most: u64,
+    now: Option<i64>,
 ) -> Result<FileCopy, FolderFault>
     ensures asks { D.discloses → Adds (MayCopy (path_of station.now Folder.Refused))
         (D.asked disk.old) (D.asked disk.new) }
     ensures read { D.discloses → IfOk result (λ copy. IsReadOf D.opened D.File.remaining
         (D.is_open (D.asked disk.old)) (path_in station.now Folder.Out name.now) copy.read) }
+    ensures rests { IfOk result (λ copy. IsAtRest copy.read.file.changed.seconds now) }
     ensures whole { D.discloses → IfOk result (λ copy. IsWhole (string_bytes copy.path)
         copy.read.bytes.items (D.asked disk.new)) }
     ensures made { D.discloses → IfOk result (λ copy.
@@ -42,6 +45,9 @@ pub(crate) fn copied<D: FolderDisk>(
         IsTemporary (path_of station.now Folder.Refused) (string_bytes copy.path)) }
 {
     let read = read_named(disk, alloc, station, name, most)?;
+    if !read.file.is_at_rest(now) {
+        return Err(FolderFault::BeingWritten(Folder::Out));
+    }
     match new_copy(disk, alloc, station, read.bytes.as_slice()) {
         Ok(path) => Ok(FileCopy { path, read }),
         Err(error) => Err(FolderFault::of(Folder::Out, &error)),

@@ -1,7 +1,11 @@
 //! Which file it is that was read.
-ghost use Rattle.std.specs.Prelude.{◌≡◌};
+ghost use Rattle.std.specs.Prelude.{◌≡◌, ◌↔◌, IsTrue};
+ghost use Rattle.rje_folders.specs.TakingOver.{IsAtRest};
 
 use rje_stores::{ChangeTime, FileStatus};
+
+/// For so many seconds nobody writes to a file that is taken over.
+const REST: i64 = 3;
 
 /// Which file it is, and how far its bytes are: a file that was put in its place has another identity, and so has it once it was written to.
 #[derive(Clone, Copy, Debug, PartialEq, Eq)]
@@ -29,6 +33,19 @@ impl FileIdentity {
             inode: status.inode,
             len: status.len,
             changed: status.changed,
+        }
+    }
+
+    /// Whether it is at rest at this time, in seconds since 1970: its bytes last changed more than three seconds before, or after it by this clock. If the
+    /// time isn't known it is.
+    pub fn is_at_rest(&self, now: Option<i64>) -> bool
+        ensures { IsTrue result ↔ IsAtRest self.now.changed.seconds now }
+    {
+        match now {
+            Some(now) => {
+                now < self.changed.seconds || self.changed.seconds.saturating_add(REST) < now
+            }
+            None => true,
         }
     }
 }

@@ -12,27 +12,42 @@ use crate::folder_fault::FolderFault;
 use crate::kept_names::KeptNames;
 use crate::moving::drop_name;
 use crate::opening::names_of;
-use crate::taken_name::name_before;
+use crate::taken_name::{may_be_taken_name, name_before};
 use crate::taking_over::give_back;
 use crate::tidying::{has_one_name, kept_name, second_in};
 use rje_stores::MAX_INPUT;
 use std::alloc::Global;
 use std::io;
 
-/// Gives those files of out/ their names back that were being taken over when a station was killed. One that can't get it stays where it is.
+/// How many files are given their names back at once, at most: each takes some writes to the disk.
+const MOST: usize = 8;
+
+/// Gives some of those files of out/ their names back that were being taken over, those of other users if they are at rest at this time. Whether one of
+/// them is left where it is.
 pub(crate) fn finish_all<D: FolderDisk>(
     disk: &mut D,
     alloc: Global,
     station: &str,
-) -> Result<(), FolderFault>
+    now: Option<i64>,
+) -> Result<bool, FolderFault>
     ensures { D.discloses → Adds (MayFinish D.opened D.File.remaining D.is_open D.is_file
         D.are_one station.now) (D.asked disk.old) (D.asked disk.new) }
 {
     let names = names_of(disk, alloc, station, Folder::Out)?;
+    let mut tried: usize = 0;
+    let mut is_left = false;
     for hidden in &names {
-        let _ = finish_one(disk, alloc, station, hidden.as_str(), names.as_slice());
+        if !may_be_taken_name(hidden.as_str()) {
+            continue;
+        }
+        if tried == MOST {
+            return Ok(true);
+        }
+        tried = tried.saturating_add(1);
+        let finished = finish_one(disk, alloc, station, hidden.as_str(), names.as_slice(), now);
+        is_left = is_left || finished.is_err();
     }
-    Ok(())
+    Ok(is_left)
 }
 
 /// The same of what has this name in out/, which has these names.
@@ -42,19 +57,20 @@ fn finish_one<D: FolderDisk>(
     station: &str,
     hidden: &str,
     names: &[String],
+    now: Option<i64>,
 ) -> Result<(), FolderFault>
     ensures { D.discloses → Adds (MayFinish D.opened D.File.remaining D.is_open D.is_file
         D.are_one station.now) (D.asked disk.old) (D.asked disk.new) }
 {
     match name_before(alloc, hidden) {
-        Ok(Some(name)) => finish(disk, alloc, station, name, hidden, names),
+        Ok(Some(name)) => finish(disk, alloc, station, name, hidden, names, now),
         Ok(None) => Ok(()),
         Err(error) => Err(FolderFault::of(Folder::Out, &error)),
     }
 }
 
-/// Gives a file the name back that it had in out/, where it has this hidden one alone. Where it has another one that is named after that, the hidden
-/// one is taken away; and where it has others, nothing is done.
+/// Gives a file the name back that it had in out/, if it has this hidden one alone. If it has another one that is named after that, the
+/// hidden one is taken away; and if it has others, nothing is done.
 fn finish<D: FolderDisk>(
     disk: &mut D,
     alloc: Global,
@@ -62,13 +78,14 @@ fn finish<D: FolderDisk>(
     name: &str,
     hidden: &str,
     names: &[String],
+    now: Option<i64>,
 ) -> Result<(), FolderFault>
     requires named { IsTakenName name.now hidden.now }
     ensures { D.discloses → Adds (MayFinish D.opened D.File.remaining D.is_open D.is_file
         D.are_one station.now) (D.asked disk.old) (D.asked disk.new) }
 {
     match stands_alone(disk, alloc, station, hidden) {
-        Ok(true) => give_back(disk, alloc, station, name, hidden, MAX_INPUT as u64),
+        Ok(true) => give_back(disk, alloc, station, name, hidden, MAX_INPUT as u64, now),
         Ok(false) => match drop_hidden(disk, alloc, station, name, hidden, names) {
             Ok(()) => Ok(()),
             Err(error) => Err(FolderFault::of(Folder::Out, &error)),

@@ -28,6 +28,9 @@ pub enum FolderFault {
     /// Another file has the name of one that was read, or that one was written to.
     #[error("replaced while it was being sent")]
     Replaced,
+    /// A file that was being taken over was written to meanwhile: it keeps a hidden name for now.
+    #[error("being written, and sent once it is left alone")]
+    LeftHidden,
     /// A file can't get a second name, and why.
     #[error("can't get a second name: {0}")]
     NoSecondName(ErrorKind),

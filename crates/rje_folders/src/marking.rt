@@ -9,7 +9,7 @@ use std::io::{self, ErrorKind};
 
 /// Writes a byte at a place of this file under a path, on disk. Which file it is then, as it was written to; `None`, and nothing was written, where
 /// another file has the path. An invalid input where the file has no byte there.
-pub(crate) fn set_mark<D: FolderDisk>(
+pub fn set_mark<D: FolderDisk>(
     disk: &mut D,
     path: &str,
     place: u64,

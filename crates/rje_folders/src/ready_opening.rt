@@ -18,6 +18,9 @@ use rje_stores::FileKind;
 use std::alloc::Global;
 use std::io::{self, ErrorKind};
 
+/// How many names a file has at most that is read, with the one by which it is.
+const MOST_NAMES: u64 = 10_000;
+
 /// A file that is open to be read, and which file stands under its name.
 #[derive(Drop)]
 pub(crate) struct NamedFile<F: Drop> {
@@ -170,14 +173,18 @@ fn opened_by_name<D: FolderDisk>(
 }
 
 /// The file under a path, open to be read. A symbolic link is refused, since its names in other folders can't be told from others, and so are a folder,
-/// a device, and a pipe, which would be waited for.
+/// a device, a pipe, which would be waited for, and a file with so many names that the system might refuse it the one in sent/.
 fn open_regular<D: FolderDisk>(disk: &D, path: &str) -> io::Result<D::File>
     ensures { D.discloses → IfOk result (λ file. (D.opened file).name ≡ path.now) }
 {
     if disk.is_link(path)? {
         return Err(io::Error::from(ErrorKind::Unsupported));
     }
-    match disk.status(path)?.kind {
+    let found = disk.status(path)?;
+    match found.kind {
+        FileKind::Regular if found.links > MOST_NAMES => {
+            Err(io::Error::from(ErrorKind::TooManyLinks))
+        }
         FileKind::Regular => disk.open_to_read(path),
         FileKind::Folder => Err(io::Error::from(ErrorKind::IsADirectory)),
         FileKind::Device => Err(io::Error::from(ErrorKind::Unsupported)),

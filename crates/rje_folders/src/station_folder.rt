@@ -59,7 +59,7 @@ impl<D: FolderDisk + Drop> StationFolder<D> {
         let lock = locked(&mut disk, alloc, path)?;
         clear_up(&mut disk, alloc, path)?;
         tidy_up(&mut disk, alloc, path)?;
-        finish_all(&mut disk, alloc, path)?;
+        finish_all(&mut disk, alloc, path, None)?;
         Ok(StationFolder {
             disk,
             alloc,
@@ -130,10 +130,17 @@ impl<D: FolderDisk + Drop> StationFolder<D> {
         is_there(&self.disk, self.alloc, self.path.as_str(), "drain")
     }
 
-    /// Takes a file of out/ over that can't get a second name, as one of another user can't: a copy of the station's own, of at most so many bytes,
-    /// comes in its place. The path that it has then: of its name, or that with a number where another file has it meanwhile. Replaced where the
-    /// file itself is another one meanwhile, which lies ready. Where a step fails the file stays under its name, or is given back at the next begin.
-    pub fn take_over(&mut self, name: &str, most: u64) -> Result<String, FolderFault>
+    /// Takes a file of out/ over that can't get a second name, as one of another user can't, and that is at rest at this time, in seconds since 1970; with
+    /// none, at any (`FileIdentity::is_at_rest`); else it is being written. A copy of the station's own, of at most so many bytes,
+    /// comes in its place. The path that it has then: of its name, or that with a number if another file has it meanwhile. Replaced if the file itself
+    /// is another one meanwhile, which lies ready. If a step fails, or the file is written to, it stays under its name, or under a hidden one until
+    /// `finish_taking_over` gives it back.
+    pub fn take_over(
+        &mut self,
+        name: &str,
+        most: u64,
+        now: Option<i64>,
+    ) -> Result<String, FolderFault>
         ensures asks { D.discloses → Adds
             (MayTakeOver D.opened D.File.remaining D.is_open D.is_file D.are_one
             (string_bytes self.old.path) name.now)
@@ -146,7 +153,24 @@ impl<D: FolderDisk + Drop> StationFolder<D> {
             (path_in (string_bytes self.old.path) Folder.Out name.now) (string_bytes path)) }
         ensures path { self.new.path ≡ self.old.path }
     {
-        take_over(&mut self.disk, self.alloc, self.path.as_str(), name, most)
+        take_over(
+            &mut self.disk,
+            self.alloc,
+            self.path.as_str(),
+            name,
+            most,
+            now,
+        )
+    }
+
+    /// Gives some of those files of out/ their names back that have a hidden one, as they were being taken over, those of other users if they are at rest
+    /// at this time. Whether one of them is left.
+    pub fn finish_taking_over(&mut self, now: Option<i64>) -> Result<bool, FolderFault>
+        ensures asks { D.discloses → Adds (MayFinish D.opened D.File.remaining D.is_open D.is_file
+            D.are_one (string_bytes self.old.path)) (D.asked self.old.disk) (D.asked self.new.disk) }
+        ensures path { self.new.path ≡ self.old.path }
+    {
+        finish_all(&mut self.disk, self.alloc, self.path.as_str(), now)
     }
 
     /// Whether a new file of so many bytes can be kept in a folder, as far as a trial shows: one of zeros is made there under a name that is left alone,

@@ -27,7 +27,12 @@ pub(crate) fn name_before<'a>(alloc: Global, hidden: &'a str) -> io::Result<Opti
     }
 }
 
-/// What stands in such a hidden name, and its number.
+/// Whether this may be such a name.
+pub(crate) fn may_be_taken_name(hidden: &str) -> bool {
+    parts_of(hidden).is_some()
+}
+
+/// What is in such a hidden name, and its number.
 fn parts_of(hidden: &str) -> Option<(&str, u32)> {
     let (name, number) = hidden.strip_prefix(".")?.rsplit_once(".taken-")?;
     Some((name, number.parse::<u32>().ok()?))

@@ -19,14 +19,15 @@ use crate::taken_name::taken_name;
 use std::alloc::Global;
 use std::io::{self, ErrorKind};
 
-/// Takes a file of out/ over, so that it is one of the station's own. The path that it has then. Replaced where another file has its name meanwhile,
-/// which lies ready.
+/// Takes a file of out/ over that is at rest at this time, so that it is one of the station's own. The path that it has then. Replaced if another file has its name meanwhile, which
+/// lies ready; left hidden if that can't get a second name either, or if the file was written to.
 pub(crate) fn take_over<D: FolderDisk>(
     disk: &mut D,
     alloc: Global,
     station: &str,
     name: &str,
     most: u64,
+    now: Option<i64>,
 ) -> Result<String, FolderFault>
     ensures asks { D.discloses → Adds (MayTakeOver D.opened D.File.remaining D.is_open D.is_file
         D.are_one station.now name.now) (D.asked disk.old) (D.asked disk.new) }
@@ -36,9 +37,9 @@ pub(crate) fn take_over<D: FolderDisk>(
     ensures named { IfOk result (λ path. IsNumbered
         (path_in station.now Folder.Out name.now) (string_bytes path)) }
 {
-    let copy = copied(disk, alloc, station, name, most)?;
+    let copy = copied(disk, alloc, station, name, most, now)?;
     match hide(disk, alloc, station, name) {
-        Ok(hidden) => exchange(disk, alloc, station, name, hidden.as_str(), &copy, most),
+        Ok(hidden) => exchange(disk, alloc, station, name, hidden.as_str(), &copy),
         Err(error) => {
             let _ = disk.remove(copy.path.as_str());
             Err(FolderFault::no_second_name(&error))
@@ -47,7 +48,7 @@ pub(crate) fn take_over<D: FolderDisk>(
 }
 
 /// A copy of a file comes in its place, which has this hidden name, and gets the name that the file had. The path that it has then. Replaced, and it
-/// lies ready, where it is another one.
+/// lies ready, if it is another one; if that one can't get a second name either, or was written to, it is left under the hidden name.
 fn exchange<D: FolderDisk>(
     disk: &mut D,
     alloc: Global,
@@ -55,7 +56,6 @@ fn exchange<D: FolderDisk>(
     name: &str,
     hidden: &str,
     copy: &FileCopy,
-    most: u64,
 ) -> Result<String, FolderFault>
     requires named { IsTakenName name.now hidden.now }
     requires copy { D.discloses → HasCopy D.opened D.File.remaining D.is_open station.now
@@ -71,10 +71,10 @@ fn exchange<D: FolderDisk>(
 {
     match put_in(disk, alloc, station, name, hidden, copy)? {
         Some(path) => Ok(path),
-        None => {
-            give_back(disk, alloc, station, name, hidden, most)?;
-            Err(FolderFault::Replaced)
-        }
+        None => match move_back(disk, alloc, station, name, hidden) {
+            Ok(_) => Err(FolderFault::Replaced),
+            Err(_) => Err(FolderFault::LeftHidden),
+        },
     }
 }
 
@@ -114,7 +114,8 @@ fn free_name<D: FolderDisk>(
     Err(io::Error::from(ErrorKind::AlreadyExists))
 }
 
-/// Gives a file of this hidden name the name back that it had, as a file of the station's own: one of another user is copied.
+/// Gives a file of this hidden name the name back that it had, as a file of the station's own: one of another user is copied, if it is at rest at this
+/// time.
 pub(crate) fn give_back<D: FolderDisk>(
     disk: &mut D,
     alloc: Global,
@@ -122,6 +123,7 @@ pub(crate) fn give_back<D: FolderDisk>(
     name: &str,
     hidden: &str,
     most: u64,
+    now: Option<i64>,
 ) -> Result<(), FolderFault>
     requires named { IsTakenName name.now hidden.now }
     ensures { D.discloses → Adds (MayGiveBack D.opened D.File.remaining D.is_open D.is_file
@@ -130,7 +132,7 @@ pub(crate) fn give_back<D: FolderDisk>(
     match move_back(disk, alloc, station, name, hidden) {
         Ok(_) => Ok(()),
         Err(error) if error.kind() == ErrorKind::PermissionDenied => {
-            copy_back(disk, alloc, station, name, hidden, most)
+            copy_back(disk, alloc, station, name, hidden, most, now)
         }
         Err(error) => Err(FolderFault::of(Folder::Out, &error)),
     }
@@ -144,12 +146,13 @@ fn copy_back<D: FolderDisk>(
     name: &str,
     hidden: &str,
     most: u64,
+    now: Option<i64>,
 ) -> Result<(), FolderFault>
     requires named { IsTakenName name.now hidden.now }
     ensures { D.discloses → Adds (MayGiveBack D.opened D.File.remaining D.is_open D.is_file
         D.are_one station.now name.now) (D.asked disk.old) (D.asked disk.new) }
 {
-    let copy = copied(disk, alloc, station, hidden, most)?;
+    let copy = copied(disk, alloc, station, hidden, most, now)?;
     match put_in(disk, alloc, station, name, hidden, &copy)? {
         Some(_) => Ok(()),
         None => Err(FolderFault::Replaced),

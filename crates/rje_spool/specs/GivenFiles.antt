@@ -4,8 +4,8 @@ use Rattle.std.specs.Option.{option_map_or}
 use Rattle.rje_day.specs.declared.disposition.Disposition.{Disposition}
 use Rattle.rje_day.specs.declared.disposition.Disposition.TheVariants as disposition
 use Rattle.rje_folders.specs.declared.file_identity.FileIdentity.{FileIdentity}
-use Rattle.rje_folders.specs.Marking.{IsMarked}
-use Rattle.rje_stores.specs.Disk.{Asked}
+use Rattle.rje_folders.specs.Marking.{IsMarked, IsSaid}
+use Rattle.rje_stores.specs.Disk.{Asked, Opened}
 use Rattle.rje_spool.specs.declared.given_file.GivenFile.{GivenFile}
 use Rattle.rje_spool.specs.declared.given_file.Place.{Place}
 use Rattle.rje_spool.specs.declared.given_file.Place.TheVariants.{Promised}
@@ -27,6 +27,11 @@ mark_of job file = if nat_le file.first job then slice_get file.places.items (jo
 abbrev pub HasMark : (job : ℕ) → GivenFile → (before after : List Asked) → Type 0
 HasMark job file before after =
     (doubt : _) (place : ℕ) → file.place ≡ Promised doubt → mark_of job file ≡ Some place → IsMarked (string_bytes doubt) place 1 before after
+
+-- where a job was marked in a file that has a name in doubt/, this is the file that the disk said the marked one is
+abbrev pub IsKnownAsMarked : {F : Type 0} → (job : ℕ) → (F → Opened) → (is_open : F → FileIdentity → Type 0) → GivenFile → (now : FileIdentity) → Type 0
+IsKnownAsMarked {F} job opened is_open file now =
+    (doubt : _) (place : ℕ) → file.place ≡ Promised doubt → mark_of job file ≡ Some place → IsSaid opened is_open (string_bytes doubt) now
 
 -- how many jobs the files have: those of each follow those of the one before
 abbrev pub jobs_of : List GivenFile → ℕ

@@ -119,6 +119,7 @@ impl<D: FolderDisk + Drop, C: Clock, W: Write, L: Write, B: Book + Drop> Spool
 
     fn seen(&mut self) -> Seen {
         self.files.make_paper();
+        self.files.finish_hidden();
         self.files.seen()
     }
 

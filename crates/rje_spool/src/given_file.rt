@@ -10,7 +10,7 @@ ghost use Rattle.rje_folders.specs.Promising.{MayPromise, MaySettle};
 ghost use Rattle.rje_spool.specs.declared.given_file.Place.TheVariants.{Promised, Ready};
 ghost use Rattle.rje_spool.specs.Backed.{GoesOn};
 ghost use Rattle.rje_spool.specs.GivenFile.{HasSecondName, HasSent, IsDoubted, IsDoubtedUnder, IsInSent, IsUnsettled, OfPromised, StaysInDoubt};
-ghost use Rattle.rje_spool.specs.GivenFiles.{HasBeenCounted, HasGoneOut, HasMark, is_last_of, is_of, mark_of};
+ghost use Rattle.rje_spool.specs.GivenFiles.{HasBeenCounted, HasGoneOut, HasMark, IsKnownAsMarked, is_last_of, is_of, mark_of};
 
 use rje_day::Disposition;
 use rje_files::MARK;
@@ -161,6 +161,9 @@ impl GivenFile {
     ) -> Result<(), FolderFault>
         ensures marked { D.discloses → OnOk result (HasMark job self.old
             (D.asked folder.old.disk) (D.asked folder.new.disk)) }
+        // It is known from then on as the file that it is once the mark is on disk.
+        ensures known { D.discloses → OnOk result (IsKnownAsMarked job D.opened
+            (D.is_open (D.asked folder.new.disk)) self.old self.new.file) }
         ensures rest { self.new ≡ record self.old { file = self.new.file } }
         ensures on { D.discloses
             → GoesOn (D.asked folder.old.disk) (D.asked folder.new.disk) }

@@ -20,6 +20,7 @@ use crate::console::Console;
 use crate::cut_job::CutJob;
 use crate::due_paper::DuePaper;
 use crate::given_files::GivenFiles;
+use crate::hidden_files::HiddenFiles;
 use crate::notice::{JobLabel, Notice};
 use crate::outgoing::{Outgoing, outgoing_of};
 use crate::pace::{MOST_JOBS, Pace};
@@ -53,6 +54,8 @@ pub(crate) struct SpoolFiles<D: FolderDisk + Drop, C, W, L> {
     ready: Vec<String>,
     // The files that are of no use to the station for now.
     passed: PassedFiles,
+    // Those that may have a hidden name.
+    hidden: HiddenFiles,
     // How many names that are no text the operator was told of.
     unreadable: usize,
     // The files of the transmission that was begun last.
@@ -94,6 +97,7 @@ impl<D: FolderDisk + Drop, C: Clock, W: Write, L: Write> SpoolFiles<D, C, W, L> 
             console,
             ready: Vec::new(alloc),
             passed: PassedFiles::new(alloc),
+            hidden: HiddenFiles::new(),
             unreadable: 0,
             given: GivenFiles::new(alloc),
             pace: Pace::new(),
@@ -139,6 +143,21 @@ impl<D: FolderDisk + Drop, C: Clock, W: Write, L: Write> SpoolFiles<D, C, W, L> 
             call_due: false,
             line_wanted: false,
         }
+    }
+
+    /// Gives the files of out/ their names back that have hidden ones, if it is time to.
+    pub(crate) fn finish_hidden(&mut self)
+        ensures on { D.discloses
+            → GoesOn (D.asked self.old.folder.disk) (D.asked self.new.folder.disk) }
+        ensures path { self.new.folder.path ≡ self.old.folder.path }
+    {
+        if !self.hidden.tries(self.console.stamps().clock()) {
+            return;
+        }
+        let now = self.console.stamps().seconds();
+        // (a folder that can't be read is reported by the look that comes next)
+        let left = self.folder.finish_taking_over(now);
+        self.hidden.left(left.unwrap_or(true));
     }
 
     /// Whether nothing is to be sent. What can't be looked at is taken for held.
@@ -544,6 +563,10 @@ impl<D: FolderDisk + Drop, C: Clock, W: Write, L: Write> SpoolFiles<D, C, W, L> 
             (FolderFault::OutOfMemory, _) => Err(SpoolFault::OutOfMemory),
             (FolderFault::Failed(_, ErrorKind::NotFound), _) => Ok(()),
             (FolderFault::BeingWritten(_), _) => Ok(self.passed.add(name, Until::NextLook)?),
+            (FolderFault::LeftHidden, _) => {
+                self.tell_why(name.as_str(), &fault);
+                Ok(())
+            }
             (FolderFault::TooLarge(_), Some(file)) => {
                 self.refuse(name, file, RefusedFile::TooLong)
             }
@@ -578,16 +601,21 @@ impl<D: FolderDisk + Drop, C: Clock, W: Write, L: Write> SpoolFiles<D, C, W, L> 
     }
 
     /// Takes this file over, which can't get a second name, as one of another user can't: a file of the station's own lies ready then, at the next look
-    /// at the folder.
+    /// at the folder. One that isn't at rest is left for now.
     fn take_over(&mut self, name: String, file: Option<FileIdentity>) -> Result<(), SpoolFault>
         ensures given { self.new.given ≡ self.old.given }
         ensures on { D.discloses
             → GoesOn (D.asked self.old.folder.disk) (D.asked self.new.folder.disk) }
         ensures path { self.new.folder.path ≡ self.old.folder.path }
     {
-        match self.folder.take_over(name.as_str(), MAX_INPUT as u64) {
+        let now = self.console.stamps().seconds();
+        let taken = self.folder.take_over(name.as_str(), MAX_INPUT as u64, now);
+        match taken {
             Ok(_) | Err(FolderFault::Replaced) => Ok(()),
-            Err(fault) => self.leave(name, file, fault),
+            Err(fault) => {
+                self.hidden.add(self.console.stamps().clock());
+                self.leave(name, file, fault)
+            }
         }
     }
 
@@ -666,11 +694,20 @@ impl<D: FolderDisk + Drop, C: Clock, W: Write, L: Write> SpoolFiles<D, C, W, L> 
         ensures folder { self.new.folder ≡ self.old.folder }
         ensures given { self.new.given ≡ self.old.given }
     {
+        self.tell_why(name.as_str(), why);
+        self.passed.add(name, Until::Replaced(file))?;
+        Ok(())
+    }
+
+    /// Tells why a file isn't sent now.
+    fn tell_why(&mut self, name: &str, why: &FolderFault)
+        ensures folder { self.new.folder ≡ self.old.folder }
+        ensures given { self.new.given ≡ self.old.given }
+        ensures passed { self.new.passed ≡ self.old.passed }
+    {
         if let Ok(text) = format!(in self.alloc; "{name}: {why}") {
             self.console.tell(Notice::Failed(text.as_str()));
         }
-        self.passed.add(name, Until::Replaced(file))?;
-        Ok(())
     }
 
     /// A job may have arrived, or nobody knows: its file stands in doubt/.

@@ -39,9 +39,14 @@ impl<C: Clock> Stamps<C> {
         }
     }
 
-    fn time_in(&self, format: &str) -> Option<String> {
+    /// The whole seconds since 1970; none if they can't be had.
+    pub fn seconds(&self) -> Option<i64> {
         let since = self.clock.since_1970().ok()?;
-        let now = Timestamp::from_second(seconds_of(since)?).ok()?;
+        seconds_of(since)
+    }
+
+    fn time_in(&self, format: &str) -> Option<String> {
+        let now = Timestamp::from_second(self.seconds()?).ok()?;
         Offset::UTC
             .to_datetime(now)
             .strftime(self.alloc, format.as_bytes())

@@ -1,18 +1,16 @@
 //! What couldn't be kept, as long as the station receives nothing for that.
 ghost use Rattle.std.specs.Prelude.{◌≡◌, None, Some, true, false};
 
-use std::time::{Clock, Duration, Instant};
-
-/// So many seconds pass before it is tried again whether a file of that length can be kept.
-const PAUSE: u64 = 10;
+use crate::retry::Retry;
+use std::time::Clock;
 
 /// The length of the file of a job that came and couldn't be kept, in bytes: the station receives nothing until a file of that length can be. So the
 /// other end has one job in doubt by that, and not one for each call.
 #[derive(Drop)]
 pub(crate) struct Unkept {
     len: Option<u64>,
-    // When that was tried last.
-    tried: Option<Instant>,
+    // When it is tried whether that can be kept.
+    retry: Retry,
 }
 
 impl Unkept {
@@ -22,7 +20,7 @@ impl Unkept {
     {
         Unkept {
             len: None,
-            tried: None,
+            retry: Retry::new(),
         }
     }
 
@@ -31,7 +29,7 @@ impl Unkept {
         ensures { self.new.len ≡ Some len }
     {
         self.len = Some(len);
-        self.tried = Instant::now(clock).ok();
+        self.retry.note(clock);
     }
 
     /// The length of that file, if there is one.
@@ -41,22 +39,12 @@ impl Unkept {
         self.len
     }
 
-    /// Whether it is time to try, which is noted as done now. Where the clock can't be read it is.
+    /// Whether it is time to try, which is noted as done now. If the clock can't be read it is.
     pub(crate) fn tries<C: Clock>(&mut self, clock: &C) -> bool
         ensures len { self.new.len ≡ self.old.len }
-        ensures first { self.old.tried ≡ None → result ≡ true }
-        ensures waits { result ≡ false → self.new.tried ≡ self.old.tried }
+        ensures first { self.old.retry.tried ≡ None → result ≡ true }
+        ensures waits { result ≡ false → self.new.retry.tried ≡ self.old.retry.tried }
     {
-        let is_due = match self.tried {
-            Some(tried) => match tried.elapsed(clock) {
-                Ok(passed) => Duration::from_secs(PAUSE) <= passed,
-                Err(_) => true,
-            },
-            None => true,
-        };
-        if is_due {
-            self.tried = Instant::now(clock).ok();
-        }
-        is_due
+        self.retry.is_due(clock)
     }
 }

@@ -138,6 +138,13 @@ impl Ground {
         assert!(rt; disk.put_bytes_meanwhile(next, path, bytes).is_ok());
     }
 
+    /// At the next call that changes something on the disk the first byte of a file becomes an X.
+    fn write_meanwhile(&self, rt: &impl Abort, path: &str) {
+        let mut disk = self.disk().changed().expect(rt, "a disk");
+        let next = disk.next_call();
+        assert!(rt; disk.write_meanwhile(next, path).is_ok());
+    }
+
     /// Somebody took the folders away: each is made again where it is needed.
     fn drop_folders(&self, rt: &impl Abort) {
         self.disk().changed().expect(rt, "a disk").drop_folders();

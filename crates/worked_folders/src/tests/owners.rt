@@ -13,6 +13,9 @@ const MAX_CALLS: usize = 16;
 /// The number of the last call that it makes.
 const LAST_CALL: usize = 11;
 
+/// The number of the call by which the file gets a hidden name.
+const HIDING: usize = 4;
+
 /// The folder of the station on this disk.
 fn opened(rt: &impl Abort, alloc: Global, disk: FailingDisk) -> StationFolder<FailingDisk> {
     StationFolder::open(disk, alloc, "s").expect(rt, "a folder")
@@ -52,7 +55,7 @@ fn a_file_of_another_user_is_taken_over(rt: HostRuntime) -> Result<(), Fail> {
     for fails_at in 0..MAX_CALLS {
         for is_done in [false, true] {
             let mut station = opened(&rt, alloc, disk_of_another(alloc, fails_at, is_done)?);
-            let taken = station.take_over("A.deck", 5);
+            let taken = station.take_over("A.deck", 5, None);
             let (disk, count) = closed(&rt, alloc, station, b"12345")?;
             assert!(rt; count <= 1);
             if let Ok(path) = &taken {
@@ -76,7 +79,7 @@ fn a_file_that_was_being_taken_over_is_there_once(rt: HostRuntime) -> Result<(),
         let mut disk = disk_of_another(alloc, 0, false)?;
         disk.end_at(ends_at);
         let mut station = opened(&rt, alloc, disk);
-        let _ = station.take_over("A.deck", 5);
+        let _ = station.take_over("A.deck", 5, None);
         let station = opened(&rt, alloc, station.close().mended());
         let (disk, count) = closed(&rt, alloc, station, b"12345")?;
         assert!(rt; count == 1);
@@ -94,7 +97,8 @@ fn a_file_that_is_put_there_meanwhile_stays(rt: HostRuntime) -> Result<(), Fail>
         let mut disk = disk_of_another(alloc, 0, false)?;
         disk.put_meanwhile(at, "s/out/A.deck")?;
         let mut station = opened(&rt, alloc, disk);
-        let _ = station.take_over("A.deck", 5);
+        let taken = station.take_over("A.deck", 5, None);
+        assert!(rt; HIDING < at || taken.err() == Some(FolderFault::Replaced));
         let disk = station.close();
         let was_free = disk.was_free();
         assert!(rt; was_free.is_some() && disk.has("s/out/A.deck", b"NEW"));
@@ -117,9 +121,9 @@ fn a_file_that_cannot_be_taken_over_stays(rt: HostRuntime) -> Result<(), Fail> {
     let mut disk = disk_of_another(alloc, 0, false)?;
     disk.stick(1);
     let mut station = opened(&rt, alloc, disk);
-    let longer = station.take_over("A.deck", 4).err();
+    let longer = station.take_over("A.deck", 4, None).err();
     assert!(rt; longer == Some(FolderFault::TooLarge(Folder::Out)));
-    let refused = station.take_over("A.deck", 5).err();
+    let refused = station.take_over("A.deck", 5, None).err();
     assert!(rt; refused == Some(FolderFault::NoSecondName(ErrorKind::PermissionDenied)));
     let disk = station.close();
     assert!(rt; disk.count() == 2 && disk.file_of("s/out/A.deck") == Some(1));
@@ -172,5 +176,60 @@ fn a_hidden_file_that_stays_hidden_stops_no_station(rt: HostRuntime) -> Result<(
     let disk = opened(&rt, alloc, disk).close();
     assert!(rt; disk.file_of("s/out/.A.deck.taken-0") == Some(file));
     assert!(rt; disk.file_of("s/out/A.deck").is_none());
+    Ok(())
+}
+
+/// A file that is written to while it is copied is left under a hidden name, and gets its name back, with all its bytes, once it is at rest: its bytes
+/// change for the second time two seconds after 1970 there, so it is six seconds after that.
+#[test]
+fn a_file_that_is_written_to_is_left_hidden_until_it_rests(rt: HostRuntime) -> Result<(), Fail> {
+    let alloc = rt.alloc();
+    for at in 1..=HIDING {
+        let mut disk = disk_of_another(alloc, 0, false)?;
+        disk.write_meanwhile(at, "s/out/A.deck")?;
+        let mut station = opened(&rt, alloc, disk);
+        let refused = station.take_over("A.deck", 5, Some(5)).err();
+        assert!(rt; refused == Some(FolderFault::LeftHidden));
+        assert!(rt; station.finish_taking_over(Some(5)) == Ok(true));
+        assert!(rt; station.names_ready().is_ok_and(|names| names.is_empty()));
+        assert!(rt; station.finish_taking_over(Some(6)) == Ok(false));
+        let (disk, count) = closed(&rt, alloc, station, b"X2345")?;
+        assert!(rt; count == 1 && disk.count() == 2);
+        assert!(rt; disk.file_of("s/out/A.deck") != Some(1));
+    }
+    Ok(())
+}
+
+/// A file that was written to three seconds ago may be written to still: nothing is done with it.
+#[test]
+fn a_file_that_may_be_written_to_is_not_taken_over(rt: HostRuntime) -> Result<(), Fail> {
+    let alloc = rt.alloc();
+    let mut station = opened(&rt, alloc, disk_of_another(alloc, 0, false)?);
+    let refused = station.take_over("A.deck", 5, Some(4)).err();
+    assert!(rt; refused == Some(FolderFault::BeingWritten(Folder::Out)));
+    // (a clock that is behind the disk's tells nothing)
+    assert!(rt; station.take_over("A.deck", 5, Some(0)).is_ok());
+    let (disk, count) = closed(&rt, alloc, station, b"12345")?;
+    assert!(rt; count == 1 && disk.count() == 2);
+    Ok(())
+}
+
+/// Of many hidden names eight are brought to their end at a time.
+#[test]
+fn hidden_names_are_brought_to_their_end_in_turn(rt: HostRuntime) -> Result<(), Fail> {
+    let alloc = rt.alloc();
+    let mut disk = FailingDisk::new(alloc, 0, false);
+    for number in 0..17 {
+        let path = format!(in alloc; "s/out/.A{number}.deck.taken-0")?;
+        disk.put(path.as_str())?;
+    }
+    let mut station = opened(&rt, alloc, disk);
+    for (ready, is_left) in [(8, true), (16, false)] {
+        let names = station.names_ready().expect(&rt, "names");
+        assert!(rt; names.len() == ready);
+        assert!(rt; station.finish_taking_over(None) == Ok(is_left));
+    }
+    let names = station.names_ready().expect(&rt, "names");
+    assert!(rt; names.len() == 17);
     Ok(())
 }

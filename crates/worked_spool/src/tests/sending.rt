@@ -104,6 +104,52 @@ fn a_deck_of_another_user_goes_at_the_next_look(rt: HostRuntime) {
     ground.assert_told(&rt, b"2026-11-28 13:05:09 sent a.deck\n");
 }
 
+/// One that was written to three seconds ago may be written to still, and waits: its bytes changed one second after 1970 there.
+#[test]
+fn a_deck_of_another_user_that_is_written_waits(rt: HostRuntime) {
+    let ground = Ground::new(rt.alloc());
+    ground.put_of_another(&rt, "s/out/a.deck", b"A\n", false);
+    let mut spool = ground.spool(&rt);
+    for (second, ready) in [(4, true), (4, false), (4, true), (4, false), (5, true)] {
+        ground.clock.set(Some(second));
+        assert!(rt; spool.seen().ready == ready);
+        assert!(rt; !ready || spool.next(rt.alloc()).is_ok_and(|jobs| jobs.is_empty()));
+    }
+    ground.assert_told(&rt, b"");
+    assert!(rt; given(&rt, &mut spool) == 1);
+    settled(&rt, &mut spool, 1, Disposition::Sent);
+    ground.assert_file(&rt, "s/sent/a.deck", b"A\n");
+}
+
+/// If it is written to while it is taken over that is reported, and it goes with all its bytes once it is at rest, at one of the looks that come each ten
+/// seconds: its bytes changed 13 seconds after 1970 there.
+#[test]
+fn a_deck_that_is_written_while_it_is_taken_over_goes_later(rt: HostRuntime) {
+    let ground = Ground::new(rt.alloc());
+    ground.put_of_another(&rt, "s/out/a.deck", b"A\n", false);
+    let mut spool = ground.spool(&rt);
+    ground.clock.set(Some(5));
+    ground.write_meanwhile(&rt, "s/out/a.deck");
+    assert!(rt; given(&rt, &mut spool) == 0);
+    ground.assert_told(
+        &rt,
+        b"1970-01-01 00:00:05 a.deck: being written, and sent once it is left alone\n",
+    );
+    for _ in 0..11 {
+        ground.write(&rt, "s/out/.a.deck.taken-0", b'X');
+    }
+    for second in [5, 14, 15, 24] {
+        ground.clock.set(Some(second));
+        assert!(rt; given(&rt, &mut spool) == 0);
+        ground.assert_none(&rt, "s/out/a.deck");
+    }
+    ground.clock.set(Some(25));
+    assert!(rt; given(&rt, &mut spool) == 1);
+    settled(&rt, &mut spool, 1, Disposition::Sent);
+    ground.assert_file(&rt, "s/sent/a.deck", b"X\n");
+    assert!(rt; !spool.seen().ready);
+}
+
 /// Where it can't be taken over it is told once, and stays.
 #[test]
 fn a_deck_that_cannot_be_taken_over_is_passed_over(rt: HostRuntime) {

@@ -1,9 +1,13 @@
+use Rattle.std.proofs.Common.{refl}
 use Rattle.rje_stores.proofs.Replacing.{added_twice}
-use Rattle.rje_folders.specs.TakingOver.{MayGiveBack}
+use Rattle.rje_folders.specs.declared.folder.Folder.{Folder}
+use Rattle.rje_folders.specs.Folder.{path_in}
+use Rattle.rje_folders.specs.TakingOver.{IsTakenPath, MayGiveBack}
+use Rattle.rje_folders.proofs.TakenOver.{move_gives}
 use Rattle.rje_folders.proofs.taking_over.exchange.Goals as goal
 
-pub returns-in_err-give_back-in-None-clause-asks : goal.returns-in_err-give_back-in-None-clause-asks
-returns-in_err-give_back-in-None-clause-asks g c = λ told. added_twice (MayGiveBack g.D.Disk.opened g.D.File.Read.remaining g.D.FolderDisk.is_open g.D.FolderDisk.is_file g.D.FolderDisk.are_one c.args.station.now c.args.name.now) _ _ _ (c.put_in.ensures.asks told) (c.give_back.ensures told)
-
-pub returns-in_ok-give_back-in-None-clause-asks : goal.returns-in_ok-give_back-in-None-clause-asks
-returns-in_ok-give_back-in-None-clause-asks g c = λ told. added_twice (MayGiveBack g.D.Disk.opened g.D.File.Read.remaining g.D.FolderDisk.is_open g.D.FolderDisk.is_file g.D.FolderDisk.are_one c.args.station.now c.args.name.now) _ _ _ (c.put_in.ensures.asks told) (c.give_back.ensures told)
+pub returns-after-move_back-clause-asks : goal.returns-after-move_back-clause-asks
+returns-after-move_back-clause-asks g c = λ told.
+    let path = path_in c.args.station.now Folder.Out c.args.hidden.now in
+    let taken : IsTakenPath c.args.station.now c.args.name.now path = (c.args.hidden.now, c.requires.named, refl) in
+    added_twice (MayGiveBack g.D.Disk.opened g.D.File.Read.remaining g.D.FolderDisk.is_open g.D.FolderDisk.is_file g.D.FolderDisk.are_one c.args.station.now c.args.name.now) _ _ _ (c.put_in.ensures.asks told) (move_gives g.D.Disk.opened g.D.File.Read.remaining g.D.FolderDisk.is_open g.D.FolderDisk.is_file g.D.FolderDisk.are_one c.args.station.now c.args.name.now path _ _ taken (c.move_back.ensures.asks told))

@@ -6,7 +6,7 @@ pub returns-in-Err : goal.returns-in-Err
 returns-in-Err g c = record {
   given = c.leave.ensures.given;
   on = λ told.
-      let (calls, is, each) = c.take_over.ensures.asks told in
+      let (calls, is, each) = c.take_over-taken.ensures.asks told in
       goes_on_twice _ _ _ (calls, is) (c.leave.ensures.on told);
-  path = c.leave.ensures.path ∙ c.take_over.ensures.path;
+  path = c.leave.ensures.path ∙ c.take_over-taken.ensures.path;
 }

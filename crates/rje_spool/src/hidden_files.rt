@@ -1,0 +1,49 @@
+//! The files of out/ that may have a hidden name, since they were being taken over.
+ghost use Rattle.std.specs.Prelude.{◌≡◌, None, true, false};
+
+use crate::retry::Retry;
+use std::time::Clock;
+
+/// Whether files of out/ may have a hidden name, and when it is tried to give them back the one that they had.
+#[derive(Drop)]
+pub(crate) struct HiddenFiles {
+    may_be: bool,
+    retry: Retry,
+}
+
+impl HiddenFiles {
+    /// Those of a station that begins: it may have left some when it was killed.
+    pub(crate) fn new() -> HiddenFiles
+        ensures may_be { result.may_be ≡ true }
+        ensures untried { result.retry.tried ≡ None }
+    {
+        HiddenFiles {
+            may_be: true,
+            retry: Retry::new(),
+        }
+    }
+
+    /// One may have been left now.
+    pub(crate) fn add<C: Clock>(&mut self, clock: &C)
+        ensures { self.new.may_be ≡ true }
+    {
+        self.may_be = true;
+        self.retry.note(clock);
+    }
+
+    /// Whether it is time to give them their names back, which is noted as done now.
+    pub(crate) fn tries<C: Clock>(&mut self, clock: &C) -> bool
+        ensures none { self.old.may_be ≡ false → result ≡ false }
+        ensures first { self.old.may_be ≡ true → self.old.retry.tried ≡ None → result ≡ true }
+        ensures may_be { self.new.may_be ≡ self.old.may_be }
+    {
+        self.may_be && self.retry.is_due(clock)
+    }
+
+    /// That was done, and some are left or none.
+    pub(crate) fn left(&mut self, is_left: bool)
+        ensures { self.new ≡ record self.old { may_be = is_left } }
+    {
+        self.may_be = is_left;
+    }
+}
