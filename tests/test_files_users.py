@@ -1,6 +1,7 @@
 """What other users of this machine can do to a command over files: names that they planted, links that the system doesn't follow, files of a group; and to
 a station: folders that they may change, a link that takes the place of a file, and calls. By root alone."""
 import os
+import shutil
 import socket
 import stat
 import subprocess
@@ -152,18 +153,41 @@ class Files(UserCase):
 class Stations(UserCase):
     seconds = 10
 
+    def begins(self, user=None, program=None):
+        """The first line of a station in the folder `begun` that this user runs."""
+        words = [program or self.program, "station", self.at("begun"), "--to", "127.0.0.1:1"]
+        started = {"stdin": subprocess.DEVNULL, "stdout": subprocess.DEVNULL, "stderr": subprocess.PIPE, "text": True}
+        process = subprocess.Popen(words, **started, **as_user(user, None, 0o022))
+        first = process.stderr.readline()
+        process.kill()
+        process.communicate()
+        return first
+
+    def test_folders_of_others(self):
+        """A station doesn't begin in a folder of another user's, or with a part in it of another's but for out/; what is root's is taken."""
+        # (the program may be where that user may not go)
+        copied = shutil.copy(self.program, self.at("rje"))
+        os.chmod(copied, 0o755)
+        self.make("begun", 0o755)
+        self.begins()
+        parts = ("doubt", "sent", "refused", "in", "cut", "print", "punch", "log", "lock")
+        for part in ("", *parts, "out"):
+            at = self.at(f"begun/{part}" if part else "begun")
+            for user in (CLERK, 0):
+                os.chown(at, user, user)
+                told = self.begins()
+                wanted = f"rje: {at}: belongs to another user\n" if user and part != "out" else None
+                self.check((told != wanted if wanted else "station of" not in told) and f"with {at} of {user} it told {told}")
+        for part in ("", *parts, "out"):
+            os.chown(self.at("begun", part), CLERK, CLERK)
+        for user, wanted in ((CLERK, None), (ATTACKER, f"rje: {self.at('begun')}: belongs to another user\n")):
+            told = self.begins(user, copied)
+            self.check((told != wanted if wanted else "station of" not in told) and f"run by {user} it told {told}")
+
     def test_open_folders(self):
         """A station doesn't begin in a folder that others may change; what it makes is its user's alone."""
-        def begins(*words):
-            words = [self.program, "station", self.at("begun"), "--to", "127.0.0.1:1", *words]
-            process = subprocess.Popen(words, stdin=subprocess.DEVNULL, stdout=subprocess.DEVNULL, stderr=subprocess.PIPE, text=True, preexec_fn=lambda: os.umask(0o022))
-            first = process.stderr.readline()
-            process.kill()
-            process.communicate()
-            return first
-
         self.make("begun", 0o755)
-        self.true("station of" in begins(), "a station doesn't begin in a fresh folder")
+        self.true("station of" in self.begins(), "a station doesn't begin in a fresh folder")
         parts = ("out", "doubt", "sent", "refused", "in", "cut", "print", "punch")
         for part in parts:
             self.equal(self.access(f"begun/{part}")[0], 0o700, lambda: f"{part}/ was made with {oct(self.access(f'begun/{part}')[0])}")
@@ -175,7 +199,7 @@ class Stations(UserCase):
             for mode, group, refused in ((had | 0o002, 0, True), (had | 0o020, GROUP, True), (had | 0o020, 0, False)):
                 os.chown(self.at(name), 0, group)
                 os.chmod(self.at(name), mode)
-                told, at = begins(), self.at(name)
+                told, at = self.begins(), self.at(name)
                 wanted = f"rje: {at}: others may write to it\n" if refused and part != "out" else None
                 self.check((told != wanted if wanted else "station of" not in told) and f"with {name} of {group} and {oct(mode)} it told {told}")
             os.chown(self.at(name), 0, 0)
@@ -184,7 +208,7 @@ class Stations(UserCase):
         for part in ("log", "lock"):
             os.remove(self.at(f"begun/{part}"))
             os.symlink(self.at("elsewhere"), self.at(f"begun/{part}"))
-            told = begins()
+            told = self.begins()
             self.equal(told, f"rje: {self.at('begun')}/{part}: no file\n", f"with a link for its {part} it told {told}")
             os.remove(self.at(f"begun/{part}"))
         self.check(self.read("elsewhere") and "through a link a station wrote its log")

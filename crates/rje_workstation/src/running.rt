@@ -65,6 +65,9 @@ fn tell_end<E: Write>(end: &StationEnd, folder: &str, err: &mut E) -> u8
             writeln!(err, "rje: {folder}: {}", ErrorKind::NotFound)
         }
         StationEnd::Folder(fault) => writeln!(err, "rje: {folder}: {fault}"),
+        StationEnd::Open(Openness::OfAnother(part)) => {
+            writeln!(err, "rje: {folder}{part}: belongs to another user")
+        }
         StationEnd::Open(Openness::Writable(part)) => {
             writeln!(err, "rje: {folder}{part}: others may write to it")
         }
@@ -138,7 +141,7 @@ where
     }
 }
 
-/// Refuses a folder that others than its owner may change.
+/// Refuses a folder that isn't this user's own, or that others may change.
 fn guard<R: Files<File = File>>(rt: &R, alloc: Global, folder: &str) -> Result<(), StationEnd> {
     match how_open(&SystemDisk::new(rt), alloc, folder) {
         Ok(None) => Ok(()),
