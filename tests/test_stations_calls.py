@@ -7,10 +7,10 @@ import sys
 import time
 
 sys.path.insert(0, os.path.dirname(os.path.dirname(os.path.abspath(__file__))))
-from tests.lib import case  # noqa: E402
+from tests.lib import case, shim  # noqa: E402
 from tests.lib.frames import ACK0, ACK1, ENQ, EOT, NAK, text_of  # noqa: E402
 from tests.lib.ports import free_port, waits_for  # noqa: E402
-from tests.lib.stations import StationCase, has_logged, seconds_of, told_by  # noqa: E402
+from tests.lib.stations import Door, StationCase, has_logged, seconds_of, told_by  # noqa: E402
 from tests.lib.terminal import OnTerminal  # noqa: E402
 
 
@@ -33,6 +33,24 @@ class Calls(StationCase):
         self.check((third is None or time.monotonic() - first < 2) and "again: it calls a third time without a pause")
         third.close()
         self.true("line failed: no answer" in told_by(station), lambda: f"again: it told {told_by(station)} in {time.monotonic() - began:.0f} s")
+        station.kill()
+
+    def test_second_address(self):
+        """If a host's first address doesn't answer, its second one is called."""
+        door = Door()
+        self.addCleanup(door.socket.close)
+        port = door.address.rsplit(":", 1)[1]
+        station = self.station("hosts", "--to", f"two.example:{port}", "--every", "60")
+        station.environment = {**os.environ, **shim.under("hosts two.example 127.0.0.2 127.0.0.1")}
+        station.start()
+        peer = door.takes_call()
+        self.true(peer, lambda: f"hosts: the second address isn't called; it told {told_by(station)}")
+        self.true(waits_for(lambda: has_logged(station, "connected")), lambda: f"hosts: it told {told_by(station)}")
+        station.kill()
+        # (both, where neither answers; the fault is that of the last)
+        door.socket.close()
+        station.start()
+        self.true(waits_for(lambda: has_logged(station, "can't connect: connection refused")), lambda: f"hosts: it told {told_by(station)}")
         station.kill()
 
     def test_call_times(self):

@@ -10,11 +10,11 @@ import sys
 import time
 
 sys.path.insert(0, os.path.dirname(os.path.dirname(os.path.abspath(__file__))))
-from tests.lib import case  # noqa: E402
+from tests.lib import case, shim  # noqa: E402
 from tests.lib.frames import ACK0, ACK1, ENQ, EOT, text_of  # noqa: E402
 from tests.lib.ports import waits_for  # noqa: E402
 from tests.lib.samples import ebcdic, lines_of_jobs  # noqa: E402
-from tests.lib.stations import Peer, StationCase, file_text, has_logged, hears_block, put_beside, serves, told_by  # noqa: E402
+from tests.lib.stations import Door, Peer, StationCase, file_text, has_logged, hears_block, put_beside, serves, told_by  # noqa: E402
 
 
 class HandCase(StationCase):
@@ -28,6 +28,31 @@ class HandCase(StationCase):
 
 class Hands(HandCase):
     seconds = 8
+
+    def test_replaced_before_it_is_refused(self):
+        """A file that takes the name of one that can't be sent, once that was read, isn't put aside in its place: it goes."""
+        door = Door()
+        self.addCleanup(door.socket.close)
+        station = self.station("aside", "--to", door.address, "--every", "1")
+        os.makedirs(station.at("out"))
+        station.put("x.deck", ["\t"])
+        # (the second read of the first file that is read finds its end)
+        station.environment = {**os.environ, **shim.under("stop read 2")}
+        station.start()
+        peer = door.takes_call()
+        os.waitid(os.P_PID, station.process.pid, os.WSTOPPED | os.WNOWAIT)
+        put_beside(station, "x.deck", "PAY\n")
+        station.process.send_signal(signal.SIGCONT)
+        self.true(peer.hears(ENQ), "aside: it doesn't bid for the new file")
+        peer.says(ACK0)
+        self.true(ebcdic("PAY") in hears_block(peer), "aside: another text is sent")
+        peer.says(ACK1)
+        self.true(waits_for(lambda: station.names("sent") == ["x.deck"]), lambda: f"aside: sent/ has {station.names('sent')}")
+        self.check(station.names("refused") and f"aside: refused/ has {station.names('refused')}")
+        told = [line for line in told_by(station) if "refused" in line]
+        self.check(told and f"aside: it told {told}")
+        station.kill()
+        peer.close()
 
     def test_replaced(self):
         """A file that takes the name of one that is on the line isn't taken for that: what was read is counted, or nothing is, and the new file goes."""

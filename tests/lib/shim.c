@@ -12,6 +12,7 @@
    error PASS NUMBER             Of the transmissions PASS pass (with those that are lost), and then all fail with this number (errno).
    exchange NAME OTHER AT        Another user who is quick: before the file AT is opened, or gets a second name, the file OTHER takes the place of
                                  NAME, once.
+   hosts NAME FIRST SECOND       A host of this name has these two addresses, in this order.
    clock PATH                    All clocks but the time of day are ahead by as many seconds as stand in the file of this path.
    options PATH                  Adds what is asked of connections to this file: small pieces at once, and how many milliseconds a call may take.
    record PATH                   Writes each call that changes a file or a folder, has one on disk, or says or hears something over a
@@ -21,6 +22,7 @@
 #include <dlfcn.h>
 #include <errno.h>
 #include <linux/fcntl.h>
+#include <netdb.h>
 #include <netinet/in.h>
 #include <netinet/tcp.h>
 #include <signal.h>
@@ -321,6 +323,24 @@ int setsockopt(int socket, int level, int option, const void *value, socklen_t l
     if (level == SOL_SOCKET && (option == SO_RCVTIMEO || option == SO_SNDTIMEO))
         note("options", NULL, 0, "%s %ld", option == SO_RCVTIMEO ? "reads" : "writes", (long)(time->tv_sec * 1000 + time->tv_usec / 1000));
     return real(socket, level, option, value, length);
+}
+
+/* (the C library frees a list of addresses one after another) */
+int getaddrinfo(const char *node, const char *service, const struct addrinfo *hints, struct addrinfo **found)
+{
+    char words[MOST_WORDS][MOST_LETTERS];
+    struct addrinfo **end = found;
+    REAL(int, getaddrinfo, (const char *, const char *, const struct addrinfo *, struct addrinfo **));
+    if (!node || !order("hosts", words) || strcmp(node, words[0]) != 0)
+        return real(node, service, hints, found);
+    for (int number = 1; number < MOST_WORDS; number++) {
+        int done = real(words[number], service, hints, end);
+        if (done != 0)
+            return done;
+        while (*end)
+            end = &(*end)->ai_next;
+    }
+    return 0;
 }
 
 static int is_refused(void)
