@@ -92,6 +92,25 @@ impl<D: Disk> FileStore<D> {
         }
     }
 
+    /// Busy if the file of this name is locked, and the name leads to another path than it did then, as by a link that somebody put in its place.
+    fn leads_as_locked(&self, name: &str, path: &str) -> io::Result<()> {
+        if self
+            .locks
+            .iter()
+            .any(|lock| lock.is_of(name) && !lock.is_at(path))
+        {
+            Err(io::Error::from(ErrorKind::ResourceBusy))
+        } else {
+            Ok(())
+        }
+    }
+
+    /// The same before the file of this name is opened.
+    fn stays_locked(&self, name: &str) -> io::Result<()> {
+        let path = resolved(self.disk.disk(), self.alloc, name)?;
+        self.leads_as_locked(name, path.as_str())
+    }
+
     fn put(&mut self, name: &str, bytes: &[u8]) -> Result<(), StoreFault>
         ensures asks { D.discloses → Adds (MayPut D.leads name.now bytes.now)
             (D.asked self.old.disk) (D.asked self.new.disk) }
@@ -101,6 +120,7 @@ impl<D: Disk> FileStore<D> {
     {
         let path = resolved(self.disk.disk(), self.alloc, name)?;
         let path = path.as_str();
+        self.leads_as_locked(name, path)?;
         match target_of(self.disk.disk(), path)? {
             Target::Device => Ok(self.disk.closed().write_device(path, bytes)?),
             Target::New => replace(self.disk.closed(), self.alloc, path, None, bytes),
@@ -265,6 +285,7 @@ impl<D: Disk> Store for FileStore<D> {
             → IsReady D.leads D.opened D.folder_of self.old.growing (D.asked self.old.disk)
             → IsReady D.leads D.opened D.folder_of self.new.growing (D.asked self.new.disk) }
     {
+        self.stays_locked(name)?;
         self.grow(name, front, tail)?;
         self.follow(name);
         Ok(())
@@ -287,6 +308,7 @@ impl<D: Disk> Store for FileStore<D> {
         ensures settled { self.new.growing ≡ None }
     {
         self.settle();
+        self.stays_locked(name)?;
         Ok(self.disk.set_byte(self.alloc, name, place, byte)?)
     }
 

@@ -83,6 +83,11 @@ impl<F: Drop> FileLock<F> {
         self.name.as_str() == name
     }
 
+    /// Whether the name led to this path when it was taken.
+    pub(super) fn is_at(&self, path: &str) -> bool {
+        self.path.as_str() == path
+    }
+
     /// Removes the file beside, unless another process has done so: then the name may be another file's. It is locked until this value is let
     /// go, so whoever opened it before finds that it has no name any more.
     pub(super) fn remove<D: Disk<File = F>>(&self, disk: &mut D) {

@@ -1,7 +1,11 @@
 use Rattle.rje_stores.specs.FileStore.{MaySet, MaySettle, copy_of}
-use Rattle.rje_stores.proofs.Replacing.{added_either}
+use Rattle.rje_stores.proofs.Replacing.{added_either, added_none}
 use Rattle.rje_stores.proofs.Marking.{settled_and_set}
 use Rattle.rje_stores.proofs.file_store.FileStoreStore.set_byte.Goals as goal
+
+pub returns-in_err-stays_locked-clause-asks : goal.returns-in_err-stays_locked-clause-asks
+returns-in_err-stays_locked-clause-asks g c = λ told. let set = MaySet g.D.Disk.leads c.args.name.now c.args.place c.args.byte in
+    added_either (MaySettle (copy_of c.args.self.now.growing)) set _ _ _ (c.settle.ensures.asks told) (added_none set (g.D.Disk.asked c.settle.new.self.disk))
 
 pub returns-in_err-set_byte-clause-asks : goal.returns-in_err-set_byte-clause-asks
 returns-in_err-set_byte-clause-asks g c = λ told. added_either (MaySettle (copy_of c.args.self.now.growing)) (MaySet g.D.Disk.leads c.args.name.now c.args.place c.args.byte) _ _ _ (c.settle.ensures.asks told) (c.set_byte.ensures.asks told)
