@@ -8,11 +8,12 @@ use Rattle.rje_station.specs.StationFault.{IfLine, IsCause}
 use Rattle.rje_station.specs.Line.{one_more}
 use Rattle.rje_station.specs.Receiving.{Receiving, after_refusal, with_reply}
 use Rattle.line_world.specs.AnyLines.{Turns}
+use Rattle.rje_session.specs.Stations.{LineTells}
 use Rattle.rje_sockets.specs.declared.broken_off.BrokenOff.{BrokenOff}
 use Rattle.rje_sockets.specs.declared.left.Left.{Left}
 use Rattle.rje_sockets.specs.Answering.{Answered, answers}
 use Rattle.rje_sockets.specs.Inside.BreakingOff.{BreaksOffNow, KeptSoFar}
-use Rattle.rje_sockets.specs.OverLine.{LineTells, ReceiverTurn}
+use Rattle.rje_sockets.specs.OverLine.{ReceiverTurn}
 use Rattle.rje_sockets.specs.Patience.{Leaves}
 use Rattle.rje_sockets.specs.Watching.{SawReceiver}
 use Rattle.rje_sockets.proofs.Watched.{receiver_took}

@@ -1,5 +1,5 @@
 -- What is marked in one file and kept in another goes on by each turn.
-use Rattle.std.proofs.Common.{◌≡◌, inl, inr, ℕ, Bool, true, false, List, [], ◌∷◌, take, Option, Some, None, if◌then◌else◌, refl, ap, sym, ◌∙◌, subst}
+use Rattle.std.proofs.Common.{◌≡◌, inl, ℕ, Bool, true, false, List, [], ◌∷◌, take, Option, Some, None, if◌then◌else◌, refl, ap, sym, ◌∙◌, subst}
 use Rattle.std.proofs.lemmas.Slice.Eq.{bytes_eq-Decides}
 use Rattle.std.specs.Prelude.{◌≢◌, bytes_eq}
 use Rattle.bsc_frame.specs.declared.heard.Heard.{Heard}
@@ -15,16 +15,18 @@ use Rattle.rje_station.specs.declared.line_fault.LineFault.TheVariants.{Closed}
 use Rattle.rje_station.specs.declared.station_fault.StationFault.{StationFault}
 use Rattle.rje_station.specs.declared.station_fault.StationFault.TheVariants as fault
 use Rattle.rje_station.specs.Hearing.{sound_heard}
-use Rattle.rje_station.specs.Receiving.{sound_taken}
+use Rattle.rje_station.specs.Receiving.{Receiving, sound_taken}
 use Rattle.rje_station.specs.Sending.{Sending}
-use Rattle.rje_station.specs.Station.{Contending, after_other, after_other_ended, after_other_refusal, after_own_refusal, after_own_reply, after_own_speaking, gives_way, lets_in}
+use Rattle.rje_station.specs.Station.{Contending, after_other, after_other_ended, after_other_refusal, after_own_reply, gives_way, lets_in}
+use Rattle.rje_session.specs.Stations.{FailsInOwn, TakesOthers, TakesOwn, after_answering_other}
+use Rattle.rje_session.proofs.Places.{fault_receiver, own_receiver}
 use Rattle.rje_sockets.specs.declared.broken_off.BrokenOff.{BrokenOff}
 use Rattle.rje_files.specs.declared.entry.Entry.{Entry}
 use Rattle.rje_sockets.specs.declared.keeper.Keeper.{Keeper}
 use Rattle.rje_sockets.specs.declared.kept_file.KeptFile.{KeptFile}
 use Rattle.rje_sockets.proofs.InFront.{left_alone, opened_as, opened_untold}
 use Rattle.rje_sockets.specs.declared.marker.Marker.{Marker}
-use Rattle.rje_sockets.specs.BothWays.{FailsInOthers, FailsInOwn, StationTurn, TakesOthers, TakesOwn, Took, after_answering_other, after_own_turn}
+use Rattle.rje_sockets.specs.BothWays.{FailsInOthers, StationTurn, Took}
 use Rattle.rje_sockets.specs.Ending.{MarksSent}
 use Rattle.rje_sockets.specs.Inside.Marking.{GoesOnMarking, Marks}
 use Rattle.rje_sockets.specs.Inside.Keeping.{AreKept, GoesOnKeeping, KeepsJobs, kept_after}
@@ -33,7 +35,6 @@ use Rattle.rje_sockets.specs.Inside.Opening.{HasFront, IsOpened}
 use Rattle.rje_sockets.proofs.BothWays.{others_fail}
 use Rattle.rje_sockets.proofs.Keeping.{Comes, goes_on, heard_comes, nothing}
 use Rattle.rje_sockets.proofs.Marked.{stays, written_over}
-use Rattle.rje_sockets.proofs.OwnTurn.{own_speaking, own_turn}
 use Rattle.rje_stores.proofs.Changes.{same_itself}
 use Rattle.rje_stores.specs.Store.{FileMap, Sets}
 
@@ -198,26 +199,12 @@ module _ (first now : HeldSoFar) (had has : Progress) (p : GoesOnHolding first n
 
 -- WHAT A TURN LEAVES
 
-own_receiver : (s : Contending) (said : Say) (heard : Sound) → (after_own_turn s said heard).receiver ≡ s.receiver
-own_receiver s said heard = own_turn (λ (x : Contending). x.receiver) (λ s sender contender. refl) s said heard
-
-spoke_receiver : (s : Contending) → (after_own_speaking s).receiver ≡ s.receiver
-spoke_receiver s = own_speaking (λ (x : Contending). x.receiver) (λ s sender contender. refl) s
-
 -- its own turn leaves the jobs that came
 pub own_jobs : (s s' : Contending) (said : Say) (heard : Sound) → TakesOwn s s' said heard → s'.receiver.jobs ≡ s.receiver.jobs
-own_jobs s s' said heard takes = ap (λ (x : Contending). x.receiver.jobs) takes.state ∙ ap (λ x. x.jobs) (own_receiver s said heard)
-
-refused_receiver : (f : StationFault) (s : Contending) → (after_own_refusal f s).receiver ≡ s.receiver
-refused_receiver fault.Over s = refl
-refused_receiver fault.OutOfMemory s = refl
-refused_receiver (fault.BadJob n) s = refl
-refused_receiver fault.Babble s = refl
-refused_receiver (fault.Line f) s = refl
+own_jobs s s' said heard takes = ap (λ (r : Receiving). r.jobs) (own_receiver s s' said heard takes)
 
 own_failed : (s s' : Contending) (f : StationFault) → FailsInOwn s s' f → s'.receiver.jobs ≡ s.receiver.jobs
-own_failed s s' f (inl is) = ap (λ (x : Contending). x.receiver.jobs) is ∙ ap (λ x. x.jobs) (refused_receiver f s)
-own_failed s s' f (inr is) = ap (λ (x : Contending). x.receiver.jobs) is ∙ ap (λ x. x.jobs) (refused_receiver f (after_own_speaking s) ∙ spoke_receiver s)
+own_failed s s' f fails = ap (λ (r : Receiving). r.jobs) (fault_receiver s s' f fails)
 
 yielded : (r : Rank) (sound : Sound) (s : Sending) → (gives_way r sound s).counted ≡ s.counted
 yielded Rank.Primary sound s = refl

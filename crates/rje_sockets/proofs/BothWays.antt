@@ -1,73 +1,22 @@
--- What the calls of a station that sends and receives did is a turn, and the turns so far go on by it.
+-- The turns so far of a station that sends and receives go on by each turn.
 use Rattle.std.proofs.Common.{◌≡◌, ◌⊎◌, inl, inr, ℕ, ◌+◌, ◌<◌, Bool, true, false, [], ◌∷◌, List, length, Option, Some, Result, Ok, Err, IfErr, if◌then◌else◌, refl, ap, sym, subst, ◌∙◌, arith}
 use Rattle.std.specs.Result.{IsErrAnd}
 use Rattle.line_world.proofs.TurnsOverLines.{turns_as}
+use Rattle.rje_session.specs.Stations.{HeardAndReplied, LineTells, SpokeAndHeard, TakesOthers, TakesOwn}
 use Rattle.rje_sockets.proofs.Patience.{below_most, quiet_on}
-use Rattle.bsc_frame.specs.declared.heard.Heard.{Heard}
 use Rattle.bsc_link.specs.declared.rank.Rank.{Rank}
 use Rattle.bsc_link.specs.declared.reply.Reply.{Reply}
 use Rattle.bsc_link.specs.declared.say.Say.{Say}
 use Rattle.bsc_link.specs.declared.sound.Sound.{Sound}
-use Rattle.bsc_link.specs.declared.wish.Wish.{Wish}
 use Rattle.rje_station.specs.declared.arrival.Arrival.{Arrival}
-use Rattle.rje_station.specs.Hearing.{sound_heard}
-use Rattle.rje_station.specs.JoinedJobs.{begun_in}
-use Rattle.rje_station.specs.Receiving.{MayRefuse}
-use Rattle.rje_station.specs.Station.{Contending, due_at, is_deaf, lets_in, after_other, after_own_reply, after_other_ended, after_other_refusal}
-use Rattle.rje_station.proofs.PassedOver.{passed_enq, passed_unrefused}
+use Rattle.rje_station.specs.Station.{Contending, due_at, after_other_ended, after_other_refusal}
 use Rattle.rje_station.specs.declared.line_fault.LineFault.TheVariants.{Closed}
 use Rattle.rje_station.specs.declared.station_fault.StationFault.TheVariants as fault
 use Rattle.rje_sockets.specs.declared.broken_off.BrokenOff.{BrokenOff}
 use Rattle.rje_sockets.specs.declared.left.Left.{Left}
-use Rattle.rje_sockets.specs.BothWays.{AreOver, ExchangesTo, Fails, FailsInOthers, IsNext, NextTurn, Others, Own, StationTurn, TakesOthers, TakesOwn, TakesTurnsTo, Took, TookOver, TurnOver, Waits, after_answering_other, has_listened, quiet_in_a_row}
-use Rattle.rje_sockets.specs.OverLine.{HeardAndReplied, LineTells, SpokeAndHeard}
+use Rattle.rje_sockets.specs.BothWays.{AreOver, ExchangesTo, Fails, FailsInOthers, IsNext, NextTurn, Others, Own, StationTurn, TakesTurnsTo, Took, TookOver, TurnOver, Waits, has_listened, quiet_in_a_row}
 use Rattle.rje_sockets.specs.Patience.{was_quiet}
 use Rattle.rje_sockets.specs.Watching.{NobodySawReceiver, NobodySawSender, SawReceiver, SawSender}
-
--- THE OTHER'S TURN
-
-abbrev arrival_of : Heard → Bool → Arrival
-arrival_of what refused = record { sound = sound_heard what; refused = refused }
-
--- it says what came
-other_arrival : (s : Contending) (what : Heard) (refused b : Bool) → lets_in s.contender (sound_heard what) ≡ b → MayRefuse what (begun_in s.receiver.jobs) refused
-    → (after_other s what refused Wish.Go).receiver.arrival ≡ Some (arrival_of what refused)
-other_arrival s what refused true is may = rw is refl
-other_arrival s what refused false is may =
-    let enq = passed_enq s.contender (sound_heard what) is in
-    let none = passed_unrefused what (begun_in s.receiver.jobs) refused enq may in
-    let same : Some (arrival_of what refused) ≡ Some (record { sound = Sound.Enq; refused = false }) =
-    ap (λ (x : Sound). Some (record { sound = x; refused = refused })) enq ∙ ap (λ (r : Bool). Some (record { sound = Sound.Enq; refused = r })) none in
-    rw is (sym same)
-
-answered_arrival : (mid : Contending) (over : Bool) → over ≡ mid.receiver.over → (if over then after_other_ended mid else after_own_reply mid).receiver.arrival ≡ mid.receiver.arrival
-answered_arrival mid true is = rw (sym is) refl
-answered_arrival mid false is = refl
-
-pub others_arrived : (s mid : Contending) (what : Heard) (refused : Bool) (arrival : Arrival) → MayRefuse what (begun_in s.receiver.jobs) refused → mid ≡ after_other s what refused Wish.Go
-    → Some arrival ≡ mid.receiver.arrival → arrival ≡ arrival_of what refused
-others_arrived s mid what refused arrival may is came =
-    let known : Some arrival ≡ Some (arrival_of what refused) = came ∙ ap (λ (x : Contending). x.receiver.arrival) is ∙ other_arrival s what refused _ refl may in
-    cc
-
-pub others_taken : (s mid s' : Contending) (what : Heard) (refused : Bool) (arrival : Arrival) (reply : Option Reply) (over : Bool) → is_deaf s ≡ false
-    → MayRefuse what (begun_in s.receiver.jobs) refused → mid ≡ after_other s what refused Wish.Go → reply ≡ mid.receiver.due → Some arrival ≡ mid.receiver.arrival
-    → over ≡ mid.receiver.over → s' ≡ (if over then after_other_ended mid else after_own_reply mid)
-    → (takes : TakesOthers s s' arrival reply) × (takes.what ≡ what) × (s'.receiver.arrival ≡ Some arrival)
-others_taken s mid s' what refused arrival reply over live may is due came ends answers =
-    let same = others_arrived s mid what refused arrival may is came in (
-      record {
-        live = live;
-        what = what;
-        came = ap (λ (a : Arrival). a.sound) same;
-        may = rw same may;
-        reply_is = due ∙ ap (λ (x : Contending). x.receiver.due) is ∙ ap (λ (a : Arrival). (after_other s what a.refused Wish.Go).receiver.due) (sym same);
-        state = answers ∙ ap (λ (o : Bool). if o then after_other_ended mid else after_own_reply mid) ends ∙ ap after_answering_other is
-            ∙ ap (λ (a : Arrival). after_answering_other (after_other s what a.refused Wish.Go)) (sym same);
-      },
-      refl,
-      ap (λ (x : Contending). x.receiver.arrival) answers ∙ answered_arrival mid over ends ∙ sym came,
-    )
 
 -- THE TURNS SO FAR
 

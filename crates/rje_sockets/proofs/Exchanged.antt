@@ -18,6 +18,7 @@ use Rattle.rje_commands.specs.declared.command_fault.CommandFault.{CommandFault}
 use Rattle.rje_commands.specs.CommandFault.{IsFailing, status_of}
 use Rattle.rje_commands.specs.Commands.{OfFile}
 use Rattle.rje_commands.proofs.Inputs.{of_file}
+use Rattle.rje_session.specs.Stations.{LineTells}
 use Rattle.rje_sockets.specs.declared.broken_off.BrokenOff.{BrokenOff}
 use Rattle.rje_sockets.specs.declared.left.Left.{Left}
 use Rattle.rje_orders.specs.declared.order.Destination.{Destination}
@@ -35,7 +36,6 @@ use Rattle.rje_sockets.specs.Inside.Keeping.{IsOfFile, KeepsJobs}
 use Rattle.rje_sockets.specs.Inside.Opening.{IsDestinationFault, IsOpened}
 use Rattle.rje_sockets.specs.Inside.BreakingOff.{of_broken_off}
 use Rattle.rje_sockets.specs.Inside.BothFiles.{GoesOnHolding, HeldSoFar, HoldsBoth, Progress, progress_of, Exchanges}
-use Rattle.rje_sockets.specs.OverLine.{LineTells}
 use Rattle.rje_sockets.proofs.BothFiles.{holds_written}
 use Rattle.rje_sockets.proofs.Growing.{none_kept}
 use Rattle.rje_sockets.proofs.InFront.{left_alone, opened_as}

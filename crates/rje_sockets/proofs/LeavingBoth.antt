@@ -7,6 +7,7 @@ use Rattle.rje_station.specs.Station.{Contending, after_other_ended, after_other
 use Rattle.rje_station.specs.declared.line_fault.LineFault.TheVariants.{Closed}
 use Rattle.rje_station.specs.declared.station_fault.StationFault.TheVariants as fault
 use Rattle.rje_commands.specs.declared.command_fault.CommandFault.{CommandFault}
+use Rattle.rje_session.specs.Stations.{LineTells}
 use Rattle.rje_sockets.specs.declared.broken_off.BrokenOff.{BrokenOff}
 use Rattle.rje_sockets.specs.declared.left.Left.{Left}
 use Rattle.rje_sockets.specs.declared.keeper.Keeper.{Keeper}
@@ -19,7 +20,6 @@ use Rattle.rje_sockets.specs.Ending.{MakesJobFile, MarksSent}
 use Rattle.rje_sockets.specs.LeavingBoth.{CameTo, LeavesBoth, MarksAlone}
 use Rattle.rje_sockets.specs.Inside.Keeping.{IsOfFile, KeepsJobs}
 use Rattle.rje_sockets.specs.Inside.BothFiles.{BreaksBoth, GoesOnHolding, HeldSoFar, HoldsBoth, progress_of, HasCounted}
-use Rattle.rje_sockets.specs.OverLine.{LineTells}
 use Rattle.rje_sockets.specs.Watching.{NobodySawReceiver, NobodySawSender}
 use Rattle.rje_sockets.proofs.BothFiles.{holds_written}
 use Rattle.rje_sockets.proofs.BothWays.{took_turns}

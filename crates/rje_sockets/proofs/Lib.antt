@@ -1,4 +1,3 @@
-pub mod OwnTurn
 pub mod BothFiles
 pub mod LeavingBoth
 pub mod BothWays

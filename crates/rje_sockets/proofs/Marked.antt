@@ -11,6 +11,7 @@ use Rattle.rje_station.specs.declared.station_fault.StationFault.TheVariants as 
 use Rattle.rje_station.specs.Sending.{Sending, after_refusal, after_speaking, first_sending}
 use Rattle.line_world.specs.AnyLines.{SenderFails, SenderTook, SendsToFault}
 use Rattle.rje_stores.proofs.Changes.{byte_set, same_after, set_over}
+use Rattle.rje_session.specs.Stations.{LineTells}
 use Rattle.rje_sockets.specs.declared.marker.Marker.{Marker}
 use Rattle.rje_commands.specs.declared.command_fault.CommandFault.{CommandFault}
 use Rattle.rje_commands.specs.Commands.{OfFile}
@@ -18,7 +19,7 @@ use Rattle.rje_sockets.specs.Ending.{MarksSent}
 use Rattle.rje_sockets.specs.Inside.Sending.{IsOutgoing}
 use Rattle.rje_sockets.specs.Marking.{MarksItsCount, MarksNoMore}
 use Rattle.rje_sockets.specs.Inside.Marking.{GoesOnMarking, Marks, MarksCounted, WereCounted}
-use Rattle.rje_sockets.specs.OverLine.{LineTells, Sends}
+use Rattle.rje_sockets.specs.OverLine.{Sends}
 use Rattle.rje_sockets.specs.Watching.{SawSender}
 use Rattle.rje_stores.specs.Store.{FileMap, Discloses, IsSame, SetsByte}
 use Rattle.rje_commands.proofs.Inputs.{of_file}

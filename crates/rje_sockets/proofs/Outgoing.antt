@@ -4,12 +4,13 @@ use Rattle.std.specs.Io.KnownBytes.{Appends}
 use Rattle.rje_jobs.specs.declared.job.Job.{Job}
 use Rattle.rje_station.specs.Sending.{Sending, first_sending, outcome_of}
 use Rattle.rje_commands.specs.declared.command_fault.CommandFault.{CommandFault}
+use Rattle.rje_session.specs.Stations.{LineTells}
 use Rattle.rje_sockets.specs.declared.marker.Marker.{Marker}
 use Rattle.rje_sockets.specs.declared.socket_commands.ending.Ending.{Ending}
 use Rattle.rje_sockets.specs.Ending.{MarksSent, SendsLeft, ending_of, sent_text}
 use Rattle.rje_sockets.specs.Inside.Sending.{IsOutgoing}
 use Rattle.rje_sockets.specs.Inside.Marking.{Marks}
-use Rattle.rje_sockets.specs.OverLine.{LineTells, SendsOut, SendsOver}
+use Rattle.rje_sockets.specs.OverLine.{SendsOut, SendsOver}
 use Rattle.rje_sockets.specs.Watching.{SawEnd, SawSender}
 use Rattle.rje_sockets.proofs.Watched.{out_unseen}
 use Rattle.std.proofs.lemmas.Result.{on_ok_weaker}

@@ -6,8 +6,9 @@ use Rattle.bsc_history.specs.declared.spoken_turn.SpokenTurn.{SpokenTurn}
 use Rattle.bsc_history.specs.History.{History}
 use Rattle.line_world.specs.AnyLines.{Turns}
 use Rattle.line_world.proofs.TurnsOverLines.{arrival_is}
+use Rattle.rje_session.specs.Stations.{LineTells}
 use Rattle.rje_sockets.specs.declared.left.Left.{Left}
-use Rattle.rje_sockets.specs.OverLine.{LineTells, ReceiverTurn}
+use Rattle.rje_sockets.specs.OverLine.{ReceiverTurn}
 use Rattle.rje_sockets.specs.Patience.{was_quiet, quiet_turns, WentOn, HearsOut}
 use Rattle.rje_sockets.specs.Watching.{SawReceiver}
 

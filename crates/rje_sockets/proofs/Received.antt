@@ -8,6 +8,7 @@ use Rattle.std.proofs.lemmas.Result.{on_ok_weaker}
 use Rattle.rje_jobs.specs.declared.job.Job.{Job}
 use Rattle.bsc_link.specs.declared.wish.Wish.{Wish}
 use Rattle.rje_station.specs.Receiving.{Receiving, after_receiving, first_receiving}
+use Rattle.rje_session.specs.Stations.{LineTells}
 use Rattle.rje_sockets.specs.declared.broken_off.BrokenOff.{BrokenOff}
 use Rattle.rje_commands.specs.declared.command_fault.CommandFault.{CommandFault}
 use Rattle.rje_commands.specs.CommandFault.{of_text}
@@ -25,7 +26,6 @@ use Rattle.rje_sockets.specs.Inside.Keeping.{AreKept, GoesOnKeeping, IsOfFile, K
 use Rattle.rje_sockets.specs.Inside.BreakingOff.{BreaksOff, BreaksOffNow, KeptSoFar}
 use Rattle.rje_sockets.specs.Inside.Opening.{IsOpened}
 use Rattle.rje_sockets.specs.Patience.{Leaves}
-use Rattle.rje_sockets.specs.OverLine.{LineTells}
 use Rattle.rje_stores.specs.Store.{FileMap, Discloses, IsSame}
 use Rattle.rje_sockets.specs.Watching.{SawReceiver}
 use Rattle.rje_sockets.proofs.Answering.{breaks_same_file, left_answered, none_answered, refusal_jobs}

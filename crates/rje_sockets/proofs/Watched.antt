@@ -17,8 +17,9 @@ use Rattle.rje_station.specs.Sending.{Sending, after_speaking, after_hearing, is
 use Rattle.line_world.specs.AnyLines.{BothFail, BothToEnd, BothToFault, ReceiverTakes, ReceiverTook, SenderTakes, SenderTook, Turns, unhindered}
 use Rattle.line_world.specs.declared.spoken.Spoken.{Spoken}
 use Rattle.line_world.proofs.TurnsOverLines.{arrived_turn, heard_turn, hears, no_end, turns_as}
+use Rattle.rje_session.specs.Stations.{HeardAndReplied, LineTells, SpokeAndHeard}
 use Rattle.rje_sockets.specs.declared.left.Left.{Left}
-use Rattle.rje_sockets.specs.OverLine.{BothTook, BothTookOut, BothTurn, HeardAndReplied, LineTells, ReceiverTurn, SenderTurn, Sends, SendsOut, SendsOver, SpokeAndHeard}
+use Rattle.rje_sockets.specs.OverLine.{BothTook, BothTookOut, BothTurn, ReceiverTurn, SenderTurn, Sends, SendsOut, SendsOver}
 use Rattle.rje_sockets.specs.Patience.{Leaves, LeavesSo}
 use Rattle.rje_sockets.specs.Watching.{NobodySawReceiver, NobodySawSender, SawBoth, SawEnd, SawReceiver, SawSender}
 

@@ -1,5 +1,5 @@
 -- A station that sends and receives over one line, whatever that does: turn by turn, and how it ends (own profile).
-use Rattle.std.specs.Prelude.{◌≡◌, ◌≢◌, ◌⊎◌, ◌+◌, ℕ, Bool, true, false, List, [], ◌∷◌, length, Option, if◌then◌else◌}
+use Rattle.std.specs.Prelude.{◌≡◌, ◌⊎◌, ◌+◌, ℕ, Bool, true, false, List, [], ◌∷◌, length, Option}
 use Rattle.bsc_frame.specs.declared.heard.Heard.{Heard}
 use Rattle.bsc_link.specs.declared.rank.Rank.{Rank}
 use Rattle.bsc_link.specs.declared.reply.Reply.{Reply}
@@ -8,43 +8,15 @@ use Rattle.bsc_link.specs.declared.sound.Sound.{Sound}
 use Rattle.bsc_link.specs.declared.wish.Wish.{Wish}
 use Rattle.line_world.specs.AnyLines.{Turns}
 use Rattle.rje_station.specs.declared.arrival.Arrival.{Arrival}
-use Rattle.rje_station.specs.Hearing.{sound_heard}
 use Rattle.rje_station.specs.JoinedJobs.{begun_in}
 use Rattle.rje_station.specs.Receiving.{MayRefuse}
-use Rattle.rje_station.specs.Station.{Contending, due_at, is_deaf, is_receiving, after_own_speaking, after_answer, after_other, after_own_reply, after_other_ended, after_own_refusal, after_other_refusal}
+use Rattle.rje_station.specs.Station.{Contending, due_at, is_receiving, after_other, after_other_ended, after_other_refusal}
 use Rattle.rje_station.specs.declared.line_fault.LineFault.TheVariants.{Closed}
-use Rattle.rje_station.specs.declared.station_fault.StationFault.{StationFault}
 use Rattle.rje_station.specs.declared.station_fault.StationFault.TheVariants as fault
+use Rattle.rje_session.specs.Stations.{FailsInOwn, HeardAndReplied, LineTells, SpokeAndHeard, TakesOthers, TakesOwn}
 use Rattle.rje_sockets.specs.declared.broken_off.BrokenOff.{BrokenOff}
 use Rattle.rje_sockets.specs.declared.left.Left.{Left}
-use Rattle.rje_sockets.specs.OverLine.{HeardAndReplied, LineTells, SpokeAndHeard}
 use Rattle.rje_sockets.specs.Watching.{NobodySawReceiver, NobodySawSender, SawReceiver, SawSender}
-
--- after its own turn: after EOT it doesn't listen
-abbrev pub after_own_turn : Contending → Say → Sound → Contending
-after_own_turn s Say.End heard = after_own_speaking s
-after_own_turn s said heard = after_answer (after_own_speaking s) heard false
-
--- its own turn: it said what was due, and but for EOT it heard something
-pub record TakesOwn (s s' : Contending) (said : Say) (heard : Sound) : Type 0 where
-  pub live : s.failed ≡ false
-  pub due : said ≢ Say.Nothing
-  pub said_is : said ≡ due_at s
-  pub done : said ≡ Say.End → heard ≡ Sound.Quiet
-  pub state : s' ≡ after_own_turn s said heard
-
--- it replies to what it heard; where that ended the other's transmission, it leaves its receiving side
-abbrev pub after_answering_other : Contending → Contending
-after_answering_other s = if s.receiver.over then after_other_ended s else after_own_reply s
-
--- the other's turn: it heard something of the other, and replied where a reply was due
-pub record TakesOthers (s s' : Contending) (arrival : Arrival) (reply : Option Reply) : Type 0 where
-  pub live : is_deaf s ≡ false
-  pub what : Heard
-  pub came : arrival.sound ≡ sound_heard what
-  pub may : MayRefuse what (begun_in s.receiver.jobs) arrival.refused
-  pub reply_is : reply ≡ (after_other s what arrival.refused Wish.Go).receiver.due
-  pub state : s' ≡ after_answering_other (after_other s what arrival.refused Wish.Go)
 
 -- a turn: its own, of what it said and heard; or the other's, of what came and what it replied
 pub data StationTurn : Type 0 where
@@ -124,11 +96,7 @@ TakesTurnsTo most Sent Came Left.Abandoned was (s', u, w') =
 abbrev pub ExchangesTo : (most : ℕ) → Left → Contending → LineTells → Contending → LineTells → Type 0
 ExchangesTo most left s t s' u = TakesTurnsTo most NobodySawSender NobodySawReceiver left (s, t, tt) (s', u, tt)
 
--- a fault of the line ended its own turn: as it spoke, or as it listened
-abbrev pub FailsInOwn : Contending → Contending → StationFault → Type 0
-FailsInOwn s s' fault = (s' ≡ after_own_refusal fault s) ⊎ (s' ≡ after_own_refusal fault (after_own_speaking s))
-
--- the other's turn: as it listened, or as it replied; or a job couldn't be kept, and it left without a reply
+-- a fault ended the other's turn: one of the line, as it listened, or as it replied; or a job couldn't be kept, and it left without a reply
 abbrev pub FailsInOthers : Contending → Contending → BrokenOff → Type 0
 FailsInOthers s s' (BrokenOff.Line fault) =
     (s' ≡ after_other_refusal fault s)

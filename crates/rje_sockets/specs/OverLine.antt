@@ -1,45 +1,20 @@
 -- What passes over a line that tells its bytes, in a station's turn and in all of them, and what a watch beside it sees: each turn that was
 -- taken, once and in order, and nothing else (own profile). Of a line that doesn't tell its bytes nothing is said here.
 use Rattle.std.specs.Prelude.{◌≡◌, false, ℕ, List, Option, Some, None, map}
-use Rattle.bsc_codes.specs.declared.block.Block.{Block}
-use Rattle.bsc_frame.specs.declared.heard.Heard.{Heard}
 use Rattle.bsc_history.specs.History.{History}
 use Rattle.bsc_history.specs.declared.spoken_turn.SpokenTurn.{SpokenTurn}
-use Rattle.bsc_link.specs.declared.reply.Reply.{Reply}
-use Rattle.bsc_link.specs.declared.say.Say.{Say}
-use Rattle.bsc_link.specs.declared.sound.Sound.{Sound}
 use Rattle.bsc_link.specs.declared.wish.Wish.{Wish}
 use Rattle.line_world.specs.AnyLines.{BothTake, IsThrough, ReceiverTakes, SenderTakes, Turns, unhindered}
 use Rattle.line_world.specs.declared.spoken.Spoken.{Spoken}
-use Rattle.rje_station.specs.Hearing.{Hearing, HearsSound}
-use Rattle.rje_station.specs.Line.{Passes, Talk, one_more}
-use Rattle.rje_station.specs.Receiving.{Receiving, Replied, with_reply}
-use Rattle.rje_station.specs.Sending.{Sending, Spoke}
+use Rattle.rje_station.specs.Receiving.{Receiving}
+use Rattle.rje_station.specs.Sending.{Sending}
+use Rattle.rje_session.specs.Stations.{HeardAndReplied, LineTells, SpokeAndHeard}
 use Rattle.rje_stores.specs.Store.{FileMap}
 use Rattle.rje_sockets.specs.Watching.{NobodySawSender, SawBoth, SawEnd, SawReceiver, SawSender}
-
--- what a line tells: its bytes, where it tells them, and how many transmissions it has begun
-abbrev pub LineTells : Type 0
-LineTells = Option Talk × ℕ
 
 -- what a command over a line changes: what the line tells, the files, and what is printed
 abbrev pub Outside : Type 0
 Outside = LineTells × Option FileMap × Option (List ℕ)
-
--- after what a station said the line gave what it heard; after EOT the station doesn't listen
-abbrev pub Answers : Say → Sound → (asked answered : Option Talk) → Type 0
-Answers Say.End heard asked answered = answered ≡ asked
-Answers said heard asked answered = Passes asked answered (λ t u. HearsSound t u heard)
-
--- a station that has these blocks to send spoke, and listened: the line sent just what it said, and then gave what it heard
-abbrev pub SpokeAndHeard : List Block → (t u : LineTells) → Say → Sound → Type 0
-SpokeAndHeard rest t u said heard =
-    (asked : Option Talk) × Passes t.0 asked (Spoke said rest) × (u.1 ≡ one_more t.1) × Answers said heard asked u.0
-
--- a station listened, and replied: the line gave this, and then sent just the reply, or nothing where there was none
-abbrev pub HeardAndReplied : Heard → (t u : LineTells) → Option Reply → Type 0
-HeardAndReplied what t u reply =
-    (heard : Option Talk) × Passes t.0 heard (λ t u. Hearing t u what) × Passes heard u.0 (Replied reply) × (u.1 ≡ with_reply reply t.1)
 
 -- a sending station took a turn, in which it didn't ask to wait; the line sent and gave so, and the watch saw just that
 abbrev pub SenderTurn : {W : Type 0} → SawSender W → Sending × LineTells × W → Sending × LineTells × W → SpokenTurn → Type 0

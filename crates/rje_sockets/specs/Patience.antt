@@ -6,8 +6,9 @@ use Rattle.bsc_history.specs.History.{History}
 use Rattle.line_world.specs.AnyLines.{Turns}
 use Rattle.rje_station.specs.declared.arrival.Arrival.{Arrival}
 use Rattle.rje_station.specs.Receiving.{Receiving, after_abandon}
+use Rattle.rje_session.specs.Stations.{LineTells}
 use Rattle.rje_sockets.specs.declared.left.Left.{Left}
-use Rattle.rje_sockets.specs.OverLine.{LineTells, ReceiverTurn}
+use Rattle.rje_sockets.specs.OverLine.{ReceiverTurn}
 use Rattle.rje_sockets.specs.Watching.{NobodySawReceiver, SawReceiver}
 
 -- after how many quiet hearings in a row a station leaves that was told this number: with 0 after as many as it takes at all

@@ -7,23 +7,24 @@ ghost use Rattle.bsc_link.specs.declared.sound.Sound.{Sound as Tone};
 ghost use Rattle.rje_station.specs.declared.arrival.Arrival.{Arrival as Coming};
 ghost use Rattle.rje_station.specs.declared.line_fault.LineFault.TheVariants.{Closed};
 ghost use Rattle.rje_station.specs.declared.station_fault.StationFault.TheVariants as fault;
-ghost use Rattle.rje_station.specs.Station.{due_at, is_deaf, after_other_refusal};
+ghost use Rattle.rje_station.specs.Station.{due_at, after_other_refusal};
 ghost use Rattle.rje_commands.specs.CommandFault.{IsFailing, of_station, status_of};
-ghost use Rattle.rje_sockets.specs.BothWays.{has_listened, AreOver, FailsInOwn, FailsInOthers, TakesOwn, TakesOthers, TakesTurnsTo, Waits};
+ghost use Rattle.rje_session.specs.Stations.{FailsInOwn, HeardAndReplied, SpokeAndHeard, TakesOthers, TakesOwn};
+ghost use Rattle.rje_sockets.specs.BothWays.{has_listened, AreOver, FailsInOthers, TakesTurnsTo, Waits};
 ghost use Rattle.rje_sockets.specs.Inside.Marking.{GoesOnMarking};
 ghost use Rattle.rje_sockets.specs.Inside.Keeping.{GoesOnKeeping};
 ghost use Rattle.rje_sockets.specs.Inside.BreakingOff.{of_broken_off};
 ghost use Rattle.rje_sockets.specs.Inside.BothFiles.{BreaksBoth, GoesOnHolding, kept_of, progress_of, HasCounted};
 ghost use Rattle.rje_sockets.specs.NamedFiles.{NamesWritten};
-ghost use Rattle.rje_sockets.specs.OverLine.{HeardAndReplied, SpokeAndHeard};
 
 use crate::broken_off::BrokenOff;
 use crate::keeper::Keeper;
 use crate::left::Left;
 use crate::marker::Marker;
-use crate::one_way::{MAX_HEARINGS, quiet_after};
+use crate::one_way::{MAX_HEARINGS, was_quiet};
 use crate::watch::Watch;
-use bsc_link::{Rank, Say, Sound, Wish};
+use bsc_link::{Rank, Say};
+use rje_session::turns;
 use rje_station::{Line, LineFault, Station, StationFault};
 use rje_stores::Store;
 
@@ -63,7 +64,7 @@ pub fn exchange_all<'a, 'b, L: Line, S: Store, W: Watch>(
         if is_over(station) {
             return Ok(Left::Ended);
         }
-        if is_own_turn(station, has_listened) {
+        if turns::is_own_turn(station, has_listened) {
             take_own_turn(station, line, marker, store, watch)?;
             has_listened = at_once;
             quiet = 0;
@@ -73,7 +74,7 @@ pub fn exchange_all<'a, 'b, L: Line, S: Store, W: Watch>(
             return Ok(Left::Ended);
         }
         has_listened = true;
-        quiet = quiet_after(quiet, station.receiver());
+        quiet = turns::quiet_after(quiet, was_quiet(station.receiver()));
         if quiet == patience {
             station.other_ended();
             return Ok(Left::Abandoned);
@@ -95,21 +96,6 @@ fn is_over<'a>(station: &Station<'a>) -> bool
     ensures all { AreOver station.now → result ≡ true }
 {
     station.due() == Say::Nothing && station.receiver().is_over()
-}
-
-/// Whether the station speaks next. One that has to listen before it bids does so as long as there is something to hear.
-fn is_own_turn<'a>(station: &Station<'a>, has_listened: bool) -> bool
-    ensures speaks { result ≡ true → due_at station.now ≢ say.Nothing }
-    ensures bids { result ≡ true → due_at station.now ≡ say.Bid
-        → (has_listened ≡ true) ⊎ (station.now.receiver.over ≡ true) }
-    ensures listens { result ≡ false → (due_at station.now ≡ say.Nothing)
-        ⊎ ((due_at station.now ≡ say.Bid) × (has_listened ≡ false)) }
-{
-    match station.due() {
-        Say::Nothing => false,
-        Say::Bid => has_listened || station.receiver().is_over(),
-        _ => true,
-    }
 }
 
 /// A station's own turn: it says what is due, and but for EOT it listens. Then as many jobs are marked as it has counted.
@@ -134,11 +120,7 @@ fn take_own_turn<'a, 'b, L: Line, S: Store, W: Watch>(
         ⊎ (marker.new.marked ≡ station.new.sender.counted) }
     ensures unmarked { OnErr result ((marker.new ≡ marker.old) × (store.new ≡ store.old)) }
 {
-    let said = station.speak(line)?;
-    let heard = match said {
-        Say::End => Sound::Quiet,
-        _ => station.hear_answer(line, false)?,
-    };
+    let (said, heard) = turns::take_own_turn(station, line)?;
     let sender = station.sender();
     watch.sender_took(sender, said, heard);
     marker.mark(station.sender().counted(), store);
@@ -175,26 +157,19 @@ fn take_others_turn<'a, 'b, L: Line, S: Store, W: Watch>(
         (S.files store.old) (S.files store.new)) }
 {
     let waits = station.due() == Say::Nothing && !station.is_receiving();
-    let reply = match station.hear_other(line, Wish::Go) {
-        Ok(reply) => reply,
+    let (arrival, reply) = match turns::hear_other(station, line) {
+        Ok(came) => came,
         Err(StationFault::Line(LineFault::Closed)) if waits => return Ok(false),
         Err(fault) => return Err(BrokenOff::Line(fault)),
     };
     let receiver = station.receiver();
-    let Some(arrival) = receiver.arrival() else {
-        unreachable!()
-    };
     if let Err(fault) = keeper.keep(receiver.jobs(), receiver.refusal(), store) {
         station.other_ended();
         let receiver = station.receiver();
         watch.receiver_took(receiver, arrival, None);
         return Err(BrokenOff::File(fault));
     }
-    if station.receiver().is_over() {
-        station.other_ended();
-    } else {
-        station.reply(line)?;
-    }
+    turns::answer_other(station, line)?;
     let receiver = station.receiver();
     watch.receiver_took(receiver, arrival, reply);
     Ok(true)

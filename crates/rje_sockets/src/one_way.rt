@@ -1,5 +1,5 @@
 //! Stations that take turns over a line, until the transmission ends.
-ghost use Rattle.std.specs.Prelude.{◌≡◌, ◌⊎◌, ◌<◌, ◌+◌, ◌-◌, ◌^◌, ℕ, true, false, if◌then◌else◌, IfOk, OnOk, IfErr, OnErr};
+ghost use Rattle.std.specs.Prelude.{◌≡◌, ◌⊎◌, ◌<◌, ℕ, true, false, IfOk, OnOk, IfErr, OnErr};
 ghost use Rattle.bsc_history.specs.declared.spoken_turn.SpokenTurn.{SpokenTurn};
 ghost use Rattle.rje_commands.specs.CommandFault.{IsFailing, of_station, status_of};
 ghost use Rattle.rje_sockets.specs.Inside.Marking.{GoesOnMarking, WereCounted};
@@ -17,6 +17,7 @@ use crate::marker::Marker;
 use crate::watch::Watch;
 use bsc_link::{Say, Sound, Wish};
 use line_world::Spoken;
+use rje_session::turns;
 use rje_station::{Arrival, Line, ReceivingStation, SendingStation, StationFault};
 use rje_stores::Store;
 
@@ -180,7 +181,7 @@ fn hear_out<'a, L: Line, S: Store, W: Watch>(
         if !hear_keep_and_speak(station, line, keeper, store, watch)? {
             return Ok(Left::Ended);
         }
-        quiet = quiet_after(quiet, station);
+        quiet = turns::quiet_after(quiet, was_quiet(station));
         if quiet == patience {
             return Ok(Left::Abandoned);
         }
@@ -188,19 +189,13 @@ fn hear_out<'a, L: Line, S: Store, W: Watch>(
     Ok(Left::Abandoned)
 }
 
-/// How many quiet hearings in a row there are, with the last one.
-pub fn quiet_after(quiet: u32, station: &ReceivingStation) -> u32
-    requires few { quiet < 2 ^ 32 - 1 }
-    ensures { result ≡ (if was_quiet station.now.arrival then quiet + 1 else 0) }
+/// Whether the last hearing brought nothing.
+pub fn was_quiet(station: &ReceivingStation) -> bool
+    ensures { result ≡ was_quiet station.now.arrival }
 {
     match station.arrival() {
-        Some(
-            Arrival {
-                sound: Sound::Quiet,
-                refused: _,
-            },
-        ) => quiet + 1,
-        _ => 0,
+        Some(arrival) => matches!(arrival.sound, Sound::Quiet),
+        None => false,
     }
 }
 

@@ -2,13 +2,14 @@ use Rattle.std.proofs.Common.{rules, ◌≡◌, inl, inr, ap, ◌∙◌, Err}
 use Rattle.rje_station.specs.declared.station_fault.StationFault.{StationFault}
 use Rattle.rje_station.specs.Line.{one_more}
 use Rattle.rje_station.specs.Receiving.{Receiving, after_abandon, after_refusal, with_reply}
+use Rattle.rje_session.proofs.Passed.{last_passed, reply_passed}
 use Rattle.rje_sockets.specs.declared.broken_off.BrokenOff.{BrokenOff}
 use Rattle.rje_sockets.proofs.Answering.{line_failed, refusal_jobs}
 use Rattle.rje_sockets.proofs.Failing.{line_fails}
 use Rattle.rje_sockets.proofs.Growing.{goes_still}
 use Rattle.rje_sockets.proofs.Keeping.{goes_nowhere, turn_kept}
 use Rattle.rje_sockets.proofs.NamedFiles.{station_names}
-use Rattle.rje_sockets.proofs.OverLine.{last_passed, over_owes, reply_passed}
+use Rattle.rje_sockets.proofs.OverLine.{over_owes}
 use Rattle.rje_sockets.proofs.Watched.{last_turn, reply_turn}
 use Rattle.rje_sockets.proofs.one_way.hear_keep_and_speak.Goals as goal
 

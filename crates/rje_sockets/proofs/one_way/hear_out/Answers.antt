@@ -38,7 +38,7 @@ quiet_after-quiet-requires g c = record { few = omega (arith, c.loop.invariant.t
 pub returns-then-quiet-patience-clause-heard : goal.returns-then-quiet-patience-clause-heard
 returns-then-quiet-patience-clause-heard g c =
     hears_quiet c.args.patience g.W.Watch.saw_receiver (c.args.station.now, (g.L.Line.talk c.args.line.now, g.L.Line.transmissions c.args.line.now), c.args.watch.now) c.loop.counter c.loop.quiet (c.loop.station, (g.L.Line.talk c.loop.line, g.L.Line.transmissions c.loop.line), c.loop.watch) c.loop.invariant.turns
-    (c.hear_keep_and_speak.new.station, (g.L.Line.talk c.hear_keep_and_speak.new.line, g.L.Line.transmissions c.hear_keep_and_speak.new.line), c.hear_keep_and_speak.new.watch) c.in_ok-hear_keep_and_speak.ensures.turn _ c.quiet_after-quiet.ensures (search rules)
+    (c.hear_keep_and_speak.new.station, (g.L.Line.talk c.hear_keep_and_speak.new.line, g.L.Line.transmissions c.hear_keep_and_speak.new.line), c.hear_keep_and_speak.new.watch) c.in_ok-hear_keep_and_speak.ensures.turn c.quiet_after-quiet.result (search rules) (search rules)
 
 pub returns-then-quiet-patience-clause-kept : goal.returns-then-quiet-patience-clause-kept
 returns-then-quiet-patience-clause-kept g c =
@@ -48,7 +48,7 @@ returns-then-quiet-patience-clause-kept g c =
 pub loop-preserved : goal.loop-preserved
 loop-preserved g c = record {
   turns = hears_on c.args.patience g.W.Watch.saw_receiver (c.args.station.now, (g.L.Line.talk c.args.line.now, g.L.Line.transmissions c.args.line.now), c.args.watch.now) c.loop.counter c.loop.quiet (c.loop.station, (g.L.Line.talk c.loop.line, g.L.Line.transmissions c.loop.line), c.loop.watch) c.loop.invariant.turns
-      (c.hear_keep_and_speak.new.station, (g.L.Line.talk c.hear_keep_and_speak.new.line, g.L.Line.transmissions c.hear_keep_and_speak.new.line), c.hear_keep_and_speak.new.watch) c.in_ok-hear_keep_and_speak.ensures.turn _ c.quiet_after-quiet.ensures (search rules);
+      (c.hear_keep_and_speak.new.station, (g.L.Line.talk c.hear_keep_and_speak.new.line, g.L.Line.transmissions c.hear_keep_and_speak.new.line), c.hear_keep_and_speak.new.watch) c.in_ok-hear_keep_and_speak.ensures.turn c.quiet_after-quiet.result (search rules) (search rules);
   kept = goes_on_twice c.args.keeper.now c.loop.keeper c.hear_keep_and_speak.new.keeper c.args.station.now.jobs c.loop.station.jobs c.hear_keep_and_speak.new.station.jobs
       (g.S.Store.files c.args.store.now) (g.S.Store.files c.loop.store) (g.S.Store.files c.hear_keep_and_speak.new.store) c.loop.invariant.kept c.in_ok-hear_keep_and_speak.ensures.kept;
 }

@@ -2,7 +2,8 @@ use Rattle.std.proofs.Common.{rules, ◌≡◌, ◌∙◌, refl}
 use Rattle.bsc_link.specs.declared.say.Say.{Say}
 use Rattle.bsc_link.specs.declared.sound.Sound.{Sound}
 use Rattle.bsc_link.specs.Sender.{say_in}
-use Rattle.rje_sockets.proofs.OverLine.{end_passed, said_more, spoke_as, turn_passed}
+use Rattle.rje_session.proofs.Passed.{end_passed, spoke_as, turn_passed}
+use Rattle.rje_sockets.proofs.OverLine.{said_more}
 use Rattle.rje_sockets.proofs.Watched.{end_turn, more_turn}
 use Rattle.rje_sockets.proofs.one_way.speak_and_hear.Goals as goal
 

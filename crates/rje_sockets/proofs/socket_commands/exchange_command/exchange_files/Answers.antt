@@ -7,10 +7,10 @@ use Rattle.rje_jobs.specs.declared.job.Job.{Job}
 use Rattle.rje_files.specs.Unsent.{IsLeft}
 use Rattle.rje_commands.specs.CommandFault.{IsFailing, status_of}
 use Rattle.rje_commands.specs.declared.command_fault.CommandFault.{CommandFault}
+use Rattle.rje_session.specs.Stations.{LineTells}
 use Rattle.rje_sockets.specs.BothWays.{ExchangesTo}
 use Rattle.rje_sockets.specs.Exchanging.{ending_of_both, is_idle}
 use Rattle.rje_sockets.specs.Inside.BothFiles.{HeldSoFar, Exchanges}
-use Rattle.rje_sockets.specs.OverLine.{LineTells}
 use Rattle.rje_sockets.proofs.BothWays.{exchanges_unseen}
 use Rattle.std.proofs.lemmas.Result.{IfOk-weaker}
 use Rattle.rje_sockets.specs.declared.kept_file.KeptFile.{KeptFile}

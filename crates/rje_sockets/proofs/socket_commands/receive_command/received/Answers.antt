@@ -1,5 +1,6 @@
 use Rattle.std.proofs.Common.{rules, ◌≡◌, ◌∙◌, IfOk, OnOk, IfErr, refl, ap, sym, subst}
 use Rattle.rje_station.specs.Receiving.{Receiving}
+use Rattle.rje_session.specs.Stations.{LineTells}
 use Rattle.rje_sockets.specs.Answering.{KeepsAnswered}
 use Rattle.rje_sockets.specs.Patience.{Leaves}
 use Rattle.rje_commands.specs.declared.command_fault.CommandFault.{CommandFault}
@@ -12,7 +13,6 @@ use Rattle.rje_sockets.specs.Inside.Opening.{IsOpened}
 use Rattle.rje_sockets.specs.Inside.Keeping.{GoesOnKeeping}
 use Rattle.rje_sockets.specs.Inside.BreakingOff.{BreaksOff, of_broken_off}
 use Rattle.rje_sockets.specs.NamedFiles.{NamesWritten}
-use Rattle.rje_sockets.specs.OverLine.{LineTells}
 use Rattle.rje_sockets.proofs.NamedFiles.{output_of_none, received_names, text_names}
 use Rattle.rje_sockets.proofs.Failing.{text_fails}
 use Rattle.rje_sockets.proofs.Received.{ends_well, err_unless_refused, keeper_stays, ok_unless_refused, made_at_end, nothing_kept, received_kept, receives}
