@@ -196,7 +196,7 @@ class Stations(UserCase):
         for part in ("", *parts, "log", "lock"):
             name = f"begun/{part}".rstrip("/")
             had, _, _ = self.access(name)
-            for mode, group, refused in ((had | 0o002, 0, True), (had | 0o020, GROUP, True), (had | 0o020, 0, False)):
+            for mode, group, refused in ((had | 0o002, 0, True), (had | 0o020, GROUP, True), (had | 0o020, 0, True)):
                 os.chown(self.at(name), 0, group)
                 os.chmod(self.at(name), mode)
                 told, at = self.begins(), self.at(name)

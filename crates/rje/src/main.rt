@@ -65,16 +65,28 @@ fn run(rt: &HostRuntime) -> io::Result<u8> {
 }
 
 /// The null device under the number of a standard stream that is closed, so that no file and no connection gets the number, and with it what is
-/// written to the stream. It is open for what the stream isn't for: reading a closed input fails, and so does writing to a closed output.
+/// written to the stream. It is open for what the stream isn't for: reading a closed input fails, and so does writing to a closed output. Where there is
+/// no null device it is the folder of all, which can be neither read so nor written.
 fn held_number(rt: &HostRuntime) -> Option<File> {
-    let null = OpenOptions::new().write(true).open(rt, "/dev/null").ok()?;
-    match null.as_raw_fd() {
-        0 => Some(null),
+    let held = match OpenOptions::new().write(true).open(rt, "/dev/null") {
+        Ok(null) => null,
+        Err(_) => File::open(rt, "/").ok()?,
+    };
+    match held.as_raw_fd() {
+        0 => Some(held),
         1 | 2 => {
-            drop(null);
-            File::open(rt, "/dev/null").ok()
+            drop(held);
+            unwritable(rt)
         }
         _ => None,
+    }
+}
+
+/// The null device open to be read, or the folder of all.
+fn unwritable(rt: &HostRuntime) -> Option<File> {
+    match File::open(rt, "/dev/null") {
+        Ok(null) => Some(null),
+        Err(_) => File::open(rt, "/").ok(),
     }
 }
 

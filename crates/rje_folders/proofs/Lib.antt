@@ -1,5 +1,6 @@
 pub mod Linked
 pub mod Taken
+pub mod TakenOut
 pub mod Moved
 pub mod NewFile
 pub mod Ready

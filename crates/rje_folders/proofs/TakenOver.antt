@@ -16,7 +16,8 @@ use Rattle.rje_folders.specs.Keeping.{IsTemporary, WasMade}
 use Rattle.rje_folders.specs.Moving.{IsMoved, MayDrop, MayMove}
 use Rattle.rje_folders.specs.Promising.{IsKeptElsewhere}
 use Rattle.rje_folders.specs.Reading.{IsReadOf}
-use Rattle.rje_folders.specs.TakingOver.{IsTakenName, IsTakenOver, IsTakenPath, MayCopy, MayFinish, MayGiveBack, MayTakeOver, WasRead}
+use Rattle.rje_folders.specs.TakenName.{IsTakenName, IsTakenPath}
+use Rattle.rje_folders.specs.TakingOver.{IsTakenOver, MayCopy, MayFinish, MayGiveBack, MayTakeOver, WasRead}
 use Rattle.rje_folders.specs.Inside.Calls.{HasCopy, IsHidden, IsNewIn, MayCreate, MayHide, MayWrite}
 use Rattle.rje_folders.proofs.NewFile.{file_temporary, new_is_empty, new_stands, write_fills}
 use Rattle.rje_folders.proofs.Taken.{other_name, sync_keeps_standing}

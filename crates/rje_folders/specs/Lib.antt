@@ -8,3 +8,5 @@ pub mod Folder
 pub mod Promising
 pub mod TakingOver
 pub mod Inside
+pub mod TakenName
+pub mod TakingOut

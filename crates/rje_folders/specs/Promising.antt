@@ -8,23 +8,29 @@ use Rattle.rje_folders.specs.FileNames.{IsNamedAfter, IsNumbered}
 use Rattle.rje_folders.specs.Folder.{has_new_files, path_in, path_of}
 use Rattle.rje_folders.specs.Keeping.{IsTemporary}
 use Rattle.rje_folders.specs.Moving.{MayAdd, MayDrop, MayMove}
+use Rattle.rje_folders.specs.TakingOut.{MayTakeOut}
 
 -- what may be asked before the last block of a job is said: to give its file, in out/, a second name, in doubt/
 abbrev pub MayPromise : (List Asked → List ℕ → List ℕ → Type 0) → (station name : List ℕ) → Call → List Asked → Type 0
 MayPromise are_one station name call before = MayAdd are_one (path_in station Folder.Out name) (IsNumbered (path_in station Folder.Doubt name)) call before
 
--- What may be asked once it is known what becomes of the job. Where it was counted, to move its file from doubt/ to sent/, and to take the name in
--- out/ away once the one in sent/ is on disk. Where it is in doubt, to take the name in out/ away once the one in doubt/ is on disk. Where it lies
--- ready still, to take the name in doubt/ away once the one in out/ is.
+-- What may be asked once it is known what becomes of the job. If it was counted, to move its file from doubt/ to sent/, and to take the name in out/
+-- away once the one in sent/ is on disk. If it is in doubt, to take the name in out/ away once the one in doubt/ is on disk. If it lies ready still,
+-- to take the name in doubt/ away once the one in out/ is.
 abbrev pub MaySettle : (List Asked → List ℕ → List ℕ → Type 0) → (station name doubt : List ℕ) → Disposition → Call → List Asked → Type 0
 MaySettle are_one station name doubt Disposition.Sent call before = MayMove are_one doubt (IsNumbered (path_in station Folder.Sent name)) call before
-    ⊎ ((sent : List ℕ) × IsNumbered (path_in station Folder.Sent name) sent × MayDrop are_one sent (path_in station Folder.Out name) call before)
-MaySettle are_one station name doubt Disposition.InDoubt call before = MayDrop are_one doubt (path_in station Folder.Out name) call before
+    ⊎ ((sent : List ℕ) × IsNumbered (path_in station Folder.Sent name) sent × MayTakeOut are_one station name sent call before)
+MaySettle are_one station name doubt Disposition.InDoubt call before = MayTakeOut are_one station name doubt call before
 MaySettle are_one station name doubt Disposition.Ready call before = MayDrop are_one (path_in station Folder.Out name) doubt call before
 
 -- the file that stood under the name in doubt/ stands under this one in sent/, on disk
 abbrev pub IsSent : (station name doubt sent : List ℕ) → List Asked → List Asked → Type 0
 IsSent station name doubt sent before after = IsNumbered (path_in station Folder.Sent name) sent × (standing sent after ≡ standing doubt before) × (has_synced_name sent after ≡ true)
+
+-- What may be asked to put a file of out/ aside: to give it a second name, in refused/, and, once that is on disk, to take the one in out/ away.
+abbrev pub MayPutAside : (List Asked → List ℕ → List ℕ → Type 0) → (station name : List ℕ) → Call → List Asked → Type 0
+MayPutAside are_one station name call before = MayAdd are_one (path_in station Folder.Out name) (IsNumbered (path_in station Folder.Refused name)) call before
+    ⊎ ((refused : List ℕ) × IsNumbered (path_in station Folder.Refused name) refused × MayTakeOut are_one station name refused call before)
 
 -- a path is one that a file of this name gets in sent/, doubt/ or refused/
 abbrev pub IsKeptElsewhere : (station name path : List ℕ) → Type 0

@@ -13,20 +13,13 @@ use Rattle.rje_folders.specs.Keeping.{IsTemporary, WasMade}
 use Rattle.rje_folders.specs.Moving.{MayDrop, MayMove}
 use Rattle.rje_folders.specs.Promising.{IsKeptElsewhere}
 use Rattle.rje_folders.specs.Reading.{IsReadOf}
+use Rattle.rje_folders.specs.TakenName.{IsTakenName, IsTakenPath}
 
 -- A file whose bytes last changed at one time is at rest at another, both in seconds since 1970: that is more than three seconds later; or it is before,
 -- so the clocks don't agree, and nothing can be told. Where the time isn't known, each file is.
 abbrev pub IsAtRest : (changed : ℤ) → (now : Option ℤ) → Type 0
 IsAtRest changed (Some now) = (now <ℤ changed) ⊎ ((changed +ℤ pos 3) <ℤ now)
 IsAtRest changed None = ⊤
-
--- a hidden name under which a file of this name is taken over
-abbrev pub IsTakenName : (name hidden : List ℕ) → Type 0
-IsTakenName name hidden = (number : ℕ) × (hidden ≡ codes "." ++ (name ++ (codes ".taken-" ++ decimal number)))
-
--- the path of such a name in out/
-abbrev pub IsTakenPath : (station name path : List ℕ) → Type 0
-IsTakenPath station name path = (hidden : List ℕ) × IsTakenName name hidden × (path ≡ path_in station Folder.Out hidden)
 
 -- What may be asked to make a copy in a folder: a file is made for its owner alone, under a name that is left alone, gets its bytes while it is
 -- empty, and is put on disk; and such a name is taken away.

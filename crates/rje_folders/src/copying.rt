@@ -10,7 +10,7 @@ use crate::folder::Folder;
 use crate::folder_disk::FolderDisk;
 use crate::folder_fault::FolderFault;
 use crate::keeping::{create_new, fill_new};
-use crate::reading::{FileRead, read_named};
+use crate::reading::{FileRead, identity, read_named};
 use std::alloc::Global;
 use std::io;
 
@@ -44,12 +44,28 @@ pub(crate) fn copied<D: FolderDisk>(
     ensures named { D.discloses → IfOk result (λ copy.
         IsTemporary (path_of station.now Folder.Refused) (string_bytes copy.path)) }
 {
+    rests(disk, alloc, station, name, now)?;
     let read = read_named(disk, alloc, station, name, most)?;
     if !read.file.is_at_rest(now) {
         return Err(FolderFault::BeingWritten(Folder::Out));
     }
     match new_copy(disk, alloc, station, read.bytes.as_slice()) {
         Ok(path) => Ok(FileCopy { path, read }),
+        Err(error) => Err(FolderFault::of(Folder::Out, &error)),
+    }
+}
+
+/// Before a file of out/ is read: being written if it isn't at rest at this time.
+fn rests<D: FolderDisk>(
+    disk: &D,
+    alloc: Global,
+    station: &str,
+    name: &str,
+    now: Option<i64>,
+) -> Result<(), FolderFault> {
+    match identity(disk, alloc, station, name) {
+        Ok(file) if file.is_at_rest(now) => Ok(()),
+        Ok(_) => Err(FolderFault::BeingWritten(Folder::Out)),
         Err(error) => Err(FolderFault::of(Folder::Out, &error)),
     }
 }

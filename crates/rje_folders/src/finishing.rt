@@ -4,7 +4,8 @@ ghost use Rattle.rje_stores.specs.Replacing.{Adds};
 ghost use Rattle.rje_folders.specs.FileNames.{IsNamedAfter};
 ghost use Rattle.rje_folders.specs.Folder.{path_in};
 ghost use Rattle.rje_folders.specs.Promising.{IsKeptElsewhere};
-ghost use Rattle.rje_folders.specs.TakingOver.{IsTakenName, MayFinish};
+ghost use Rattle.rje_folders.specs.TakenName.{IsTakenName};
+ghost use Rattle.rje_folders.specs.TakingOver.{MayFinish};
 
 use crate::folder::Folder;
 use crate::folder_disk::FolderDisk;

@@ -28,6 +28,9 @@ pub enum FolderFault {
     /// Another file has the name of one that was read, or that one was written to.
     #[error("replaced while it was being sent")]
     Replaced,
+    /// A file was written to when the last block of one of its jobs was out: it isn't what was sent.
+    #[error("written to when its last block was out")]
+    WrittenTo,
     /// A file that was being taken over was written to meanwhile: it keeps a hidden name for now.
     #[error("being written, and sent once it is left alone")]
     LeftHidden,

@@ -25,6 +25,7 @@ mod receiving;
 mod settled;
 mod station_folder;
 mod taken_name;
+mod taking_out;
 mod taking_over;
 mod tidying;
 

@@ -1,5 +1,5 @@
 //! How a file is moved, and how a name is taken away from one that has another: at each moment the file has a name that is on disk.
-ghost use Rattle.std.specs.Prelude.{◌≡◌, true, IfOk, string_bytes};
+ghost use Rattle.std.specs.Prelude.{◌≡◌, true, IfOk, IfSome, string_bytes};
 ghost use Rattle.rje_stores.specs.Disk.{has_synced_name};
 ghost use Rattle.rje_stores.specs.Replacing.{Adds};
 ghost use Rattle.rje_folders.specs.FileNames.{IsNameOf};
@@ -83,6 +83,35 @@ pub fn add_name<D: FolderDisk>(
     }
 }
 
+/// Gives this file of a name a second one, on disk: the first of these that no file has. None if another file has the name, or this one was written to:
+/// then the second name is taken away again, if it can be.
+pub(crate) fn add_name_of<D: FolderDisk>(
+    disk: &mut D,
+    alloc: Global,
+    name: &str,
+    names: FileNames<'_>,
+    file: FileIdentity,
+) -> io::Result<Option<String>>
+    ensures asks { D.discloses
+        → Adds (MayAdd D.are_one name.now (IsNameOf names.entry))
+        (D.asked disk.old) (D.asked disk.new) }
+    ensures second { D.discloses → IfOk result (λ added. IfSome added (λ second.
+        IsSecond name.now (string_bytes second) (D.asked disk.old) (D.asked disk.new))) }
+    ensures file { IfOk result (λ added. IfSome added (λ second.
+        D.is_file (D.asked disk.new) (string_bytes second) file)) }
+    ensures named { IfOk result (λ added. IfSome added (λ second.
+        IsNameOf names.entry (string_bytes second))) }
+{
+    let second = add_name(disk, alloc, name, names)?;
+    let same = is_this_file(disk, second.as_str(), file);
+    if let Ok(true) = same {
+        return Ok(Some(second));
+    }
+    let _ = drop_name(disk, name, second.as_str());
+    same?;
+    Ok(None)
+}
+
 /// Takes a name away from a file that has another one, which is put on disk before that. `false`, and the name stays, where the two names are
 /// not of one file.
 pub fn drop_name<D: FolderDisk>(disk: &mut D, kept: &str, name: &str) -> io::Result<bool>
@@ -121,7 +150,7 @@ pub(crate) fn take_away<D: FolderDisk>(
 }
 
 /// Takes a name away where its file has this other one, which is on disk. `false` where it hasn't.
-fn remove_spare<D: FolderDisk>(disk: &mut D, kept: &str, name: &str) -> io::Result<bool>
+pub(crate) fn remove_spare<D: FolderDisk>(disk: &mut D, kept: &str, name: &str) -> io::Result<bool>
     requires kept { D.discloses → has_synced_name kept.now (D.asked disk.old) ≡ true }
     ensures asks { D.discloses
         → Adds (MayDrop D.are_one kept.now name.now) (D.asked disk.old) (D.asked disk.new) }

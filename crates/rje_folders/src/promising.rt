@@ -6,14 +6,17 @@ ghost use Rattle.rje_folders.specs.Folder.{path_in};
 ghost use Rattle.rje_folders.specs.Moving.{IsGone, IsMoved, IsSecond, MayMove};
 ghost use Rattle.rje_folders.specs.declared.settled.OutName.TheVariants.{TakenAway};
 ghost use Rattle.rje_folders.specs.Promising.{IsSent, IsSettled, MayPromise, MaySettle};
+ghost use Rattle.rje_folders.specs.TakingOut.{MayTakeOut};
 
 use crate::file_identity::FileIdentity;
 use crate::file_names::FileNames;
 use crate::folder::Folder;
 use crate::folder_disk::FolderDisk;
 use crate::folder_fault::FolderFault;
-use crate::moving::{add_name, change_name, drop_name, is_this_file, move_file, take_away};
+use crate::linking::sync_names;
+use crate::moving::{add_name_of, change_name, drop_name, move_file};
 use crate::settled::{OutName, Settled};
+use crate::taking_out::take_out;
 use rje_day::Disposition;
 use std::alloc::Global;
 use std::io::{self, ErrorKind};
@@ -64,14 +67,8 @@ fn name_in_doubt<D: FolderDisk>(
 {
     let ready = Folder::Out.path(alloc, station, name)?;
     let second = Folder::Doubt.path(alloc, station, name)?;
-    let doubt = add_name(disk, alloc, ready.as_str(), FileNames::Of(second.as_str()))?;
-    let same = is_this_file(disk, doubt.as_str(), file);
-    if let Ok(true) = same {
-        return Ok(Some(doubt));
-    }
-    let _ = drop_name(disk, ready.as_str(), doubt.as_str());
-    same?;
-    Ok(None)
+    let names = FileNames::Of(second.as_str());
+    add_name_of(disk, alloc, ready.as_str(), names, file)
 }
 
 /// Once it is known what becomes of a job that was promised: where it was counted, its file is moved from doubt/ to sent/, and the name in out/ is
@@ -129,7 +126,7 @@ fn put_in_sent<D: FolderDisk>(
     let out = disk.open_folder(ready.as_str())?;
     make_sent(disk, alloc, station)?;
     let kept = change_name(disk, alloc, doubt, FileNames::Of(sent.as_str()))?;
-    let taken = take_away(disk, kept.as_str(), ready.as_str(), &out);
+    let taken = take_out(disk, alloc, station, name, kept.as_str(), &out);
     let out = out_name(disk, ready.as_str(), taken);
     Ok(Settled { path: kept, out })
 }
@@ -159,9 +156,29 @@ fn leave_in_doubt<D: FolderDisk>(
 {
     let ready = Folder::Out.path(alloc, station, name)?;
     let kept = String::from_str(alloc, doubt)?;
-    let taken = drop_name(disk, doubt, ready.as_str());
+    let taken = take_from_out(disk, alloc, station, name, doubt);
     let out = out_name(disk, ready.as_str(), taken);
     Ok(Settled { path: kept, out })
+}
+
+/// Takes the name in out/ away from a file that has this path in doubt/, which is put on disk before that. `false` if another file has the name.
+fn take_from_out<D: FolderDisk>(
+    disk: &mut D,
+    alloc: Global,
+    station: &str,
+    name: &str,
+    doubt: &str,
+) -> io::Result<bool>
+    ensures asks { D.discloses → Adds (MayTakeOut D.are_one station.now name.now doubt.now)
+        (D.asked disk.old) (D.asked disk.new) }
+    ensures taken { D.discloses → IfOk result (λ taken. taken ≡ true
+        → IsGone (path_in station.now Folder.Out name.now) (D.asked disk.new)) }
+{
+    let ready = Folder::Out.path(alloc, station, name)?;
+    let kept = disk.open_folder(doubt)?;
+    let out = disk.open_folder(ready.as_str())?;
+    sync_names(disk, &kept)?;
+    take_out(disk, alloc, station, name, doubt, &out)
 }
 
 /// The job lies ready still: the name in doubt/ is taken away. The file stands in out/, or in doubt/ still where its name in out/ is gone or of another

@@ -4,8 +4,8 @@ ghost use Rattle.rje_stores.specs.Replacing.{Adds, IsOnDisk};
 ghost use Rattle.rje_folders.specs.FileNames.{IsBetween, IsBetweenFrom, IsNumbered};
 ghost use Rattle.rje_folders.specs.Folder.{path_in, path_of, why_path};
 ghost use Rattle.rje_folders.specs.Keeping.{MayKeep, WasMade, WasNamed};
-ghost use Rattle.rje_folders.specs.Moving.{IsMoved, MayMove};
-ghost use Rattle.rje_folders.specs.Promising.{MayDropCut};
+ghost use Rattle.rje_folders.specs.Moving.{IsMoved};
+ghost use Rattle.rje_folders.specs.Promising.{MayDropCut, MayPutAside};
 
 use crate::file_identity::FileIdentity;
 use crate::file_names::FileNames;
@@ -13,9 +13,10 @@ use crate::folder::Folder;
 use crate::folder_disk::FolderDisk;
 use crate::folder_fault::FolderFault;
 use crate::keeping::{Kept, keep};
-use crate::moving::{is_this_file, move_file};
+use crate::moving::{add_name_of, is_this_file};
+use crate::taking_out::take_out;
 use std::alloc::Global;
-use std::io;
+use std::io::{self, ErrorKind};
 
 /// Puts this file of out/ into refused/. The path that it has there. Replaced where another file has its name, which stays.
 pub(crate) fn refuse<D: FolderDisk>(
@@ -25,9 +26,7 @@ pub(crate) fn refuse<D: FolderDisk>(
     name: &str,
     file: FileIdentity,
 ) -> Result<String, FolderFault>
-    ensures asks { D.discloses → Adds (MayMove D.are_one
-        (path_in station.now Folder.Out name.now)
-        (IsNumbered (path_in station.now Folder.Refused name.now)))
+    ensures asks { D.discloses → Adds (MayPutAside D.are_one station.now name.now)
         (D.asked disk.old) (D.asked disk.new) }
     ensures moved { D.discloses → IfOk result (λ refused. IsMoved
         (path_in station.now Folder.Out name.now) (string_bytes refused)
@@ -50,9 +49,7 @@ fn move_to_refused<D: FolderDisk>(
     name: &str,
     file: FileIdentity,
 ) -> io::Result<Option<String>>
-    ensures asks { D.discloses → Adds (MayMove D.are_one
-        (path_in station.now Folder.Out name.now)
-        (IsNumbered (path_in station.now Folder.Refused name.now)))
+    ensures asks { D.discloses → Adds (MayPutAside D.are_one station.now name.now)
         (D.asked disk.old) (D.asked disk.new) }
     ensures moved { D.discloses → IfOk result (λ moved. IfSome moved (λ refused. IsMoved
         (path_in station.now Folder.Out name.now) (string_bytes refused)
@@ -65,7 +62,16 @@ fn move_to_refused<D: FolderDisk>(
     if !is_this_file(disk, ready.as_str(), file)? {
         return Ok(None);
     }
-    Ok(Some(move_file(disk, alloc, ready.as_str(), FileNames::Of(refused.as_str()))?))
+    let out = disk.open_folder(ready.as_str())?;
+    let names = FileNames::Of(refused.as_str());
+    let Some(second) = add_name_of(disk, alloc, ready.as_str(), names, file)? else {
+        return Ok(None);
+    };
+    if take_out(disk, alloc, station, name, second.as_str(), &out)? {
+        Ok(Some(second))
+    } else {
+        Err(io::Error::from(ErrorKind::ResourceBusy))
+    }
 }
 
 /// Makes these bytes a new file of a folder. Where it is.

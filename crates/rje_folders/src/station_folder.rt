@@ -7,7 +7,7 @@ ghost use Rattle.rje_folders.specs.Folder.{path_in, path_of, why_path};
 ghost use Rattle.rje_folders.specs.Keeping.{HasTriedToKeep, LeavesNone, MayKeep, MayTryToKeep, WasMade, WasNamed};
 ghost use Rattle.rje_folders.specs.Marking.{IsMarked, IsSaid, MayMark, WasSaid};
 ghost use Rattle.rje_folders.specs.Moving.{IsGone, IsMoved, IsSecond, MayMove};
-ghost use Rattle.rje_folders.specs.Promising.{IsSent, IsSettled, MayDropCut, MayOpen, MayPromise, MaySettle, WasOnDisk};
+ghost use Rattle.rje_folders.specs.Promising.{IsSent, IsSettled, MayDropCut, MayOpen, MayPromise, MayPutAside, MaySettle, WasOnDisk};
 ghost use Rattle.rje_folders.specs.Reading.{IsLongerThan, IsReadOf, MayRead, OfSecond};
 ghost use Rattle.rje_folders.specs.ReadyFile.{AreInOrder};
 ghost use Rattle.rje_folders.specs.TakingOver.{IsTakenOver, MayFinish, MayTakeOver};
@@ -21,6 +21,7 @@ use crate::folder_disk::FolderDisk;
 use crate::folder_fault::FolderFault;
 use crate::keeping::Kept;
 use crate::marking::set_mark;
+use crate::moving::is_this_file;
 use crate::opening::{
     clear_up, is_there, locked, make_folders, names_of, names_ready, tidy_up, unreadable_names,
 };
@@ -215,6 +216,14 @@ impl<D: FolderDisk + Drop> StationFolder<D> {
         promise(&mut self.disk, self.alloc, self.path.as_str(), name, file)
     }
 
+    /// Whether this file has this path, and wasn't written to.
+    pub fn has_file(&self, path: &str, file: FileIdentity) -> Result<bool, FolderFault>
+        ensures { IfOk result (λ has. has ≡ true
+            → D.is_file (D.asked self.now.disk) path.now file) }
+    {
+        is_this_file(&self.disk, path, file).map_err(|error| FolderFault::of(Folder::Doubt, &error))
+    }
+
     /// Once a job of a job file is counted that isn't the file's last: writes this byte at this place of this file, which has this path in doubt/.
     /// It is on disk then. Which file it is now. Replaced where another one has the path, or it was written to by others; an invalid input where
     /// it has no byte there.
@@ -301,9 +310,8 @@ impl<D: FolderDisk + Drop> StationFolder<D> {
 
     /// Puts this file of out/, which can't be sent, into refused/. The path that it has there. Replaced where another file has its name, which stays.
     pub fn refuse(&mut self, name: &str, file: FileIdentity) -> Result<String, FolderFault>
-        ensures asks { D.discloses → Adds (MayMove D.are_one
-            (path_in (string_bytes self.old.path) Folder.Out name.now)
-            (IsNumbered (path_in (string_bytes self.old.path) Folder.Refused name.now)))
+        ensures asks { D.discloses → Adds
+            (MayPutAside D.are_one (string_bytes self.old.path) name.now)
             (D.asked self.old.disk) (D.asked self.new.disk) }
         ensures moved { D.discloses → IfOk result (λ refused. IsMoved
             (path_in (string_bytes self.old.path) Folder.Out name.now) (string_bytes refused)

@@ -1,6 +1,6 @@
 //! The hidden names of files that are taken over.
 ghost use Rattle.std.specs.Prelude.{IfOk, IfSome, string_bytes};
-ghost use Rattle.rje_folders.specs.TakingOver.{IsTakenName};
+ghost use Rattle.rje_folders.specs.TakenName.{IsTakenName};
 
 use std::alloc::Global;
 use std::io;

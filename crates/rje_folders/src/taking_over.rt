@@ -5,7 +5,8 @@ ghost use Rattle.rje_stores.specs.Replacing.{Adds, IsWhole, IsOnDisk};
 ghost use Rattle.rje_folders.specs.FileNames.{IsNumbered};
 ghost use Rattle.rje_folders.specs.Folder.{path_in};
 ghost use Rattle.rje_folders.specs.Moving.{IsMoved, MayMove};
-ghost use Rattle.rje_folders.specs.TakingOver.{IsTakenName, IsTakenOver, MayGiveBack, MayTakeOver};
+ghost use Rattle.rje_folders.specs.TakenName.{IsTakenName};
+ghost use Rattle.rje_folders.specs.TakingOver.{IsTakenOver, MayGiveBack, MayTakeOver};
 ghost use Rattle.rje_folders.specs.Inside.Calls.{HasCopy, IsHidden, MayHide};
 
 use crate::copying::{FileCopy, copied};
@@ -37,6 +38,7 @@ pub(crate) fn take_over<D: FolderDisk>(
     ensures named { IfOk result (λ path. IsNumbered
         (path_in station.now Folder.Out name.now) (string_bytes path)) }
 {
+    can_be_hidden(disk, alloc, station, name)?;
     let copy = copied(disk, alloc, station, name, most, now)?;
     match hide(disk, alloc, station, name) {
         Ok(hidden) => exchange(disk, alloc, station, name, hidden.as_str(), &copy),
@@ -93,8 +95,21 @@ fn hide<D: FolderDisk>(disk: &mut D, alloc: Global, station: &str, name: &str) -
     Ok(hidden)
 }
 
+/// Whether a file of this name can get a hidden one; without a second name if it can't, as where that is too long.
+fn can_be_hidden<D: FolderDisk>(
+    disk: &D,
+    alloc: Global,
+    station: &str,
+    name: &str,
+) -> Result<(), FolderFault> {
+    match free_name(disk, alloc, station, name) {
+        Ok(_) => Ok(()),
+        Err(error) => Err(FolderFault::no_second_name(&error)),
+    }
+}
+
 /// The first hidden name for a file of this name in out/, under which nothing stands.
-fn free_name<D: FolderDisk>(
+pub(crate) fn free_name<D: FolderDisk>(
     disk: &D,
     alloc: Global,
     station: &str,

@@ -9,7 +9,7 @@ ghost use Rattle.rje_folders.specs.Moving.{IsGone};
 ghost use Rattle.rje_folders.specs.Promising.{MayPromise, MaySettle};
 ghost use Rattle.rje_spool.specs.declared.given_file.Place.TheVariants.{Promised, Ready};
 ghost use Rattle.rje_spool.specs.Backed.{GoesOn};
-ghost use Rattle.rje_spool.specs.GivenFile.{HasSecondName, HasSent, IsDoubted, IsDoubtedUnder, IsInSent, IsUnsettled, OfPromised, StaysInDoubt};
+ghost use Rattle.rje_spool.specs.GivenFile.{HasSecondName, HasSent, IsDoubted, IsDoubtedUnder, IsInSent, IsOfRead, IsUnsettled, OfPromised, StaysInDoubt};
 ghost use Rattle.rje_spool.specs.GivenFiles.{HasBeenCounted, HasGoneOut, HasMark, IsKnownAsMarked, is_last_of, is_of, mark_of};
 
 use rje_day::Disposition;
@@ -146,6 +146,7 @@ impl GivenFile {
         ensures path { folder.new.path ≡ folder.old.path }
     {
         self.set_mark(job, folder)?;
+        self.stays_as_sent(folder)?;
         if self.ends_with(job) {
             self.is_sent(folder)
         } else {
@@ -173,6 +174,25 @@ impl GivenFile {
             self.file = folder.mark(doubt.as_str(), mark as u64, MARK, self.file)?;
         }
         Ok(())
+    }
+
+    /// Looks whether it is what was sent, by its name in doubt/: written to where it was changed since it was read or marked.
+    fn stays_as_sent<D: FolderDisk + Drop>(
+        &self,
+        folder: &StationFolder<D>,
+    ) -> Result<(), FolderFault>
+        ensures { OnOk result (HasSecondName self.now.place → IsOfRead
+            (D.is_file (D.asked folder.now.disk)) self.now.place self.now.file) }
+    {
+        let Place::Promised(doubt) = &self.place else {
+            return Ok(());
+        };
+        let same = folder.has_file(doubt.as_str(), self.file)?;
+        if same {
+            Ok(())
+        } else {
+            Err(FolderFault::WrittenTo)
+        }
     }
 
     /// All its jobs were counted: it goes to sent/.

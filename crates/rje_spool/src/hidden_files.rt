@@ -23,12 +23,14 @@ impl HiddenFiles {
         }
     }
 
-    /// One may have been left now.
+    /// One may have been left now. If none was before, it is tried after a pause.
     pub(crate) fn add<C: Clock>(&mut self, clock: &C)
         ensures { self.new.may_be ≡ true }
     {
+        if !self.may_be {
+            self.retry.note(clock);
+        }
         self.may_be = true;
-        self.retry.note(clock);
     }
 
     /// Whether it is time to give them their names back, which is noted as done now.

@@ -21,6 +21,7 @@ mod retry;
 mod spool_fault;
 mod spool_files;
 mod stamps;
+mod told_names;
 mod unkept;
 mod watching;
 

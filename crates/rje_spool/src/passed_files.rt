@@ -111,6 +111,7 @@ pub(crate) fn is_lasting(kind: ErrorKind) -> bool
         ErrorKind::PermissionDenied
             | ErrorKind::CrossesDevices
             | ErrorKind::TooManyLinks
+            | ErrorKind::InvalidFilename
             | ErrorKind::Unsupported
     )
 }

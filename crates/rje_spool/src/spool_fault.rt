@@ -13,9 +13,9 @@ pub enum SpoolFault {
     /// A folder of the station, or a file there, can't be used.
     #[error("{0}")]
     Folder(FolderFault),
-    /// The last block of a job can't go out: the operator was told of which file, and why.
+    /// The file of a job can't be dealt with: the operator was told which, and why.
     #[error("{0}")]
-    NotOut(FolderFault),
+    OfFile(FolderFault),
 }
 
 impl From<FolderFault> for SpoolFault {

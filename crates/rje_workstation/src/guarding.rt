@@ -119,9 +119,9 @@ fn is_anothers(access: FileAccess, user: Option<u32>) -> bool
     }
 }
 
-/// Whether others than its owner may write to it. A group of the owner's own number is the owner's alone, as many systems give each user one.
+/// Whether others than its owner may write to it. What its group may is what an ACL lets others do, if it has one.
 fn may_others_write(access: FileAccess) -> bool
     ensures { result ≡ others_may_write access }
 {
-    access.mode & 0o002 != 0 || access.mode & 0o020 != 0 && access.group != access.owner
+    access.mode & 0o022 != 0
 }

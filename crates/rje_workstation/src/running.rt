@@ -14,7 +14,7 @@ use rje_names::PrintedName;
 use rje_orders::{Callers, Order, Partner, StationOrder};
 use rje_program::tell_words;
 use rje_spool::{Console, FolderSpool, Notice};
-use rje_stores::SystemDisk;
+use rje_stores::{Disk, SystemDisk};
 use rje_words::parse;
 use std::alloc::Global;
 use std::fs::{File, OpenOptions};
@@ -124,10 +124,11 @@ where
         let fault = FolderFault::Failed(Folder::Out, ErrorKind::NotFound);
         return Err(StationEnd::Folder(fault));
     }
-    guard(rt, alloc, order.folder)?;
-    let folder = StationFolder::open(SystemDisk::new(rt), alloc, order.folder);
+    let path = whole_path(rt, alloc, order.folder)?;
+    guard(rt, alloc, path.as_str())?;
+    let folder = StationFolder::open(SystemDisk::new(rt), alloc, path.as_str());
     let folder = folder.map_err(StationEnd::Folder)?;
-    let log = opened_log(rt, alloc, order.folder).map_err(StationEnd::Log)?;
+    let log = opened_log(rt, alloc, path.as_str()).map_err(StationEnd::Log)?;
     let rewrites = is_terminal && !order.quiet;
     let console = Console::new(rt, alloc, &mut *err, log, rewrites);
     let mut spool = FolderSpool::new(alloc, folder, console);
@@ -139,6 +140,27 @@ where
         }
         Partner::Listens(address, callers) => listen(rt, alloc, order, address, callers, spool),
     }
+}
+
+/// The path of the folder that a name leads to, without links: where they lead later changes nothing. The name itself if that path is no text.
+fn whole_path<R: Files<File = File>>(
+    rt: &R,
+    alloc: Global,
+    name: &str,
+) -> Result<String, StationEnd> {
+    match SystemDisk::new(rt).whole_path(alloc, name) {
+        Ok(path) => Ok(path),
+        Err(error) if error.kind() == ErrorKind::InvalidFilename => owned(alloc, name),
+        Err(error) if error.kind() == ErrorKind::OutOfMemory => {
+            Err(StationEnd::Folder(FolderFault::OutOfMemory))
+        }
+        Err(error) => Err(StationEnd::Folder(FolderFault::Failed(Folder::Out, error.kind()))),
+    }
+}
+
+/// This name as a text of its own.
+fn owned(alloc: Global, name: &str) -> Result<String, StationEnd> {
+    String::from_str(alloc, name).map_err(|_| StationEnd::Folder(FolderFault::OutOfMemory))
 }
 
 /// Refuses a folder that isn't this user's own, or that others may change.

@@ -130,7 +130,7 @@ fn tell_fault<D: FolderDisk + Drop, C: Clock + Drop, W: Write + Drop, L: Write +
     spool: &mut FolderSpool<D, C, W, L>,
 ) {
     let text = match fault {
-        StayFault::Spool(SpoolFault::NotOut(_)) => return,
+        StayFault::Spool(SpoolFault::OfFile(_)) => return,
         StayFault::Station(fault) => format!(in alloc; "{fault}"),
         StayFault::Spool(fault) => format!(in alloc; "{fault}"),
     };

@@ -11,7 +11,8 @@ use Rattle.rje_folders.specs.declared.folder.Folder.{Folder}
 use Rattle.rje_folders.specs.declared.reading.FileRead.{FileRead}
 use Rattle.rje_folders.specs.Folder.{path_in, path_of}
 use Rattle.rje_folders.specs.Keeping.{IsTemporary}
-use Rattle.rje_folders.specs.TakingOver.{IsTakenPath, WasRead}
+use Rattle.rje_folders.specs.TakenName.{IsTakenPath}
+use Rattle.rje_folders.specs.TakingOver.{WasRead}
 
 -- each name stands for what it stood for, and each file is as it was
 pub record KeepsFiles (before after : List Asked) : Type 0 where

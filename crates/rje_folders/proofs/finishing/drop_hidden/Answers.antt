@@ -4,7 +4,7 @@ use Rattle.rje_folders.specs.declared.folder.Folder.{Folder}
 use Rattle.rje_folders.specs.FileNames.{IsNamedAfter}
 use Rattle.rje_folders.specs.Folder.{path_in}
 use Rattle.rje_folders.specs.Promising.{IsKeptElsewhere}
-use Rattle.rje_folders.specs.TakingOver.{IsTakenPath}
+use Rattle.rje_folders.specs.TakenName.{IsTakenPath}
 use Rattle.rje_folders.proofs.TakenOver.{drop_finishes}
 use Rattle.rje_folders.proofs.finishing.drop_hidden.Goals as goal
 

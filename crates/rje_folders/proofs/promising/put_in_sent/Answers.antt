@@ -11,11 +11,11 @@ pub returns-clause-asks : goal.returns-clause-asks
 returns-clause-asks g c = λ told. rw (c.make_sent.ensures told) at (drop_settles g.D.FolderDisk.are_one c.args.station.now c.args.name.now c.args.doubt.now (string_bytes c.in_ok-kept.kept) _ _ _
     (rw (c.as_str-2.ensures.value ∙ c.in_ok-sent.ensures) at (c.change_name.ensures.asks told))
     (rw (c.as_str-2.ensures.value ∙ c.in_ok-sent.ensures) at c.in_ok-kept.ensures.named)
-    (rw (c.as_str-3.ensures.value, c.as_str-4.ensures.value ∙ c.in_ok-ready.ensures) at (c.take_away-taken.ensures.asks told)))
+    (rw c.as_str-3.ensures.value at (c.take_out-taken.ensures.asks told)))
 
 pub returns-clause-sent : goal.returns-clause-sent
 returns-clause-sent g c = λ told. rw (c.make_sent.ensures told) at (sent_is g.D.FolderDisk.are_one c.args.station.now c.args.name.now c.args.doubt.now (string_bytes c.in_ok-kept.kept)
-    (g.D.Disk.asked c.make_sent.new.disk) (g.D.Disk.asked c.change_name.new.disk) (g.D.Disk.asked c.take_away-taken.new.disk)
+    (g.D.Disk.asked c.make_sent.new.disk) (g.D.Disk.asked c.change_name.new.disk) (g.D.Disk.asked c.take_out-taken.new.disk)
     (c.in_ok-kept.ensures.changed told)
     (rw (c.as_str-2.ensures.value ∙ c.in_ok-sent.ensures) at c.in_ok-kept.ensures.named)
-    (rw (c.as_str-3.ensures.value, c.as_str-4.ensures.value ∙ c.in_ok-ready.ensures) at (c.take_away-taken.ensures.asks told)))
+    (rw c.as_str-3.ensures.value at (c.take_out-taken.ensures.asks told)))

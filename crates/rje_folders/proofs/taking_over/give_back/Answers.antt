@@ -2,7 +2,8 @@ use Rattle.std.proofs.Common.{refl}
 use Rattle.rje_stores.proofs.Replacing.{added_twice}
 use Rattle.rje_folders.specs.declared.folder.Folder.{Folder}
 use Rattle.rje_folders.specs.Folder.{path_in}
-use Rattle.rje_folders.specs.TakingOver.{IsTakenPath, MayGiveBack}
+use Rattle.rje_folders.specs.TakenName.{IsTakenPath}
+use Rattle.rje_folders.specs.TakingOver.{MayGiveBack}
 use Rattle.rje_folders.proofs.TakenOver.{move_gives}
 use Rattle.rje_folders.proofs.taking_over.give_back.Goals as goal
 

@@ -4,7 +4,8 @@ use Rattle.rje_stores.specs.Inside.Filling.{AddsSync}
 use Rattle.rje_stores.proofs.Replacing.{added_twice}
 use Rattle.rje_folders.specs.declared.folder.Folder.{Folder}
 use Rattle.rje_folders.specs.Folder.{path_in}
-use Rattle.rje_folders.specs.TakingOver.{IsTakenPath, MayGiveBack}
+use Rattle.rje_folders.specs.TakenName.{IsTakenPath}
+use Rattle.rje_folders.specs.TakingOver.{MayGiveBack}
 use Rattle.rje_folders.proofs.TakenOver.{copy_synced, put_gives, put_stands, put_whole, sync_gives}
 use Rattle.rje_folders.proofs.taking_over.place.Goals as goal
 

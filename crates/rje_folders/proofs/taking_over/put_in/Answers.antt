@@ -4,7 +4,8 @@ use Rattle.rje_stores.proofs.Replacing.{added_twice}
 use Rattle.rje_folders.specs.declared.folder.Folder.{Folder}
 use Rattle.rje_folders.specs.FileNames.{IsNumbered}
 use Rattle.rje_folders.specs.Folder.{path_in}
-use Rattle.rje_folders.specs.TakingOver.{IsTakenPath, MayGiveBack}
+use Rattle.rje_folders.specs.TakenName.{IsTakenPath}
+use Rattle.rje_folders.specs.TakingOver.{MayGiveBack}
 use Rattle.rje_folders.proofs.TakenOver.{move_gives, moved_on_disk, remove_gives}
 use Rattle.rje_folders.proofs.taking_over.put_in.Goals as goal
 

@@ -4,7 +4,7 @@ use Rattle.rje_stores.specs.Replacing.{Adds}
 use Rattle.rje_folders.specs.declared.folder.Folder.{Folder}
 use Rattle.rje_folders.specs.Folder.{path_in}
 use Rattle.rje_folders.specs.Promising.{MaySettle}
-use Rattle.rje_folders.proofs.Taken.{drop_stays}
+use Rattle.rje_folders.proofs.TakenOut.{out_stays}
 use Rattle.rje_folders.proofs.station_folder.StationFolder.settle.Goals as goal
 
 pub returns-clause-asks : goal.returns-clause-asks
@@ -13,6 +13,6 @@ returns-clause-asks g c = λ told. rw c.as_str.ensures.value at (c.settle-settle
 pub returns-clause-in_doubt : goal.returns-clause-in_doubt
 returns-clause-in_doubt g c = λ told is synced.
     let station = string_bytes c.args.self.now.path in
-    drop_stays g.D.FolderDisk.are_one c.args.doubt.now (path_in station Folder.Out c.args.name.now) _ _
+    out_stays g.D.FolderDisk.are_one station c.args.name.now c.args.doubt.now _ _
     (subst (λ d. Adds (MaySettle g.D.FolderDisk.are_one station c.args.name.now c.args.doubt.now d) (g.D.Disk.asked c.args.self.now.disk) (g.D.Disk.asked c.settle-settled.new.disk)) is (rw c.as_str.ensures.value at (c.settle-settled.ensures.asks told)))
     synced

@@ -1,7 +1,8 @@
+use Rattle.std.proofs.Common.{◌∙◌}
 use Rattle.rje_spool.proofs.spool_files.SpoolFiles.count.Goals as goal
 
 pub returns-in-Ok-clause-sent : goal.returns-in-Ok-clause-sent
 returns-in-Ok-clause-sent g c = λ told. rw (c.tell_sent.ensures.given, c.tell_sent.ensures.folder) (c.in-Ok.ensures.sent told)
 
 pub returns-in-Err-clause-left : goal.returns-in-Err-clause-left
-returns-in-Err-clause-left g c = rw c.tell_doubt.ensures.given c.in-Err.ensures.failed
+returns-in-Err-clause-left g c = rw (c.fault_of.ensures.given ∙ c.tell_doubt.ensures.given) c.in-Err.ensures.failed

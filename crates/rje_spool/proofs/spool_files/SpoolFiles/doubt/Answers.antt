@@ -1,4 +1,5 @@
+use Rattle.std.proofs.Common.{◌∙◌}
 use Rattle.rje_spool.proofs.spool_files.SpoolFiles.doubt.Goals as goal
 
 pub returns-then-doubted-clause-doubted : goal.returns-then-doubted-clause-doubted
-returns-then-doubted-clause-doubted g c = rw c.tell_doubt.ensures.given c.in_ok-doubted.ensures.doubted
+returns-then-doubted-clause-doubted g c = rw (c.tell_written.ensures.given ∙ c.tell_doubt.ensures.given) c.in_ok-doubted.ensures.doubted

@@ -1,0 +1,190 @@
+"""What other hands do to out/ between two calls of a station: a file that takes the name of another one just before that is taken away or put aside; and
+what another user leaves there: a name that is too long for a hidden one, too much, and too many links."""
+import os
+import shutil
+import signal
+import sys
+import time
+
+sys.path.insert(0, os.path.dirname(os.path.dirname(os.path.abspath(__file__))))
+from tests.lib import case, shim  # noqa: E402
+from tests.lib.frames import ACK0, ACK1, ENQ  # noqa: E402
+from tests.lib.ports import waits_for  # noqa: E402
+from tests.lib.stations import Door, StationCase, file_text, hears_block, put_beside, told_by  # noqa: E402
+from tests.test_stations_owners import OWN, OwnStation, protects_links  # noqa: E402
+
+
+class Moments(StationCase):
+    seconds = 12
+
+    def stops(self, name, order, lines):
+        """A station that will stop before a call, whose out/ has the deck x.deck of these lines, and the peer that it called."""
+        door = Door()
+        self.addCleanup(door.socket.close)
+        station = self.station(name, "--to", door.address, "--every", "1")
+        os.makedirs(station.at("out"))
+        station.put("x.deck", lines)
+        station.environment = {**os.environ, **shim.under(order)}
+        station.start()
+        peer = door.takes_call()
+        self.addCleanup(peer.close)
+        return station, peer
+
+    def replaces(self, name, station):
+        """Another deck takes the name x.deck once the station has stopped; then that goes on."""
+        os.waitid(os.P_PID, station.process.pid, os.WSTOPPED | os.WNOWAIT)
+        put_beside(station, "x.deck", "NEW\n")
+        station.process.send_signal(signal.SIGCONT)
+
+    def is_ready(self, name, station):
+        """The new deck lies ready: it isn't taken away, and it isn't put aside."""
+        time.sleep(0.5)
+        for folder in ("out", "sent", "doubt", "refused"):
+            for at in os.listdir(station.at(folder)):
+                if not at.endswith(".why") and file_text(station, folder, at) == "NEW\n":
+                    self.equal(f"{folder}/{at}", "out/x.deck", f"{name}: the new deck is {folder}/{at}")
+                    return
+        self.check(f"{name}: the new deck is nowhere; it told {told_by(station)}")
+
+    def test_replaced_before_its_name_goes(self):
+        """A deck that takes the name of one that was counted, just before that name is taken away, stays."""
+        # (.rje-0.part, the name in doubt/, the one in out/)
+        station, peer = self.stops("counted", "stop unlink 3", ["OLD"])
+        self.true(peer.hears(ENQ), "counted: it doesn't bid")
+        peer.says(ACK0)
+        hears_block(peer)
+        peer.says(ACK1)
+        self.replaces("counted", station)
+        self.true(waits_for(lambda: station.names("sent") == ["x.deck"]), "counted: the old deck isn't in sent/")
+        self.is_ready("counted", station)
+        station.kill()
+
+    def test_replaced_before_it_is_in_doubt(self):
+        """The same of one that may have arrived."""
+        station, peer = self.stops("doubt", "stop unlink 2", ["OLD"])
+        self.true(peer.hears(ENQ), "doubt: it doesn't bid")
+        peer.says(ACK0)
+        hears_block(peer)
+        peer.close()
+        self.replaces("doubt", station)
+        self.true(waits_for(lambda: station.names("doubt") == ["x.deck"]), "doubt: the old deck isn't in doubt/")
+        self.is_ready("doubt", station)
+        station.kill()
+
+    def test_replaced_before_it_is_put_aside(self):
+        """The same of one that can't be sent, just before it is put aside, and just before its name is taken away."""
+        for name, order in (("aside", "stop link 2"), ("gone", "stop unlink 2")):
+            station, _ = self.stops(name, order, ["\t"])
+            self.replaces(name, station)
+            self.is_ready(name, station)
+            station.kill()
+
+
+class Written(StationCase):
+    seconds = 8
+
+    def test_written_to_at_the_end(self):
+        """A deck that is written to in out/ while its last block is out isn't taken for what was sent: it is in doubt/, counted or not, and told."""
+        for name in ("counted", "doubt"):
+            door, station = self.calls(name, "--every", "1", decks=("a.deck",))
+            peer = door.takes_call()
+            self.true(peer.hears(ENQ), f"{name}: it doesn't bid")
+            peer.says(ACK0)
+            hears_block(peer)
+            with open(station.at("out", "a.deck"), "w") as file:
+                file.write("WRITTEN ANEW\n")
+            if name == "counted":
+                peer.says(ACK1)
+                self.true(waits_for(lambda: any("DOUBT a.deck" in line for line in told_by(station))), f"{name}: it isn't told")
+            else:
+                peer.close()
+                self.true(waits_for(lambda: any("DOUBT" in line for line in told_by(station))), f"{name}: it isn't in doubt")
+            time.sleep(0.5)
+            told = [line for line in told_by(station) if line == "a.deck: written to when its last block was out"]
+            self.equal((station.names("doubt"), station.names("out"), len(told)), (["a.deck"], [], 1), f"{name}: doubt/, out/ and what is told")
+            station.kill()
+
+    def test_long_names(self):
+        """A deck leaves out/ once it is counted, however long its name is: also one that is too long for a hidden name."""
+        for length in (237, 238, 246, 255):
+            door = Door()
+            self.addCleanup(door.socket.close)
+            station = self.station(f"of{length}", "--to", door.address, "--every", "1")
+            os.makedirs(station.at("out"))
+            with open(station.at("out", "n" * (length - 5) + ".deck"), "w") as file:
+                file.write("CARD\n")
+            station.start()
+            peer = door.takes_call()
+            self.true(peer.hears(ENQ), f"{length}: it doesn't bid")
+            peer.says(ACK0)
+            hears_block(peer)
+            peer.says(ACK1)
+            self.true(waits_for(lambda: station.names("out") == []), lambda: f"{length}: it stays in out/: {told_by(station)}")
+            self.equal((len(station.names("sent")), station.names("doubt")), (1, []), f"{length}: how many names are in sent/, and in doubt/")
+            station.kill()
+
+
+class Hidden(StationCase):
+    seconds = 30
+
+    def owned(self, name):
+        """A station that runs as its own user, and the door that it will call."""
+        if os.getuid() != 0 or not protects_links():
+            self.skipTest("it takes root, and fs.protected_hardlinks=1")
+        copied = shutil.copy(self.program, self.at("rje"))
+        os.chmod(copied, 0o755)
+        door = Door()
+        self.addCleanup(door.socket.close)
+        station = OwnStation(copied, self.at(name), "--to", door.address, "--every", "1")
+        self.addCleanup(station.stop)
+        os.mkdir(station.at("out"))
+        for path in (station.folder, station.at("out")):
+            os.chown(path, OWN, OWN)
+        return station, door
+
+    def test_too_large_of_another_user(self):
+        """Of a deck of another user that is too large it is told that it is too large."""
+        station, door = self.owned("large")
+        with open(station.at("out", "a.deck"), "w") as file:
+            file.truncate(20_000_000)
+        station.start()
+        peer = door.takes_call()
+        self.addCleanup(peer.close)
+        self.true(waits_for(lambda: any("a.deck" in line for line in told_by(station))), "large: it tells nothing of the deck")
+        told = [line for line in told_by(station) if "a.deck" in line]
+        self.true("16777216" in told[0], f"large: it told {told}")
+        station.kill()
+
+    def test_links_put_anew(self):
+        """Links that are put anew again and again don't fill the log."""
+        station, door = self.owned("anew")
+        station.start()
+        peer = door.takes_call()
+        self.addCleanup(peer.close)
+        for _ in range(12):
+            for number in range(500):
+                os.symlink("/nowhere", station.at("out", ".l"))
+                os.rename(station.at("out", ".l"), station.at("out", f"x{number}.deck"))
+            time.sleep(0.5)
+        lines = len(told_by(station))
+        self.true(lines < 1000, f"anew: of 500 names it told {lines} lines")
+        station.kill()
+
+    def test_too_long_to_hide(self):
+        """A deck of another user whose name is too long for a hidden one is told by its name, and isn't copied again at each look."""
+        station, door = self.owned("long")
+        name = "n" * 245 + ".deck"
+        station.put("a.deck", ["CARD"])
+        os.utime(station.at("out", "a.deck"), (time.time() - 60,) * 2)
+        os.rename(station.at("out", "a.deck"), station.at("out", name))
+        station.start()
+        peer = door.takes_call()
+        self.addCleanup(peer.close)
+        self.true(waits_for(lambda: len(told_by(station)) > 3), "long: it tells nothing of the deck")
+        told = [line for line in told_by(station) if "second name" in line]
+        self.true(told and name[:200] in told[0], f"long: it told {told}")
+        station.kill()
+
+
+if __name__ == "__main__":
+    case.main()
