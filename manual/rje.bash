@@ -12,7 +12,7 @@ _rje() {
     send) words+=" $connection" ;;
     receive) words+=" $connection --patience --wait --new --append" ;;
     exchange) words+=" $connection --patience --primary --secondary --new --append" ;;
-    station) words+=' --to --listen --from --every --timeout --patience --progress --primary --secondary --adapter --once --quiet' ;;
+    station) words+=' --to --listen --from --every --timeout --patience --progress --primary --secondary --adapter --once --settle --quiet' ;;
     esac
     COMPREPLY=()
     if [ "$COMP_CWORD" = 1 ]; then

@@ -21,6 +21,7 @@ complete -c rje -n '__fish_seen_subcommand_from receive' -l wait -d 'Pass over s
 complete -c rje -n '__fish_seen_subcommand_from station' -l every -x -d 'Call again after so many seconds'
 complete -c rje -n '__fish_seen_subcommand_from station' -l progress -x -d 'Leave where no job came or went for so many seconds'
 complete -c rje -n '__fish_seen_subcommand_from station' -l once -d 'End after one connection'
+complete -c rje -n '__fish_seen_subcommand_from station' -l settle -d 'Let receipts tell what may have arrived'
 complete -c rje -n '__fish_seen_subcommand_from show print' -l job -x -d 'This job alone'
 complete -c rje -n '__fish_seen_subcommand_from show' -l records -d 'The records too'
 complete -c rje -n '__fish_seen_subcommand_from cards print' -l printer -d 'The printer'

@@ -39,7 +39,7 @@ _rje() {
     send) _arguments '--help' $call $wait '--adapter[a line adapter]' '--trace[report each turn]' $quiet '*:job file:_files' ;;
     receive) _arguments '--help' $call $wait '--adapter[a line adapter]' '--trace[report each turn]' $quiet '--patience[leave after so many hearings]:hearings:' '--wait[pass over silent callers]' '--new[refuse a file that holds jobs]' '--append[keep the jobs of the file]' '*:job file:_files' ;;
     exchange) _arguments '--help' $call $wait '--adapter[a line adapter]' '--trace[report each turn]' $quiet $ranks '--patience[leave after so many hearings]:hearings:' '--new[refuse a file that holds jobs]' '--append[keep the jobs of the file]' '*:job file:_files' ;;
-    station) _arguments '--help' $call $wait '--adapter[a line adapter]' $quiet $ranks '--every[call again after so long]:seconds:' '--patience[leave after so many hearings]:hearings:' '--progress[leave where no job came or went for so long]:seconds:' '--once[end after one connection]' '*:folder:_files -/' ;;
+    station) _arguments '--help' $call $wait '--adapter[a line adapter]' $quiet $ranks '--every[call again after so long]:seconds:' '--patience[leave after so many hearings]:hearings:' '--progress[leave where no job came or went for so long]:seconds:' '--once[end after one connection]' '--settle[let receipts tell what may have arrived]' '*:folder:_files -/' ;;
     esac
 }
 _rje "$@"

@@ -10,9 +10,11 @@ import time
 sys.path.insert(0, os.path.dirname(os.path.dirname(os.path.abspath(__file__))))
 from tests.lib import case  # noqa: E402
 from tests.lib.frames import ACK0, ACK1, ENQ, EOT, text_of  # noqa: E402
+from tests.lib.ports import waits_for  # noqa: E402
 from tests.lib.processes import as_user  # noqa: E402
 from tests.lib.samples import ebcdic  # noqa: E402
-from tests.lib.stations import Door, StationCase, hears_block, serves  # noqa: E402
+from tests.lib.stations import Door, StationCase, hears_block, serves, told_by  # noqa: E402
+from tests.test_stations_owners import sends  # noqa: E402
 
 OWNER, OTHER = 61002, 61001
 NOBODY = 0xFFFFFFFF
@@ -24,7 +26,7 @@ def acl(*entries):
 
 
 class Swapped(StationCase):
-    seconds = 10
+    seconds = 25
 
     def setUp(self):
         if os.getuid() != 0:
@@ -100,6 +102,34 @@ class Swapped(StationCase):
         heard = serves(door)
         self.true(ebcdic("PRIVATE") not in heard, "a deck of the other folder is sent")
 
+    def test_hidden_names_in_turn(self):
+        """A deck that was left under a hidden name is given its own back and sent, however many such names others put into out/ that never can be: pipes,
+        folders, links, and files that have a name elsewhere, each of which is told once."""
+        door = Door()
+        self.addCleanup(door.socket.close)
+        station = self.station("turn", "--to", door.address, "--every", "1")
+        os.makedirs(station.at("out"))
+        os.mkdir(self.at("elsewhere"))
+        files = [f".a{number}.deck.taken-1" for number in range(10, 22)]
+        for number, name in enumerate(files):
+            os.mkfifo(station.at("out", f".p{number}.deck.taken-1"))
+            os.mkdir(station.at("out", f".f{number}.deck.taken-1"))
+            os.symlink("/nowhere", station.at("out", f".l{number}.deck.taken-1"))
+            self.write(f"elsewhere/{number}", b"PLANTED\n")
+            os.link(self.at(f"elsewhere/{number}"), station.at("out", name))
+        with open(station.at("out", ".z.deck.taken-0"), "w") as file:
+            file.write("REAL\n")
+        station.start()
+        self.true(waits_for(lambda: os.path.isdir(station.at("sent"))), "the station makes no folders")
+        heard = sends(door, station, ["z.deck"])
+        self.true(waits_for(lambda: station.names("sent") == ["z.deck"]), lambda: f"sent/ has {station.names('sent')}; it told {told_by(station)}")
+        self.true(ebcdic("REAL") in heard, "the deck isn't sent")
+        self.equal(len(os.listdir(station.at("out"))), 4 * len(files), "out/ doesn't have just what was planted")
+        time.sleep(11)
+        told = sorted(line for line in told_by(station) if "taken-" in line)
+        self.equal(told, [f"out/{name}: not given its name back: it has other names" for name in files], "what it told of hidden names")
+        station.kill()
+
     def test_folder_with_an_acl(self):
         """A station doesn't begin in a folder to which an ACL lets another user write, whatever the number of its group."""
         copied = shutil.copy(self.program, self.at("rje"))
@@ -116,7 +146,7 @@ class Swapped(StationCase):
         told = process.stderr.readline()
         process.kill()
         process.communicate()
-        self.equal(told, f"rje: {self.at('begun')}: others may write to it\n", f"it told {told}")
+        self.equal(told, f"rje: {self.at('begun')}: others may write to it (chmod go-w)\n", f"it told {told}")
 
     def test_no_null_device(self):
         """Where there is no null device, what is written to a closed output doesn't get into a job file."""

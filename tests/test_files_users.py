@@ -200,7 +200,7 @@ class Stations(UserCase):
                 os.chown(self.at(name), 0, group)
                 os.chmod(self.at(name), mode)
                 told, at = self.begins(), self.at(name)
-                wanted = f"rje: {at}: others may write to it\n" if refused and part != "out" else None
+                wanted = f"rje: {at}: others may write to it (chmod go-w)\n" if refused and part != "out" else None
                 self.check((told != wanted if wanted else "station of" not in told) and f"with {name} of {group} and {oct(mode)} it told {told}")
             os.chown(self.at(name), 0, 0)
             os.chmod(self.at(name), had)

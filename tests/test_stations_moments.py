@@ -15,7 +15,7 @@ from tests.test_stations_owners import OWN, OwnStation, protects_links  # noqa: 
 
 
 class Moments(StationCase):
-    seconds = 12
+    seconds = 50
 
     def stops(self, name, order, lines):
         """A station that will stop before a call, whose out/ has the deck x.deck of these lines, and the peer that it called."""
@@ -30,10 +30,11 @@ class Moments(StationCase):
         self.addCleanup(peer.close)
         return station, peer
 
-    def replaces(self, name, station):
+    def replaces(self, name, station, then=lambda: None):
         """Another deck takes the name x.deck once the station has stopped; then that goes on."""
         os.waitid(os.P_PID, station.process.pid, os.WSTOPPED | os.WNOWAIT)
         put_beside(station, "x.deck", "NEW\n")
+        then()
         station.process.send_signal(signal.SIGCONT)
 
     def is_ready(self, name, station):
@@ -77,6 +78,60 @@ class Moments(StationCase):
             station, _ = self.stops(name, order, ["\t"])
             self.replaces(name, station)
             self.is_ready(name, station)
+            station.kill()
+
+    def replaced_at_the_rename(self, name, further):
+        """A station whose deck was counted, and was replaced by another one just before it got a hidden name; what is done to its calls then, and its peer."""
+        station, peer = self.stops(name, f"stop rename 1;{further}", ["OLD"])
+        self.true(peer.hears(ENQ), f"{name}: it doesn't bid")
+        peer.says(ACK0)
+        hears_block(peer)
+        peer.says(ACK1)
+        self.replaces(name, station)
+        self.true(waits_for(lambda: station.names("sent") == ["x.deck"]), f"{name}: the old deck isn't in sent/")
+        return station
+
+    def tells_nothing_wrong(self, name, station):
+        told = [line for line in told_by(station) if "was taken out" in line or "can't be taken away" in line]
+        self.equal(told, [], f"{name}: what it told of the name of another deck")
+
+    def test_replaced_twice(self):
+        """Of a deck that takes the name of one that was counted, and loses it to a third one in the moment in which it is hidden, it is told which name it
+        has then; nothing is told of the one that was counted."""
+        third, at = self.at("third"), self.at("twice", "out")
+        self.write("third", b"THIRD\n")
+        station = self.replaced_at_the_rename("twice", f"exchange {at}/x.deck {third} {at}/.x.deck.taken-0")
+        self.true(waits_for(lambda: station.names("out") == ["x.2.deck", "x.deck"], 15), lambda: f"twice: out/ has {os.listdir(at)}")
+        self.equal(file_text(station, "out", "x.2.deck"), "NEW\n", "twice: the second deck")
+        self.equal(file_text(station, "out", "x.deck"), "THIRD\n", "twice: the third deck")
+        said = "out/.x.deck.taken-0 is out/x.2.deck now: another file has its name"
+        self.true(waits_for(lambda: told_by(station).count(said) == 1), lambda: f"twice: it told {told_by(station)}")
+        self.tells_nothing_wrong("twice", station)
+        station.kill()
+
+    def test_left_hidden(self):
+        """A deck that takes the name of one that was counted, and that can't be given it back at once, has it back within some seconds; nothing is told of
+        the one that was counted."""
+        station = self.replaced_at_the_rename("hidden", "fail link 4")
+        self.true(waits_for(lambda: station.names("out") == ["x.deck"], 15), lambda: f"hidden: out/ has {os.listdir(station.at('out'))}")
+        self.equal(file_text(station, "out", "x.deck"), "NEW\n", "hidden: the second deck")
+        self.tells_nothing_wrong("hidden", station)
+        station.kill()
+
+    def test_left_in_doubt(self):
+        """Of a deck that gets a name in doubt/ in the place of another one, and loses its own to a third, it is told that it is there."""
+        for name in ("doubt", "refused"):
+            at, third = self.at(name, "out", "x.deck"), self.at(f"third-{name}")
+            order = f"stop link 2;exchange {at} {third} {self.at(name, name)}"
+            station, peer = self.stops(name, order, ["OLD"] if name == "doubt" else ["\t"])
+            if name == "doubt":
+                self.true(peer.hears(ENQ), "doubt: it doesn't bid")
+                peer.says(ACK0)
+            self.replaces(name, station, lambda: self.write(f"third-{name}", b"THIRD\n"))
+            said = f"replaced meanwhile, and one of its name is in {name}/ now"
+            self.true(waits_for(lambda: any(said in line for line in told_by(station))), lambda: f"{name}: it told {told_by(station)}")
+            self.equal(file_text(station, name, "x.deck"), "NEW\n", f"{name}: the second deck")
+            self.equal(file_text(station, "out", "x.deck"), "THIRD\n", f"{name}: the third deck")
             station.kill()
 
 

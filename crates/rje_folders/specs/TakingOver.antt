@@ -59,7 +59,7 @@ MayTakeOver {F} opened remaining is_open is_file are_one station name call befor
 abbrev pub IsTakenOver : {F : Type 0} → (F → Opened) → (F → Option (List ℕ)) → (is_open : List Asked → F → FileIdentity → Type 0) → (name path : List ℕ) → (before after : List Asked) → Type 0
 IsTakenOver {F} opened remaining is_open name path before after = (read : FileRead) × IsReadOf opened remaining (is_open before) name read × IsOnDisk path read.bytes.items after × WasMade path before after
 
--- What may be asked at a begin, of any file that has such a hidden name: to give it back, or, where it has another name in out/, sent/, doubt/ or
+-- What may be asked later, of any file that has such a hidden name: to give it back, or, where it has another name in out/, sent/, doubt/ or
 -- refused/ that is named after the one that it had, to take the hidden one away once that is on disk.
 abbrev pub MayFinish : {F : Type 0} → (F → Opened) → (F → Option (List ℕ)) → (is_open : List Asked → F → FileIdentity → Type 0) → (is_file : List Asked → List ℕ → FileIdentity → Type 0)
     → (are_one : List Asked → List ℕ → List ℕ → Type 0) → (station : List ℕ) → Call → List Asked → Type 0

@@ -113,7 +113,7 @@ fn keeps_parts(path: &str, front: &str, ending: &str) -> bool
 }
 
 /// What stands behind the last slash of a path.
-fn last_part(path: &str) -> &str {
+pub(crate) fn last_part(path: &str) -> &str {
     match path.rsplit_once('/') {
         Some((_, name)) => name,
         None => path,

@@ -34,6 +34,15 @@ pub enum FolderFault {
     /// A file that was being taken over was written to meanwhile: it keeps a hidden name for now.
     #[error("being written, and sent once it is left alone")]
     LeftHidden,
+    /// Another file took the name of one that was being taken over, and one of the two has it with a number.
+    #[error("replaced meanwhile, and one of its name has a number now")]
+    Numbered,
+    /// Another file took the name of one that was to have a name in this folder, and one of the two has that.
+    #[error("replaced meanwhile, and one of its name is in {0}/ now")]
+    LeftIn(Folder),
+    /// A file with a hidden name has others, none of them named after the one that it had.
+    #[error("it has other names")]
+    OtherNames,
     /// A file can't get a second name, and why.
     #[error("can't get a second name: {0}")]
     NoSecondName(ErrorKind),
@@ -50,6 +59,14 @@ impl FolderFault {
         match error.kind() {
             ErrorKind::OutOfMemory => FolderFault::OutOfMemory,
             kind => FolderFault::Failed(folder, kind),
+        }
+    }
+
+    /// Why a file can't get a name in a folder: left there if that is busy, as another one took its name in out/ meanwhile.
+    pub(crate) fn left_in(folder: Folder, error: &io::Error) -> FolderFault {
+        match error.kind() {
+            ErrorKind::ResourceBusy => FolderFault::LeftIn(folder),
+            _ => FolderFault::of(folder, error),
         }
     }
 

@@ -31,6 +31,7 @@ mod tidying;
 
 pub use file_identity::FileIdentity;
 pub use file_names::FileNames;
+pub use finishing::{Finished, OtherName};
 pub use folder::Folder;
 pub use folder_disk::FolderDisk;
 pub use folder_fault::FolderFault;

@@ -84,7 +84,7 @@ pub fn add_name<D: FolderDisk>(
 }
 
 /// Gives this file of a name a second one, on disk: the first of these that no file has. None if another file has the name, or this one was written to:
-/// then the second name is taken away again, if it can be.
+/// then the second name is taken away again; busy if it can't be, as where the file that got it has lost the first.
 pub(crate) fn add_name_of<D: FolderDisk>(
     disk: &mut D,
     alloc: Global,
@@ -107,9 +107,12 @@ pub(crate) fn add_name_of<D: FolderDisk>(
     if let Ok(true) = same {
         return Ok(Some(second));
     }
-    let _ = drop_name(disk, name, second.as_str());
-    same?;
-    Ok(None)
+    let dropped = drop_name(disk, name, second.as_str());
+    if let Ok(true) = dropped {
+        same?;
+        return Ok(None);
+    }
+    Err(io::Error::from(ErrorKind::ResourceBusy))
 }
 
 /// Takes a name away from a file that has another one, which is put on disk before that. `false`, and the name stays, where the two names are

@@ -42,7 +42,7 @@ pub(crate) fn promise<D: FolderDisk>(
     match name_in_doubt(disk, alloc, station, name, file) {
         Ok(Some(doubt)) => Ok(doubt),
         Ok(None) => Err(FolderFault::Replaced),
-        Err(error) => Err(FolderFault::of(Folder::Doubt, &error)),
+        Err(error) => Err(FolderFault::left_in(Folder::Doubt, &error)),
     }
 }
 
@@ -127,7 +127,7 @@ fn put_in_sent<D: FolderDisk>(
     make_sent(disk, alloc, station)?;
     let kept = change_name(disk, alloc, doubt, FileNames::Of(sent.as_str()))?;
     let taken = take_out(disk, alloc, station, name, kept.as_str(), &out);
-    let out = out_name(disk, ready.as_str(), taken);
+    let out = out_name(disk, ready.as_str(), kept.as_str(), taken);
     Ok(Settled { path: kept, out })
 }
 
@@ -157,7 +157,7 @@ fn leave_in_doubt<D: FolderDisk>(
     let ready = Folder::Out.path(alloc, station, name)?;
     let kept = String::from_str(alloc, doubt)?;
     let taken = take_from_out(disk, alloc, station, name, doubt);
-    let out = out_name(disk, ready.as_str(), taken);
+    let out = out_name(disk, ready.as_str(), doubt, taken);
     Ok(Settled { path: kept, out })
 }
 
@@ -210,18 +210,32 @@ fn take_back<D: FolderDisk>(
     Ok(Settled { path, out })
 }
 
-/// What became of a name in out/ that was to be taken away.
-fn out_name<D: FolderDisk>(disk: &D, ready: &str, taken: io::Result<bool>) -> OutName
+/// What became of a name in out/ that was to be taken away from the file of this other path.
+fn out_name<D: FolderDisk>(disk: &D, ready: &str, kept: &str, taken: io::Result<bool>) -> OutName
     ensures { result ≡ TakenAway → taken ≡ Ok true }
 {
     match taken {
         Ok(true) => OutName::TakenAway,
         Ok(false) => OutName::OfAnother,
-        Err(error) => match disk.identity(ready) {
-            Err(found) if found.kind() == ErrorKind::NotFound => OutName::Missing,
-            _ => OutName::Left(error.kind()),
-        },
+        Err(error) if error.kind() == ErrorKind::NotFound && is_gone(disk, ready) => {
+            OutName::Missing
+        }
+        Err(_) if is_gone(disk, ready) || is_of_another(disk, kept, ready) => { OutName::OfAnother }
+        Err(error) => OutName::Left(error.kind()),
     }
+}
+
+/// Whether nothing stands under a path.
+fn is_gone<D: FolderDisk>(disk: &D, path: &str) -> bool {
+    match disk.identity(path) {
+        Err(error) => error.kind() == ErrorKind::NotFound,
+        Ok(_) => false,
+    }
+}
+
+/// Whether a path is of another file than this one.
+fn is_of_another<D: FolderDisk>(disk: &D, kept: &str, path: &str) -> bool {
+    matches!(disk.is_one_file(kept, path), Ok(false))
 }
 
 /// What was counted may not have arrived after all: the file of a path in sent/ is moved to doubt/. Its path there.

@@ -18,7 +18,8 @@ use crate::taking_out::take_out;
 use std::alloc::Global;
 use std::io::{self, ErrorKind};
 
-/// Puts this file of out/ into refused/. The path that it has there. Replaced where another file has its name, which stays.
+/// Puts this file of out/ into refused/. The path that it has there. Replaced where another file has its name, which stays; left in refused/ where one
+/// has no other name.
 pub(crate) fn refuse<D: FolderDisk>(
     disk: &mut D,
     alloc: Global,
@@ -37,7 +38,7 @@ pub(crate) fn refuse<D: FolderDisk>(
     match move_to_refused(disk, alloc, station, name, file) {
         Ok(Some(refused)) => Ok(refused),
         Ok(None) => Err(FolderFault::Replaced),
-        Err(error) => Err(FolderFault::of(Folder::Refused, &error)),
+        Err(error) => Err(FolderFault::left_in(Folder::Refused, &error)),
     }
 }
 

@@ -11,7 +11,7 @@ pub enum OutName {
     TakenAway,
     /// Somebody else had taken it away.
     Missing,
-    /// It stands for another file.
+    /// It stands for another file, or for none, as the station itself hid it and couldn't bring that to its end.
     OfAnother,
     /// It can't be taken away, and why.
     Left(ErrorKind),

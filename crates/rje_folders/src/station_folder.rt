@@ -1,7 +1,7 @@
 //! The folder of a station.
 ghost use Rattle.std.specs.Prelude.{◌≡◌, ◌⊎◌, ◌≤◌, length, true, IfOk, IsErrOf, OnOk, string_bytes};
 ghost use Rattle.rje_stores.specs.Disk.{has_synced_name};
-ghost use Rattle.rje_stores.specs.Replacing.{Adds, Either, IsOnDisk};
+ghost use Rattle.rje_stores.specs.Replacing.{Adds, IsOnDisk};
 ghost use Rattle.rje_folders.specs.FileNames.{IsBetween, IsBetweenFrom, IsNumbered};
 ghost use Rattle.rje_folders.specs.Folder.{path_in, path_of, why_path};
 ghost use Rattle.rje_folders.specs.Keeping.{HasTriedToKeep, LeavesNone, MayKeep, MayTryToKeep, WasMade, WasNamed};
@@ -15,7 +15,7 @@ ghost use Rattle.rje_folders.specs.declared.folder_fault.FolderFault.TheVariants
 ghost use Rattle.rje_folders.specs.declared.settled.OutName.TheVariants.{TakenAway};
 
 use crate::file_identity::FileIdentity;
-use crate::finishing::finish_all;
+use crate::finishing::{Finished, finish_some};
 use crate::folder::Folder;
 use crate::folder_disk::FolderDisk;
 use crate::folder_fault::FolderFault;
@@ -45,12 +45,11 @@ pub struct StationFolder<D: FolderDisk + Drop> {
 }
 
 impl<D: FolderDisk + Drop> StationFolder<D> {
-    /// Has the folder of this path for this station, with its folders on disk, and with what was begun there brought to its end. In use where another station has it.
+    /// Has the folder of this path for this station, with its folders on disk, and with what was begun there brought to its end, but for hidden names
+    /// (`finish_taking_over`). In use where another station has it.
     pub fn open(disk: D, alloc: Global, path: &str) -> Result<StationFolder<D>, FolderFault>
         ensures asks { D.discloses → IfOk result (λ station.
-            Adds (Either (MayOpen D.are_one path.now)
-            (MayFinish D.opened D.File.remaining D.is_open D.is_file D.are_one path.now))
-            (D.asked disk) (D.asked station.disk)) }
+            Adds (MayOpen D.are_one path.now) (D.asked disk) (D.asked station.disk)) }
         // The names of its folders, which stand in one folder.
         ensures on_disk { D.discloses → IfOk result (λ station.
             WasOnDisk (path_of path.now Folder.Out) (D.asked station.disk)) }
@@ -60,7 +59,6 @@ impl<D: FolderDisk + Drop> StationFolder<D> {
         let lock = locked(&mut disk, alloc, path)?;
         clear_up(&mut disk, alloc, path)?;
         tidy_up(&mut disk, alloc, path)?;
-        finish_all(&mut disk, alloc, path, None)?;
         Ok(StationFolder {
             disk,
             alloc,
@@ -134,7 +132,7 @@ impl<D: FolderDisk + Drop> StationFolder<D> {
     /// Takes a file of out/ over that can't get a second name, as one of another user can't, and that is at rest at this time, in seconds since 1970; with
     /// none, at any (`FileIdentity::is_at_rest`); else it is being written. A copy of the station's own, of at most so many bytes,
     /// comes in its place. The path that it has then: of its name, or that with a number if another file has it meanwhile. Replaced if the file itself
-    /// is another one meanwhile, which lies ready. If a step fails, or the file is written to, it stays under its name, or under a hidden one until
+    /// is another one meanwhile, which lies ready, and numbered if that has a number now. If a step fails, or the file is written to, it stays under its name, or under a hidden one until
     /// `finish_taking_over` gives it back.
     pub fn take_over(
         &mut self,
@@ -165,13 +163,18 @@ impl<D: FolderDisk + Drop> StationFolder<D> {
     }
 
     /// Gives some of those files of out/ their names back that have a hidden one, as they were being taken over, those of other users if they are at rest
-    /// at this time. Whether one of them is left.
-    pub fn finish_taking_over(&mut self, now: Option<i64>) -> Result<bool, FolderFault>
+    /// at this time: eight at most, the first whose hidden names come after this one, and where these are fewer the first of all. So by as many calls as
+    /// there are eights of them, each with the last name of the one before, each of them is tried.
+    pub fn finish_taking_over(
+        &mut self,
+        last: &str,
+        now: Option<i64>,
+    ) -> Result<Finished, FolderFault>
         ensures asks { D.discloses → Adds (MayFinish D.opened D.File.remaining D.is_open D.is_file
             D.are_one (string_bytes self.old.path)) (D.asked self.old.disk) (D.asked self.new.disk) }
         ensures path { self.new.path ≡ self.old.path }
     {
-        finish_all(&mut self.disk, self.alloc, self.path.as_str(), now)
+        finish_some(&mut self.disk, self.alloc, self.path.as_str(), last, now)
     }
 
     /// Whether a new file of so many bytes can be kept in a folder, as far as a trial shows: one of zeros is made there under a name that is left alone,

@@ -27,11 +27,6 @@ pub(crate) fn name_before<'a>(alloc: Global, hidden: &'a str) -> io::Result<Opti
     }
 }
 
-/// Whether this may be such a name.
-pub(crate) fn may_be_taken_name(hidden: &str) -> bool {
-    parts_of(hidden).is_some()
-}
-
 /// What is in such a hidden name, and its number.
 fn parts_of(hidden: &str) -> Option<(&str, u32)> {
     let (name, number) = hidden.strip_prefix(".")?.rsplit_once(".taken-")?;

@@ -70,8 +70,11 @@ fn take_by<D: FolderDisk>(
         sync_names(disk, folder)?;
         return Ok(true);
     }
-    give_shown(disk, shown, hidden, folder)?;
-    taken
+    match give_shown(disk, shown, hidden, folder) {
+        Ok(()) => taken,
+        // (it has the hidden name until it is given the shown one back)
+        Err(_) => Ok(false),
+    }
 }
 
 /// Gives what has a hidden name the shown one back, if no other file has that.

@@ -10,7 +10,7 @@ ghost use Rattle.rje_folders.specs.TakingOver.{IsTakenOver, MayGiveBack, MayTake
 ghost use Rattle.rje_folders.specs.Inside.Calls.{HasCopy, IsHidden, MayHide};
 
 use crate::copying::{FileCopy, copied};
-use crate::file_names::FileNames;
+use crate::file_names::{FileNames, last_part};
 use crate::folder::Folder;
 use crate::folder_disk::FolderDisk;
 use crate::folder_fault::FolderFault;
@@ -50,7 +50,8 @@ pub(crate) fn take_over<D: FolderDisk>(
 }
 
 /// A copy of a file comes in its place, which has this hidden name, and gets the name that the file had. The path that it has then. Replaced, and it
-/// lies ready, if it is another one; if that one can't get a second name either, or was written to, it is left under the hidden name.
+/// lies ready, if it is another one, or numbered, where it lies ready under a name with a number; if that one can't get a second name either, or was
+/// written to, it is left under the hidden name.
 fn exchange<D: FolderDisk>(
     disk: &mut D,
     alloc: Global,
@@ -74,7 +75,8 @@ fn exchange<D: FolderDisk>(
     match put_in(disk, alloc, station, name, hidden, copy)? {
         Some(path) => Ok(path),
         None => match move_back(disk, alloc, station, name, hidden) {
-            Ok(_) => Err(FolderFault::Replaced),
+            Ok(path) if last_part(path.as_str()) == name => Err(FolderFault::Replaced),
+            Ok(_) => Err(FolderFault::Numbered),
             Err(_) => Err(FolderFault::LeftHidden),
         },
     }
@@ -130,7 +132,7 @@ pub(crate) fn free_name<D: FolderDisk>(
 }
 
 /// Gives a file of this hidden name the name back that it had, as a file of the station's own: one of another user is copied, if it is at rest at this
-/// time.
+/// time. The path that it has then.
 pub(crate) fn give_back<D: FolderDisk>(
     disk: &mut D,
     alloc: Global,
@@ -139,13 +141,13 @@ pub(crate) fn give_back<D: FolderDisk>(
     hidden: &str,
     most: u64,
     now: Option<i64>,
-) -> Result<(), FolderFault>
+) -> Result<String, FolderFault>
     requires named { IsTakenName name.now hidden.now }
     ensures { D.discloses → Adds (MayGiveBack D.opened D.File.remaining D.is_open D.is_file
         D.are_one station.now name.now) (D.asked disk.old) (D.asked disk.new) }
 {
     match move_back(disk, alloc, station, name, hidden) {
-        Ok(_) => Ok(()),
+        Ok(path) => Ok(path),
         Err(error) if error.kind() == ErrorKind::PermissionDenied => {
             copy_back(disk, alloc, station, name, hidden, most, now)
         }
@@ -162,14 +164,14 @@ fn copy_back<D: FolderDisk>(
     hidden: &str,
     most: u64,
     now: Option<i64>,
-) -> Result<(), FolderFault>
+) -> Result<String, FolderFault>
     requires named { IsTakenName name.now hidden.now }
     ensures { D.discloses → Adds (MayGiveBack D.opened D.File.remaining D.is_open D.is_file
         D.are_one station.now name.now) (D.asked disk.old) (D.asked disk.new) }
 {
     let copy = copied(disk, alloc, station, hidden, most, now)?;
     match put_in(disk, alloc, station, name, hidden, &copy)? {
-        Some(_) => Ok(()),
+        Some(path) => Ok(path),
         None => Err(FolderFault::Replaced),
     }
 }

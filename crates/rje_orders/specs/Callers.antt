@@ -1,6 +1,6 @@
 -- Whose calls are taken by a command that listens, as the words of `--from` choose it (own profile).
-use Rattle.std.specs.Prelude.{ℕ, ◌==◌, ⊤, List}
-use Rattle.std.specs.List.{All, Contains, slice_split}
+use Rattle.std.specs.Prelude.{ℕ, ◌==◌, ⊤, Bool, false, List}
+use Rattle.std.specs.List.{All, Contains, list_any, slice_split}
 use Rattle.std.specs.Net.Grammar.{IsIpv4Text}
 use Rattle.std.specs.Net.Socket.{v4_ip}
 use Rattle.std.specs.declared.net.ipv4_addr.Ipv4Addr.{Ipv4Addr}
@@ -30,3 +30,8 @@ abbrev pub IsLetIn : Callers → SocketAddr → Type 0
 IsLetIn Anyone caller = ⊤
 IsLetIn (These addresses) (V4 caller) = IsAmong addresses.now (v4_ip caller)
 IsLetIn (These addresses) (V6 caller) = ⊥
+
+-- more than one address is named: there is a comma
+abbrev pub are_several : Callers → Bool
+are_several Anyone = false
+are_several (These addresses) = list_any (λ c. c == 44) addresses.now

@@ -1,7 +1,7 @@
 //! Whose calls are taken.
 ghost use Rattle.std.specs.Prelude.{◌≡◌, ◌↔◌, IfSome, IsSome, IsTrue};
 ghost use Rattle.std.specs.Net.Grammar.{IsIpv4Text};
-ghost use Rattle.rje_orders.specs.Callers.{AreAddresses, IsAddress, IsAmong, IsLetIn};
+ghost use Rattle.rje_orders.specs.Callers.{AreAddresses, IsAddress, IsAmong, IsLetIn, are_several};
 ghost use Rattle.rje_orders.specs.declared.callers.Callers.TheVariants.{These};
 
 use std::net::{Ipv4Addr, SocketAddr};
@@ -24,6 +24,16 @@ impl<'a> Callers<'a> {
         match are_addresses(addresses) {
             true => Some(Callers::These(addresses)),
             false => None,
+        }
+    }
+
+    /// Whether they are of more than one address that is named.
+    pub fn are_several(self) -> bool
+        ensures { result ≡ are_several self.entry }
+    {
+        match self {
+            Callers::Anyone => false,
+            Callers::These(addresses) => addresses.as_bytes().contains(&b','),
         }
     }
 

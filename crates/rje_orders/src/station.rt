@@ -1,6 +1,6 @@
 //! What a station that stays on the line is asked for.
 ghost use Rattle.std.specs.Prelude.{◌≡◌};
-ghost use Rattle.rje_orders.specs.Station.{station_rank};
+ghost use Rattle.rje_orders.specs.Station.{has_callers, station_rank};
 
 use crate::callers::Callers;
 use bsc_link::Rank;
@@ -27,6 +27,8 @@ pub struct StationOrder<'a> {
     pub progress: u32,
     /// Whether it ends after one connection.
     pub once: bool,
+    /// Whether doubt is settled by receipts, as the other end does it too.
+    pub settle: bool,
     /// Whether nothing is shown on a terminal of how far it is.
     pub quiet: bool,
 }
@@ -49,6 +51,16 @@ impl Partner<'_> {
             (true, true, _) => None,
             (true, false, _) | (false, false, Partner::Calls(_)) => Some(Rank::Primary),
             (false, true, _) | (false, false, Partner::Listens(..)) => Some(Rank::Secondary),
+        }
+    }
+
+    /// Whether calls of more than one address that is named are taken.
+    pub fn has_callers(self) -> bool
+        ensures { result ≡ has_callers self.entry }
+    {
+        match self {
+            Partner::Calls(_) => false,
+            Partner::Listens(_, callers) => callers.are_several(),
         }
     }
 }

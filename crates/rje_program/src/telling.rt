@@ -31,6 +31,9 @@ pub fn tell_words<O: Write, E: Write>(fault: &WordsFault, out: &mut O, err: &mut
         | WordsFault::BadCallers(_)
         | WordsFault::WaitCalled
         | WordsFault::EveryListens
+        | WordsFault::SettlesWithAdapter
+        | WordsFault::SettlesForEver
+        | WordsFault::SettlesWithCallers
         | WordsFault::TwoRanks
         | WordsFault::NewAndAppend => {
             let _ = writeln!(err, "rje: {fault}");

@@ -17,3 +17,4 @@ pub mod Looped
 pub mod Marked
 pub mod Watched
 pub mod Words
+mod Hearing

@@ -15,3 +15,5 @@ pub mod Exchanging
 pub mod Looping
 pub mod SocketCommand
 pub mod Words
+pub mod Hearing
+pub mod Streams

@@ -5,6 +5,7 @@ ghost use Rattle.std.specs.Io.KnownBytes.{Appends, WriteAppends};
 ghost use Rattle.bsc_frame.specs.declared.frame.Frame.{Frame};
 ghost use Rattle.bsc_frame.specs.Written.{Written};
 ghost use Rattle.bsc_adapter.specs.Form.{IsSaid};
+ghost use Rattle.rje_sockets.specs.Streams.{unless_adapted};
 
 use crate::handing::hand_out;
 use arrayvec::ArrayVec;
@@ -82,6 +83,9 @@ fn put_pads(made: &mut ArrayVec<u8, MAX_MADE>, count: usize) {
 }
 
 impl<S: Read> Read for AdapterStream<S> {
+    // Without an adapter, what the stream gives.
+    ghost remaining = { λ s. unless_adapted s.from (S.remaining s.stream) };
+
     fn read(&mut self, buf: &mut [u8]) -> io::Result<usize> {
         let Some(from) = &mut self.from else {
             return self.stream.read(buf);
@@ -94,8 +98,13 @@ impl<S: Read> Read for AdapterStream<S> {
 }
 
 impl<S: Write> Write for AdapterStream<S> {
+    // Without an adapter, what the stream holds.
+    ghost contents = { λ s. unless_adapted s.from (S.contents s.stream) };
+
     fn write(&mut self, buf: &[u8]) -> io::Result<usize>
         ensures bound { WritesAtMost result buf.now }
+        ensures bytes { WriteAppends (unless_adapted self.old.from (S.contents self.old.stream))
+            (unless_adapted self.new.from (S.contents self.new.stream)) result buf.now }
         ensures plain { self.old.from ≡ None
             → WriteAppends (S.contents self.old.stream) (S.contents self.new.stream) result buf.now }
 

@@ -1,5 +1,6 @@
 //! A stream that notes what its operator wants to know of it.
 ghost use Rattle.std.specs.Prelude.{◌≡◌};
+ghost use Rattle.std.specs.Io.KnownBytes.{prepend_known};
 
 use crate::first_bytes::FirstBytes;
 use crate::handing::hand_out;
@@ -66,6 +67,9 @@ impl<C, S> ObservedStream<C, S> {
 }
 
 impl<C: Clock, S: Read> Read for ObservedStream<C, S> {
+    // What was read ahead, and then what the stream gives.
+    ghost remaining = { λ s. prepend_known s.ahead.items (S.remaining s.stream) };
+
     fn read(&mut self, buf: &mut [u8]) -> io::Result<usize> {
         if !self.ahead.is_empty() {
             return Ok(hand_out(&mut self.ahead, buf));
@@ -87,6 +91,8 @@ impl<C: Clock, S: Read> Read for ObservedStream<C, S> {
 }
 
 impl<C: Clock, S: Write> Write for ObservedStream<C, S> {
+    ghost contents = { λ s. S.contents s.stream };
+
     fn write(&mut self, buf: &[u8]) -> io::Result<usize> {
         match self.stream.write(buf) {
             Ok(count) => {

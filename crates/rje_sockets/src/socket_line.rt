@@ -1,10 +1,10 @@
 //! A line over a connection.
-ghost use Rattle.std.specs.Prelude.{◌≡◌, ◌+◌, ◌-◌, ◌^◌, ◌<◌, ◌≤◌, length, min, IfErr, IfOk, OnErr, OnOk, None, Some, true, ⊤};
+ghost use Rattle.std.specs.Prelude.{◌≡◌, ◌+◌, ◌-◌, ◌^◌, ◌<◌, ◌≤◌, List, length, min, IfErr, IfOk, OnErr, OnOk, None, Some, true, ⊤};
 ghost use Rattle.std.specs.Io.{ReadsAtMost};
-ghost use Rattle.std.specs.Io.KnownBytes.{Appends, IsAtEnd, ReadConsumes};
+ghost use Rattle.std.specs.Io.KnownBytes.{ReadConsumes, WriteAppends};
 ghost use Rattle.rje_station.specs.Line.{IsWithin, Rose, one_more};
-ghost use Rattle.rje_station.specs.declared.line_fault.LineFault.TheVariants.{Closed};
-ghost use Rattle.rje_sockets.specs.Inside.Reading.{came_of, waited_in_vain};
+ghost use Rattle.rje_sockets.specs.Hearing.{Brought, Happens, HappensInTurn, HandsOn, Listens, MayAwait, ReadsJust, ReadsThrough, Says, WritesThrough, awaits_answer, brought_by, brought_in, keeps};
+ghost use Rattle.rje_sockets.specs.Inside.Reading.{came_of as comes_to, waited_in_vain};
 ghost use Rattle.rje_sockets.specs.Words.{HasWord};
 
 use crate::first_bytes::is_pad;
@@ -141,6 +141,8 @@ impl<S> SocketLine<S> {
         ensures none { self.new.transmissions ≡ self.old.transmissions }
         ensures told { result ≡ fault }
         ensures last { self.new.last_fault ≡ Some fault }
+        ensures rest { keeps self.new.answers self.new.handover self.new.babbles
+            ≡ keeps self.old.answers self.old.handover self.old.babbles }
     {
         self.last_fault = Some(fault);
         self.failures = self.failures.saturating_add(1);
@@ -167,15 +169,17 @@ impl<S: Read + Write> Line for SocketLine<S> {
         ensures same { OnOk result (self.new.last_fault ≡ self.old.last_fault) }
         ensures begun { self.new.transmissions ≡ one_more self.old.transmissions }
 
-        // Done only where the stream took all of it.
-        ensures taken { OnOk result
-            (Appends (S.contents self.old.stream) (S.contents self.new.stream) bytes.now) }
+        // The stream took all of it, or if this failed a front of it.
+        ensures taken { WritesThrough (S.contents self.old.stream) (S.contents self.new.stream)
+            result bytes.now }
+        ensures said { Says (keeps self.old.answers self.old.handover self.old.babbles) bytes.now
+            (keeps self.new.answers self.new.handover self.new.babbles) }
     {
         self.transmissions = self.transmissions.saturating_add(1);
         self.answers.say(Said::of(bytes));
         self.handover.clear();
         self.babbles = false;
-        match self.stream.write_all(bytes) {
+        match write_through(&mut self.stream, bytes) {
             Ok(()) => Ok(()),
             Err(_) => Err(self.failed(LineFault::Failed)),
         }
@@ -190,55 +194,129 @@ impl<S: Read + Write> Line for SocketLine<S> {
         ensures none { self.new.transmissions ≡ self.old.transmissions }
         ensures within { IfOk result (λ came. IsWithin came (length piece.new)) }
 
-        // Closed only where the stream gives no more.
-        ensures closed { IfErr result (λ fault. fault ≡ Closed
-            → IsAtEnd (S.remaining self.new.stream)) }
+        // What is read, and what the station is handed of it.
+        ensures read { (brought : List Brought)
+            × ReadsJust (S.remaining self.old.stream) (S.remaining self.new.stream) result brought
+            × IfOk result (λ came.
+            Listens (keeps self.old.answers self.old.handover self.old.babbles) brought came piece.new
+            (keeps self.new.answers self.new.handover self.new.babbles)) }
     {
-        if self.answers.awaits() && !self.babbles {
-            match await_answer(&mut self.stream, &mut self.answers) {
-                Ok(Given::Nothing) => self.babbles = true,
-                Ok(given) => self.handover.begin(given),
-                Err(fault) => return Err(self.failed(fault)),
-            }
-        }
-        if self.babbles {
-            piece.fill(PAD);
-            return Ok(Came::Bytes(piece.len()));
-        }
-        match self.handover.next(piece) {
-            Handed::Quiet => return Ok(Came::Quiet),
-            Handed::Bytes(count) => return Ok(Came::Bytes(count)),
-            Handed::Nothing => {}
-        }
-        match read_through(&mut self.stream, &mut self.answers, piece) {
+        match self.hear(piece) {
             Ok(came) => Ok(came),
             Err(fault) => Err(self.failed(fault)),
         }
     }
 }
 
+impl<S: Read> SocketLine<S> {
+    /// Awaits an answer, if one is due, and hands the station the next part of what it is given; or else what comes.
+    fn hear(&mut self, piece: &mut [u8]) -> Result<Came, LineFault>
+        requires room { 0 < length piece.old }
+        ensures same { (self.new.failures ≡ self.old.failures)
+            × (self.new.last_fault ≡ self.old.last_fault)
+            × (self.new.transmissions ≡ self.old.transmissions) }
+        ensures within { IfOk result (λ came. IsWithin came (length piece.new)) }
+        ensures read { (brought : List Brought)
+            × ReadsJust (S.remaining self.old.stream) (S.remaining self.new.stream) result brought
+            × IfOk result (λ came.
+            Listens (keeps self.old.answers self.old.handover self.old.babbles) brought came piece.new
+            (keeps self.new.answers self.new.handover self.new.babbles)) }
+    {
+        self.await_answer()?;
+        self.hand_on(piece)
+    }
+
+    /// Awaits the answer to what was said, if one is due. What the station is given of what comes waits for it then.
+    fn await_answer(&mut self) -> Result<(), LineFault>
+        ensures same { (self.new.failures ≡ self.old.failures)
+            × (self.new.last_fault ≡ self.old.last_fault)
+            × (self.new.transmissions ≡ self.old.transmissions) }
+        ensures read { (brought : List Brought)
+            × ReadsJust (S.remaining self.old.stream) (S.remaining self.new.stream) result brought
+            × OnOk result (
+            MayAwait (keeps self.old.answers self.old.handover self.old.babbles) brought
+            (keeps self.new.answers self.new.handover self.new.babbles)) }
+    {
+        if self.awaits_answer() {
+            match await_given(&mut self.stream, &mut self.answers)? {
+                Given::Nothing => self.babbles = true,
+                given => self.handover.begin(given),
+            }
+        }
+        Ok(())
+    }
+
+    /// Whether an answer is awaited, and not too much came for it.
+    fn awaits_answer(&self) -> bool
+        ensures { result ≡ awaits_answer (keeps self.now.answers self.now.handover self.now.babbles) }
+    {
+        self.answers.awaits() && !self.babbles
+    }
+
+    /// Hands the station the next part of what waits for it: bytes without an end if too much came, or, if nothing waits, what one read brings.
+    fn hand_on(&mut self, piece: &mut [u8]) -> Result<Came, LineFault>
+        requires room { 0 < length piece.old }
+        ensures same { (self.new.failures ≡ self.old.failures)
+            × (self.new.last_fault ≡ self.old.last_fault)
+            × (self.new.transmissions ≡ self.old.transmissions) }
+        ensures within { IfOk result (λ came. IsWithin came (length piece.new)) }
+        ensures read { (brought : List Brought)
+            × ReadsJust (S.remaining self.old.stream) (S.remaining self.new.stream) result brought
+            × IfOk result (λ came.
+            HandsOn (keeps self.old.answers self.old.handover self.old.babbles) brought came piece.new
+            (keeps self.new.answers self.new.handover self.new.babbles)) }
+    {
+        if self.babbles {
+            piece.fill(PAD);
+            return Ok(Came::Bytes(piece.len()));
+        }
+        match self.handover.next(piece) {
+            Handed::Quiet => Ok(Came::Quiet),
+            Handed::Bytes(count) => Ok(Came::Bytes(count)),
+            Handed::Nothing => read_through(&mut self.stream, &mut self.answers, piece),
+        }
+    }
+}
+
 /// What is given of what comes where an answer is awaited: nothing, where more comes than one hearing takes.
-fn await_answer<S: Read>(stream: &mut S, answers: &mut Answers) -> Result<Given<Reply>, LineFault>
-    ensures closed { IfErr result (λ fault. fault ≡ Closed → IsAtEnd (S.remaining stream.new)) }
+fn await_given<S: Read>(stream: &mut S, answers: &mut Answers) -> Result<Given<Reply>, LineFault>
+    ensures read { (brought : List Brought)
+        × ReadsJust (S.remaining stream.old) (S.remaining stream.new) result brought
+        × IfOk result (λ given. HappensInTurn answers.old brought given answers.new) }
 {
     let mut piece = [0; MAX_PIECE];
     let mut taken: usize = 0;
     for _ in 0..MAX_PIECES {
-        let given = match came_in(stream, &mut piece)? {
-            Came::Bytes(count) => {
-                taken = taken.saturating_add(count);
-                answers.hear(&piece[..count])
-            }
-            Came::Quiet => answers.quiet(),
-        };
-        if given != Given::Nothing || taken > MAX_HEARD {
-            return Ok(given);
+        let came = came_in(stream, &mut piece)?;
+        taken = taken.saturating_add(count_of(came));
+        match happen(answers, came, &piece) {
+            Given::Nothing if taken <= MAX_HEARD => {}
+            given => return Ok(given),
         }
     }
     Ok(Given::Nothing)
 }
 
-/// What comes where none is awaited, as it comes.
+/// How many bytes came.
+fn count_of(came: Came) -> usize {
+    match came {
+        Came::Bytes(count) => count,
+        Came::Quiet => 0,
+    }
+}
+
+/// What came happens at the end that awaits an answer. What its station is given of it.
+fn happen(answers: &mut Answers, came: Came, piece: &[u8]) -> Given<Reply>
+    requires within { IsWithin came (length piece.now) }
+    ensures { Happens answers.old (brought_by came piece.now) result answers.new }
+{
+    match came {
+        Came::Bytes(count) => answers.hear(&piece[..count]),
+        Came::Quiet => answers.quiet(),
+    }
+}
+
+/// What comes where none is awaited, as it comes. Only after EOT is an answer looked for that nobody awaits.
 fn read_through<S: Read>(
     stream: &mut S,
     answers: &mut Answers,
@@ -246,20 +324,42 @@ fn read_through<S: Read>(
 ) -> Result<Came, LineFault>
     requires room { 0 < length piece.old }
     ensures within { IfOk result (λ came. IsWithin came (length piece.new)) }
-    ensures closed { IfErr result (λ fault. fault ≡ Closed → IsAtEnd (S.remaining stream.new)) }
+    ensures read { ReadsJust (S.remaining stream.old) (S.remaining stream.new) result
+        (brought_in result piece.new) }
+    ensures heard { IfOk result (λ came.
+        ReadsThrough answers.old came piece.new answers.new) }
 {
     let came = came_in(stream, piece)?;
-    match came {
-        // Only after EOT is an answer looked for that nobody awaits.
-        Came::Bytes(count) if answers.has_ended() => {
-            answers.hear(&piece[..count]);
-        }
-        Came::Bytes(_) => {}
-        Came::Quiet => {
-            answers.quiet();
-        }
+    if came == Came::Quiet || answers.has_ended() {
+        happen(answers, came, piece);
     }
     Ok(came)
+}
+
+/// Writes all of these bytes, or, if that fails, a front of them.
+fn write_through<S: Write>(stream: &mut S, bytes: &[u8]) -> io::Result<()>
+    ensures { WritesThrough (S.contents stream.old) (S.contents stream.new) result bytes.now }
+{
+    let mut place: usize = 0;
+    for _ in 0..MAX_INTERRUPTIONS {
+        if place >= bytes.len() {
+            return Ok(());
+        }
+        place += write_some(stream, &bytes[place..])?;
+    }
+    Err(io::Error::from(ErrorKind::Interrupted))
+}
+
+/// Writes some of these bytes, which aren't none, and answers how many: none, if it was interrupted.
+fn write_some<S: Write>(stream: &mut S, bytes: &[u8]) -> io::Result<usize>
+    ensures within { IfOk result (λ count. count ≤ length bytes.now) }
+    ensures written { WriteAppends (S.contents stream.old) (S.contents stream.new) result bytes.now }
+{
+    match stream.write(bytes) {
+        Ok(0) => Err(io::Error::from(ErrorKind::WriteZero)),
+        Err(error) if error.kind() == ErrorKind::Interrupted => Ok(0),
+        written => written,
+    }
 }
 
 /// Hears what comes until the other end hangs up, or for long.
@@ -340,14 +440,15 @@ fn keep(piece: &[u8], came: &mut ArrayVec<u8, MAX_AHEAD>) {
 fn came_in<S: Read>(stream: &mut S, piece: &mut [u8]) -> Result<Came, LineFault>
     requires room { 0 < length piece.old }
     ensures within { IfOk result (λ came. IsWithin came (length piece.new)) }
-    ensures closed { IfErr result (λ fault. fault ≡ Closed → IsAtEnd (S.remaining stream.new)) }
+    ensures read { ReadsJust (S.remaining stream.old) (S.remaining stream.new) result
+        (brought_in result piece.new) }
 {
     came_of(read_on(stream, piece))
 }
 
 /// What a read comes to: it is quiet where it waited in vain, and the line is closed where the stream gives no more.
 fn came_of(read: io::Result<usize>) -> Result<Came, LineFault>
-    ensures { result ≡ came_of read }
+    ensures { result ≡ comes_to read }
 {
     match read {
         Ok(0) => Err(LineFault::Closed),

@@ -7,3 +7,4 @@ pub mod GivenFile
 pub mod GivenFiles
 pub mod Keeping
 pub mod Backed
+pub mod GivenJob

@@ -6,6 +6,8 @@ ghost use Rattle.rje_spool.specs.GivenFile.{HasSecondName, IsDoubted};
 ghost use Rattle.rje_spool.specs.GivenFiles.{HasGoneOut, IsSettledSo, OfFile};
 ghost use Rattle.rje_session.specs.Ledger.{Given, IsEntered, MayArrive, MayBeEntered, Settled};
 
+mod settling;
+
 use crate::book::{Book, NoBook};
 use crate::console::Console;
 use crate::notice::Notice;

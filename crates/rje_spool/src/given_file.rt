@@ -11,7 +11,9 @@ ghost use Rattle.rje_spool.specs.declared.given_file.Place.TheVariants.{Promised
 ghost use Rattle.rje_spool.specs.Backed.{GoesOn};
 ghost use Rattle.rje_spool.specs.GivenFile.{HasSecondName, HasSent, IsDoubted, IsDoubtedUnder, IsInSent, IsOfRead, IsUnsettled, OfPromised, StaysInDoubt};
 ghost use Rattle.rje_spool.specs.GivenFiles.{HasBeenCounted, HasGoneOut, HasMark, IsKnownAsMarked, is_last_of, is_of, mark_of};
+ghost use Rattle.rje_spool.specs.GivenJob.{IsGivenJob};
 
+use crate::given_job::GivenJob;
 use rje_day::Disposition;
 use rje_files::MARK;
 use rje_folders::{FileIdentity, FolderDisk, FolderFault, OutName, StationFolder};
@@ -59,17 +61,32 @@ impl GivenFile {
     }
 
     /// Whether a job of the transmission is its last.
-    fn ends_with(&self, job: usize) -> bool
+    pub(crate) fn ends_with(&self, job: usize) -> bool
         ensures { result ≡ is_last_of job self.now }
     {
         self.has(job) && self.count - (job - self.first) == 1
     }
 
     /// Where a job of the transmission is marked in the file, if it is.
-    fn mark_of(&self, job: usize) -> Option<usize>
+    pub(crate) fn mark_of(&self, job: usize) -> Option<usize>
         ensures { result ≡ mark_of job self.now }
     {
         self.places.get(job.checked_sub(self.first)?).copied()
+    }
+
+    /// Which job of it a job of the transmission is.
+    pub(crate) fn given(&self, job: usize) -> GivenJob<'_>
+        ensures { IsGivenJob job self.now result }
+    {
+        GivenJob {
+            name: self.name.as_str(),
+            file: self.file,
+            mark: match self.mark_of(job) {
+                Some(mark) => Some(mark as u64),
+                None => None,
+            },
+            is_last: self.ends_with(job),
+        }
     }
 
     /// The last block of one of its jobs goes out next: it has a name in doubt/ from then on, on disk.

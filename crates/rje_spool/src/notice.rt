@@ -2,6 +2,8 @@
 ghost use Rattle.std.specs.Prelude.{◌≡◌, length};
 
 use crate::refused_file::RefusedFile;
+use crate::settling_notice::SettlingNotice;
+use rje_folders::FolderFault;
 use rje_jobs::Job;
 use rje_text::Select;
 use std::fmt::{self, Display, Formatter, Write};
@@ -64,10 +66,16 @@ pub enum Notice<'a> {
     Sent(&'a str),
     /// A job of this file may have arrived: the file is in doubt/, under this path.
     Doubt(&'a str, &'a str),
+    /// The same, where the other end's next receipt tells whether it has.
+    UntilReceipt(&'a str, &'a str),
     /// This file was taken out of out/ by others while its last block was out.
     TakenBack(&'a str),
     /// The name of this file can't be taken out of out/, and why.
     Left(&'a str, ErrorKind),
+    /// This file of out/ has another name there now, under this path, since another file has taken its own.
+    Renamed(&'a str, &'a str),
+    /// This hidden file of out/ can't be given the name back that it had, and why.
+    StaysHidden(&'a str, FolderFault),
     /// So many files in a row are in doubt that the station stops sending.
     Stopped,
     /// A job couldn't be kept: nothing is received until one can be.
@@ -97,6 +105,8 @@ pub enum Notice<'a> {
     OutOfStep,
     /// The station hung up, or the connection is over.
     HungUp,
+    /// What is told where doubt is settled by receipts.
+    Settling(SettlingNotice<'a>),
     /// Something of the station failed, and why.
     Failed(&'a str),
     /// The station ends.
@@ -128,6 +138,11 @@ impl Display for Notice<'_> {
                 "DOUBT {name} may have arrived: {}",
                 in_folder(path)
             ),
+            Notice::UntilReceipt(name, path) => write!(
+                f,
+                "DOUBT {name} until the other end's next receipt: {}",
+                in_folder(path)
+            ),
             Notice::TakenBack(name) => {
                 write!(
                     f,
@@ -139,6 +154,16 @@ impl Display for Notice<'_> {
                     f,
                     "out/{name} can't be taken away and isn't sent again: {kind}"
                 )
+            }
+            Notice::Renamed(name, path) => {
+                write!(
+                    f,
+                    "out/{name} is {} now: another file has its name",
+                    in_folder(path)
+                )
+            }
+            Notice::StaysHidden(name, why) => {
+                write!(f, "out/{name}: not given its name back: {why}")
             }
             Notice::Stopped => f.write_str("STOPPED SENDING: three files in doubt in a row"),
             Notice::ReceivesNot => f.write_str("STOPPED RECEIVING: a job can't be kept"),
@@ -171,6 +196,7 @@ impl Display for Notice<'_> {
             Notice::LineFailed(cause) => write!(f, "line failed: {cause}"),
             Notice::OutOfStep => f.write_str("line failed: answers out of step"),
             Notice::HungUp => f.write_str("hung up"),
+            Notice::Settling(notice) => write!(f, "{notice}"),
             Notice::Failed(why) => write!(f, "{why}"),
             Notice::Ended => f.write_str("ended"),
         }
@@ -178,7 +204,7 @@ impl Display for Notice<'_> {
 }
 
 /// A path without the station's folder: its folder there, and its name.
-fn in_folder(path: &str) -> &str {
+pub(crate) fn in_folder(path: &str) -> &str {
     let Some((folder, _)) = path.rsplit_once('/') else {
         return path;
     };

@@ -48,6 +48,13 @@ impl PassedFiles {
         }
     }
 
+    /// The file of this name isn't passed over any more.
+    pub(crate) fn forget(&mut self, name: &str)
+        ensures { get_by_text self.new.files name.now ≡ None }
+    {
+        self.files.remove(name);
+    }
+
     /// Whether the file of this name is passed over.
     pub(crate) fn has(&self, name: &str) -> bool
         ensures { result ≡ is_some (get_by_text self.now.files name.now) }

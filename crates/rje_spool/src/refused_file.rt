@@ -30,4 +30,10 @@ pub enum RefusedFile {
     /// It holds no job that wasn't sent.
     #[error("no job is left to send")]
     NothingLeft,
+    /// A job of it has the form of a receipt, by which doubt is settled.
+    #[error("a job is a card of the form of a receipt")]
+    Receipt,
+    /// The other end didn't keep a job of it, three times.
+    #[error("the other end didn't keep a job three times")]
+    NotKept,
 }

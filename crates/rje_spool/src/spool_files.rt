@@ -6,6 +6,7 @@ ghost use Rattle.rje_spool.specs.GivenFiles.{jobs_of};
 mod filing;
 mod giving;
 mod keeping;
+mod settling;
 
 use crate::brake::Brake;
 use crate::console::Console;
@@ -64,6 +65,8 @@ pub(crate) struct SpoolFiles<D: FolderDisk + Drop, C, W, L> {
     unkept: Unkept,
     // Why the folder couldn't be looked at last, as it was told.
     look: Option<FolderFault>,
+    // Whether the other end's receipts tell what may have arrived.
+    settles: bool,
     // How many names that are left alone were reported lately.
     told: ToldNames,
     // Why there was no room for a second name or a copy of a file last, as it was told, since one was read.
@@ -85,7 +88,7 @@ impl<D: FolderDisk + Drop, C: Clock, W: Write, L: Write> SpoolFiles<D, C, W, L> 
             console,
             ready: Vec::new(alloc),
             passed: PassedFiles::new(alloc),
-            hidden: HiddenFiles::new(),
+            hidden: HiddenFiles::new(alloc),
             unreadable: 0,
             given: GivenFiles::new(alloc),
             pace: Pace::new(),
@@ -98,6 +101,7 @@ impl<D: FolderDisk + Drop, C: Clock, W: Write, L: Write> SpoolFiles<D, C, W, L> 
             cut: None,
             unkept: Unkept::new(),
             look: None,
+            settles: false,
             told: ToldNames::new(),
             no_room: None,
         }
@@ -145,8 +149,10 @@ impl<D: FolderDisk + Drop, C: Clock, W: Write, L: Write> SpoolFiles<D, C, W, L> 
         }
         let now = self.console.stamps().seconds();
         // (a folder that can't be read is reported by the look that comes next)
-        let left = self.folder.finish_taking_over(now);
-        self.hidden.left(left.unwrap_or(true));
+        if let Ok(finished) = self.folder.finish_taking_over(self.hidden.last(), now) {
+            self.tell_hidden(finished.others.as_slice());
+            self.hidden.left(finished.is_left, finished.last);
+        }
     }
 
     /// Whether nothing is to be sent. What can't be looked at is taken for held.

@@ -13,7 +13,7 @@ use Rattle.rje_orders.specs.Station.{station_rank}
 use Rattle.rje_words.specs.declared.words_fault.WordsFault.{WordsFault}
 use Rattle.rje_words.specs.declared.words_fault.WordsFault.TheVariants.{BadHost, EveryListens, TwoRanks}
 use Rattle.rje_words.specs.Address.{IsHostAddress}
-use Rattle.rje_words.specs.Asking.{IsEveryOf, IsFaultOf, IsOrderOf, IsPartnerFault, IsPartnerIn, IsPartnerOf, IsPatienceOf, IsProgressOf, IsStandingFault, IsTimeoutOf, every_goes, is_on, word_in}
+use Rattle.rje_words.specs.Asking.{IsEveryOf, IsFaultOf, IsOrderOf, IsPartnerFault, IsPartnerIn, IsPartnerOf, IsPatienceOf, IsProgressOf, IsSettlingFaultIn, IsStandingFault, IsTimeoutOf, every_goes, is_on, word_in}
 use Rattle.rje_words.specs.Canonical.{IsStation, StationAsked}
 use Rattle.rje_words.specs.CommandLine.{rje_app}
 use Rattle.rje_words.proofs.PlainWords.{IsPlain, jobs_plain}
@@ -21,7 +21,7 @@ use Rattle.rje_words.proofs.FileWords.{AreTaken, apart, no_file, no_socket, only
 
 -- what is seen of the rows of `station`: its folder, how it comes to its connections, its numbers and its flags
 abbrev Seen : Type 0
-Seen = Text × (Option Text × Option Text × Option Text) × (Option Text × Option Text × Option Text × Option Text) × (Bool × Bool) × (Bool × Bool × Bool)
+Seen = Text × (Option Text × Option Text × Option Text) × (Option Text × Option Text × Option Text × Option Text) × (Bool × Bool) × (Bool × Bool × Bool × Bool)
 
 abbrev station_in : List Row → Seen
 station_in rows = (
@@ -29,11 +29,11 @@ station_in rows = (
   (first_of (codes "to") rows, first_of (codes "listen") rows, first_of (codes "from") rows),
   (one_of (codes "every") rows, one_of (codes "timeout") rows, one_of (codes "patience") rows, one_of (codes "progress") rows),
   (is_on (codes "primary") rows, is_on (codes "secondary") rows),
-  (is_on (codes "adapter") rows, is_on (codes "once") rows, is_on (codes "quiet") rows),
+  (is_on (codes "adapter") rows, is_on (codes "once") rows, is_on (codes "settle") rows, is_on (codes "quiet") rows),
 )
 
 abbrev value : (folder host : Text) → Seen
-value folder host = (folder, (Some host, None, None), (None, Some (codes "3000"), Some (codes "40"), Some (codes "21600")), (false, false), (false, false, false))
+value folder host = (folder, (Some host, None, None), (None, Some (codes "3000"), Some (codes "40"), Some (codes "21600")), (false, false), (false, false, false, false))
 
 module _ (folder host : Text) (h : IsPlain folder) (k : IsPlain host) where
   station_taken : fault_of rje_app (codes "station" ∷ folder ∷ codes "--to" ∷ host ∷ []) ≡ []
@@ -79,7 +79,8 @@ module _ (folder host : Text) (rows : List Row) (e : station_in rows ≡ value f
     progress = subst (λ (v : Seen). IsProgressOf v.2.3 order.progress) e h.1.progress;
     adapter = h.1.adapter ∙ ap (λ (v : Seen). v.4.0) e;
     once = h.1.once ∙ ap (λ (v : Seen). v.4.1) e;
-    quiet = h.1.quiet ∙ ap (λ (v : Seen). v.4.2) e;
+    settle = h.1.settle ∙ ap (λ (v : Seen). v.4.2) e;
+    quiet = h.1.quiet ∙ ap (λ (v : Seen). v.4.3) e;
   }
   order_read (Sockets order) h = absurd (no_socket (codes "station") rows order refl refl refl refl h)
   order_read (Files order) h = absurd (no_file (codes "station") rows order refl refl refl refl refl refl refl h)
@@ -90,6 +91,9 @@ module _ (folder host : Text) (rows : List Row) (e : station_in rows ≡ value f
       some_rank host partner (partner_read partner is) (ap (λ (v : Seen). station_rank partner v.3.0 v.3.1) (sym e) ∙ h.1)
   standing_told partner is _ h = h
 
+  settling_told : (partner : Partner) (fault : WordsFault) → IsSettlingFaultIn partner rows fault → ⊥
+  settling_told partner fault h = true≢false (sym h.2 ∙ ap (λ (v : Seen). v.4.2) e)
+
   none_told : IsHostAddress host → (fault : WordsFault) → IsFaultOf (codes "station") rows fault → ⊥
   none_told some fault (inl h) = apart _ _ h.0 refl
   none_told some fault (inr (inl h)) = apart _ _ h.0 refl
@@ -97,7 +101,8 @@ module _ (folder host : Text) (rows : List Row) (e : station_in rows ≡ value f
   none_told some fault (inr (inr (inr (inl h)))) = apart _ _ h.0 refl
   none_told some fault (inr (inr (inr (inr (is, inl h))))) =
       called_well host some fault (subst (λ (v : Seen). IsPartnerFault v.1.0 v.1.1 v.1.2 fault) e h)
-  none_told some fault (inr (inr (inr (inr (is, inr h))))) = standing_told h.0 h.1 fault h.2
+  none_told some fault (inr (inr (inr (inr (is, inr (partner, there, inl h)))))) = standing_told partner there fault h
+  none_told some fault (inr (inr (inr (inr (is, inr (partner, there, inr h)))))) = settling_told partner fault h
 
 pub station_asked : StationAsked
 station_asked folder host h k some =

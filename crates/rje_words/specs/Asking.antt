@@ -34,7 +34,7 @@ use Rattle.rje_orders.specs.declared.station.Partner.{Partner}
 use Rattle.rje_orders.specs.declared.station.Partner.TheVariants as ways
 use Rattle.rje_orders.specs.declared.station.StationOrder.{StationOrder}
 use Rattle.rje_words.specs.declared.words_fault.WordsFault.{WordsFault}
-use Rattle.rje_words.specs.declared.words_fault.WordsFault.TheVariants.{Refused, TwoDevices, BadName, BadAddress, NoMeeting, CallersCalled, BadCallers, BadHost, EveryListens, WaitCalled, TwoRanks, NewAndAppend}
+use Rattle.rje_words.specs.declared.words_fault.WordsFault.TheVariants.{Refused, TwoDevices, BadName, BadAddress, NoMeeting, CallersCalled, BadCallers, BadHost, EveryListens, WaitCalled, TwoRanks, NewAndAppend, SettlesWithAdapter, SettlesForEver, SettlesWithCallers}
 use Rattle.rje_words.specs.Address.{IsAddressOf, IsHostAddress, IsSomeAddress}
 use Rattle.rje_words.specs.CommandLine.{rje_app}
 use Rattle.rje_orders.specs.Callers.{AreAddresses}
@@ -42,7 +42,7 @@ use Rattle.rje_orders.specs.Choice.{devices_chosen}
 use Rattle.rje_orders.specs.Connection.{rank_chosen}
 use Rattle.rje_orders.specs.Device.{chosen}
 use Rattle.rje_orders.specs.Existing.{existing_chosen}
-use Rattle.rje_orders.specs.Station.{station_rank}
+use Rattle.rje_orders.specs.Station.{has_callers, station_rank}
 use Rattle.rje_words.specs.Orders.{IsBlocks}
 
 -- the word that was found for a value, and no character where none was
@@ -294,9 +294,23 @@ IsProgressOf = IsGivenNumber (2 ^ 32) 21600
 abbrev pub station_rank_in : Partner → List Row → Option Rank
 station_rank_in partner rows = station_rank partner (is_on (codes "primary") rows) (is_on (codes "secondary") rows)
 
+-- Doubt can be settled by receipts with a partner that is no line adapter, with patience that ends, and where no calls of more than one address
+-- are taken.
+pub record CanSettle (partner : Partner) (adapter : Bool) (patience : ℕ) : Type 0 where
+  pub no_adapter : adapter ≡ false
+  pub ends : patience ≢ 0
+  pub one : has_callers partner ≡ false
+
+-- why it can't be
+abbrev pub IsSettlingFault : Partner → (adapter : Bool) → (patience : ℕ) → WordsFault → Type 0
+IsSettlingFault partner adapter patience SettlesWithAdapter = adapter ≡ true
+IsSettlingFault partner adapter patience SettlesForEver = (adapter ≡ false) × (patience ≡ 0)
+IsSettlingFault partner adapter patience SettlesWithCallers = (adapter ≡ false) × (patience ≢ 0) × (has_callers partner ≡ true)
+IsSettlingFault partner adapter patience _ = ⊥
+
 -- the order has the folder, the way to its connections, the time-out, the patience, the time between calls and the time without a job that
--- were found, the rank that the options choose, a line adapter at the other end, an end after one connection, and nothing shown of how far it
--- is, where these options were
+-- were found, the rank that the options choose, a line adapter at the other end, an end after one connection, doubt settled by receipts, and
+-- nothing shown of how far it is, where these options were
 pub record IsStationOrderOf (rows : List Row) (order : StationOrder) : Type 0 where
   pub folder : order.folder.now ≡ word_in (codes "FOLDER") rows
   pub partner : IsPartnerIn rows order.partner
@@ -308,6 +322,8 @@ pub record IsStationOrderOf (rows : List Row) (order : StationOrder) : Type 0 wh
   pub every : IsEveryOf (one_of (codes "every") rows) order.every
   pub progress : IsProgressOf (one_of (codes "progress") rows) order.progress
   pub once : order.once ≡ is_on (codes "once") rows
+  pub settle : order.settle ≡ is_on (codes "settle") rows
+  pub settles : order.settle ≡ true → CanSettle order.partner order.adapter order.patience
   pub quiet : order.quiet ≡ is_on (codes "quiet") rows
 
 -- a station that listens was given a time between calls; or not, but both options for a rank were given
@@ -316,10 +332,17 @@ IsStandingFault partner rows EveryListens = every_goes partner rows ≡ false
 IsStandingFault partner rows TwoRanks = (every_goes partner rows ≡ true) × (station_rank_in partner rows ≡ None)
 IsStandingFault partner rows _ = ⊥
 
+-- neither, but doubt was to be settled by receipts, which can't be
+abbrev pub IsSettlingFaultIn : Partner → List Row → WordsFault → Type 0
+IsSettlingFaultIn partner rows fault =
+    (every_goes partner rows ≡ true) × (station_rank_in partner rows ≢ None) × (is_on (codes "settle") rows ≡ true)
+    × ((patience : ℕ) × IsPatienceOf (one_of (codes "patience") rows) patience × IsSettlingFault partner (is_on (codes "adapter") rows) patience fault)
+
 -- what was found is no way to connections, or it is one and there is a fault in what else was chosen
 abbrev pub IsStationFaultOf : List Row → WordsFault → Type 0
 IsStationFaultOf rows fault =
-    IsPartnerFaultIn rows fault ⊎ ((partner : Partner) × IsPartnerIn rows partner × IsStandingFault partner rows fault)
+    IsPartnerFaultIn rows fault
+    ⊎ ((partner : Partner) × IsPartnerIn rows partner × (IsStandingFault partner rows fault ⊎ IsSettlingFaultIn partner rows fault))
 
 -- the order is that of the command of this name, with the values that were found
 abbrev pub IsOrderOf : Text → List Row → Order → Type 0

@@ -138,7 +138,7 @@ ReceiveAsked =
     → AskOnlyFor (codes "receive" ∷ jobs ∷ codes "--listen" ∷ address ∷ existing_words existing) (IsReceive jobs address existing)
 
 -- the station of the folder of this name calls this host, is the primary, and has all else as usual: 60 seconds between its calls, the usual time-out,
--- patience and time without a job, no line adapter, one connection after another, and how far it is is shown
+-- patience and time without a job, no line adapter, one connection after another, no receipts, and how far it is is shown
 pub record IsUsualStation (named host : Text) (order : StationOrder) : Type 0 where
   pub folder : order.folder.now ≡ named
   pub partner : IsPartnerOf (Some host) None None order.partner
@@ -149,6 +149,7 @@ pub record IsUsualStation (named host : Text) (order : StationOrder) : Type 0 wh
   pub progress : IsProgressOf (Some (codes "21600")) order.progress
   pub adapter : order.adapter ≡ false
   pub once : order.once ≡ false
+  pub settle : order.settle ≡ false
   pub quiet : order.quiet ≡ false
 
 -- the order is for that station

@@ -155,11 +155,11 @@ abbrev pub with_partner_rules : App → App
 with_partner_rules app =
     with_rank_rules (with_rule (with_rule (with_rule (with_rule (with_meeting_rules app) every_rule) timeout_rule) patience_rule) progress_rule)
 
--- `station FOLDER`, with the options for its connections, for a line adapter, for one connection, and to show nothing of how far it is
+-- `station FOLDER`, with the options for its connections, for a line adapter, for one connection, for receipts, and to show nothing of how far it is
 abbrev pub station_app : App
 station_app =
-    with_rule (with_rule (with_rule (with_partner_rules (file_app (codes "station") (codes "FOLDER"))) (flag_rule (codes "adapter")))
-    (flag_rule (codes "once"))) quiet_rule
+    with_rule (with_rule (with_rule (with_rule (with_partner_rules (file_app (codes "station") (codes "FOLDER"))) (flag_rule (codes "adapter")))
+    (flag_rule (codes "once"))) (flag_rule (codes "settle"))) quiet_rule
 
 -- the commands over decks
 abbrev pub with_deck_apps : App → App

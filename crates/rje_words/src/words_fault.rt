@@ -40,6 +40,15 @@ pub enum WordsFault<'a> {
     /// It is to call at intervals, but it listens.
     #[error("--every goes with --to")]
     EveryListens,
+    /// Doubt is to be settled by receipts, but with a line adapter.
+    #[error("--settle doesn't go with --adapter")]
+    SettlesWithAdapter,
+    /// Doubt is to be settled by receipts, but they are waited for for ever.
+    #[error("--settle doesn't go with --patience 0")]
+    SettlesForEver,
+    /// Doubt is to be settled by receipts, but calls of more than one address are taken.
+    #[error("--settle goes with one address of --from")]
+    SettlesWithCallers,
     /// Both of the options for a rank.
     #[error("choose --primary or --secondary")]
     TwoRanks,

@@ -4,6 +4,7 @@ use Rattle.std.specs.IoError.{error_kind}
 use Rattle.std.specs.declared.io.ErrorKind.{ErrorKind}
 use Rattle.rje_folders.specs.declared.folder_fault.FolderFault.{FolderFault}
 use Rattle.rje_orders.specs.declared.station.Partner.{Partner}
+use Rattle.rje_settling.specs.declared.settling_fault.SettlingFault.{SettlingFault}
 use Rattle.rje_workstation.specs.declared.running.StationEnd.{StationEnd}
 
 -- the status of the program, as a station: it was drained, or its one connection is over; the words ask for none; its folder can't be used, or it can't
@@ -21,6 +22,8 @@ abbrev pub is_want_of_memory : StationEnd → Bool
 is_want_of_memory (StationEnd.Folder FolderFault.OutOfMemory) = true
 is_want_of_memory (StationEnd.Folder _) = false
 is_want_of_memory (StationEnd.Open openness) = false
+is_want_of_memory (StationEnd.Settling SettlingFault.OutOfMemory) = true
+is_want_of_memory (StationEnd.Settling _) = false
 is_want_of_memory (StationEnd.Log error) = is_of_memory (error_kind error)
 is_want_of_memory (StationEnd.Listener address error) = is_of_memory (error_kind error)
 

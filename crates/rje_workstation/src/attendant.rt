@@ -109,7 +109,7 @@ impl<'o, C: Clock + Drop, S: Spool + Drop, L: OpenListener + Drop> Spool
     fn seen(&mut self) -> Seen {
         let seen = self.spool.seen();
         Seen {
-            line_wanted: self.is_called_again() || self.is_overdue(),
+            line_wanted: seen.line_wanted || self.is_called_again() || self.is_overdue(),
             ..seen
         }
     }

@@ -6,33 +6,25 @@ use crate::attendant::Attendant;
 use crate::call_times::CallTimes;
 use crate::doorway::{Caller, called};
 use crate::speaking::speak;
+use crate::station_spool::StationSpool;
 use rje_day::{Day, Duty, Event, Seen};
-use rje_folders::FolderDisk;
 use rje_orders::{Partner, StationOrder};
-use rje_session::Spool;
-use rje_spool::{FolderSpool, Notice};
+use rje_spool::Notice;
 use std::alloc::Global;
-use std::io::{self, Write};
 use std::net::{Net, SocketAddr};
-use std::thread;
 use std::time::{Clock, Duration};
+use std::{io, thread};
 
 /// How often a station looks for a call and at its folder where it has no connection, in milliseconds.
 const TICK: u64 = 100;
 
 /// Spends the day of a station as ordered: until it is drained, or its one connection is over.
-pub(crate) fn attend<
-    R: Net + Clock,
-    D: FolderDisk + Drop,
-    C: Clock + Drop,
-    W: Write + Drop,
-    L: Write + Drop,
->(
+pub(crate) fn attend<R: Net + Clock, S: StationSpool + Drop>(
     rt: &R,
     alloc: Global,
     order: &StationOrder,
     day: &mut Day,
-    attendant: &mut Attendant<&R, FolderSpool<D, C, W, L>, R::Listener>,
+    attendant: &mut Attendant<&R, S, R::Listener>,
 )
     ensures day { GoesOnAsDay day.old day.new }
 {
@@ -61,13 +53,10 @@ fn wait<C: Clock>(clock: &C) {
 }
 
 /// What comes can't be kept: a call that waits is hung up; where none does, it waits a moment.
-fn hang_up_caller<
-    R: Net + Clock,
-    D: FolderDisk + Drop,
-    C: Clock + Drop,
-    W: Write + Drop,
-    L: Write + Drop,
->(rt: &R, attendant: &mut Attendant<&R, FolderSpool<D, C, W, L>, R::Listener>) {
+fn hang_up_caller<R: Net + Clock, S: StationSpool + Drop>(
+    rt: &R,
+    attendant: &mut Attendant<&R, S, R::Listener>,
+) {
     let came = match &mut attendant.door {
         Some(door) => door.next_caller(),
         None => Ok(Caller::Nobody),
@@ -80,19 +69,13 @@ fn hang_up_caller<
 
 /// Takes a call that waits, and stays on its connection; where none waits, or none can be taken, it waits a moment. Where what comes can't be kept the
 /// call is hung up.
-fn await_call<
-    R: Net + Clock,
-    D: FolderDisk + Drop,
-    C: Clock + Drop,
-    W: Write + Drop,
-    L: Write + Drop,
->(
+fn await_call<R: Net + Clock, S: StationSpool + Drop>(
     rt: &R,
     alloc: Global,
     order: &StationOrder,
     day: &mut Day,
     seen: Seen,
-    attendant: &mut Attendant<&R, FolderSpool<D, C, W, L>, R::Listener>,
+    attendant: &mut Attendant<&R, S, R::Listener>,
 )
     requires seeks { SeeksConnection day.old seen }
     ensures day { GoesOnAsDay day.old day.new }
@@ -112,7 +95,9 @@ fn await_call<
         Ok(Caller::LetIn(stream, peer)) => {
             attendant.spool.tell(Notice::CalledBy(peer));
             attendant.begin(Some(peer));
+            attendant.spool.connect();
             speak(rt, alloc, order, stream, day, seen, attendant);
+            attendant.spool.disconnect();
         }
         Ok(Caller::HungUp(peer)) => tell_hung_up(rt, attendant, peer),
         Ok(Caller::Nobody) => wait(rt),
@@ -126,37 +111,31 @@ fn await_call<
 }
 
 /// Tells that a caller was hung up, once in a minute.
-fn tell_hung_up<
-    R: Net + Clock,
-    D: FolderDisk + Drop,
-    C: Clock + Drop,
-    W: Write + Drop,
-    L: Write + Drop,
->(rt: &R, attendant: &mut Attendant<&R, FolderSpool<D, C, W, L>, R::Listener>, peer: SocketAddr) {
+fn tell_hung_up<R: Net + Clock, S: StationSpool + Drop>(
+    rt: &R,
+    attendant: &mut Attendant<&R, S, R::Listener>,
+    peer: SocketAddr,
+) {
     if attendant.strangers.is_told(rt) {
         attendant.spool.tell(Notice::HungUpOn(peer));
     }
 }
 
 /// Tells that no call can be taken, and why.
-fn tell_not_taken<D: FolderDisk + Drop, C: Clock + Drop, W: Write + Drop, L: Write + Drop>(
-    alloc: Global,
-    why: &io::Error,
-    spool: &mut FolderSpool<D, C, W, L>,
-) {
+fn tell_not_taken<S: StationSpool>(alloc: Global, why: &io::Error, spool: &mut S) {
     if let Ok(text) = format!(in alloc; "can't take a call: {}", why.kind()) {
         spool.tell(Notice::Failed(text.as_str()));
     }
 }
 
 /// Calls, and stays on the connection where there is one. Where what comes can't be kept it waits a moment.
-fn call<R: Net + Clock, D: FolderDisk + Drop, C: Clock + Drop, W: Write + Drop, L: Write + Drop>(
+fn call<R: Net + Clock, S: StationSpool + Drop>(
     rt: &R,
     alloc: Global,
     order: &StationOrder,
     day: &mut Day,
     seen: Seen,
-    attendant: &mut Attendant<&R, FolderSpool<D, C, W, L>, R::Listener>,
+    attendant: &mut Attendant<&R, S, R::Listener>,
 )
     requires seeks { SeeksConnection day.old seen }
     ensures day { GoesOnAsDay day.old day.new }
@@ -174,7 +153,9 @@ fn call<R: Net + Clock, D: FolderDisk + Drop, C: Clock + Drop, W: Write + Drop, 
         Ok(stream) => {
             attendant.spool.tell(Notice::Connected);
             attendant.begin(None);
+            attendant.spool.connect();
             speak(rt, alloc, order, stream, day, seen, attendant);
+            attendant.spool.disconnect();
         }
         Err(error) => {
             day.note(Event::NoConnection);

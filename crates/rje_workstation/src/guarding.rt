@@ -7,8 +7,8 @@ use rje_stores::{Disk, FileAccess, FileKind};
 use std::alloc::{AllocError, Global};
 
 /// What the owner alone may write to: the folder itself, and all in it but what operators put in and take away.
-const OWN_FOLDERS: [&str; 8] = [
-    "", "/doubt", "/sent", "/refused", "/in", "/cut", "/print", "/punch",
+const OWN_FOLDERS: [&str; 9] = [
+    "", "/doubt", "/sent", "/refused", "/in", "/cut", "/print", "/punch", "/settle",
 ];
 
 /// The station's own files, which are no links.

@@ -9,6 +9,7 @@ mod guarding;
 mod paced_stream;
 mod running;
 mod speaking;
+mod station_spool;
 mod strangers;
 
 pub use paced_stream::PacedStream;

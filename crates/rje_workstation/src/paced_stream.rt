@@ -113,6 +113,7 @@ impl<C: Clock, S: OpenStream> PacedStream<C, S> {
     fn set_wait(&mut self) -> io::Result<()>
         ensures waits { OnOk result (self.new.waits ≡ self.old.next) }
         ensures next { self.new.next ≡ self.old.next }
+        ensures stream { self.new.stream ≡ self.old.stream }
     {
         if self.waits != self.next {
             let time = self.time_of(self.next);
@@ -129,6 +130,7 @@ impl<C: Clock, S: OpenStream> PacedStream<C, S> {
     /// Something came: the answer to what was written, where that wasn't answered yet.
     fn note_answer(&mut self)
         ensures heard { self.new.heard ≡ true }
+        ensures stream { self.new.stream ≡ self.old.stream }
         ensures answered { self.new.wrote ≡ None }
         ensures slowest { as_nanos self.old.slowest ≤ as_nanos self.new.slowest }
     {
@@ -181,6 +183,8 @@ fn after_nothing(waited: Wait) -> Wait
 }
 
 impl<C: Clock, S: OpenStream + Read> Read for PacedStream<C, S> {
+    ghost remaining = { λ s. S.remaining s.stream };
+
     fn read(&mut self, buf: &mut [u8]) -> io::Result<usize> {
         if self.is_endless() {
             self.comes = None;
@@ -201,6 +205,8 @@ impl<C: Clock, S: OpenStream + Read> Read for PacedStream<C, S> {
 }
 
 impl<C: Clock, S: OpenStream + Write> Write for PacedStream<C, S> {
+    ghost contents = { λ s. S.contents s.stream };
+
     fn write(&mut self, buf: &[u8]) -> io::Result<usize> {
         self.next = wait_after(buf, Wait::Pause);
         self.comes = None;

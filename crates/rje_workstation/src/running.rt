@@ -7,12 +7,14 @@ use crate::attending::attend;
 use crate::doorway::Door;
 use crate::guarding::{Openness, how_open};
 use crate::speaking::most_quiet;
+use crate::station_spool::StationSpool;
 use rje_commands::{CommandFault, tell};
 use rje_day::{Day, Settings};
-use rje_folders::{Folder, FolderDisk, FolderFault, StationFolder};
+use rje_folders::{Folder, FolderFault, StationFolder};
 use rje_names::PrintedName;
 use rje_orders::{Callers, Order, Partner, StationOrder};
 use rje_program::tell_words;
+use rje_settling::{SettlingFault, SettlingSpool};
 use rje_spool::{Console, FolderSpool, Notice};
 use rje_stores::{Disk, SystemDisk};
 use rje_words::parse;
@@ -68,8 +70,12 @@ fn tell_end<E: Write>(end: &StationEnd, folder: &str, err: &mut E) -> u8
         StationEnd::Open(Openness::OfAnother(part)) => {
             writeln!(err, "rje: {folder}{part}: belongs to another user")
         }
+        StationEnd::Settling(fault) => writeln!(err, "rje: {folder}: {fault}"),
         StationEnd::Open(Openness::Writable(part)) => {
-            writeln!(err, "rje: {folder}{part}: others may write to it")
+            writeln!(
+                err,
+                "rje: {folder}{part}: others may write to it (chmod go-w)"
+            )
         }
         StationEnd::Open(Openness::NoFile(part)) => writeln!(err, "rje: {folder}{part}: no file"),
         StationEnd::Log(error) => writeln!(err, "rje: {folder}/log: {error}"),
@@ -89,10 +95,19 @@ enum StationEnd {
     Folder(FolderFault),
     /// Its folder isn't its owner's alone.
     Open(Openness),
+    /// Its accounts can't be used, by which doubt is settled.
+    Settling(SettlingFault),
     /// Its log can't be written.
     Log(io::Error),
     /// It can't listen at this address.
     Listener(SocketAddr, io::Error),
+}
+
+/// Why a station that is to be called can't listen, and at which address.
+#[derive(Drop)]
+struct ListenFault {
+    address: SocketAddr,
+    error: io::Error,
 }
 
 impl StationEnd {
@@ -104,6 +119,8 @@ impl StationEnd {
             StationEnd::Folder(fault) => *fault == FolderFault::OutOfMemory,
             StationEnd::Log(error) => error.kind() == ErrorKind::OutOfMemory,
             StationEnd::Listener(_, error) => error.kind() == ErrorKind::OutOfMemory,
+            StationEnd::Settling(SettlingFault::OutOfMemory) => true,
+            StationEnd::Settling(_) => false,
             StationEnd::Open(_) => false,
         }
     }
@@ -133,6 +150,35 @@ where
     let console = Console::new(rt, alloc, &mut *err, log, rewrites);
     let mut spool = FolderSpool::new(alloc, folder, console);
     spool.tell(Notice::Began(order.folder));
+    if !order.settle {
+        return ended(serve(rt, alloc, order, spool));
+    }
+    let disk = SystemDisk::new(rt);
+    let calls = matches!(order.partner, Partner::Calls(_));
+    let patience = most_quiet(order.patience);
+    match SettlingSpool::begin(alloc, path.as_str(), disk, spool, calls, patience) {
+        Ok(spool) => ended(serve::<R, SettlingSpool<SystemDisk<R>, &R, &mut E, File>>(
+            rt, alloc, order, spool,
+        )),
+        Err(fault) => Err(StationEnd::Settling(fault)),
+    }
+}
+
+/// How a station ended that was served so.
+fn ended(served: Result<(), ListenFault>) -> Result<(), StationEnd> {
+    match served {
+        Ok(()) => Ok(()),
+        Err(ListenFault { address, error }) => Err(StationEnd::Listener(address, error)),
+    }
+}
+
+/// Stays on the line with this spool: calls, or is called.
+fn serve<R: Net + Clock, S: StationSpool + Drop>(
+    rt: &R,
+    alloc: Global,
+    order: &StationOrder,
+    spool: S,
+) -> Result<(), ListenFault> {
     match order.partner {
         Partner::Calls(_) => {
             stay_on(rt, alloc, order, None, spool);
@@ -183,14 +229,14 @@ fn opened_log<R: Files<File = File>>(rt: &R, alloc: Global, folder: &str) -> io:
 }
 
 /// Listens at this address, and attends to the calls. What ends the station is told where it can't.
-fn listen<R: Net + Clock, D: FolderDisk + Drop, C: Clock + Drop, W: Write + Drop, L: Write + Drop>(
+fn listen<R: Net + Clock, S: StationSpool + Drop>(
     rt: &R,
     alloc: Global,
     order: &StationOrder,
     address: SocketAddr,
     callers: Callers,
-    mut spool: FolderSpool<D, C, W, L>,
-) -> Result<(), StationEnd> {
+    mut spool: S,
+) -> Result<(), ListenFault> {
     match listener_at(rt, address) {
         Ok((listener, own)) => {
             spool.tell(Notice::Listening(own));
@@ -202,7 +248,7 @@ fn listen<R: Net + Clock, D: FolderDisk + Drop, C: Clock + Drop, W: Write + Drop
                 spool.tell(Notice::Failed(text.as_str()));
             }
             spool.tell(Notice::Ended);
-            Err(StationEnd::Listener(address, error))
+            Err(ListenFault { address, error })
         }
     }
 }
@@ -216,19 +262,12 @@ fn listener_at<R: Net>(rt: &R, address: SocketAddr) -> io::Result<(R::Listener, 
 }
 
 /// Stays on the line, with this door where it is called, until the station ends.
-fn stay_on<
-    'o,
-    R: Net + Clock,
-    D: FolderDisk + Drop,
-    C: Clock + Drop,
-    W: Write + Drop,
-    L: Write + Drop,
->(
+fn stay_on<'o, R: Net + Clock, S: StationSpool + Drop>(
     rt: &R,
     alloc: Global,
     order: &StationOrder,
     door: Option<Door<'o, R::Listener>>,
-    spool: FolderSpool<D, C, W, L>,
+    spool: S,
 ) {
     let mut day = Day::new(settings_of(order));
     let mut attendant = Attendant::new(rt, spool, door, order.progress);

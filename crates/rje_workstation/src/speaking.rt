@@ -5,15 +5,15 @@ ghost use Rattle.rje_workstation.specs.Calling.{SeeksConnection};
 
 use crate::attendant::Attendant;
 use crate::paced_stream::PacedStream;
+use crate::station_spool::StationSpool;
 use rje_day::{Day, Event, Seen};
-use rje_folders::FolderDisk;
 use rje_orders::StationOrder;
 use rje_session::{Parting, StayFault, Terms, stay};
 use rje_sockets::{AdapterStream, LineCause, ObservedStream, SocketLine};
-use rje_spool::{FolderSpool, Notice, SpoolFault};
+use rje_spool::Notice;
 use std::alloc::Global;
 use std::fmt::Display;
-use std::io::{self, Write};
+use std::io;
 use std::net::Net;
 use std::time::Clock;
 
@@ -23,20 +23,14 @@ type StationLine<'r, R> = SocketLine<
 >;
 
 /// Stays on this connection until it is over, and tells why that is.
-pub(crate) fn speak<
-    R: Net + Clock,
-    D: FolderDisk + Drop,
-    C: Clock + Drop,
-    W: Write + Drop,
-    L: Write + Drop,
->(
+pub(crate) fn speak<R: Net + Clock, S: StationSpool + Drop>(
     rt: &R,
     alloc: Global,
     order: &StationOrder,
     stream: R::Stream,
     day: &mut Day,
     seen: Seen,
-    attendant: &mut Attendant<&R, FolderSpool<D, C, W, L>, R::Listener>,
+    attendant: &mut Attendant<&R, S, R::Listener>,
 )
     requires seeks { SeeksConnection day.old seen }
     ensures day { GoesOnAsDay day.old day.new }
@@ -66,19 +60,12 @@ fn line_over<'r, R: Net + Clock>(
 }
 
 /// Stays on this line until the connection is over.
-fn speak_over<
-    'r,
-    R: Net + Clock,
-    D: FolderDisk + Drop,
-    C: Clock + Drop,
-    W: Write + Drop,
-    L: Write + Drop,
->(
+fn speak_over<'r, R: Net + Clock, S: StationSpool + Drop>(
     alloc: Global,
     order: &StationOrder,
     mut line: StationLine<'r, R>,
     day: &mut Day,
-    attendant: &mut Attendant<&R, FolderSpool<D, C, W, L>, R::Listener>,
+    attendant: &mut Attendant<&R, S, R::Listener>,
 )
     ensures day { GoesOnAsDay day.old day.new }
 {
@@ -95,7 +82,7 @@ fn speak_over<
     if !line.ends_in_step() {
         spool.tell(Notice::OutOfStep);
         if let Err(fault) = spool.doubt_all() {
-            tell_fault(alloc, StayFault::Spool(fault), spool);
+            spool.tell_fault(alloc, fault);
         }
     }
     match stayed {
@@ -105,11 +92,11 @@ fn speak_over<
 }
 
 /// Tells how a connection came to its end, whose line failed for this cause, if it did.
-fn tell_parting<D: FolderDisk + Drop, C: Clock + Drop, W: Write + Drop, L: Write + Drop>(
+fn tell_parting<S: StationSpool>(
     alloc: Global,
     parting: Parting,
     cause: Option<LineCause>,
-    spool: &mut FolderSpool<D, C, W, L>,
+    spool: &mut S,
 ) {
     match (parting, cause) {
         (Parting::Unanswered, _) => spool.tell(Notice::LineFailed("no answer")),
@@ -124,27 +111,19 @@ fn tell_parting<D: FolderDisk + Drop, C: Clock + Drop, W: Write + Drop, L: Write
 }
 
 /// Tells why a connection was left that wasn't over, where the spool didn't.
-fn tell_fault<D: FolderDisk + Drop, C: Clock + Drop, W: Write + Drop, L: Write + Drop>(
-    alloc: Global,
-    fault: StayFault<SpoolFault>,
-    spool: &mut FolderSpool<D, C, W, L>,
-) {
-    let text = match fault {
-        StayFault::Spool(SpoolFault::OfFile(_)) => return,
-        StayFault::Station(fault) => format!(in alloc; "{fault}"),
-        StayFault::Spool(fault) => format!(in alloc; "{fault}"),
-    };
-    if let Ok(text) = text {
-        spool.tell(Notice::Failed(text.as_str()));
+fn tell_fault<S: StationSpool>(alloc: Global, fault: StayFault<S::Fault>, spool: &mut S) {
+    match fault {
+        StayFault::Station(fault) => {
+            if let Ok(text) = format!(in alloc; "{fault}") {
+                spool.tell(Notice::Failed(text.as_str()));
+            }
+        }
+        StayFault::Spool(fault) => spool.tell_fault(alloc, fault),
     }
 }
 
 /// Tells why the line failed.
-fn tell_failed<F: Display, D: FolderDisk + Drop, C: Clock + Drop, W: Write + Drop, L: Write + Drop>(
-    alloc: Global,
-    cause: &F,
-    spool: &mut FolderSpool<D, C, W, L>,
-) {
+fn tell_failed<F: Display, S: StationSpool>(alloc: Global, cause: &F, spool: &mut S) {
     if let Ok(text) = format!(in alloc; "{cause}") {
         spool.tell(Notice::LineFailed(text.as_str()));
     }

@@ -125,9 +125,14 @@ impl<D: FolderDisk + Drop, C: Clock, W: Write, L: Write> SpoolFiles<D, C, W, L> 
             return;
         };
         if let Some(path) = file.doubt_path() {
-            self.console.tell(Notice::Doubt(file.name.as_str(), path));
-            if self.brake.doubted(self.console.stamps().clock()) {
-                self.console.tell(Notice::Stopped);
+            if self.settles {
+                self.console
+                    .tell(Notice::UntilReceipt(file.name.as_str(), path));
+            } else {
+                self.console.tell(Notice::Doubt(file.name.as_str(), path));
+                if self.brake.doubted(self.console.stamps().clock()) {
+                    self.console.tell(Notice::Stopped);
+                }
             }
         }
         self.tell_left(job);
@@ -226,7 +231,7 @@ impl<D: FolderDisk + Drop, C: Clock, W: Write, L: Write> SpoolFiles<D, C, W, L> 
 }
 
 /// Whether another file may have been hidden, and not been given its name back, as this became of a name in out/.
-fn is_hidden_perhaps(out: OutName) -> bool {
+pub(super) fn is_hidden_perhaps(out: OutName) -> bool {
     matches!(
         out,
         OutName::Missing | OutName::OfAnother | OutName::Left(_)

@@ -18,7 +18,7 @@ use crate::passed_files::{Until, is_lasting};
 use crate::refused_file::RefusedFile;
 use crate::spool_fault::SpoolFault;
 use crate::told_names::Told;
-use rje_folders::{FileIdentity, FolderDisk, FolderFault};
+use rje_folders::{FileIdentity, FolderDisk, FolderFault, OtherName};
 use rje_jobs::{DeckFault, FileFault, Job};
 use rje_stores::MAX_INPUT;
 use std::io::{ErrorKind, Write};
@@ -175,7 +175,7 @@ impl<D: FolderDisk + Drop, C: Clock, W: Write, L: Write> SpoolFiles<D, C, W, L> 
             (FolderFault::OutOfMemory, _) => Err(SpoolFault::OutOfMemory),
             (FolderFault::Failed(_, ErrorKind::NotFound), _) => Ok(()),
             (FolderFault::BeingWritten(_), _) => Ok(self.passed.add(name, Until::NextLook)?),
-            (FolderFault::LeftHidden, _) => {
+            (FolderFault::LeftHidden | FolderFault::Numbered, _) => {
                 self.tell_why(name.as_str(), &fault);
                 Ok(())
             }
@@ -223,7 +223,11 @@ impl<D: FolderDisk + Drop, C: Clock, W: Write, L: Write> SpoolFiles<D, C, W, L> 
         let now = self.console.stamps().seconds();
         let taken = self.folder.take_over(name.as_str(), MAX_INPUT as u64, now);
         match taken {
-            Ok(_) | Err(FolderFault::Replaced) => Ok(()),
+            Ok(path) => {
+                self.tell_name_now(name.as_str(), path.as_str());
+                Ok(())
+            }
+            Err(FolderFault::Replaced) => Ok(()),
             Err(fault) => {
                 self.hidden.add(self.console.stamps().clock());
                 self.leave(name, file, fault)
@@ -252,7 +256,7 @@ impl<D: FolderDisk + Drop, C: Clock, W: Write, L: Write> SpoolFiles<D, C, W, L> 
     }
 
     /// Puts a file aside that can't be sent. One that was replaced meanwhile is looked at again.
-    fn refuse(
+    pub(super) fn refuse(
         &mut self,
         name: String,
         file: FileIdentity,
@@ -283,7 +287,11 @@ impl<D: FolderDisk + Drop, C: Clock, W: Write, L: Write> SpoolFiles<D, C, W, L> 
         ensures folder { self.new.folder ≡ self.old.folder }
         ensures given { self.new.given ≡ self.old.given }
     {
-        if let Ok(text) = format!(in self.alloc; "{name}: {why}, and it stays in out/: {fault}") {
+        let text = match fault {
+            FolderFault::LeftIn(_) => format!(in self.alloc; "{name}: {why}; {fault}"),
+            _ => format!(in self.alloc; "{name}: {why}, and it stays in out/: {fault}"),
+        };
+        if let Ok(text) = text {
             self.tell_name(text.as_str());
         }
     }
@@ -326,6 +334,46 @@ impl<D: FolderDisk + Drop, C: Clock, W: Write, L: Write> SpoolFiles<D, C, W, L> 
         Ok(())
     }
 
+    /// Tells of the hidden names whose files didn't just get the name back that they had.
+    pub(super) fn tell_hidden(&mut self, others: &[OtherName])
+        ensures folder { self.new.folder ≡ self.old.folder }
+        ensures given { self.new.given ≡ self.old.given }
+    {
+        for other in others {
+            self.tell_other_name(other);
+        }
+    }
+
+    /// The same of one: that it stays hidden is told once as long as it does, unless it is being written.
+    fn tell_other_name(&mut self, other: &OtherName)
+        ensures folder { self.new.folder ≡ self.old.folder }
+        ensures given { self.new.given ≡ self.old.given }
+    {
+        let hidden = other.hidden.as_str();
+        match &other.path {
+            Ok(path) => self.console.tell(Notice::Renamed(hidden, path.as_str())),
+            Err(FolderFault::BeingWritten(_) | FolderFault::OutOfMemory) => {}
+            Err(_) if self.passed.has(hidden) => {}
+            Err(why) => {
+                self.console.tell(Notice::StaysHidden(hidden, *why));
+                if let Ok(name) = String::from_str(self.alloc, hidden) {
+                    let file = self.folder.identity(hidden).ok();
+                    let _ = self.passed.add(name, Until::Replaced(file));
+                }
+            }
+        }
+    }
+
+    /// Tells that a file of this name has this path now, where that isn't one of its name.
+    fn tell_name_now(&mut self, name: &str, path: &str)
+        ensures folder { self.new.folder ≡ self.old.folder }
+        ensures given { self.new.given ≡ self.old.given }
+    {
+        if !is_named(path, name) {
+            self.console.tell(Notice::Renamed(name, path));
+        }
+    }
+
     /// Tells why a file isn't sent now.
     fn tell_why(&mut self, name: &str, why: &FolderFault)
         ensures folder { self.new.folder ≡ self.old.folder }
@@ -366,6 +414,14 @@ impl<D: FolderDisk + Drop, C: Clock, W: Write, L: Write> SpoolFiles<D, C, W, L> 
             self.number = 1;
         }
         Ok(())
+    }
+}
+
+/// Whether a path is one of this name in its folder.
+fn is_named(path: &str, name: &str) -> bool {
+    match path.strip_suffix(name) {
+        Some(folder) => folder.ends_with("/"),
+        None => false,
     }
 }
 

@@ -93,11 +93,7 @@ impl<D: FolderDisk + Drop, C: Clock, W: Write, L: Write> SpoolFiles<D, C, W, L> 
         if matches!(why, SpoolFault::OutOfMemory) {
             return;
         }
-        if let Ok(file) = received_file(self.alloc, job) {
-            self.unkept
-                .add(file.len() as u64, self.console.stamps().clock());
-            self.console.tell(Notice::ReceivesNot);
-        }
+        self.note_not_kept(job);
     }
 
     /// Makes the paper that is due, if one is. It is told where that can't be.
@@ -115,7 +111,7 @@ impl<D: FolderDisk + Drop, C: Clock, W: Write, L: Write> SpoolFiles<D, C, W, L> 
     }
 
     /// The job that is kept under this path has no paper.
-    fn tell_no_paper(&mut self, path: &str, why: &SpoolFault)
+    pub(super) fn tell_no_paper(&mut self, path: &str, why: &SpoolFault)
         ensures folder { self.new.folder ≡ self.old.folder }
     {
         if let Ok(text) = format!(in self.alloc; "no paper of {path}: {why}") {

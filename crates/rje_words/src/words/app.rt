@@ -13,7 +13,7 @@ use clap::{Arg, ArgAction, Command, value_parser};
 use std::alloc::{AllocError, Global};
 
 /// The program's version.
-const VERSION: &str = "1.6.2";
+const VERSION: &str = "1.7.0";
 
 /// What stands after the commands where help is given.
 const AFTER_HELP: &str = "\
@@ -241,6 +241,7 @@ fn station<'a>(alloc: Global) -> Result<Command<'a>, AllocError>
     let command = with_arg(command, adapter(alloc))?;
     let once = flag(alloc, "once", "End after one connection");
     let command = with_arg(command, once)?;
+    let command = with_arg(command, settle(alloc))?;
     with_arg(command, quiet(alloc))
 }
 
@@ -471,6 +472,16 @@ fn adapter<'a>(alloc: Global) -> Arg<'a>
         alloc,
         "adapter",
         "The other end is a line adapter, such as a 2703, that makes and takes SYN, pads and checks itself",
+    )
+}
+
+fn settle<'a>(alloc: Global) -> Arg<'a>
+    ensures { IsArg (flag_rule (codes "settle")) result }
+{
+    flag(
+        alloc,
+        "settle",
+        "Let receipts tell what may have arrived: the other end is a station with --settle too",
     )
 }
 

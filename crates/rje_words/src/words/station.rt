@@ -1,7 +1,7 @@
 //! What the words of `station` ask for.
-ghost use Rattle.std.specs.Prelude.{◌≡◌, codes, IfOk, IfErr};
+ghost use Rattle.std.specs.Prelude.{◌≡◌, codes, true, IfOk, IfErr, IfNone, IfSome};
 ghost use Rattle.clap.specs.Words.{found_of, one_of, rows_of};
-ghost use Rattle.rje_words.specs.Asking.{IsEveryOf, IsPartnerFaultIn, IsPartnerIn, IsProgressOf, IsStationFaultOf, IsStationOrderOf, every_goes, station_rank_in};
+ghost use Rattle.rje_words.specs.Asking.{CanSettle, IsEveryOf, IsPartnerFaultIn, IsPartnerIn, IsProgressOf, IsSettlingFault, IsStationFaultOf, IsStationOrderOf, every_goes, station_rank_in};
 
 use super::{callers_in, is_given, is_quiet, patience_of, timeout_of, value_of, word};
 use crate::address::{address_of, is_host_address};
@@ -23,18 +23,61 @@ pub(super) fn station_order<'a>(
     let Some(rank) = station_rank_in(matches, partner) else {
         return Err(WordsFault::TwoRanks);
     };
+    let adapter = is_given(matches, "adapter");
+    let patience = patience_of(matches);
+    let settle = settle_in(is_given(matches, "settle"), partner, adapter, patience)?;
     Ok(StationOrder {
         folder: word(matches, "FOLDER"),
         partner,
         timeout: timeout_of(matches),
-        patience: patience_of(matches),
+        patience,
         rank,
-        adapter: is_given(matches, "adapter"),
+        adapter,
         every: every_of(matches),
         progress: progress_of(matches),
         once: is_given(matches, "once"),
+        settle,
         quiet: is_quiet(matches),
     })
+}
+
+/// Whether doubt is settled by receipts, where that option was given or not.
+fn settle_in<'a>(
+    given: bool,
+    partner: Partner,
+    adapter: bool,
+    patience: u32,
+) -> Result<bool, WordsFault<'a>>
+    ensures given { IfOk result (λ settle. settle ≡ given) }
+    ensures can { IfOk result (λ settle.
+        settle ≡ true → CanSettle partner.entry adapter patience) }
+    ensures told { IfErr result (λ fault.
+        (given ≡ true) × IsSettlingFault partner.entry adapter patience fault) }
+{
+    if !given {
+        return Ok(false);
+    }
+    match settling_fault(partner, adapter, patience) {
+        Some(fault) => Err(fault),
+        None => Ok(true),
+    }
+}
+
+/// Why a station with this partner, with a line adapter at the other end or none, and with this patience
+/// can't settle doubt by receipts, if it can't.
+fn settling_fault<'a>(partner: Partner, adapter: bool, patience: u32) -> Option<WordsFault<'a>>
+    ensures fault { IfSome result (IsSettlingFault partner.entry adapter patience) }
+    ensures none { IfNone result (CanSettle partner.entry adapter patience) }
+{
+    if adapter {
+        Some(WordsFault::SettlesWithAdapter)
+    } else if patience == 0 {
+        Some(WordsFault::SettlesForEver)
+    } else if partner.has_callers() {
+        Some(WordsFault::SettlesWithCallers)
+    } else {
+        None
+    }
 }
 
 /// How a station comes to its connections, by one of two options. A third one, for whose calls are

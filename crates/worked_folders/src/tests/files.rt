@@ -9,9 +9,11 @@ use std::test::Fail;
 /// More calls than the station makes for one file.
 const MAX_CALLS: usize = 16;
 
-/// The folder of the station on this disk.
+/// The folder of the station on this disk, which has tried some hidden names.
 fn opened(rt: &impl Abort, alloc: Global, disk: FailingDisk) -> StationFolder<FailingDisk> {
-    StationFolder::open(disk, alloc, "s").expect(rt, "a folder")
+    let mut station = StationFolder::open(disk, alloc, "s").expect(rt, "a folder");
+    let _ = station.finish_taking_over("", None);
+    station
 }
 
 /// A disk with a file of these bytes under this name.

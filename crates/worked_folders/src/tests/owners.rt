@@ -16,9 +16,17 @@ const LAST_CALL: usize = 11;
 /// The number of the call by which the file gets a hidden name.
 const HIDING: usize = 4;
 
-/// The folder of the station on this disk.
+/// The folder of the station on this disk, which has tried some hidden names.
 fn opened(rt: &impl Abort, alloc: Global, disk: FailingDisk) -> StationFolder<FailingDisk> {
-    StationFolder::open(disk, alloc, "s").expect(rt, "a folder")
+    let mut station = StationFolder::open(disk, alloc, "s").expect(rt, "a folder");
+    let _ = station.finish_taking_over("", None);
+    station
+}
+
+/// Whether some are left, once some hidden names are tried at this time.
+fn is_left(rt: &impl Abort, station: &mut StationFolder<FailingDisk>, now: Option<i64>) -> bool {
+    let finished = station.finish_taking_over("", now).expect(rt, "names");
+    finished.is_left
 }
 
 /// A disk with one file in out/, of another user.
@@ -190,9 +198,9 @@ fn a_file_that_is_written_to_is_left_hidden_until_it_rests(rt: HostRuntime) -> R
         let mut station = opened(&rt, alloc, disk);
         let refused = station.take_over("A.deck", 5, Some(5)).err();
         assert!(rt; refused == Some(FolderFault::LeftHidden));
-        assert!(rt; station.finish_taking_over(Some(5)) == Ok(true));
+        assert!(rt; is_left(&rt, &mut station, Some(5)));
         assert!(rt; station.names_ready().is_ok_and(|names| names.is_empty()));
-        assert!(rt; station.finish_taking_over(Some(6)) == Ok(false));
+        assert!(rt; !is_left(&rt, &mut station, Some(6)));
         let (disk, count) = closed(&rt, alloc, station, b"X2345")?;
         assert!(rt; count == 1 && disk.count() == 2);
         assert!(rt; disk.file_of("s/out/A.deck") != Some(1));
@@ -224,12 +232,49 @@ fn hidden_names_are_brought_to_their_end_in_turn(rt: HostRuntime) -> Result<(), 
         disk.put(path.as_str())?;
     }
     let mut station = opened(&rt, alloc, disk);
-    for (ready, is_left) in [(8, true), (16, false)] {
+    for (ready, still) in [(8, true), (16, false)] {
         let names = station.names_ready().expect(&rt, "names");
         assert!(rt; names.len() == ready);
-        assert!(rt; station.finish_taking_over(None) == Ok(is_left));
+        assert!(rt; is_left(&rt, &mut station, None) == still);
     }
     let names = station.names_ready().expect(&rt, "names");
     assert!(rt; names.len() == 17);
+    Ok(())
+}
+
+/// Each hidden name is tried in turn, however many can't be brought to their end: those of files with another name that isn't found.
+#[test]
+fn hidden_names_are_tried_in_turn(rt: HostRuntime) -> Result<(), Fail> {
+    let alloc = rt.alloc();
+    let mut disk = FailingDisk::new(alloc, 0, false);
+    for number in 10..22 {
+        let elsewhere = format!(in alloc; "elsewhere/{number}")?;
+        let hidden = format!(in alloc; "s/out/.A{number}.deck.taken-1")?;
+        disk.put(elsewhere.as_str())?;
+        disk.link(elsewhere.as_str(), hidden.as_str())?;
+    }
+    disk.put("s/out/.B.deck.taken-0")?;
+    disk.put("s/out/.C.deck.taken-0")?;
+    disk.put("s/out/C.deck")?;
+    let mut station = StationFolder::open(disk, alloc, "s").expect(&rt, "a folder");
+    let first = station.finish_taking_over("", None).expect(&rt, "names");
+    assert!(rt; first.is_left && first.last.as_str() == ".A17.deck.taken-1");
+    let next = station
+        .finish_taking_over(first.last.as_str(), None)
+        .expect(&rt, "names");
+    assert!(rt; next.is_left && next.last.as_str() == ".A11.deck.taken-1");
+    assert!(rt; first.others.len() == 8 && next.others.len() == 7);
+    let numbered = next
+        .others
+        .iter()
+        .find(|other| other.hidden.as_str() == ".C.deck.taken-0");
+    assert!(rt;
+        numbered.is_some_and(|other| other
+            .path
+            .as_ref()
+            .is_ok_and(|path| path.as_str() == "s/out/C.2.deck"))
+    );
+    let names = station.names_ready().expect(&rt, "names");
+    assert!(rt; names.len() == 3);
     Ok(())
 }

@@ -35,9 +35,11 @@ fn disk_with_a_file(alloc: Global, fails_at: usize, is_done: bool) -> io::Result
     Ok(disk)
 }
 
-/// The folder of the station on this disk.
+/// The folder of the station on this disk, which has tried some hidden names.
 fn opened(rt: &impl Abort, alloc: Global, disk: FailingDisk) -> StationFolder<FailingDisk> {
-    StationFolder::open(disk, alloc, "s").expect(rt, "a folder")
+    let mut station = StationFolder::open(disk, alloc, "s").expect(rt, "a folder");
+    let _ = station.finish_taking_over("", None);
+    station
 }
 
 /// What the folder comes to when a station has it anew, and none of its calls fails.

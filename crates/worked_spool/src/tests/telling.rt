@@ -1,5 +1,6 @@
 //! The lines that a station tells.
 use super::Ground;
+use rje_folders::FolderFault;
 use rje_spool::{JobLabel, Notice, RefusedFile};
 use rje_text::Select;
 use std::io::ErrorKind;
@@ -67,6 +68,8 @@ fn files_are_told(rt: HostRuntime) {
         Notice::Doubt("a.deck", "/var/spool/rje/doubt/a.2.deck"),
         Notice::TakenBack("a.deck"),
         Notice::Left("a.deck", ErrorKind::PermissionDenied),
+        Notice::Renamed(".a.deck.taken-0", "/var/spool/rje/out/a.2.deck"),
+        Notice::StaysHidden(".a.deck.taken-0", FolderFault::OtherNames),
         Notice::Stopped,
         Notice::Refused("b.txt", RefusedFile::UnknownKind),
         Notice::Refused("b.deck", RefusedFile::TooLong),
@@ -93,6 +96,8 @@ sent a.deck
 DOUBT a.deck may have arrived: doubt/a.2.deck
 a.deck was taken out of out/ when its last block was out
 out/a.deck can't be taken away and isn't sent again: permission denied
+out/.a.deck.taken-0 is out/a.2.deck now: another file has its name
+out/.a.deck.taken-0: not given its name back: it has other names
 STOPPED SENDING: three files in doubt in a row
 refused b.txt: neither a deck nor a job file, by its name
 refused b.deck: more than 16777216 bytes

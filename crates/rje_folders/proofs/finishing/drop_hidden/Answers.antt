@@ -8,8 +8,8 @@ use Rattle.rje_folders.specs.TakenName.{IsTakenPath}
 use Rattle.rje_folders.proofs.TakenOver.{drop_finishes}
 use Rattle.rje_folders.proofs.finishing.drop_hidden.Goals as goal
 
-pub returns-in_err-drop_name-in-Some : goal.returns-in_err-drop_name-in-Some
-returns-in_err-drop_name-in-Some g c = λ told.
+pub returns-in-Ok-false : goal.returns-in-Ok-false
+returns-in-Ok-false g c = λ told.
     let kept = string_bytes c.in-Some.kept in
     let path = path_in c.args.station.now Folder.Out c.args.hidden.now in
     let taken : IsTakenPath c.args.station.now c.args.name.now path = (c.args.hidden.now, c.requires.named, refl) in

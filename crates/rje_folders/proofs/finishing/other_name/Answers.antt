@@ -11,8 +11,8 @@ use Rattle.rje_folders.proofs.finishing.other_name.Goals as goal
 pub returns-in-Some : goal.returns-in-Some
 returns-in-Some g c = inr (rw c.in-Some.is at c.in_ok-path.ensures)
 
-pub returns : goal.returns
-returns g c =
+pub returns-in-Some-kept : goal.returns-in-Some-kept
+returns-in-Some-kept g c =
     let station = c.args.station.now in
     let name = c.args.name.now in
     let named = path_in station Folder.Out name in

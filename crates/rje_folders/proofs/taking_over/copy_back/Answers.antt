@@ -8,8 +8,8 @@ use Rattle.rje_folders.proofs.taking_over.copy_back.Goals as goal
 pub returns-in_err-copy : goal.returns-in_err-copy
 returns-in_err-copy g c = λ told. copy_gives g.D.Disk.opened g.D.File.Read.remaining g.D.FolderDisk.is_open g.D.FolderDisk.is_file g.D.FolderDisk.are_one c.args.station.now c.args.name.now _ _ (c.copied.ensures.asks told)
 
-pub returns-in_err-put_in : goal.returns-in_err-put_in
-returns-in_err-put_in g c = λ told. added_twice (MayGiveBack g.D.Disk.opened g.D.File.Read.remaining g.D.FolderDisk.is_open g.D.FolderDisk.is_file g.D.FolderDisk.are_one c.args.station.now c.args.name.now) _ _ _ (copy_gives g.D.Disk.opened g.D.File.Read.remaining g.D.FolderDisk.is_open g.D.FolderDisk.is_file g.D.FolderDisk.are_one c.args.station.now c.args.name.now _ _ (c.copied.ensures.asks told)) (c.put_in.ensures.asks told)
+pub returns-in_err-path : goal.returns-in_err-path
+returns-in_err-path g c = λ told. added_twice (MayGiveBack g.D.Disk.opened g.D.File.Read.remaining g.D.FolderDisk.is_open g.D.FolderDisk.is_file g.D.FolderDisk.are_one c.args.station.now c.args.name.now) _ _ _ (copy_gives g.D.Disk.opened g.D.File.Read.remaining g.D.FolderDisk.is_open g.D.FolderDisk.is_file g.D.FolderDisk.are_one c.args.station.now c.args.name.now _ _ (c.copied.ensures.asks told)) (c.put_in.ensures.asks told)
 
 pub returns-in-Some : goal.returns-in-Some
 returns-in-Some g c = λ told. added_twice (MayGiveBack g.D.Disk.opened g.D.File.Read.remaining g.D.FolderDisk.is_open g.D.FolderDisk.is_file g.D.FolderDisk.are_one c.args.station.now c.args.name.now) _ _ _ (copy_gives g.D.Disk.opened g.D.File.Read.remaining g.D.FolderDisk.is_open g.D.FolderDisk.is_file g.D.FolderDisk.are_one c.args.station.now c.args.name.now _ _ (c.copied.ensures.asks told)) (c.put_in.ensures.asks told)

@@ -7,8 +7,20 @@ use Rattle.rje_folders.specs.TakingOver.{MayGiveBack}
 use Rattle.rje_folders.proofs.TakenOver.{move_gives}
 use Rattle.rje_folders.proofs.taking_over.exchange.Goals as goal
 
-pub returns-after-move_back-clause-asks : goal.returns-after-move_back-clause-asks
-returns-after-move_back-clause-asks g c = λ told.
+pub returns-in-Ok-clause-asks : goal.returns-in-Ok-clause-asks
+returns-in-Ok-clause-asks g c = λ told.
+    let path = path_in c.args.station.now Folder.Out c.args.hidden.now in
+    let taken : IsTakenPath c.args.station.now c.args.name.now path = (c.args.hidden.now, c.requires.named, refl) in
+    added_twice (MayGiveBack g.D.Disk.opened g.D.File.Read.remaining g.D.FolderDisk.is_open g.D.FolderDisk.is_file g.D.FolderDisk.are_one c.args.station.now c.args.name.now) _ _ _ (c.put_in.ensures.asks told) (move_gives g.D.Disk.opened g.D.File.Read.remaining g.D.FolderDisk.is_open g.D.FolderDisk.is_file g.D.FolderDisk.are_one c.args.station.now c.args.name.now path _ _ taken (c.move_back.ensures.asks told))
+
+pub returns-in-Ok-2-clause-asks : goal.returns-in-Ok-2-clause-asks
+returns-in-Ok-2-clause-asks g c = λ told.
+    let path = path_in c.args.station.now Folder.Out c.args.hidden.now in
+    let taken : IsTakenPath c.args.station.now c.args.name.now path = (c.args.hidden.now, c.requires.named, refl) in
+    added_twice (MayGiveBack g.D.Disk.opened g.D.File.Read.remaining g.D.FolderDisk.is_open g.D.FolderDisk.is_file g.D.FolderDisk.are_one c.args.station.now c.args.name.now) _ _ _ (c.put_in.ensures.asks told) (move_gives g.D.Disk.opened g.D.File.Read.remaining g.D.FolderDisk.is_open g.D.FolderDisk.is_file g.D.FolderDisk.are_one c.args.station.now c.args.name.now path _ _ taken (c.move_back.ensures.asks told))
+
+pub returns-in-Err-clause-asks : goal.returns-in-Err-clause-asks
+returns-in-Err-clause-asks g c = λ told.
     let path = path_in c.args.station.now Folder.Out c.args.hidden.now in
     let taken : IsTakenPath c.args.station.now c.args.name.now path = (c.args.hidden.now, c.requires.named, refl) in
     added_twice (MayGiveBack g.D.Disk.opened g.D.File.Read.remaining g.D.FolderDisk.is_open g.D.FolderDisk.is_file g.D.FolderDisk.are_one c.args.station.now c.args.name.now) _ _ _ (c.put_in.ensures.asks told) (move_gives g.D.Disk.opened g.D.File.Read.remaining g.D.FolderDisk.is_open g.D.FolderDisk.is_file g.D.FolderDisk.are_one c.args.station.now c.args.name.now path _ _ taken (c.move_back.ensures.asks told))

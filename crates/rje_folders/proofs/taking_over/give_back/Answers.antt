@@ -13,8 +13,8 @@ returns-in-Ok g c = λ told.
     let taken : IsTakenPath c.args.station.now c.args.name.now path = (c.args.hidden.now, c.requires.named, refl) in
     move_gives g.D.Disk.opened g.D.File.Read.remaining g.D.FolderDisk.is_open g.D.FolderDisk.is_file g.D.FolderDisk.are_one c.args.station.now c.args.name.now path _ _ taken (c.move_back.ensures.asks told)
 
-pub returns : goal.returns
-returns g c = λ told.
+pub returns-in-Err-2 : goal.returns-in-Err-2
+returns-in-Err-2 g c = λ told.
     let path = path_in c.args.station.now Folder.Out c.args.hidden.now in
     let taken : IsTakenPath c.args.station.now c.args.name.now path = (c.args.hidden.now, c.requires.named, refl) in
     move_gives g.D.Disk.opened g.D.File.Read.remaining g.D.FolderDisk.is_open g.D.FolderDisk.is_file g.D.FolderDisk.are_one c.args.station.now c.args.name.now path _ _ taken (c.move_back.ensures.asks told)

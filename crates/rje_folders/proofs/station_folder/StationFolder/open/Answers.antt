@@ -1,28 +1,19 @@
-use Rattle.std.proofs.Common.{inl, inr}
-use Rattle.rje_stores.specs.Replacing.{Either}
-use Rattle.rje_stores.proofs.Replacing.{added_twice, added_weaker}
+use Rattle.rje_stores.proofs.Replacing.{added_twice}
 use Rattle.rje_folders.specs.declared.folder.Folder.{Folder}
 use Rattle.rje_folders.specs.Folder.{path_of}
 use Rattle.rje_folders.specs.Promising.{MayOpen}
-use Rattle.rje_folders.specs.TakingOver.{MayFinish}
 use Rattle.rje_folders.proofs.Opened.{clear_opens, tidy_opens, was_on_disk}
 use Rattle.rje_folders.proofs.station_folder.StationFolder.open.Goals as goal
 
 pub returns-clause-asks : goal.returns-clause-asks
 returns-clause-asks g c = λ told.
     let may = MayOpen g.D.FolderDisk.are_one c.args.path.now in
-    let finish = MayFinish g.D.Disk.opened g.D.File.Read.remaining g.D.FolderDisk.is_open g.D.FolderDisk.is_file g.D.FolderDisk.are_one c.args.path.now in
-    added_twice (Either may finish) _ _ _
-    (added_twice (Either may finish) _ _ _ (added_weaker may (Either may finish) (λ call before x. inl x) _ _ (added_twice may _ _ _ (c.make_folders.ensures.asks told) (c.locked.ensures told)))
-    (added_weaker may (Either may finish) (λ call before x. inl x) _ _ (added_twice may _ _ _ (clear_opens g.D.FolderDisk.are_one c.args.path.now _ _ (c.clear_up.ensures told)) (tidy_opens g.D.FolderDisk.are_one c.args.path.now _ _ (c.tidy_up.ensures told)))))
-    (added_weaker finish (Either may finish) (λ call before x. inr x) _ _ (c.finish_all.ensures told))
+    added_twice may _ _ _ (added_twice may _ _ _ (c.make_folders.ensures.asks told) (c.locked.ensures told))
+    (added_twice may _ _ _ (clear_opens g.D.FolderDisk.are_one c.args.path.now _ _ (c.clear_up.ensures told)) (tidy_opens g.D.FolderDisk.are_one c.args.path.now _ _ (c.tidy_up.ensures told)))
 
 pub returns-clause-on_disk : goal.returns-clause-on_disk
 returns-clause-on_disk g c = λ told.
     let may = MayOpen g.D.FolderDisk.are_one c.args.path.now in
-    let finish = MayFinish g.D.Disk.opened g.D.File.Read.remaining g.D.FolderDisk.is_open g.D.FolderDisk.is_file g.D.FolderDisk.are_one c.args.path.now in
-    was_on_disk (Either may finish) (path_of c.args.path.now Folder.Out) (g.D.Disk.asked c.make_folders.new.disk) _ (c.in_ok-make_folders.ensures.on_disk told)
-    (added_twice (Either may finish) _ _ _
-    (added_twice (Either may finish) _ _ _ (added_weaker may (Either may finish) (λ call before x. inl x) _ _ (c.locked.ensures told))
-    (added_weaker may (Either may finish) (λ call before x. inl x) _ _ (added_twice may _ _ _ (clear_opens g.D.FolderDisk.are_one c.args.path.now _ _ (c.clear_up.ensures told)) (tidy_opens g.D.FolderDisk.are_one c.args.path.now _ _ (c.tidy_up.ensures told)))))
-    (added_weaker finish (Either may finish) (λ call before x. inr x) _ _ (c.finish_all.ensures told)))
+    was_on_disk may (path_of c.args.path.now Folder.Out) (g.D.Disk.asked c.make_folders.new.disk) _ (c.in_ok-make_folders.ensures.on_disk told)
+    (added_twice may _ _ _ (c.locked.ensures told)
+    (added_twice may _ _ _ (clear_opens g.D.FolderDisk.are_one c.args.path.now _ _ (c.clear_up.ensures told)) (tidy_opens g.D.FolderDisk.are_one c.args.path.now _ _ (c.tidy_up.ensures told))))

@@ -12,4 +12,5 @@ returns c =
     let partner = c.in_ok-command-2.ensures _ folder in
     let adapter = c.in_ok-command-3.ensures _ (flag_rule (codes "adapter")) partner c.adapter.ensures in
     let once = c.in_ok-command-4.ensures _ (flag_rule (codes "once")) adapter c.flag-once.ensures in
-    c.with_arg-4.ensures _ quiet_rule once c.quiet.ensures
+    let settle = c.in_ok-command-5.ensures _ (flag_rule (codes "settle")) once c.settle.ensures in
+    c.with_arg-5.ensures _ quiet_rule settle c.quiet.ensures
