@@ -135,7 +135,7 @@ class SettlingCase(StationCase):
     def comes(self, *cards):
         """Just these jobs came, each once, and nothing is left at the far station."""
         wanted = sorted(cards)
-        waits_for(lambda: self.cards_in(self.near) == wanted and not self.left(), 12)
+        waits_for(lambda: self.cards_in(self.near) == wanted and not self.left(), 40)
         self.equal(self.cards_in(self.near), wanted, "what came")
         self.equal(self.left(), [], "what is left in out/, doubt/ and refused/")
         time.sleep(0.5)
@@ -149,7 +149,7 @@ class SettlingCase(StationCase):
 
     def tells(self, station, text):
         """A station tells this line."""
-        self.true(waits_for(lambda: has_logged(station, f"{text}\n"), 12), lambda: f"`{text}` isn't told, but {told_in(station)}")
+        self.true(waits_for(lambda: has_logged(station, f"{text}\n"), 40), lambda: f"`{text}` isn't told, but {told_in(station)}")
 
 
 def told_in(station):
