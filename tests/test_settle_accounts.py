@@ -99,15 +99,7 @@ class Accounts(SettlingCase):
                 self.far.put("last.deck", ["LAST"])
                 self.true(waits_for(lambda: "LAST" in self.cards_in(self.near)), "last.deck doesn't come")
                 self.equal(self.promises(self.far), [], "what is promised") if waits_for(lambda: not self.promises(self.far)) else None
-                self.end()
-
-    def end(self):
-        for station in self.near, self.far:
-            station.stop()
-        self.line.end()
-        for station in "near", "far":
-            os.rename(self.at(station), self.at(f"{station}.{len(os.listdir(self.folder))}"))
-            os.remove(self.at(f"{station}.err"))
+                self.end_pair()
 
     def test_other_names(self):
         """What else is in settle/ is left alone."""

@@ -1,12 +1,14 @@
 """What two stations with --settle make of a job that may have arrived: it is in the other's in/ once, and nobody's hand is needed, whatever was lost, and
 whatever an operator or a kill does meanwhile."""
 import os
+import signal
 import sys
 
 sys.path.insert(0, os.path.dirname(os.path.dirname(os.path.abspath(__file__))))
-from tests.lib import case  # noqa: E402
+from tests.lib import case, shim  # noqa: E402
 from tests.lib.ports import waits_for  # noqa: E402
 from tests.lib.settling import SettlingCase, told_in  # noqa: E402
+from tests.lib.stations import put_beside  # noqa: E402
 
 
 class Doubts(SettlingCase):
@@ -27,15 +29,7 @@ class Doubts(SettlingCase):
                 if settled:
                     self.goes_on("FIRST", "DOUBTED", *further)
                     self.true(waits_for(lambda: not self.promises(self.far)), "a promise is left")
-                self.end()
-
-    def end(self):
-        for station in self.near, self.far:
-            station.stop()
-        self.line.end()
-        for station in "near", "far":
-            os.rename(self.at(station), self.at(f"{station}.{len(os.listdir(self.folder))}"))
-            os.remove(self.at(f"{station}.err"))
+                self.end_pair()
 
     def test_settled(self):
         """The next receipt tells it."""
@@ -100,6 +94,43 @@ class Doubts(SettlingCase):
         self.each_way(delete, settled=False)
 
 
+class Replaced(SettlingCase):
+    """Another deck takes the name of one that came, in the moment in which that name is taken out of out/: it goes as a job of its own."""
+
+    seconds = 20
+
+    def pair_that_stops(self, call):
+        """Two stations, of which the far one will stop before a call."""
+        self.pair(starts=False)
+        self.far.environment = {**os.environ, **shim.under(f"stop {call}")}
+        self.start_both()
+
+    def replaces(self, name):
+        """The far end stops, its deck is replaced, and it goes on."""
+        os.waitid(os.P_PID, self.far.process.pid, os.WSTOPPED | os.WNOWAIT)
+        self.equal([name in self.far.names(place) for place in ("sent", "out")], [True, True], f"{name} is in sent/ and in out/")
+        put_beside(self.far, name, "NEW\n")
+        self.far.process.send_signal(signal.SIGCONT)
+
+    def test_as_it_is_counted(self):
+        """The name is taken away when the job is counted."""
+        self.pair_that_stops("rename 1")
+        self.far.put("d.deck", ["OLD"])
+        self.replaces("d.deck")
+        self.goes_on("OLD", "NEW")
+
+    def test_by_a_receipt(self):
+        """The name is taken away when a receipt says that a job came, which the operator had put back."""
+        # (of first.deck, of d.deck as it is in doubt, of d.deck by the receipt)
+        self.pair_that_stops("rename 3")
+        self.sends()
+        self.doubts("answer")
+        os.rename(self.far.at("doubt", "d.deck"), self.far.at("out", "d.deck"))
+        self.meets()
+        self.replaces("d.deck")
+        self.goes_on("FIRST", "DOUBTED", "NEW")
+
+
 class Unkept(SettlingCase):
     """A job that the other end doesn't keep, whenever it is sent."""
 
@@ -137,7 +168,7 @@ class JobFiles(SettlingCase):
                     self.doubts(loss, "d.job", [line for card in cards for line in (card, "CARD")])
                     self.meets()
                     self.goes_on("FIRST", *cards)
-                    Doubts.end(self)
+                    self.end_pair()
 
 
 if __name__ == "__main__":

@@ -92,6 +92,15 @@ class SettlingCase(StationCase):
             self.start_both()
         return self.near, self.far
 
+    def end_pair(self):
+        """Ends both stations, and puts their folders aside."""
+        for station in self.near, self.far:
+            station.stop()
+        self.line.end()
+        for station in "near", "far":
+            os.rename(self.at(station), self.at(f"{station}.{len(os.listdir(self.folder))}"))
+            os.remove(self.at(f"{station}.err"))
+
     def start_both(self):
         for station in self.near, self.far:
             station.start()
