@@ -29,7 +29,7 @@ class Units(Case):
         """The unit of a station lets it do little: systemd's own measure of it is at most 2.0."""
         if not shutil.which("systemd-analyze"):
             self.skipTest("systemd-analyze isn't installed")
-        unit = os.path.join(ROOT, "contrib", UNITS[0])
+        unit = os.path.join(ROOT, "dist", "contrib", UNITS[0])
         ended = self.run_words("systemd-analyze", "security", "--offline=true", f"--threshold={MOST_EXPOSED}", "--no-pager", unit)
         self.equal(ended.status, 0, lambda: f"the unit is exposed: {ended.printed[-200:]}")
 
@@ -38,7 +38,7 @@ class Units(Case):
         if not shutil.which("systemd-analyze"):
             self.skipTest("systemd-analyze isn't installed")
         for name in UNITS:
-            shutil.copy(os.path.join(ROOT, "contrib", name), self.at(name.replace("@", "@there")))
+            shutil.copy(os.path.join(ROOT, "dist", "contrib", name), self.at(name.replace("@", "@there")))
         ended = self.run_words("systemd-analyze", "verify", "--man=no", *(self.at(name.replace("@", "@there")) for name in UNITS))
         told = [line for line in ended.told.splitlines() if "nknown" in line or "nvalid" in line or "gnoring" in line]
         self.equal(told, [], "what systemd doesn't know of the units")
@@ -57,7 +57,7 @@ class Printing(Case):
         os.chmod(self.at("tools/lp"), 0o755)
 
     def watches(self):
-        words = [os.path.join(ROOT, "contrib/rje-print"), self.at("station"), "-d", "forms"]
+        words = [os.path.join(ROOT, "dist/contrib/rje-print"), self.at("station"), "-d", "forms"]
         tools = {**os.environ, "PATH": f"{self.at('tools')}:{os.environ['PATH']}"}
         return subprocess.Popen(words, cwd=self.folder, env=tools, stdin=subprocess.DEVNULL, stdout=subprocess.DEVNULL, stderr=subprocess.DEVNULL, start_new_session=True)
 
@@ -99,7 +99,7 @@ class Printing(Case):
         self.equal(sorted(os.listdir(self.at("station/print"))), ["cards"], "what is left in print/")
 
     def test_words(self):
-        watcher = os.path.join(ROOT, "contrib/rje-print")
+        watcher = os.path.join(ROOT, "dist/contrib/rje-print")
         self.equal(self.run_words(watcher).status, 2, "the status without a folder")
         helped = self.run_words(watcher, "--help")
         self.check((helped.status or "Usage: rje-print FOLDER" not in helped.printed) and f"--help prints {helped.printed}")

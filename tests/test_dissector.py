@@ -1,4 +1,4 @@
-"""The dissector of contrib/wireshark, by tshark where that is installed: what it shows of the forms of docs/LINE.md, whole, in pieces, spoiled, and of a
+"""The dissector of dist/contrib/wireshark, by tshark where that is installed: what it shows of the forms of docs/LINE.md, whole, in pieces, spoiled, and of a
 line adapter."""
 import os
 import shutil
@@ -11,7 +11,7 @@ from tests.lib.case import Case  # noqa: E402
 from tests.lib.frames import ACK0, ACK1, ENQ, EOT, ETB, NAK, NOISE, RVI, TTD, WACK, normal, transparent  # noqa: E402
 from tests.lib.program import ROOT  # noqa: E402
 
-DISSECTOR = os.path.join(ROOT, "contrib/wireshark/bsc.lua")
+DISSECTOR = os.path.join(ROOT, "dist/contrib/wireshark/bsc.lua")
 # PAY 100 in EBCDIC, and the end of the record.
 CARD = "D7C1E840F1F0F01E"
 

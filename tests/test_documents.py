@@ -29,14 +29,14 @@ def options_in(text):
 
 def page():
     """The man page without the signs of its layout."""
-    text = document("manual/rje.1").replace("\\-", "-").replace("\\(aq", "'").replace("\\&", "")
+    text = document("dist/manual/rje.1").replace("\\-", "-").replace("\\(aq", "'").replace("\\&", "")
     return re.sub(r"^\.(B|BI|BR|I|IR) ", "", text, flags=re.MULTILINE).replace('"', "")
 
 
 def page_options(heading):
     """The options that the man page has under this heading, which is OPTIONS or a command."""
     found, is_there = [], False
-    for line in document("manual/rje.1").splitlines():
+    for line in document("dist/manual/rje.1").splitlines():
         if re.match(r"\.S[SH] ", line):
             words = line.replace('"', "").split()
             is_there = heading in words[1:3]
@@ -48,7 +48,7 @@ def page_options(heading):
 def texts():
     """OPERATING, the man page and FORMATS, without what marks their words."""
     return {
-        "docs/OPERATING.md": re.sub(r"[`*]", "", document("docs/OPERATING.md")), "manual/rje.1": page(),
+        "docs/OPERATING.md": re.sub(r"[`*]", "", document("docs/OPERATING.md")), "dist/manual/rje.1": page(),
         "docs/FORMATS.md": re.sub(r"[`*]", "", document("docs/FORMATS.md")),
     }
 
@@ -76,13 +76,13 @@ class Manual(HelpCase):
     def completed(self, *words):
         """What bash completes after these words, the last of which is begun."""
         script = '. "$0"; COMP_WORDS=("$@"); COMP_CWORD=$(($# - 1)); _rje; printf "%s\\n" "${COMPREPLY[@]}"'
-        ended = self.run_words("bash", "-c", script, os.path.join(ROOT, "manual/rje.bash"), *words)
+        ended = self.run_words("bash", "-c", script, os.path.join(ROOT, "dist/manual/rje.bash"), *words)
         return sorted(ended.printed.split())
 
     def test_commands(self):
         told = self.commands()
         self.equal(len(told), 13, "the number of commands")
-        shown = re.findall(r'^\.SS "rje ([a-z]*)', document("manual/rje.1"), re.MULTILINE)
+        shown = re.findall(r'^\.SS "rje ([a-z]*)', document("dist/manual/rje.1"), re.MULTILINE)
         self.equal(sorted(shown), told, "the commands of the man page")
         self.equal(self.completed("rje", "help", ""), told, "the commands after help")
 
@@ -108,7 +108,7 @@ class Manual(HelpCase):
 
         def completed(line):
             script = 'source "$argv[1]"; complete -C "$argv[2]"'
-            ended = self.run_words("fish", "-c", script, os.path.join(ROOT, "manual/rje.fish"), line, env={"HOME": self.folder})
+            ended = self.run_words("fish", "-c", script, os.path.join(ROOT, "dist/manual/rje.fish"), line, env={"HOME": self.folder})
             return sorted(it.split("\t")[0] for it in ended.printed.splitlines())
 
         self.equal(completed("rje "), self.commands(), "the commands")
@@ -126,7 +126,7 @@ class Manual(HelpCase):
                    _describe() { print -rl -- ${(P)2} }; source $0"""
 
         def handed(command):
-            ended = self.run_words("zsh", "-f", "-c", given, os.path.join(ROOT, "manual/rje.zsh"), env={"COMMAND": command})
+            ended = self.run_words("zsh", "-f", "-c", given, os.path.join(ROOT, "dist/manual/rje.zsh"), env={"COMMAND": command})
             self.equal(ended.told, "", f"the completions for zsh of '{command}' report")
             return ended.printed
 
@@ -153,7 +153,7 @@ class Agreement(HelpCase):
             # (some are of the system's commands)
             found = [it for it in options_in(text) if it not in ("--home", "--install", "--now", "--purge", "--remove", "--shell", "--system")]
             self.equal(found, options, f"the options of {name}")
-        # (of ./install and ./test)
+        # (of dist/install and ./test)
         scripts = ["--quick", "--remove"]
         self.equal(sorted(set(options_in(document("README.md"))) - set(options)), scripts, "the options that README alone has")
 
@@ -206,7 +206,7 @@ class Shown(LineCase):
     def setUp(self):
         super().setUp()
         os.symlink(self.program, self.at("rje"))
-        shutil.copytree(os.path.join(ROOT, "examples"), self.at("examples"))
+        shutil.copytree(os.path.join(ROOT, "docs", "examples"), self.at("docs", "examples"))
 
     def shown(self, name):
         """The commands that a page shows, each with what stands after it."""
@@ -259,6 +259,7 @@ def documents():
     yield from ("README.md", "CONTRIBUTING.md", "CHANGELOG.md", "SECURITY.md")
     for folder in "docs", "docs/promises":
         yield from (f"{folder}/{name}" for name in sorted(os.listdir(os.path.join(ROOT, folder))) if name.endswith(".md"))
+    yield "crates/README.md"
     for crate in sorted(os.listdir(os.path.join(ROOT, "crates"))):
         if os.path.exists(os.path.join(ROOT, "crates", crate, "README.md")):
             yield f"crates/{crate}/README.md"
@@ -278,7 +279,7 @@ def known_names():
             folder = os.path.join(ROOT, "crates", crate, part)
             found |= names_in(" ".join(os.listdir(folder))) if os.path.isdir(folder) else set()
     crates = [f"crates/{crate}/{part}" for crate in os.listdir(os.path.join(ROOT, "crates")) for part in ("src", "specs")]
-    for folder in [*crates, "tests", "bench", "manual"]:
+    for folder in [*crates, "tests", "tools", "dist"]:
         for path, _, names in os.walk(os.path.join(ROOT, folder)):
             for name in names:
                 if not name.endswith(".pyc"):
@@ -310,6 +311,32 @@ class Names(Case):
             known |= {(file, line[2:].lower()) for line in document("tests/talks", file).splitlines() if line.startswith("# ")}
         self.true(told, "the documents name no table")
         self.equal(sorted(told - known), [], "the tables that the documents name and that aren't there")
+
+
+class Crates(Case):
+    """crates/README.md has each crate of crates.txt once in its drawing and once in its tables, and a crate uses only those of the lines below its own."""
+
+    level, seconds = "quick", 1
+
+    def test_crates(self):
+        uses = {}
+        for line in document("crates.txt").splitlines():
+            name, _, used = line.partition("#")[0].partition(":")
+            if name.strip():
+                uses[name.split()[0]] = used.split()
+        page = document("crates/README.md")
+        drawing = page.split("```")[1]
+        layers, layer = {}, None
+        for words in (line.split() for line in drawing.strip("\n").splitlines()):
+            if words[0].isdigit():
+                layer = int(words.pop(0))
+            for crate in words:
+                self.true(crate not in layers, f"{crate} is drawn twice")
+                layers[crate] = layer
+        self.equal(sorted(layers), sorted(uses), "the crates that are drawn")
+        for crate, used in uses.items():
+            self.equal([it for it in used if it in layers and layers[it] >= layers[crate]], [], f"what {crate} uses that isn't drawn below it")
+        self.equal(sorted(re.findall(r"^\| \[([a-z_]+)\]\(\1/README\.md\) \|", page, re.MULTILINE)), sorted(uses), "the crates in the tables")
 
 
 class Calls(Case):

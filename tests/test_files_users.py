@@ -154,11 +154,14 @@ class Stations(UserCase):
     seconds = 10
 
     def begins(self, user=None, program=None):
-        """The first line of a station in the folder `begun` that this user runs."""
-        words = [program or self.program, "station", self.at("begun"), "--to", "127.0.0.1:1"]
+        """The first line of a station in the folder `begun` that this user runs; where it begins it has made all its parts."""
+        words = [program or self.program, "station", self.at("begun"), "--to", "127.0.0.1:1", "--settle"]
         started = {"stdin": subprocess.DEVNULL, "stdout": subprocess.DEVNULL, "stderr": subprocess.PIPE, "text": True}
         process = subprocess.Popen(words, **started, **as_user(user, None, 0o022))
         first = process.stderr.readline()
+        if "station of" in first:
+            # (the last one)
+            waits_for(lambda: os.path.isdir(self.at("begun/settle")))
         process.kill()
         process.communicate()
         return first
@@ -170,7 +173,7 @@ class Stations(UserCase):
         os.chmod(copied, 0o755)
         self.make("begun", 0o755)
         self.begins()
-        parts = ("doubt", "sent", "refused", "in", "cut", "print", "punch", "log", "lock")
+        parts = ("doubt", "sent", "refused", "in", "cut", "print", "punch", "settle", "log", "lock")
         for part in ("", *parts, "out"):
             at = self.at(f"begun/{part}" if part else "begun")
             for user in (CLERK, 0):
@@ -188,7 +191,7 @@ class Stations(UserCase):
         """A station doesn't begin in a folder that others may change; what it makes is its user's alone."""
         self.make("begun", 0o755)
         self.true("station of" in self.begins(), "a station doesn't begin in a fresh folder")
-        parts = ("out", "doubt", "sent", "refused", "in", "cut", "print", "punch")
+        parts = ("out", "doubt", "sent", "refused", "in", "cut", "print", "punch", "settle")
         for part in parts:
             self.equal(self.access(f"begun/{part}")[0], 0o700, lambda: f"{part}/ was made with {oct(self.access(f'begun/{part}')[0])}")
         for part in ("log", "lock"):

@@ -124,14 +124,14 @@ ACK, NOT = guest.ACK, guest.NAK
 
 
 def payroll():
-    with open(os.path.join(ROOT, "examples/payroll.deck"), encoding="ascii") as deck:
+    with open(os.path.join(ROOT, "docs/examples/payroll.deck"), encoding="ascii") as deck:
         return deck.read()
 
 
 def decks_sent():
     lines = payroll().splitlines()
     yield sent("send: one card", [A_CARD], {"A\n": A_CARD})
-    yield sent("send: the deck of examples/", [cards(lines)], {payroll(): cards(lines)})
+    yield sent("send: the deck of docs/examples/", [cards(lines)], {payroll(): cards(lines)})
     yield sent("send: a deck for the printer", [cards(lines, PRINTER)])
     yield sent("send: a deck for the punch", [cards(lines, PUNCH)])
     yield sent("send: blanks of all lengths", [BLANKS])

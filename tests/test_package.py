@@ -1,4 +1,4 @@
-"""The Debian package that ./package makes: the same bytes wherever it is made, what is in it, that it runs, and what becomes of the stations of a machine
+"""The Debian package that dist/package makes: the same bytes wherever it is made, what is in it, that it runs, and what becomes of the stations of a machine
 on which it is installed, renewed, removed and purged. Where dpkg-deb is installed; the latter by root alone, in a folder that stands for the machine."""
 import glob
 import os
@@ -12,7 +12,7 @@ from tests.lib.case import Case  # noqa: E402
 from tests.lib.program import ROOT  # noqa: E402
 
 # What it is made of, but for the sources, of which the copy has none.
-PARTS = ["package", "program", "manual", "contrib", "docs", "examples", "README.md", "CHANGELOG.md", "crates.txt", "HANDLES"]
+PARTS = ["dist", "docs", "README.md", "CHANGELOG.md", "crates.txt", "HANDLES"]
 PLACES = [
     "lib/systemd/system/rje-print@.service", "lib/systemd/system/rje-tunnel@.service", "lib/systemd/system/rje@.service",
     "usr/bin/rje", "usr/bin/rje-print",
@@ -38,16 +38,16 @@ class PackageCase(Case):
         for part in PARTS:
             copy = shutil.copytree if os.path.isdir(os.path.join(ROOT, part)) else shutil.copy2
             copy(os.path.join(ROOT, part), self.at(name, part))
-        script = 'root=$0; . "$root/program/choosing"; sources_checksum'
+        script = 'root=$0; . "$root/dist/program/choosing"; sources_checksum'
         sources = self.run_words("bash", "-c", script, self.at(name)).printed.strip()
-        checksums = re.sub("^sources .*$", f"sources {sources}", self.read(f"{name}/program/checksums").decode(), flags=re.MULTILINE)
-        self.write(f"{name}/program/checksums", checksums)
+        checksums = re.sub("^sources .*$", f"sources {sources}", self.read(f"{name}/dist/program/checksums").decode(), flags=re.MULTILINE)
+        self.write(f"{name}/dist/program/checksums", checksums)
 
     def make(self, copy="copy", folder="made", **further):
         """The package that a copy makes."""
         os.makedirs(self.at(folder), exist_ok=True)
-        ended = self.run_words(self.at(copy, "package"), self.at(folder), timeout=60, **further)
-        self.equal(ended.status, 0, lambda: f"./package reports {ended.told}")
+        ended = self.run_words(self.at(copy, "dist/package"), self.at(folder), timeout=60, **further)
+        self.equal(ended.status, 0, lambda: f"dist/package reports {ended.told}")
         return glob.glob(self.at(folder, "*.deb"))[0]
 
 
@@ -90,12 +90,12 @@ class Package(PackageCase):
     def test_older(self):
         """A program that isn't of these sources isn't packed."""
         self.write("copy/HANDLES", "others\n")
-        ended = self.run_words(self.at("copy/package"), self.folder)
+        ended = self.run_words(self.at("copy/dist/package"), self.folder)
         self.equal((ended.status, glob.glob(self.at("*.deb"))), (3, []), f"with an older program it reports {ended.told}")
 
     def test_words(self):
         for words, status in ((["--help"], 0), (["--plotter"], 2), (["a", "b"], 2)):
-            self.equal(self.run_words(self.at("copy/package"), *words).status, status, f"$ ./package {' '.join(words)}")
+            self.equal(self.run_words(self.at("copy/dist/package"), *words).status, status, f"$ dist/package {' '.join(words)}")
 
 
 class Installed(PackageCase):

@@ -1,5 +1,5 @@
-"""What builds, chooses and installs the program: ./build, by a toolchain of the tests' own; ./rje, which runs what was released where the sources are
-those, else what was built, with the caller's words and status; ./release and ./install. In a copy of the repository with five small crates."""
+"""What builds, chooses and installs the program: tools/build, by a toolchain of the tests' own; ./rje, which runs what was released where the sources are
+those, else what was built, with the caller's words and status; tools/release and dist/install. In a copy of the repository with five small crates."""
 import os
 import pty
 import re
@@ -8,6 +8,7 @@ import signal
 import subprocess
 import sys
 import time
+import unittest
 
 sys.path.insert(0, os.path.dirname(os.path.dirname(os.path.abspath(__file__))))
 from tests.lib import case  # noqa: E402
@@ -76,12 +77,11 @@ class CopyCase(Case):
         for crate in "rje", "left", "right", "low", "other":
             for part in "src", "specs", "proofs":
                 os.makedirs(self.at("copy/crates", crate, part))
-        for name in "copy/program", "tools", "none", "rooms", "far":
+        for name in "copy/dist/program", "copy/tools", "tools", "none", "rooms", "far":
             os.makedirs(self.at(name))
-        for name in "rje", "build", "release", "install", "HANDLES":
-            shutil.copy2(os.path.join(ROOT, name), self.at("copy"))
-        shutil.copytree(os.path.join(ROOT, "manual"), self.at("copy/manual"))
-        shutil.copy2(os.path.join(ROOT, "program/choosing"), self.at("copy/program"))
+        for name in "rje", "tools/build", "tools/release", "dist/install", "dist/program/choosing", "HANDLES":
+            shutil.copy2(os.path.join(ROOT, name), self.at("copy", name))
+        shutil.copytree(os.path.join(ROOT, "dist/manual"), self.at("copy/dist/manual"))
         self.write("copy/crates.txt", CRATES)
         for name in "rje/src/main.rt", "low/src/lib.rt", "right/src/lib.rt":
             self.write(f"copy/crates/{name}", "")
@@ -91,7 +91,7 @@ class CopyCase(Case):
                 self.write(f"{place}/{name}", script)
                 os.chmod(self.at(place, name), 0o755)
         self.tools, self.root = "tools", os.path.realpath(self.at("copy"))
-        self.older = f"the program is older than its sources; ./build in {self.root} proves and builds it anew"
+        self.older = f"the program is older than its sources; tools/build in {self.root} proves and builds it anew"
 
     def tooled(self, **further):
         """The environment of a script: a PATH with the tools that are there, and a folder of its own for the copies."""
@@ -111,7 +111,7 @@ class CopyCase(Case):
 
     def runs_none(self, why):
         """The wrapper runs nothing, for this cause."""
-        told = f"rje: the program in program/ can't be run: {why}; ./build in {self.root} proves and builds one\n"
+        told = f"rje: the program in dist/program/ can't be run: {why}; tools/build in {self.root} proves and builds one\n"
         return self.ends_so(3, "", told, "copy/rje", "show", "a.job")
 
     def is_built(self):
@@ -126,11 +126,11 @@ class CopyCase(Case):
 
     def build(self):
         """Builds the program of the copy."""
-        ended = self.script("copy/build")
+        ended = self.script("copy/tools/build")
         self.assertEqual((ended.status, ended.told), (0, TOLD))
 
     def release(self):
-        ended = self.script("copy/release")
+        ended = self.script("copy/tools/release")
         self.assertEqual(ended.status, 0, ended.told)
         return ended
 
@@ -150,21 +150,21 @@ class Build(CopyCase):
     def test_no_toolchain(self):
         self.tools = "none"
         self.runs_none("it isn't here as it was released")
-        self.ends_so(3, "", "rje: there is no toolchain (rt) to build the program\n", "copy/build")
+        self.ends_so(3, "", "rje: there is no toolchain (rt) to build the program\n", "copy/tools/build")
 
     def test_help(self):
         """Asked for help, a script tells what it does, and does nothing."""
-        for name in "build", "install", "release":
+        for name in "tools/build", "dist/install", "tools/release":
             ended = self.script(f"copy/{name}", "--help")
-            did = os.path.exists(self.at("copy/notes")) or os.path.exists(self.at("copy/program/checksums"))
-            is_right = (ended.status, ended.told, did) == (0, "", False) and f"Usage: ./{name}" in ended.printed
-            self.true(is_right, f"./{name} --help: {ended.status}, {ended.printed}{ended.told}, {did}")
+            did = os.path.exists(self.at("copy/notes")) or os.path.exists(self.at("copy/dist/program/checksums"))
+            is_right = (ended.status, ended.told, did) == (0, "", False) and f"Usage: {name}" in ended.printed
+            self.true(is_right, f"{name} --help: {ended.status}, {ended.printed}{ended.told}, {did}")
 
     def test_failure(self):
         """A build that fails tells its crate."""
         self.write("copy/fails", "")
         began = time.monotonic()
-        ended = self.script("copy/build")
+        ended = self.script("copy/tools/build")
         lines = ended.told.splitlines()
         self.equal((ended.status, lines[-1:]), (1, ["a goal is open"]), "the status and the last line of a failed build")
         self.equal([line for line in lines if "could" in line], ["rje: the crate left could not be built:"], "the crate of a failed build")
@@ -178,20 +178,20 @@ class Build(CopyCase):
             further = {"stdin": subprocess.DEVNULL, "stdout": out, "stderr": err, "start_new_session": True}
             # (what is run beside one that ignores SIGINT would ignore it too)
             heeds = {"preexec_fn": lambda: signal.signal(signal.SIGINT, signal.SIG_DFL)}
-            process = subprocess.Popen(["copy/build"], cwd=self.folder, env=self.environ(self.tooled()), **further, **heeds)
+            process = subprocess.Popen(["copy/tools/build"], cwd=self.folder, env=self.environ(self.tooled()), **further, **heeds)
         waits_for(lambda: os.path.exists(self.at("copy/notes")))
         began = time.monotonic()
         os.killpg(process.pid, signal.SIGINT)
         status = process.wait(60)
-        ended = case.Ended("copy/build, interrupted", status if status >= 0 else 128 - status, self.read("out"), self.read("err"))
+        ended = case.Ended("copy/tools/build, interrupted", status if status >= 0 else 128 - status, self.read("out"), self.read("err"))
         self.ended_so(ended, 130, "", TOLD)
         took = time.monotonic() - began
-        self.true(took < 30, f"an interrupted ./build took {took:.1f} s")
+        self.true(took < 30, f"an interrupted tools/build took {took:.1f} s")
         self.is_clean("an interrupt")
 
     def test_order(self):
         """Each crate is built once, after those that it uses, and beside the others; the program alone is put into the sources."""
-        self.ends_so(0, "", TOLD, "copy/build")
+        self.ends_so(0, "", TOLD, "copy/tools/build")
         notes = self.read("copy/notes").decode().splitlines()
         found = [*notes[:2], *sorted(notes[2:4]), *sorted(notes[4:6]), *notes[6:]]
         wanted = ["low lib 3", "low built", "left lib 2", "right lib 1", "left built", "right built", "rje run 3", "rje built"]
@@ -207,7 +207,7 @@ class Build(CopyCase):
         """An event that comes in two pieces, more than a second apart, is one."""
         script = r"""
 tell() { :; }
-eval "$(sed -n '/^next_event() {/,/^}/p' copy/build)"
+eval "$(sed -n '/^next_event() {/,/^}/p' copy/tools/build)"
 mkfifo events
 exec 3<> events
 { printf left; sleep 1.3; echo ' 0'; } >&3 &
@@ -222,7 +222,7 @@ echo "$event"
         self.write("copy/waits", "3\n")
         self.remove("copy/notes")
         keyboard, terminal = pty.openpty()
-        ended = self.script("copy/build", stderr=terminal)
+        ended = self.script("copy/tools/build", stderr=terminal)
         told = os.read(keyboard, 10000)
         os.close(keyboard)
         os.close(terminal)
@@ -247,16 +247,16 @@ class Released(CopyCase):
 
     def test_release(self):
         self.set_times(0, "crates/low/src/lib.rt")
-        ended = self.script("copy/release")
+        ended = self.script("copy/tools/release")
         lines = ended.printed.splitlines()
         is_right = ended.status == 0 and [line.split()[0] for line in lines] == ["program", "sources", "kit"] and lines[-1] == "kit the kit"
         self.true(is_right, f"a release ended with {ended.status}, and printed {ended.printed!r}")
-        self.same("copy/program/checksums", ended.out, "the checksums of a release")
-        sum_of = self.run_words("sha256sum", "copy/program/rje-x86_64-linux").printed.split()[0]
+        self.same("copy/dist/program/checksums", ended.out, "the checksums of a release")
+        sum_of = self.run_words("sha256sum", "copy/dist/program/rje-x86_64-linux").printed.split()[0]
         self.equal(lines[0], f"program {sum_of}", "the checksum of the program")
-        self.true(b"# stripped\n" in self.read("copy/program/rje-x86_64-linux"), "a release isn't stripped")
+        self.true(b"# stripped\n" in self.read("copy/dist/program/rje-x86_64-linux"), "a release isn't stripped")
         self.remove("copy/notes")
-        self.ends_so(0, ended.out, "", "copy/release")
+        self.ends_so(0, ended.out, "", "copy/tools/release")
         self.equal(self.read("copy/notes"), None, "what a release builds again of what is built")
 
     def test_anywhere(self):
@@ -300,7 +300,7 @@ class Chosen(CopyCase):
         self.release()
         shutil.rmtree(self.at("copy/crates/rje/out"))
         self.write("copy/crates/low/src/lib.rt", "// more\n")
-        self.built = self.script("copy/build", "--static")
+        self.built = self.script("copy/tools/build", "--static")
         self.set_times(-3600)
 
     def test_built(self):
@@ -321,12 +321,12 @@ class Chosen(CopyCase):
     def test_unfit(self):
         """Where the released program can't be run, that is said; what was built is run."""
         self.set_times(3600, "crates/low/src/lib.rt")
-        released = self.read("copy/program/rje-x86_64-linux")
-        self.write("copy/program/rje-x86_64-linux", released + b"\n")
+        released = self.read("copy/dist/program/rje-x86_64-linux")
+        self.write("copy/dist/program/rje-x86_64-linux", released + b"\n")
         self.runs(2, self.older, "show", "a.job")
         shutil.rmtree(self.at("copy/crates/rje/out"))
         self.runs_none("it isn't here as it was released")
-        self.write("copy/program/rje-x86_64-linux", released)
+        self.write("copy/dist/program/rje-x86_64-linux", released)
         self.write("copy/crates/low/src/lib.rt", "")
         self.runs(1, "", "show", "a.job")
         self.write("copy/unfit", "126\n")
@@ -337,6 +337,51 @@ class Chosen(CopyCase):
         self.runs_none("it needs glibc 2.34 or later, and here is glibc 2.33")
         self.write("copy/library", "")
         self.runs_none("it needs glibc 2.34 or later, and here is none")
+
+
+@unittest.skipUnless(shutil.which("gpg"), "gpg isn't installed")
+class Signed(CopyCase):
+    """A release that is signed: its checksums are looked at where the key is known."""
+
+    seconds = 12
+
+    def setUp(self):
+        super().setUp()
+        self.build()
+        for name in "keys", "other keys":
+            os.makedirs(self.at(name), mode=0o700)
+        self.gpg("--passphrase", "", "--quick-generate-key", "releases@example.org")
+        self.addCleanup(self.run_words, "gpgconf", "--kill", "all", env={"GNUPGHOME": self.at("keys")})
+        ended = self.script("copy/tools/release", "--sign", env={"GNUPGHOME": self.at("keys")})
+        self.assertEqual(ended.status, 0, ended.told)
+        shutil.rmtree(self.at("copy/crates/rje/out"))
+
+    def gpg(self, *words):
+        ended = self.run_words("gpg", "--batch", *words, env={"GNUPGHOME": self.at("keys")}, timeout=60)
+        self.assertEqual(ended.status, 0, ended.told)
+
+    def shown(self, keys, status, text, told):
+        """What ./rje does where these keys are."""
+        return self.ends_so(status, text, told, "copy/rje", "show", "a.job", env={"GNUPGHOME": self.at(keys)})
+
+    def test_signed(self):
+        """It runs where the key is known, and where it isn't; dist/install names a key that isn't known."""
+        text = f"program 1: show a.job in {os.path.basename(self.folder)}\n"
+        for keys in "keys", "other keys", "no keys":
+            self.shown(keys, 7, text, "")
+        for keys, told in ("keys", ""), ("other keys", "install: signed with the key [0-9A-F]{16}, which isn't known here\n"):
+            ended = self.script("copy/dist/install", self.at("prefix"), env={"GNUPGHOME": self.at(keys), "PATH": f"{self.at('prefix')}/bin:/usr/bin:/bin"})
+            self.true(ended.status == 0 and re.fullmatch(told, ended.told), lambda: f"dist/install reports {ended.told!r}")
+        self.equal(os.path.exists(self.at("no keys")), False, "a folder for keys is made")
+
+    def test_changed(self):
+        """Checksums that were changed are refused where the key is known; a release that isn't signed has no signature."""
+        self.write("copy/dist/program/checksums", self.read("copy/dist/program/checksums") + b"more\n")
+        why = "its checksums aren't those that were signed"
+        self.shown("keys", 3, "", f"rje: the program in dist/program/ can't be run: {why}; tools/build in {self.root} proves and builds one\n")
+        self.release()
+        self.equal(os.path.exists(self.at("copy/dist/program/checksums.asc")), False, "a signature is left")
+        self.equal(self.script("copy/tools/release", "--plotter").status, 2, "an option that there isn't")
 
 
 class Install(CopyCase):
@@ -353,7 +398,7 @@ class Install(CopyCase):
         return sorted(os.path.relpath(os.path.join(path, name), self.at(folder)) for path, _, names in os.walk(self.at(folder)) for name in names)
 
     def installs(self, *words, **further):
-        return self.run_words("copy/install", *words, **{"env": self.tooled(), **further})
+        return self.run_words("copy/dist/install", *words, **{"env": self.tooled(), **further})
 
     def test_prefix(self):
         prefix = self.at("prefix")
@@ -363,21 +408,21 @@ class Install(CopyCase):
             "share/zsh/site-functions/_rje": "rje.zsh",
         }
         places = ["bin/rje", *manual]
-        self.equal((ended.status, ended.told, self.files("prefix")), (0, "", places), f"./install: {ended.printed}")
-        sources = [self.at("copy/program/rje-x86_64-linux"), *(os.path.join(ROOT, "manual", name) for name in manual.values())]
+        self.equal((ended.status, ended.told, self.files("prefix")), (0, "", places), f"dist/install: {ended.printed}")
+        sources = [self.at("copy/dist/program/rje-x86_64-linux"), *(os.path.join(ROOT, "dist/manual", name) for name in manual.values())]
         for place, source in zip(places, sources):
             with open(source, "rb") as file:
                 self.same(f"prefix/{place}", file.read(), "what is installed")
         self.write("prefix/bin/other", "")
         ended = self.installs("--remove", prefix)
-        self.equal((ended.status, ended.told, self.files("prefix")), (0, "", ["bin/other"]), f"./install --remove: {ended.printed}")
+        self.equal((ended.status, ended.told, self.files("prefix")), (0, "", ["bin/other"]), f"dist/install --remove: {ended.printed}")
         self.ended_so(self.installs("--remove", prefix), 0, "", "", "of nothing")
 
     def test_destination(self):
         """A link in its place is replaced, and what it leads to stays; a folder there stays too, and nothing is put into it."""
         places = {**self.tooled(), "DESTDIR": self.at("room")}
         self.installs("/usr", env=places)
-        self.same("room/usr/bin/rje", self.read("copy/program/rje-x86_64-linux"), "the program that is installed under DESTDIR")
+        self.same("room/usr/bin/rje", self.read("copy/dist/program/rje-x86_64-linux"), "the program that is installed under DESTDIR")
         self.write("elsewhere", "other\n")
         self.remove("room/usr/bin/rje")
         os.symlink(self.at("elsewhere"), self.at("room/usr/bin/rje"))
@@ -394,7 +439,7 @@ class Install(CopyCase):
     def test_words(self):
         for words in ["--plotter"], ["a", "b"], ["--remove", "a", "b"]:
             ended = self.installs(*words)
-            self.equal((ended.status, ended.printed), (2, ""), f"$ ./install {' '.join(words)}")
+            self.equal((ended.status, ended.printed), (2, ""), f"$ dist/install {' '.join(words)}")
 
 
 if __name__ == "__main__":

@@ -8,10 +8,9 @@ from tests.lib import case  # noqa: E402
 from tests.lib.frames import ACK0, ACK1, ENQ, EOT, text_of  # noqa: E402
 from tests.lib.ports import waits_for  # noqa: E402
 from tests.lib.samples import ebcdic  # noqa: E402
-from tests.lib.settling import SettlingCase, told_in  # noqa: E402
+from tests.lib.settling import A_RECEIPT, SettlingCase, told_in  # noqa: E402
 
 NOT_SETTLED = "the other end doesn't settle: nothing is sent"
-A_RECEIPT = ("RJE/SETTLE 1 KEPT 5 " + "1" * 40).ljust(80)
 
 
 class Partners(SettlingCase):

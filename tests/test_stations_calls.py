@@ -10,7 +10,7 @@ sys.path.insert(0, os.path.dirname(os.path.dirname(os.path.abspath(__file__))))
 from tests.lib import case, shim  # noqa: E402
 from tests.lib.frames import ACK0, ACK1, ENQ, EOT, NAK, text_of  # noqa: E402
 from tests.lib.ports import free_port, waits_for  # noqa: E402
-from tests.lib.stations import Door, StationCase, has_logged, seconds_of, told_by  # noqa: E402
+from tests.lib.stations import Door, StationCase, has_logged, listens, seconds_of, told_by  # noqa: E402
 from tests.lib.terminal import OnTerminal  # noqa: E402
 
 
@@ -123,6 +123,29 @@ class Callers(StationCase):
         self.equal(len(told), 1, f"strangers: of three it told {told}")
         station.kill()
 
+    def test_strangers_later(self):
+        """One that calls more than a minute later is told again."""
+        station, port = self.is_called_by_clock("later", "--from", "127.0.0.2")
+        for number, ahead in enumerate((0, 61, 122), 1):
+            self.sets_clock(ahead)
+            for _ in range(2):
+                stranger = self.peer(port)
+                self.true(stranger.is_hung_up(), "later: one is let in")
+                stranger.close()
+            told = [line for line in told_by(station) if line.startswith("hung up on ")]
+            self.equal(len(told), number, f"later: {ahead} seconds later it told {told}")
+        station.kill()
+
+    def is_called_by_clock(self, name, *words):
+        """A station that listens, whose clock a test sets; and its port."""
+        self.sets_clock(0)
+        port = free_port()
+        station = self.station(name, "--listen", f"127.0.0.1:{port}", *words)
+        station.environment = self.clocked()
+        station.start()
+        listens(station)
+        return station, port
+
     def test_slow_blocks(self):
         """A block whose bytes come slowly, as over a slow line, is taken: it may take as long as ten time-outs."""
         station, port = self.is_called("slow")
@@ -207,7 +230,10 @@ class Callers(StationCase):
         limits = resource.prlimit(station.process.pid, resource.RLIMIT_NOFILE, (fits, 4096))
         waits = self.peer(port)
         waits.says(ENQ)
-        time.sleep(1)
+        busy = seconds_of(station)
+        time.sleep(2)
+        busy = seconds_of(station) - busy
+        self.check(busy > 0.3 and f"others: with a call that it can't take it took {busy:.1f} s of a processor in 2 s")
         told = [line for line in told_by(station) if line.startswith("can't take a call: ")]
         self.equal(len(told), 1, f"others: with no file to open it told {told}")
         resource.prlimit(station.process.pid, resource.RLIMIT_NOFILE, (min(4096, limits[1]), 4096))
@@ -251,6 +277,19 @@ class Endings(StationCase):
         peer.close()
         self.true(waits_for(lambda: station.process.poll() is not None, 5), "once: the line failed, and it goes on")
         self.equal(station.names("doubt"), ["a.deck"], lambda: f"once: doubt/ has {station.names('doubt')}")
+
+    def test_one_connection_that_it_left(self):
+        """So it does where it left that connection itself, since a file was replaced while it was being sent."""
+        door, station = self.calls("left", "--once", "--every", "1", decks=("a.deck",))
+        peer = door.takes_call()
+        self.true(peer.hears(ENQ), "left: it doesn't bid")
+        station.put("a.deck", ["ANOTHER"])
+        peer.says(ACK0)
+        self.true(peer.is_hung_up(), "left: it stays")
+        self.true(waits_for(lambda: station.process.poll() is not None, 5), lambda: f"left: it goes on, and told {told_by(station)}")
+        self.true("a.deck: replaced while it was being sent" in told_by(station), lambda: f"left: it told {told_by(station)}")
+        self.equal(station.names("out"), ["a.deck"], "left: what lies ready")
+        peer.close()
 
     def test_broken_end(self):
         """A transmission in which something wasn't answered is the last of its connection, also where the other end's answer came later; so is one that gave up."""
@@ -318,11 +357,14 @@ class Told(StationCase):
     def test_partings(self):
         """What is told of a connection that is over: hung up where nothing was in hand, and else why the line failed."""
         station, port = self.is_called("partings")
-        for wanted, said in (("hung up", []), ("hung up", [ENQ, EOT]), ("line failed: peer hung up", [ENQ, text_of([b"\xC8\xC9"], False)])):
+        for wanted, said in (
+            ("hung up", []), ("hung up", [ENQ, EOT]), ("line failed: peer hung up", [ENQ, text_of([b"\xC8\xC9"], False)]),
+            ("line failed: peer sent what is no transmission: 47 45 54 20 2F 20 48 54", [b"GET / HTTP/1.1\r\n\r\n"]),
+        ):
             peer = self.peer(port)
             for piece in said:
                 peer.says(piece)
-                if piece != EOT:
+                if piece != EOT and not piece.startswith(b"GET"):
                     peer.hears(ACK1 if len(piece) > 5 else ACK0)
             time.sleep(0.3)
             before = len(told_by(station))

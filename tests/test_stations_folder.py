@@ -10,7 +10,7 @@ from tests.lib import case  # noqa: E402
 from tests.lib.frames import ACK0, ACK1, ENQ, EOT, text_of  # noqa: E402
 from tests.lib.ports import PATIENCE, free_port, waits_for  # noqa: E402
 from tests.lib.samples import WHOLE  # noqa: E402
-from tests.lib.stations import FIRST_JOBS, LAST, Door, Peer, StationCase, file_text, has_logged, serves, told_by  # noqa: E402
+from tests.lib.stations import FIRST_JOBS, LAST, Door, Peer, StationCase, file_text, has_logged, hears_block, serves, told_by  # noqa: E402
 
 
 def touch(path, text=""):
@@ -249,6 +249,34 @@ class Turns(StationCase):
                 peer.hears(b"\xFF")
                 peer.says(ACK0 if number % 2 else ACK1)
             self.true(peer.hears(EOT), "it doesn't end")
+        station.kill()
+        peer.close()
+
+    def test_others_turn(self):
+        """A station that has more to send leaves the line after its own EOT for twice as long as the slowest answer took: a bid in that time is granted."""
+        door = Door()
+        self.addCleanup(door.socket.close)
+        station = self.station("others", "--to", door.address, timeout="3000")
+        os.makedirs(station.at("out"))
+        for number in range(FIRST_JOBS + 1):
+            station.put(f"{number:03}.deck", ["PAY"])
+        station.start()
+        peer = door.takes_call()
+        self.true(peer.hears(ENQ), "it doesn't bid")
+        peer.says(ACK0)
+        for number in range(FIRST_JOBS):
+            hears_block(peer)
+            # (the first answer doesn't count)
+            time.sleep(0.5 if number == 5 else 0)
+            peer.says(ACK0 if number % 2 else ACK1)
+        self.true(peer.hears(EOT), "it doesn't end")
+        time.sleep(0.1)
+        peer.says(ENQ)
+        self.equal(peer.connection.recv(4096), ACK0, "what it says to a bid a tenth of a second after its EOT")
+        peer.says(text_of([b"\xC8\xC9"]))
+        self.true(peer.hears(ACK1), "it acknowledges no block")
+        peer.says(EOT)
+        self.true(peer.hears(ENQ), "it doesn't go on")
         station.kill()
         peer.close()
 

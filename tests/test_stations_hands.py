@@ -14,7 +14,7 @@ from tests.lib import case, shim  # noqa: E402
 from tests.lib.frames import ACK0, ACK1, ENQ, EOT, text_of  # noqa: E402
 from tests.lib.ports import waits_for  # noqa: E402
 from tests.lib.samples import ebcdic, lines_of_jobs  # noqa: E402
-from tests.lib.stations import Door, Peer, StationCase, file_text, has_logged, hears_block, put_beside, serves, told_by  # noqa: E402
+from tests.lib.stations import Door, Peer, StationCase, file_text, has_logged, hears_block, put_beside, seconds_of, serves, told_by  # noqa: E402
 
 
 class HandCase(StationCase):
@@ -152,6 +152,31 @@ class Held(HandCase):
         station.kill()
 
 
+class OutOfStep(HandCase):
+    seconds = 3
+
+    def test_not_doubted(self):
+        """An answer that comes once a station is drained, where doubt/ is no folder any more: that a job which may be lost isn't there is told."""
+        door, station = self.calls("step", decks=("a.deck",))
+        peer = self.begins(door, "step")
+        hears_block(peer)
+        with open(station.at("drain"), "w"):
+            pass
+        peer.says(ACK1)
+        self.true(peer.hears(EOT), "step: it says no EOT")
+        self.true(waits_for(lambda: station.names("sent") == ["a.deck"]), "step: a.deck isn't in sent/")
+        os.rmdir(station.at("doubt"))
+        with open(station.at("doubt"), "w"):
+            pass
+        peer.says(ACK1)
+        self.true(waits_for(lambda: station.process.poll() is not None), "step: it doesn't end")
+        told = told_by(station)
+        self.true("line failed: answers out of step" in told, lambda: f"step: it told {told}")
+        self.true(any(line.startswith(("doubt: ", "a.deck: doubt: ")) for line in told), lambda: f"step: why it isn't in doubt/ isn't told: {told}")
+        self.equal(station.names("sent"), ["a.deck"], "step: what is in sent/")
+        peer.close()
+
+
 def answer_of(port):
     """The peer of a call that bids and sends a job; what it heard after its last block, or none where its bid wasn't granted."""
     peer = Peer(socket.create_connection(("127.0.0.1", port)))
@@ -179,6 +204,10 @@ class FullDisk(StationCase):
         self.equal(answer_of(port), b"", "a job that can't be kept is acknowledged")
         for _ in range(3):
             self.check(answer_of(port) is not None and "with a disk that takes nothing a bid is granted")
+        busy = seconds_of(station)
+        time.sleep(2)
+        busy = seconds_of(station) - busy
+        self.check(busy > 0.3 and f"with a disk that takes nothing it took {busy:.1f} s of a processor in 2 s")
         told = told_by(station)
         self.equal(told.count("STOPPED RECEIVING: a job can't be kept"), 1, f"of a disk that takes nothing it told {told}")
         self.true(any(line.startswith("in: ") for line in told), f"why it can't be kept isn't told: {told}")
@@ -205,6 +234,37 @@ class FullDisk(StationCase):
         os.rename(station.at("in.away"), station.at("in"))
         peer = door.takes_call(15)
         self.check((peer is None or not peer.hears(ENQ)) and "with a disk that takes a job again it doesn't bid")
+        station.kill()
+
+    def test_call_that_was_due(self):
+        """A call that was due while what came couldn't be kept is made once it can be, and not when the next one is due."""
+        door = Door()
+        self.addCleanup(door.socket.close)
+        station = self.station("due", "--to", door.address, "--every", "3600")
+        self.sets_clock(0)
+        station.environment = self.clocked()
+        station.start()
+        # (after the first connection that broke it calls at once, after the second when it is time to)
+        peer = door.takes_call()
+        peer.says(ENQ)
+        peer.hears(ACK0)
+        peer.says(text_of([b"\xC8\xC9"], False))
+        self.true(peer.hears(ACK1), "due: it acknowledges no block")
+        peer.close()
+        peer = door.takes_call()
+        os.rename(station.at("in"), station.at("in.away"))
+        peer.says(ENQ)
+        peer.hears(ACK0)
+        peer.says(text_of([b"\xC8\xC9"]))
+        self.true(peer.is_hung_up(), "due: a job that can't be kept is acknowledged to an end that is called")
+        peer.close()
+        self.true(waits_for(lambda: has_logged(station, "STOPPED RECEIVING")), lambda: f"due: it told {told_by(station)}")
+        self.sets_clock(3700)
+        self.check(door.takes_call(2) and "due: with a disk that takes nothing it calls")
+        os.rename(station.at("in.away"), station.at("in"))
+        self.sets_clock(3720)
+        self.true(waits_for(lambda: has_logged(station, "receiving again: a job can be kept")), lambda: f"due: it told {told_by(station)}")
+        self.true(door.takes_call(5), lambda: f"due: it doesn't call, and told {told_by(station)}")
         station.kill()
 
     def test_no_log(self):

@@ -255,6 +255,52 @@ class Clock(StationCase):
         station.kill()
 
 
+class CallersClock(StationCase):
+    seconds = 8
+
+    def stays(self, peer, what):
+        """The connection stays: a bid on it is granted."""
+        # (not at once after its EOT, so that some hearings are over by the new time)
+        time.sleep(0.5)
+        try:
+            peer.says(ENQ)
+            self.true(peer.hears(ACK0), f"{what}: it hung up too soon")
+            peer.says(EOT)
+        except OSError:
+            self.check(f"{what}: it hung up too soon")
+
+    def test_six_hours(self):
+        """An end that is called has the line for six hours in which no job comes, too: from the call on, each time."""
+        door = Door()
+        self.addCleanup(door.socket.close)
+        station = self.station("hours", "--to", door.address, "--every", "1", "--patience", "0")
+        station.environment = self.clocked()
+        self.sets_clock(0)
+        station.start()
+        began = 0
+        for number in range(3):
+            what = f"call {number}"
+            peer = door.takes_call()
+            self.true(peer, f"{what}: it doesn't call")
+            self.stays(peer, what)
+            if number == 2:
+                # (a job that comes gives six hours more)
+                self.sets_clock(began + 21_500)
+                peer.says(ENQ)
+                self.true(peer.hears(ACK0), f"{what}: it grants no bid")
+                peer.says(text_of([b"\xC8\xC9"]))
+                self.true(peer.hears(ACK1), f"{what}: it acknowledges no block")
+                peer.says(EOT)
+                began += 21_500
+            self.sets_clock(began + 21_500)
+            self.stays(peer, f"{what}, after nearly six hours")
+            self.sets_clock(began + 21_601)
+            self.true(peer.is_hung_up(), f"{what}: after six hours it stays")
+            began += 21_601
+            peer.close()
+        station.kill()
+
+
 class Adapter(StationCase):
     seconds = 4
 

@@ -7,8 +7,8 @@ import subprocess
 import sys
 
 ROOT = os.path.dirname(os.path.dirname(os.path.dirname(os.path.abspath(__file__))))
-# What program/choosing chooses, as ./rje does: its path, and then a line where something has to be told of it.
-CHOOSES = 'root=$1; . "$root/program/choosing"; choose || { echo "$notice" >&2; exit 3; }; echo "$program"; echo "$notice"'
+# What dist/program/choosing chooses, as ./rje does: its path, and then a line where something has to be told of it.
+CHOOSES = 'root=$1; . "$root/dist/program/choosing"; choose || { echo "$notice" >&2; exit 3; }; echo "$program"; echo "$notice"'
 
 
 @functools.lru_cache(maxsize=None)

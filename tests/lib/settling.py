@@ -4,7 +4,9 @@ import socket
 import threading
 import time
 
-from tests.lib.ports import free_port, waits_for
+from tests.lib import shim
+from tests.lib.frames import ACK0, ACK1, ENQ, EOT, text_of
+from tests.lib.ports import free_port, is_listening, waits_for
 from tests.lib.relay import hang_up
 from tests.lib.samples import ebcdic
 from tests.lib.stations import StationCase, has_logged
@@ -13,6 +15,14 @@ from tests.lib.stations import StationCase, has_logged
 MARK, RECEIPT = ebcdic("DOUBTED"), ebcdic("RJE/SETTLE")
 # What a job may be in doubt for: its last block is lost, or the answer to it; and the same of a receipt.
 LOSSES = ("block", "answer", "receipt", "receipt's answer")
+
+
+def receipt_of(kept, digest):
+    """The card of a receipt (docs/LINE.md)."""
+    return f"RJE/SETTLE 1 KEPT {kept} {digest}".ljust(80)
+
+
+A_RECEIPT = receipt_of(5, "1" * 40)
 
 
 class LosingLine:
@@ -159,6 +169,77 @@ class SettlingCase(StationCase):
     def tells(self, station, text):
         """A station tells this line."""
         self.true(waits_for(lambda: has_logged(station, f"{text}\n"), 40), lambda: f"`{text}` isn't told, but {told_in(station)}")
+
+
+class PeerCase(SettlingCase):
+    """Tests of one station that settles, `near`, which a test speaks with: that end keeps what it likes, and says so."""
+
+    def listens(self, patience=30, orders=(), decks=()):
+        """The station listens, with these decks of one card in out/, and with these orders for its calls."""
+        self.port = free_port()
+        self.near = self.station("near", "--listen", f"127.0.0.1:{self.port}", "--settle", "--patience", str(patience))
+        os.makedirs(self.near.at("out"))
+        for name in decks:
+            self.near.put(name, [name.upper()])
+        self.begins(*orders)
+
+    def begins(self, *orders):
+        """The station is started, with these orders for its calls."""
+        self.near.environment = {**os.environ, **shim.under(*orders)} if orders else None
+        self.near.start()
+        self.true(waits_for(lambda: is_listening(self.port)), "it doesn't listen")
+
+    def says(self, peer, *cards):
+        """A transmission of the peer's: each card is a job, and is acknowledged."""
+        peer.says(ENQ)
+        self.true(peer.hears(ACK0), "the bid isn't granted")
+        for number, card in enumerate(cards):
+            peer.says(text_of([ebcdic(card)]))
+            self.true(peer.hears(ACK0 if number % 2 else ACK1), f"{card} isn't acknowledged")
+        peer.says(EOT)
+
+    def takes(self, peer, jobs):
+        """The station's next transmission is taken, which has so many jobs."""
+        self.true(peer.hears(ENQ), "it doesn't bid")
+        self.equal(peer.takes(), jobs, "how many jobs its transmission has")
+
+    def calls_near(self, receipt=A_RECEIPT):
+        """A peer calls, and each end says its receipt."""
+        peer = self.peer(self.port)
+        self.says(peer, receipt)
+        self.takes(peer, 1)
+        return peer
+
+    def parts(self, peer):
+        """The peer hangs up, and the station has seen it."""
+        before = self.partings()
+        peer.close()
+        self.true(waits_for(lambda: self.partings() > before), "it doesn't see that the peer hung up")
+
+    def partings(self):
+        return sum(line.startswith(("hung up", "line failed: ")) for line in told_in(self.near))
+
+    def counts(self, *names):
+        """These decks go, the peer counts them, and hangs up."""
+        peer = self.calls_near()
+        self.takes(peer, len(names))
+        self.true(waits_for(lambda: self.near.names("sent") == sorted(names)), lambda: f"sent/ has {self.near.names('sent')}")
+        self.parts(peer)
+
+    def all_kept(self):
+        """The receipt of an end that has kept all that is promised to it."""
+        last = max((name.split("-") for name in self.promises(self.near)), key=lambda parts: int(parts[1]))
+        return receipt_of(int(last[1]), last[2])
+
+    def is_quiet(self, peer, seconds=2):
+        """The station says nothing for so long."""
+        peer.connection.settimeout(seconds)
+        try:
+            heard = peer.connection.recv(4096)
+            self.check(f"it says {heard.hex()}")
+        except socket.timeout:
+            self.check(None)
+        peer.connection.settimeout(10)
 
 
 def told_in(station):

@@ -6,6 +6,7 @@ import signal
 import socket
 import subprocess
 
+from tests.lib import shim
 from tests.lib.case import Case
 from tests.lib.frames import ACK0, ACK1, ENQ, EOT
 from tests.lib.ports import free_port, waits_for
@@ -290,6 +291,15 @@ class StationCase(Case):
         station.start()
         listens(station)
         return station, port
+
+    def clocked(self):
+        """The environment of a station whose clock the test sets."""
+        return {**os.environ, **shim.under(f"clock {self.at('ahead')}")}
+
+    def sets_clock(self, seconds):
+        """That clock is ahead by so many seconds."""
+        self.write("ahead.new", str(seconds))
+        os.rename(self.at("ahead.new"), self.at("ahead"))
 
     def peer(self, port, **further):
         """A peer that calls this port."""

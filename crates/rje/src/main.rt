@@ -2,7 +2,7 @@
 #![tactic(auto)]
 
 use rje_commands::CommandFault;
-use rje_program::{command, is_for_sockets, is_for_station, socket_command_at};
+use rje_program::{command, is_for_sockets, is_for_station, socket_command};
 use rje_stores::FileStore;
 use rje_workstation::station_command;
 use std::fs::{File, OpenOptions};
@@ -41,7 +41,7 @@ fn run(rt: &HostRuntime) -> io::Result<u8> {
     }
     let mut store = FileStore::new(rt, alloc);
     let status = if is_for_sockets(words.as_slice()) {
-        socket_command_at(
+        socket_command(
             rt,
             alloc,
             words.as_slice(),

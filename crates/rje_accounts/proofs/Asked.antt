@@ -1,5 +1,5 @@
 -- Calls, one after another.
-use Rattle.std.proofs.Common.{◌≡◌, ℕ, List, [], ◌∷◌, ◌++◌, Result, Ok, Err, OnOk, Bool, true, false, if◌then◌else◌, refl, sym, ap, subst}
+use Rattle.std.proofs.Common.{◌≡◌, ℕ, List, [], ◌∷◌, ◌++◌, Result, Ok, Err, OnOk, refl, sym, ap, subst}
 use Rattle.rje_stores.specs.Disk.{Asked, Call, SyncFolder, call_of}
 use Rattle.rje_stores.specs.Replacing.{Adds, Each}
 use Rattle.rje_stores.specs.Inside.Filling.{AddsSync}
@@ -26,7 +26,3 @@ pub added_stays : (P : Call → List Asked → Type 0) (S : List Asked → Type 
 added_stays P S step a b (calls, e, each) s =
     let rest : Each (λ call before. P call before × S before) calls a × S (calls ++ a) = each_stays P S step calls a each s in
     ((calls, e, rest.0), subst S (sym e) rest.1)
-
-pub either_way : {A : Type 0} (b : Bool) (x : A) → (if b then x else x) ≡ x
-either_way true x = refl
-either_way false x = refl

@@ -27,7 +27,7 @@ HasTwo counts = (q r : Receipt) × Contains counts q × Contains counts r × (q.
 abbrev pub IsKept : List Receipt → Receipt → Type 0
 IsKept counts r = IsHighest counts (Some r) ⊎ ((counts ≡ []) × (r ≡ no_receipt))
 
--- a job is among those that are known to have been kept
+-- a job is among those that are known to have been kept: its number is no higher than theirs
 abbrev pub IsOver : Option Receipt → Receipt → Type 0
 IsOver None r = ⊥
 IsOver (Some known) r = r.kept ≤ known.kept
@@ -40,3 +40,4 @@ pub record AreAccounts (all : List SettleName) (a : Accounts) : Type 0 where
   pub promises : IsPermutation (filter_map promise_of all) a.promises.items
   pub in_order : IsNonDecreasingBy (λ (p : Promise). p.receipt.kept) a.promises.items
   pub come : IsPermutation (filter_map come_of all) a.come.items
+  pub come_in_order : IsNonDecreasingBy (λ (number : ℕ). number) a.come.items

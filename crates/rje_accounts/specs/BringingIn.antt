@@ -1,15 +1,16 @@
 -- How a job that was kept gets its name in in/ (own profile).
-use Rattle.std.specs.Prelude.{◌≡◌, ◌⊎◌, ℕ, List}
-use Rattle.rje_stores.specs.Disk.{Asked, Call, Rename, SyncFolder}
+use Rattle.std.specs.Prelude.{◌≡◌, ◌⊎◌, ℕ, List, true}
+use Rattle.rje_stores.specs.Disk.{Asked, Call, Rename, SyncFolder, has_synced_name}
 use Rattle.rje_folders.specs.declared.folder.Folder.{Folder}
 use Rattle.rje_folders.specs.Folder.{path_in}
 use Rattle.rje_folders.specs.Moving.{MayDrop}
 use Rattle.rje_settle.specs.declared.settle_name.SettleName.{SettleName}
 use Rattle.rje_accounts.specs.Paths.{in_path, settle_path}
 
--- what may be asked to give a file another name in one moment: to rename it, and to put both names on disk
+-- What may be asked to give a file another name in one moment: to rename it, to put the new name on disk, and once that is there, that the old one is
+-- gone. So whatever moment power is lost in, the file has one of the two.
 abbrev pub MayRename : (from to : List ℕ) → Call → List Asked → Type 0
-MayRename from to call before = (call ≡ Rename from to) ⊎ (call ≡ SyncFolder to) ⊎ (call ≡ SyncFolder from)
+MayRename from to call before = (call ≡ Rename from to) ⊎ (call ≡ SyncFolder to) ⊎ ((call ≡ SyncFolder from) × (has_synced_name to before ≡ true))
 
 -- What may be asked to bring the job of a number in: to rename come-N to the name that it gets in in/; and where it has a name in in/ already, to take
 -- come-N away alone, once that one is on disk and the disk says that both are of one file. So the job never has a second name there.

@@ -13,6 +13,10 @@ settle_folder station = station ++ codes "/settle"
 abbrev pub settle_path : (station : List ℕ) → SettleName → List ℕ
 settle_path station name = station ++ (codes "/settle/" ++ name_text name)
 
+-- the path by which a file is tried before it is promised
+abbrev pub tried_path : (station : List ℕ) → List ℕ
+tried_path station = station ++ codes "/settle/.promise"
+
 -- the path that a job of this number gets in in/: STAMP-N.job
 abbrev pub in_path : (station stamp : List ℕ) → (number : ℕ) → List ℕ
 in_path station stamp number = path_in station Folder.In (stamp ++ (codes "-" ++ (decimal number ++ codes ".job")))

@@ -9,7 +9,7 @@ use Rattle.rje_accounts.specs.Paths.{settle_folder, settle_path}
 abbrev pub IsSynced : (path : List ℕ) → (before after : List Asked) → Type 0
 IsSynced path before after = (after ≡ Done (SyncFolder path) ∷ before) ⊎ (after ≡ Refused (SyncFolder path) ∷ before)
 
--- the last that was asked was to put the names in settle/ on disk, and it was done
+-- the last that was asked was to put the names in settle/ on disk, and it was done, or could not be
 abbrev pub AreSynced : (station : List ℕ) → List Asked → Type 0
 AreSynced station after = (name : SettleName) × (before : List Asked) × IsSynced (settle_path station name) before after
 

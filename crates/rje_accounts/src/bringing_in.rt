@@ -120,7 +120,7 @@ fn move_free<D: Disk>(disk: &mut D, from: &str, to: &str) -> io::Result<()>
 }
 
 /// Whether no file has a path.
-fn is_free<D: Disk>(disk: &D, path: &str) -> io::Result<bool> {
+pub(crate) fn is_free<D: Disk>(disk: &D, path: &str) -> io::Result<bool> {
     match disk.status_of_name(path) {
         Ok(_) => Ok(false),
         Err(error) if error.kind() == ErrorKind::NotFound => Ok(true),

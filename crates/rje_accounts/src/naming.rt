@@ -1,7 +1,7 @@
 //! Where the names of a station's accounts are.
 ghost use Rattle.std.specs.Prelude.{◌≡◌, IfOk, string_bytes};
 ghost use Rattle.rje_folders.specs.Folder.{path_in};
-ghost use Rattle.rje_accounts.specs.Paths.{in_path, settle_folder, settle_path};
+ghost use Rattle.rje_accounts.specs.Paths.{in_path, settle_folder, settle_path, tried_path as path_of_tried};
 
 use rje_folders::Folder;
 use rje_settle::SettleName;
@@ -24,6 +24,13 @@ pub fn settle_path(alloc: Global, station: &str, name: SettleName) -> io::Result
         Ok(text) => Ok(format!(in alloc; "{station}/settle/{text}")?),
         Err(_) => Err(io::Error::from(ErrorKind::InvalidFilename)),
     }
+}
+
+/// The path by which a file is tried before it is promised. It is none of the names of an account.
+pub(crate) fn tried_path(alloc: Global, station: &str) -> io::Result<String>
+    ensures { IfOk result (λ path. string_bytes path ≡ path_of_tried station.now) }
+{
+    Ok(format!(in alloc; "{station}/settle/.promise")?)
 }
 
 /// The path of a folder of the station.

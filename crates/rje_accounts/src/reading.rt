@@ -1,9 +1,11 @@
 //! How the accounts are read.
-ghost use Rattle.std.specs.Prelude.{◌≡◌, IfOk, OnOk, List};
+ghost use Rattle.std.specs.Prelude.{◌≡◌, ℕ, IfOk, OnOk, List, true};
+ghost use Rattle.rje_stores.specs.Disk.{has_synced_name};
 ghost use Rattle.rje_stores.specs.Replacing.{Adds};
 ghost use Rattle.rje_settle.specs.declared.settle_name.SettleName.{SettleName as Named};
 ghost use Rattle.rje_accounts.specs.Accounts.{AreAccounts};
 ghost use Rattle.rje_accounts.specs.Names.{AreSorted};
+ghost use Rattle.rje_accounts.specs.Paths.{settle_folder as folder_path};
 ghost use Rattle.rje_accounts.specs.Reading.{AreSynced, MayRead};
 
 use crate::accounts::Accounts;
@@ -25,6 +27,8 @@ pub fn read_accounts<D: FolderDisk>(
     station: &str,
 ) -> Result<Accounts, AccountsFault>
     ensures asks { D.discloses → Adds (MayRead station.now) (D.asked disk.old) (D.asked disk.new) }
+    ensures folder { D.discloses → OnOk result
+        (has_synced_name (folder_path station.now) (D.asked disk.new) ≡ true) }
     ensures synced { D.discloses → OnOk result (AreSynced station.now (D.asked disk.new)) }
     ensures accounts { IfOk result (λ accounts. (all : List Named) × AreAccounts all accounts) }
 {
@@ -36,7 +40,9 @@ pub fn read_accounts<D: FolderDisk>(
 
 /// Makes the folder of the accounts, for its owner alone, where there is none; its name is on disk then.
 fn make_folder<D: FolderDisk>(disk: &mut D, alloc: Global, station: &str) -> io::Result<()>
-    ensures { D.discloses → Adds (MayRead station.now) (D.asked disk.old) (D.asked disk.new) }
+    ensures asks { D.discloses → Adds (MayRead station.now) (D.asked disk.old) (D.asked disk.new) }
+    ensures synced { D.discloses → OnOk result
+        (has_synced_name (folder_path station.now) (D.asked disk.new) ≡ true) }
 {
     let path = settle_folder(alloc, station)?;
     disk.make_folder(path.as_str())?;
@@ -48,6 +54,8 @@ fn make_folder<D: FolderDisk>(disk: &mut D, alloc: Global, station: &str) -> io:
 fn sync_accounts<D: Disk>(disk: &mut D, alloc: Global, station: &str) -> io::Result<()>
     ensures asks { D.discloses → Adds (MayRead station.now) (D.asked disk.old) (D.asked disk.new) }
     ensures synced { D.discloses → OnOk result (AreSynced station.now (D.asked disk.new)) }
+    ensures keeps { (name : List ℕ) → D.discloses → has_synced_name name (D.asked disk.old) ≡ true
+        → has_synced_name name (D.asked disk.new) ≡ true }
 {
     let path = settle_path(alloc, station, SettleName::Come(0))?;
     let folder = disk.open_folder(path.as_str())?;

@@ -49,7 +49,7 @@ impl SettleNames {
         }
     }
 
-    /// What stands there under one name more, whether it is one of these or not.
+    /// What is there under one name more, whether it is one of these or not.
     pub(crate) fn push_text(&mut self, text: &str) -> Result<(), AccountsFault>
         ensures { (all : List Named) → AreSorted all self.old → OnOk result
             ((more : List Named) × AreSorted (all ++ more) self.new) }

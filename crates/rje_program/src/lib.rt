@@ -6,5 +6,5 @@ mod over_sockets;
 mod telling;
 
 pub use over_files::command;
-pub use over_sockets::{is_for_sockets, is_for_station, socket_command, socket_command_at};
+pub use over_sockets::{is_for_sockets, is_for_station, socket_command};
 pub use telling::tell_words;

@@ -44,33 +44,9 @@ pub fn is_for_station(words: &[&str]) -> bool
 /// Runs the command over sockets that these words ask for, and returns its exit status: 0 where all was sent and received (or it gave help or
 /// the version), 4 where some was not, 1 where a job file that it sends or receives into is refused, 2 where the words ask for no command over sockets, 3
 /// where a file, a line or an output failed, 5 where there was no memory, 141 where nobody reads `out` any more. What the command gives goes
-/// to `out`, and why it fails to `err`, and its turns as they happen where that is asked for.
+/// to `out`, and why it fails to `err`, and its turns as they happen if that is asked for. If
+/// `err` is a terminal, it is shown there how far a transmission is, unless the words ask for the turns or for nothing.
 pub fn socket_command<R: Net + Clock, S: Store, O: Write, E: Write>(
-    rt: &R,
-    alloc: Global,
-    words: &[&str],
-    store: &mut S,
-    out: &mut O,
-    err: &mut E,
-) -> u8
-    ensures done { (result ≡ 0) ⊎ (result ≡ 4)
-        → TransmitsAsAsked result (map (λ word. word.now) words.now)
-        (S.files store.old) (S.files store.new) (O.contents out.old) (O.contents out.new) }
-    ensures refused { result ≡ 1
-        → RefusesAsAsked (map (λ word. word.now) words.now) (S.files store.old) }
-    ensures words { result ≡ 2 → AsksForNoSockets (map (λ word. word.now) words.now) }
-    ensures status { IsSocketStatus result }
-    ensures files { LeavesFilesAsAsked (map (λ word. word.now) words.now)
-        (S.files store.old) (S.files store.new) }
-    ensures files_kept { (result ≡ 1) ⊎ (result ≡ 2)
-        → Discloses (S.files store.old) (S.files store.new) IsSame }
-    ensures silent { (result ≡ 1) ⊎ (result ≡ 2) → out.new ≡ out.old }
-{
-    socket_command_at(rt, alloc, words, store, out, err, false)
-}
-
-/// Does as `socket_command` does; where `err` is a terminal, it shows there how far it is, unless the words ask for the turns or for nothing.
-pub fn socket_command_at<R: Net + Clock, S: Store, O: Write, E: Write>(
     rt: &R,
     alloc: Global,
     words: &[&str],

@@ -12,4 +12,4 @@ IsJustReceipt receipt jobs = (job : Job) × (jobs ≡ job ∷ []) × IsReceiptJo
 -- A transmission is given the station's own receipt alone where that is next; jobs of files only where the other end's receipt came on this connection and
 -- agreed; and else nothing.
 abbrev pub IsGivenBy : ConnectionState → Receipt → List Job → Type 0
-IsGivenBy c receipt jobs = (MustSay c × IsJustReceipt receipt jobs) ⊎ (MaySend c ⊎ (jobs ≡ []))
+IsGivenBy c receipt jobs = (MustSay c → IsJustReceipt receipt jobs) × ((MustSay c → ⊥) → MaySend c ⊎ (jobs ≡ []))

@@ -1,4 +1,5 @@
 //! How often a job was sent that the other end didn't keep.
+ghost use Rattle.std.specs.Prelude.{◌≡◌, ◌≢◌, ◌≤◌, ◌+◌, ◌-◌, ◌^◌, ◌↔◌, IsTrue, None, Some, min};
 
 use rje_folders::FileIdentity;
 use rje_settle::JobPlace;
@@ -24,7 +25,13 @@ impl Attempts {
     }
 
     /// A job of this file hasn't come that may have. Whether it is sent no more.
-    pub(crate) fn are_too_many(&mut self, file: FileIdentity, place: JobPlace) -> bool {
+    pub(crate) fn are_too_many(&mut self, file: FileIdentity, place: JobPlace) -> bool
+        ensures job { self.new.job ≡ Some (file.device, file.inode, place.mark) }
+        ensures again { self.old.job ≡ self.new.job
+            → self.new.count ≡ min (self.old.count + 1) (2 ^ 32 - 1) }
+        ensures first { self.old.job ≢ self.new.job → self.new.count ≡ 1 }
+        ensures many { IsTrue result ↔ (3 ≤ self.new.count) }
+    {
         let job = Some((file.device, file.inode, place.mark));
         if self.job != job {
             self.job = job;
@@ -35,7 +42,9 @@ impl Attempts {
     }
 
     /// A job came.
-    pub(crate) fn forget(&mut self) {
+    pub(crate) fn forget(&mut self)
+        ensures { (self.new.job ≡ None) × (self.new.count ≡ 0) }
+    {
         self.job = None;
         self.count = 0;
     }

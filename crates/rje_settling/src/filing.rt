@@ -1,4 +1,4 @@
-//! What becomes of the file of a promised job, once a receipt tells of the job.
+//! What becomes of the file of a promised job, once a receipt settles the job.
 
 use crate::finding::{Standing, path_in, path_of};
 use rje_accounts::settle_path;

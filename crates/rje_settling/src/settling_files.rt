@@ -1,8 +1,8 @@
 //! The files of a spool that settles doubt by receipts.
-ghost use Rattle.std.specs.Prelude.{◌≡◌, IfOk, OnOk, Some, true, false, string_bytes};
-ghost use Rattle.rje_settle.specs.Connection.{MaySend};
+ghost use Rattle.std.specs.Prelude.{◌≡◌, ◌≢◌, IfOk, IfSome, OnOk, Some, true, false, string_bytes};
+ghost use Rattle.rje_settle.specs.Connection.{MaySend, after_saying};
 ghost use Rattle.rje_spool.specs.GivenFiles.{HasGoneOut, OfFile, file_of};
-ghost use Rattle.rje_settling.specs.Counting.{IsPromised};
+ghost use Rattle.rje_settling.specs.Counting.{IsOut, IsPromised, OutJob};
 ghost use Rattle.rje_settling.specs.Giving.{IsGivenBy, IsJustReceipt};
 
 mod receiving;
@@ -13,12 +13,12 @@ use crate::settling_fault::SettlingFault;
 use crate::station_accounts::StationAccounts;
 use rje_accounts::AccountsFault;
 use rje_day::{Disposition, Seen};
-use rje_folders::FolderDisk;
+use rje_folders::{FolderDisk, FolderFault};
 use rje_jobs::Job;
 use rje_receipts::{receipt_job, receipt_of_job};
 use rje_session::Spool;
 use rje_settle::{Connection, JobDigest};
-use rje_spool::{FolderSpool, Notice, RefusedFile, SettlingNotice, received_file};
+use rje_spool::{FolderSpool, Notice, RefusedFile, SettlingNotice, SpoolFault, received_file};
 use rje_station::Station;
 use std::alloc::Global;
 use std::io::Write;
@@ -49,6 +49,8 @@ pub(crate) struct SettlingFiles<D: FolderDisk + Drop, C, W, L> {
     digest: Option<(usize, JobDigest)>,
     // The job of the transmission that was promised last.
     promised: Option<usize>,
+    // The number of the promise that was made last, if its job didn't go out.
+    unsaid: Option<u64>,
     attempts: Attempts,
 }
 
@@ -76,6 +78,7 @@ impl<D: FolderDisk + Drop, C: Clock, W: Write, L: Write> SettlingFiles<D, C, W, 
             is_first: false,
             digest: None,
             promised: None,
+            unsaid: None,
             attempts: Attempts::new(),
         }
     }
@@ -114,7 +117,11 @@ impl<D: FolderDisk + Drop, C: Clock, W: Write, L: Write> SettlingFiles<D, C, W, 
     /// A station begins: its accounts are read, and from now on receipts tell what may have arrived.
     pub(crate) fn begin(&mut self) -> Result<(), SettlingFault> {
         self.spool.begin_settling();
-        self.read()
+        let read = self.read();
+        if let Err(fault) = &read {
+            self.tell_fault(fault);
+        }
+        read
     }
 
     /// A connection begins. Where the accounts can't be read it is left.
@@ -145,7 +152,7 @@ impl<D: FolderDisk + Drop, C: Clock, W: Write, L: Write> SettlingFiles<D, C, W, 
         }
     }
 
-    /// What lies ready, and what the operator wants. Its own receipt is said even if the operator holds what lies ready.
+    /// What lies ready, and what the operator asks for. Its own receipt is said even if the operator holds what lies ready.
     pub(crate) fn seen(&mut self) -> Seen {
         let seen = self.spool.seen();
         if !self.is_connected {
@@ -291,9 +298,9 @@ impl<D: FolderDisk + Drop, C: Clock, W: Write, L: Write> SettlingFiles<D, C, W, 
 
     /// The last block of this job goes out next: it is promised, on disk, and its file has a name in doubt/, on disk.
     pub(crate) fn goes_out(&mut self, job: usize) -> Result<(), SettlingFault>
-        ensures promised { D.discloses → OnOk result (self.old.is_receipt ≡ false → (file : _)
-            × (file_of job self.old.spool.files ≡ Some file)
-            × IsPromised (string_bytes self.old.accounts.station) (string_bytes file.name)
+        ensures promised { D.discloses → OnOk result (self.old.is_receipt ≡ false → (out : OutJob)
+            × IsOut job self.old.digest self.old.spool.files out
+            × IsPromised (string_bytes self.old.accounts.station) out
             self.old.accounts.sending self.new.accounts.sending
             (D.asked self.old.accounts.disk) (D.asked self.new.accounts.disk)) }
         ensures out { D.discloses → OnOk result (self.old.is_receipt ≡ false → OfFile job
@@ -303,18 +310,68 @@ impl<D: FolderDisk + Drop, C: Clock, W: Write, L: Write> SettlingFiles<D, C, W, 
         if self.is_receipt {
             return Ok(());
         }
-        self.promise(job)?;
-        // (where that fails the promise stands: the file may have its name in doubt/ all the same, and the next receipt tells)
-        self.spool.goes_out(job)?;
+        self.promise_or_tell(job)?;
+        self.put_out(job)?;
+        self.unsaid = None;
         self.promised = Some(job);
         Ok(())
     }
 
+    /// Promises this job, on disk. If its file was replaced, that is told.
+    fn promise_or_tell(&mut self, job: usize) -> Result<(), SettlingFault>
+        ensures promised { D.discloses → OnOk result ((out : OutJob)
+            × IsOut job self.old.digest self.old.spool.files out
+            × IsPromised (string_bytes self.old.accounts.station) out
+            self.old.accounts.sending self.new.accounts.sending
+            (D.asked self.old.accounts.disk) (D.asked self.new.accounts.disk)) }
+        ensures spool { OnOk result (self.new.spool ≡ self.old.spool) }
+    {
+        match self.promise(job) {
+            Ok(()) => Ok(()),
+            Err(fault) => Err(self.fault_of(job, fault)),
+        }
+    }
+
+    /// The file of this job gets its name in doubt/, on disk. If it can't the promise stands: the file may have the name all the same, and the next receipt
+    /// tells.
+    fn put_out(&mut self, job: usize) -> Result<(), SettlingFault>
+        ensures out { D.discloses → OnOk result (OfFile job
+            (λ file now. HasGoneOut D.is_file self.old.spool.station file now
+            self.old.spool.asked self.new.spool.asked) self.old.spool.files self.new.spool.files) }
+        ensures accounts { self.new.accounts ≡ self.old.accounts }
+    {
+        match self.spool.goes_out(job) {
+            Ok(()) => Ok(()),
+            Err(fault) => {
+                self.unsaid = self.accounts.last_promised();
+                Err(SettlingFault::from(fault))
+            }
+        }
+    }
+
+    /// The fault of a job that can't be promised. That its file was replaced is told by the file's name.
+    fn fault_of(&mut self, job: usize, fault: SettlingFault) -> SettlingFault {
+        if fault != SettlingFault::Accounts(AccountsFault::Replaced) {
+            return fault;
+        }
+        let Some(given) = self.spool.given(job) else {
+            return fault;
+        };
+        let Ok(name) = String::from_str(self.alloc, given.name) else {
+            return fault;
+        };
+        let Ok(text) = format!(in self.alloc; "{name}: {fault}") else {
+            return fault;
+        };
+        self.spool.tell(Notice::Failed(text.as_str()));
+        SettlingFault::Spool(SpoolFault::OfFile(FolderFault::Replaced))
+    }
+
     /// Promises this job, on disk.
     fn promise(&mut self, job: usize) -> Result<(), SettlingFault>
-        ensures promised { D.discloses → OnOk result ((file : _)
-            × (file_of job self.old.spool.files ≡ Some file)
-            × IsPromised (string_bytes self.old.accounts.station) (string_bytes file.name)
+        ensures promised { D.discloses → OnOk result ((out : OutJob)
+            × IsOut job self.old.digest self.old.spool.files out
+            × IsPromised (string_bytes self.old.accounts.station) out
             self.old.accounts.sending self.new.accounts.sending
             (D.asked self.old.accounts.disk) (D.asked self.new.accounts.disk)) }
         ensures spool { self.new.spool ≡ self.old.spool }
@@ -329,7 +386,9 @@ impl<D: FolderDisk + Drop, C: Clock, W: Write, L: Write> SettlingFiles<D, C, W, 
     }
 
     /// The digest of this job, if it is the one that is next.
-    fn digest_of(&self, job: usize) -> Option<JobDigest> {
+    fn digest_of(&self, job: usize) -> Option<JobDigest>
+        ensures { IfSome result (λ digest. self.now.digest ≡ Some (job, digest)) }
+    {
         match self.digest {
             Some((hashed, digest)) if hashed == job => Some(digest),
             _ => None,
@@ -337,7 +396,12 @@ impl<D: FolderDisk + Drop, C: Clock, W: Write, L: Write> SettlingFiles<D, C, W, 
     }
 
     /// What became of this job.
-    pub(crate) fn settle(&mut self, job: usize, what: Disposition) -> Result<(), SettlingFault> {
+    pub(crate) fn settle(&mut self, job: usize, what: Disposition) -> Result<(), SettlingFault>
+        ensures said { self.old.is_receipt ≡ true
+            → what ≡ Disposition.Sent → self.new.connection ≡ after_saying self.old.connection }
+        ensures unsaid { self.old.is_receipt ≡ true
+            → what ≢ Disposition.Sent → self.new.connection ≡ self.old.connection }
+    {
         if self.is_receipt {
             if what == Disposition::Sent {
                 self.connection.said();

@@ -29,7 +29,7 @@ impl<
     L: Write + Drop,
     B: Book + Drop,
 > SettlingSpool<D, C, W, L, B> {
-    /// That of this spool of the station's folder of this path, whose accounts are read on this disk. It tells where no receipt came within so many
+    /// That of this spool of the station's folder of this path, whose accounts are read on this disk. It reports if no receipt came within so many
     /// hearings. Nothing is entered yet.
     pub fn begin(
         alloc: Global,

@@ -1,5 +1,5 @@
 //! The accounts of a station, on disk and as they are reckoned.
-ghost use Rattle.std.specs.Prelude.{◌≡◌, IfOk, OnOk, string_bytes};
+ghost use Rattle.std.specs.Prelude.{◌≡◌, ◌≤◌, ◌<◌, ◌↔◌, IfOk, IsTrue, OnOk, string_bytes};
 ghost use Rattle.rje_settling.specs.Counting.{IsCounted, IsPromised};
 
 use crate::filing::{FiledJob, file_as_ready, file_as_sent};
@@ -34,7 +34,7 @@ pub(crate) struct StationAccounts<D: FolderDisk + Drop> {
     station: String,
     sending: SendingAccount,
     receiving: ReceivingAccount,
-    // They are as they stand on disk.
+    // They are as they are on disk.
     is_read: bool,
     // The promises follow one another.
     is_in_order: bool,
@@ -63,7 +63,7 @@ impl<D: FolderDisk + Drop> StationAccounts<D> {
         })
     }
 
-    /// Whether they are as they stand on disk.
+    /// Whether they are as they are on disk.
     pub(crate) fn is_read(&self) -> bool {
         self.is_read
     }
@@ -78,14 +78,16 @@ impl<D: FolderDisk + Drop> StationAccounts<D> {
         &mut self,
         stamp: &str,
         spool: &mut FolderSpool<D, C, W, L>,
-    ) -> Result<Vec<BroughtIn>, SettlingFault> {
+    ) -> Result<Vec<BroughtIn>, SettlingFault>
+        ensures filed { OnOk result ((self.new.filed_from ≡ 0) × (self.new.filed_to ≡ 0)) }
+    {
         self.is_read = false;
-        self.forget_filed();
         let accounts = read_accounts(&mut self.disk, self.alloc, self.station.as_str())?;
         let brought = self.finish_jobs(&accounts, stamp)?;
         self.finish_promises(&accounts, spool)?;
         self.receiving = accounts.receiving();
         self.reckon_sending(&accounts)?;
+        self.forget_filed();
         self.is_read = true;
         Ok(brought)
     }
@@ -204,7 +206,11 @@ impl<D: FolderDisk + Drop> StationAccounts<D> {
         given: &GivenJob<'_>,
     ) -> Result<(), SettlingFault>
         ensures on_disk { D.discloses → OnOk result
-            (IsPromised (string_bytes self.old.station) given.now.name.now
+            (IsPromised (string_bytes self.old.station) (record {
+              name = given.now.name.now;
+              digest = job.bytes;
+              place = record { mark = given.now.mark; is_last = given.now.is_last };
+            })
             self.old.sending self.new.sending (D.asked self.old.disk) (D.asked self.new.disk)) }
     {
         let place = JobPlace {
@@ -226,6 +232,12 @@ impl<D: FolderDisk + Drop> StationAccounts<D> {
                 Err(SettlingFault::from(fault))
             }
         }
+    }
+
+    /// The number of the job that was promised last.
+    pub(crate) fn last_promised(&self) -> Option<u64> {
+        let promise = self.sending.promises().last()?;
+        Some(promise.receipt.kept)
     }
 
     /// The last promise is taken back, since its job didn't go out.
@@ -255,13 +267,18 @@ impl<D: FolderDisk + Drop> StationAccounts<D> {
     }
 
     /// Nobody knows where the files of the promised jobs stand.
-    pub(crate) fn forget_filed(&mut self) {
+    pub(crate) fn forget_filed(&mut self)
+        ensures { (self.new.filed_from ≡ 0) × (self.new.filed_to ≡ 0) }
+    {
         self.filed_from = 0;
         self.filed_to = 0;
     }
 
     /// Whether the job of a promise was counted, and its file stands where it belongs.
-    pub(crate) fn is_filed(&self, promise: Promise) -> bool {
+    pub(crate) fn is_filed(&self, promise: Promise) -> bool
+        ensures { IsTrue result ↔ (self.now.filed_from ≤ promise.receipt.kept)
+            × (promise.receipt.kept < self.now.filed_to) }
+    {
         let number = promise.receipt.kept;
         self.filed_from <= number && number < self.filed_to
     }

@@ -9,8 +9,8 @@ use Rattle.rje_station.specs.Line.{one_more}
 use Rattle.rje_station.specs.Receiving.{Receiving, after_refusal, with_reply}
 use Rattle.line_world.specs.AnyLines.{Turns}
 use Rattle.rje_session.specs.Stations.{LineTells}
-use Rattle.rje_sockets.specs.declared.broken_off.BrokenOff.{BrokenOff}
-use Rattle.rje_sockets.specs.declared.left.Left.{Left}
+use Rattle.rje_sockets.specs.declared.transfer_error.TransferError.{TransferError}
+use Rattle.rje_sockets.specs.declared.receive_end.ReceiveEnd.{ReceiveEnd}
 use Rattle.rje_sockets.specs.Answering.{Answered, answers}
 use Rattle.rje_sockets.specs.Inside.BreakingOff.{BreaksOffNow, KeptSoFar}
 use Rattle.rje_sockets.specs.OverLine.{ReceiverTurn}
@@ -32,10 +32,10 @@ line_failed fault.Babble failed over middle after other cause tried = absurd cau
 line_failed _ failed over middle after other cause tried = absurd cause
 
 -- it keeps the same file
-pub breaks_same_file : (r r' : Receiving) (was is : KeptSoFar) (broken : BrokenOff) → BreaksOffNow r r' was is broken → is.0.file ≡ was.0.file
-breaks_same_file r r' was is (BrokenOff.File fault) (what, refused, may, state, silent, goes) = goes.0
-breaks_same_file r r' was is (BrokenOff.Line fault) (inl (state, silent, goes)) = goes.0
-breaks_same_file r r' was is (BrokenOff.Line fault) (inr (what, refused, may, state, once, goes)) = goes.0
+pub breaks_same_file : (r r' : Receiving) (was is : KeptSoFar) (broken : TransferError) → BreaksOffNow r r' was is broken → is.0.file ≡ was.0.file
+breaks_same_file r r' was is (TransferError.File fault) (what, refused, may, state, silent, goes) = goes.0
+breaks_same_file r r' was is (TransferError.Line fault) (inl (state, silent, goes)) = goes.0
+breaks_same_file r r' was is (TransferError.Line fault) (inr (what, refused, may, state, once, goes)) = goes.0
 
 -- SOME TURNS
 
@@ -51,7 +51,7 @@ pub took_answered : {W : Type 0} (Saw : SawReceiver W) (was is : Receiving × Li
 took_answered Saw was is h took = record { history = h; took = receiver_took Saw was is h took; sent = just_replies Saw was is h took }
 
 -- to the end, which leaves its jobs
-pub left_answered : {W : Type 0} (most : ℕ) (Saw : SawReceiver W) (left : Left) (r r' : Receiving) (t u : LineTells) (w w' : W) → Leaves most Saw left (r, t, w) (r', u, w')
+pub left_answered : {W : Type 0} (most : ℕ) (Saw : SawReceiver W) (left : ReceiveEnd) (r r' : Receiving) (t u : LineTells) (w w' : W) → Leaves most Saw left (r, t, w) (r', u, w')
     → (far : Receiving) × Answered r far t.1 u.1 × (r'.jobs ≡ far.jobs)
-left_answered most Saw Left.Ended r r' t u w w' (h, on, took, over) = (r', took_answered Saw (r, t, w) (r', u, w') h took, refl)
-left_answered most Saw Left.Abandoned r r' t u w w' (far, (h, on, took, why), is) = (far, took_answered Saw (r, t, w) (far, u, w') h took, ap (λ (x : Receiving). x.jobs) is)
+left_answered most Saw ReceiveEnd.Ended r r' t u w w' (h, on, took, over) = (r', took_answered Saw (r, t, w) (r', u, w') h took, refl)
+left_answered most Saw ReceiveEnd.Abandoned r r' t u w w' (far, (h, on, took, why), is) = (far, took_answered Saw (r, t, w) (far, u, w') h took, ap (λ (x : Receiving). x.jobs) is)

@@ -20,12 +20,12 @@ use Rattle.rje_station.specs.Sending.{Sending}
 use Rattle.rje_station.specs.Station.{Contending, after_other, after_other_ended, after_other_refusal, after_own_reply, gives_way, lets_in}
 use Rattle.rje_session.specs.Stations.{FailsInOwn, TakesOthers, TakesOwn, after_answering_other}
 use Rattle.rje_session.proofs.Places.{fault_receiver, own_receiver}
-use Rattle.rje_sockets.specs.declared.broken_off.BrokenOff.{BrokenOff}
+use Rattle.rje_sockets.specs.declared.transfer_error.TransferError.{TransferError}
 use Rattle.rje_files.specs.declared.entry.Entry.{Entry}
-use Rattle.rje_sockets.specs.declared.keeper.Keeper.{Keeper}
+use Rattle.rje_sockets.specs.declared.job_writer.JobWriter.{JobWriter}
 use Rattle.rje_sockets.specs.declared.kept_file.KeptFile.{KeptFile}
 use Rattle.rje_sockets.proofs.InFront.{left_alone, opened_as, opened_untold}
-use Rattle.rje_sockets.specs.declared.marker.Marker.{Marker}
+use Rattle.rje_sockets.specs.declared.sent_marker.SentMarker.{SentMarker}
 use Rattle.rje_sockets.specs.BothWays.{FailsInOthers, StationTurn, Took}
 use Rattle.rje_sockets.specs.Ending.{MarksSent}
 use Rattle.rje_sockets.specs.Inside.Marking.{GoesOnMarking, Marks}
@@ -102,7 +102,7 @@ sent_apart file sent own n two = record {
   apart = λ bytes f h (b, is, few, sets). let a = sets_apart sent own bytes b f h two sets in ((b, is, few, a.0), a.1);
 }
 
-marks_apart : (marker : Marker) (own : List ℕ) (n : ℕ) → marker.name.now ≢ own → IsApart own (λ f g. Marks marker n f g)
+marks_apart : (marker : SentMarker) (own : List ℕ) (n : ℕ) → marker.name.now ≢ own → IsApart own (λ f g. Marks marker n f g)
 marks_apart marker own n two = let are = sent_apart marker.file.items marker.name.now own marker.marked two in record {
   leaves = λ f h m. are.leaves f h m.file;
   untold = λ g m. record { places = m.places; all = m.all; file = are.untold g m.file };
@@ -110,7 +110,7 @@ marks_apart marker own n two = let are = sent_apart marker.file.items marker.nam
   apart = λ bytes f h m. let a = are.apart bytes f h m.file in (record { places = m.places; all = m.all; file = a.0 }, a.1);
 }
 
-module _ (old : Marker) (counted : ℕ) (front : List Entry) (keeper : Keeper) (two : old.name.now ≢ keeper.file.into.jobs.now) (Q : Option FileMap → Option FileMap → Type 0)
+module _ (old : SentMarker) (counted : ℕ) (front : List Entry) (keeper : JobWriter) (two : old.name.now ≢ keeper.file.into.jobs.now) (Q : Option FileMap → Option FileMap → Type 0)
     (can : IsApart keeper.file.into.jobs.now Q) where
   abbrev own : List ℕ
   own = keeper.file.into.jobs.now
@@ -147,7 +147,7 @@ module _ (old : Marker) (counted : ℕ) (front : List Entry) (keeper : Keeper) (
       (Some (as_in own f h), a.0, opened_still f m0 (as_in own f h) m a.0 opened, (bytes, file, is, few, a.1))
 
 -- so it was beside what a keeper has kept
-beside_keeper : (old : Marker) (counted : ℕ) (keeper : Keeper) (two : old.name.now ≢ keeper.file.into.jobs.now) (Q : Option FileMap → Option FileMap → Type 0) (can : IsApart keeper.file.into.jobs.now Q)
+beside_keeper : (old : SentMarker) (counted : ℕ) (keeper : JobWriter) (two : old.name.now ≢ keeper.file.into.jobs.now) (Q : Option FileMap → Option FileMap → Type 0) (can : IsApart keeper.file.into.jobs.now Q)
     (jobs : List Job) (files g h : Option FileMap) → ((files : Option FileMap) → Marks old counted files g → Q files h) → HoldsBoth old counted keeper jobs files g
     → (marked : Option FileMap) × Q files marked × KeepsJobs keeper jobs marked h
 beside_keeper old counted keeper two Q can jobs files g h on (marked, m, k) =
@@ -156,14 +156,14 @@ beside_keeper old counted keeper two Q can jobs files g h on (marked, m, k) =
 
 -- A MARKER AND A KEEPER
 
-pub holds_marked : (old new : Marker) (counted more : ℕ) (keeper : Keeper) (jobs : List Job) (files g h : Option FileMap) → old.name.now ≢ keeper.file.into.jobs.now → GoesOnMarking old new counted more g h
+pub holds_marked : (old new : SentMarker) (counted more : ℕ) (keeper : JobWriter) (jobs : List Job) (files g h : Option FileMap) → old.name.now ≢ keeper.file.into.jobs.now → GoesOnMarking old new counted more g h
     → HoldsBoth old counted keeper jobs files g → HoldsBoth new more keeper jobs files h
 holds_marked old new counted more keeper jobs files g h two (name, file, on) both =
     let apart : new.name.now ≢ keeper.file.into.jobs.now = λ is. two (sym (ap (λ (n : _). n.now) name) ∙ is) in
     beside_keeper old counted keeper two (λ f g. Marks new more f g) (marks_apart new keeper.file.into.jobs.now more apart) jobs files g h on both
 
 -- the whole file is marked
-pub holds_written : (marker : Marker) (counted n : ℕ) (keeper : Keeper) (jobs : List Job) (files g h : Option FileMap) → marker.name.now ≢ keeper.file.into.jobs.now
+pub holds_written : (marker : SentMarker) (counted n : ℕ) (keeper : JobWriter) (jobs : List Job) (files g h : Option FileMap) → marker.name.now ≢ keeper.file.into.jobs.now
     → MarksSent marker.file.items n marker.name.now g h → HoldsBoth marker counted keeper jobs files g
     → (marked : Option FileMap) × MarksSent marker.file.items n marker.name.now files marked × KeepsJobs keeper jobs marked h
 holds_written marker counted n keeper jobs files g h two sets both =
@@ -176,7 +176,7 @@ holds_first was had = record { name = refl; file = refl; own = refl; holds = λ 
 
 module _ (first now : HeldSoFar) (had has : Progress) (p : GoesOnHolding first now had has) where
   -- more is marked
-  pub goes_on_marked : (new : Marker) (h : Option FileMap) (more : Progress) → more.1 ≡ has.1 → GoesOnMarking now.0 new has.0 more.0 now.2 h → GoesOnHolding first (new, now.1, h) had more
+  pub goes_on_marked : (new : SentMarker) (h : Option FileMap) (more : Progress) → more.1 ≡ has.1 → GoesOnMarking now.0 new has.0 more.0 now.2 h → GoesOnHolding first (new, now.1, h) had more
   goes_on_marked new h more same on = record {
     name = on.0 ∙ p.name;
     file = on.1 ∙ p.file;
@@ -187,7 +187,7 @@ module _ (first now : HeldSoFar) (had has : Progress) (p : GoesOnHolding first n
   }
 
   -- more is kept
-  pub goes_on_kept : (after : Keeper) (h : Option FileMap) (more : Progress) → more.0 ≡ has.0 → GoesOnKeeping now.1 after has.1 more.1 now.2 h → GoesOnHolding first (now.0, after, h) had more
+  pub goes_on_kept : (after : JobWriter) (h : Option FileMap) (more : Progress) → more.0 ≡ has.0 → GoesOnKeeping now.1 after has.1 more.1 now.2 h → GoesOnHolding first (now.0, after, h) had more
   goes_on_kept after h more same on = record {
     name = p.name;
     file = p.file;
@@ -242,7 +242,7 @@ comes_in s what refused true is = rw is (heard_comes what (receiver_news s.recei
 comes_in s what refused false is = rw is (nothing s.receiver.jobs)
 
 -- what came was kept
-pub other_kept : (s mid : Contending) (what : Heard) (refused : Bool) (old new : Keeper) (jobs later : List Job) (f g : Option FileMap) → mid ≡ after_other s what refused Wish.Go
+pub other_kept : (s mid : Contending) (what : Heard) (refused : Bool) (old new : JobWriter) (jobs later : List Job) (f g : Option FileMap) → mid ≡ after_other s what refused Wish.Go
     → jobs ≡ mid.receiver.jobs → later ≡ mid.receiver.jobs → new.file ≡ old.file → new.kept ≡ kept_after old.file.place old.kept jobs
     → ((front : List Entry) (files : Option FileMap) → HasFront front old.file.front → AreKept front (take old.kept jobs) old.long old.file.into.jobs.now files f
     → AreKept front (take new.kept jobs) new.long old.file.into.jobs.now files g)
@@ -251,16 +251,13 @@ other_kept s mid what refused old new jobs later f g state is stay same next kep
     let comes : Comes s.receiver.jobs jobs = subst (λ (js : List Job). Comes s.receiver.jobs js) (sym (is ∙ ap (λ (x : Contending). x.receiver.jobs) state)) (comes_in s what refused _ refl) in
     subst (λ (js : List Job). GoesOnKeeping old new s.receiver.jobs js f g) (is ∙ sym stay) (goes_on old new s.receiver.jobs jobs f g comes same next kept)
 
-other_refused : (f : StationFault) (s : Contending) → (after_other_refusal f s).receiver.jobs ≡ s.receiver.jobs
-other_refused fault.Over s = refl
-other_refused fault.OutOfMemory s = refl
-other_refused (fault.BadJob n) s = refl
-other_refused fault.Babble s = refl
-other_refused (fault.Line f) s = refl
+refusal_keeps_jobs : (f : StationFault) (s : Contending) → (after_other_refusal f s).receiver.jobs ≡ s.receiver.jobs
+refusal_keeps_jobs fault.Over s = refl
+refusal_keeps_jobs _ s = refl
 
 -- a fault of the line leaves the jobs
 pub refusal_leaves : (f : StationFault) (s s' : Contending) → s' ≡ after_other_refusal f s → s'.receiver.jobs ≡ s.receiver.jobs
-refusal_leaves f s s' is = ap (λ (x : Contending). x.receiver.jobs) is ∙ other_refused f s
+refusal_leaves f s s' is = ap (λ (x : Contending). x.receiver.jobs) is ∙ refusal_keeps_jobs f s
 
 answering_jobs : (mid : Contending) (over : Bool) → (if over then after_other_ended mid else after_own_reply mid).receiver.jobs ≡ mid.receiver.jobs
 answering_jobs mid true = ended mid mid.receiver.over refl where
@@ -281,25 +278,25 @@ refusal_count s s' is = ap (λ (x : Contending). x.sender.counted) is
 pub same_count : (s s' : Contending) (n : ℕ) → s' ≡ after_other_ended s → s.sender.counted ≡ n → s'.sender.counted ≡ n
 same_count s s' n is same = ap (λ (x : Contending). x.sender.counted) is ∙ same
 
-pub ended_jobs : (old new : Keeper) (s s' : Contending) (jobs : List Job) (f g : Option FileMap) → s' ≡ after_other_ended s → GoesOnKeeping old new jobs s.receiver.jobs f g
+pub ended_jobs : (old new : JobWriter) (s s' : Contending) (jobs : List Job) (f g : Option FileMap) → s' ≡ after_other_ended s → GoesOnKeeping old new jobs s.receiver.jobs f g
     → GoesOnKeeping old new jobs s'.receiver.jobs f g
 ended_jobs old new s s' jobs f g is on = subst (λ (js : List Job). GoesOnKeeping old new jobs js f g) (sym (answer_leaves s s' true is)) on
 
 -- THE BREAK
 
 module _ (s near s' : Contending) (turns : List StationTurn) (took : Took s.contender.rank s turns near) (was now : HeldSoFar) (p : GoesOnHolding was now (progress_of s) (progress_of near)) where
-  pub breaks_own : (fault : StationFault) (new : Marker) (h : Option FileMap) → new ≡ now.0 → h ≡ now.2 → FailsInOwn near s' fault → BreaksBoth s s' was (new, now.1, h) (BrokenOff.Line fault)
+  pub breaks_own : (fault : StationFault) (new : SentMarker) (h : Option FileMap) → new ≡ now.0 → h ≡ now.2 → FailsInOwn near s' fault → BreaksBoth s s' was (new, now.1, h) (TransferError.Line fault)
   breaks_own fault new h unmarked still fails = record {
     turns = turns;
     near = near;
     took = took;
     fails = inl fails;
-    holds = subst (λ (m : Marker). GoesOnHolding was (m, now.1, h) (progress_of s) (near.sender.counted, s'.receiver.jobs)) (sym unmarked)
+    holds = subst (λ (m : SentMarker). GoesOnHolding was (m, now.1, h) (progress_of s) (near.sender.counted, s'.receiver.jobs)) (sym unmarked)
         (subst (λ (files : Option FileMap). GoesOnHolding was (now.0, now.1, files) (progress_of s) (near.sender.counted, s'.receiver.jobs)) (sym still)
         (subst (λ (js : List Job). GoesOnHolding was now (progress_of s) (near.sender.counted, js)) (sym (own_failed near s' fault fails)) p));
   }
 
-  pub breaks_others : (broken : BrokenOff) (after : Keeper) (h : Option FileMap) → FailsInOthers near s' broken → GoesOnKeeping now.1 after near.receiver.jobs (kept_of near s' broken) now.2 h
+  pub breaks_others : (broken : TransferError) (after : JobWriter) (h : Option FileMap) → FailsInOthers near s' broken → GoesOnKeeping now.1 after near.receiver.jobs (kept_of near s' broken) now.2 h
       → BreaksBoth s s' was (now.0, after, h) broken
   breaks_others broken after h fails on = record {
     turns = turns;

@@ -12,8 +12,8 @@ use Rattle.rje_station.specs.declared.arrival.Arrival.{Arrival}
 use Rattle.rje_station.specs.Station.{Contending, due_at, after_other_ended, after_other_refusal}
 use Rattle.rje_station.specs.declared.line_fault.LineFault.TheVariants.{Closed}
 use Rattle.rje_station.specs.declared.station_fault.StationFault.TheVariants as fault
-use Rattle.rje_sockets.specs.declared.broken_off.BrokenOff.{BrokenOff}
-use Rattle.rje_sockets.specs.declared.left.Left.{Left}
+use Rattle.rje_sockets.specs.declared.transfer_error.TransferError.{TransferError}
+use Rattle.rje_sockets.specs.declared.receive_end.ReceiveEnd.{ReceiveEnd}
 use Rattle.rje_sockets.specs.BothWays.{AreOver, ExchangesTo, Fails, FailsInOthers, IsNext, NextTurn, Others, Own, StationTurn, TakesTurnsTo, Took, TookOver, TurnOver, Waits, has_listened, quiet_in_a_row}
 use Rattle.rje_sockets.specs.Patience.{was_quiet}
 use Rattle.rje_sockets.specs.Watching.{NobodySawReceiver, NobodySawSender, SawReceiver, SawSender}
@@ -100,20 +100,20 @@ module _ {W : Type 0} (most : ℕ) (Sent : SawSender W) (Came : SawReceiver W) (
 
       -- it gave up hope
       pub all_quiet : (now : ℕ) (left : Contending) → Listens listened → CameNow → now ≡ (if was_quiet is.0.receiver.arrival then quiet + 1 else 0) → now ≡ most → left ≡ after_other_ended is.0
-          → TakesTurnsTo most Sent Came Left.Abandoned was (left, is.1, is.2)
+          → TakesTurnsTo most Sent Came ReceiveEnd.Abandoned was (left, is.1, is.2)
       all_quiet now left next c is_now all ended = (with_others c, is.0, others_took next c, inl (others_quiet c ∙ sym is_now ∙ all, ended))
 
     -- HOW IT ENDS
 
-    pub ends_over : AreOver near.0 → TakesTurnsTo most Sent Came Left.Ended was near
+    pub ends_over : AreOver near.0 → TakesTurnsTo most Sent Came ReceiveEnd.Ended was near
     ends_over over = (p.turns, near.0, near.1, p.took, inl (over, refl, refl))
 
     pub ends_hung_up : (s' : Contending) (u : LineTells) (w' : W) → w' ≡ near.2 → Waits near.0 → s' ≡ after_other_refusal (fault.Line Closed) near.0
-        → TakesTurnsTo most Sent Came Left.Ended was (s', u, w')
+        → TakesTurnsTo most Sent Came ReceiveEnd.Ended was (s', u, w')
     ends_hung_up s' u w' same waits is =
         (p.turns, near.0, near.1, subst (λ (w : W). TookOver Sent Came was p.turns (near.0, near.1, w)) (sym same) p.took, inr (waits, is))
 
-    pub ends_long : n ≡ 1000000000 → TakesTurnsTo most Sent Came Left.Abandoned was near
+    pub ends_long : n ≡ 1000000000 → TakesTurnsTo most Sent Came ReceiveEnd.Abandoned was near
     ends_long e = (p.turns, near.0, p.took, inr (p.long ∙ e, refl))
 
 -- whoever watches, they end so
@@ -126,15 +126,15 @@ turns_unseen Sent Came s s' t u w w' turns took =
       unseen past a b (Own said heard) (next, (takes, passed, saw)) = (next, (takes, passed, tt))
       unseen past a b (Others arrival reply) (next, (takes, passed, saw)) = (next, (takes, passed, tt))
 
-pub exchanges_unseen : {W : Type 0} (most : ℕ) (Sent : SawSender W) (Came : SawReceiver W) (left : Left) (s s' : Contending) (t u : LineTells) (w w' : W)
+pub exchanges_unseen : {W : Type 0} (most : ℕ) (Sent : SawSender W) (Came : SawReceiver W) (left : ReceiveEnd) (s s' : Contending) (t u : LineTells) (w w' : W)
     → TakesTurnsTo most Sent Came left (s, t, w) (s', u, w') → ExchangesTo most left s t s' u
-exchanges_unseen most Sent Came Left.Ended s s' t u w w' (turns, near, mid, took, ends) = (turns, near, mid, turns_unseen Sent Came s near t mid w w' turns took, ends)
-exchanges_unseen most Sent Came Left.Abandoned s s' t u w w' (turns, near, took, ends) = (turns, near, turns_unseen Sent Came s near t u w w' turns took, ends)
+exchanges_unseen most Sent Came ReceiveEnd.Ended s s' t u w w' (turns, near, mid, took, ends) = (turns, near, mid, turns_unseen Sent Came s near t mid w w' turns took, ends)
+exchanges_unseen most Sent Came ReceiveEnd.Abandoned s s' t u w w' (turns, near, took, ends) = (turns, near, turns_unseen Sent Came s near t u w w' turns took, ends)
 
-pub fails_as : {X : Type 0} (r : Result X BrokenOff) (broken : BrokenOff) (P : BrokenOff → Type 0) → IsErrAnd r (λ b. b ≡ broken) → P broken → IfErr r P
+pub fails_as : {X : Type 0} (r : Result X TransferError) (broken : TransferError) (P : TransferError → Type 0) → IsErrAnd r (λ b. b ≡ broken) → P broken → IfErr r P
 fails_as (Err b) broken P is holds = subst P (sym is) holds
 fails_as (Ok x) broken P is holds = absurd is
 
-pub others_fail : (near s' : Contending) (broken : BrokenOff) → FailsInOthers near s' broken → Fails near s' broken
-others_fail near s' (BrokenOff.Line fault) fails = inr fails
-others_fail near s' (BrokenOff.File fault) fails = fails
+pub others_fail : (near s' : Contending) (broken : TransferError) → FailsInOthers near s' broken → Fails near s' broken
+others_fail near s' (TransferError.Line fault) fails = inr fails
+others_fail near s' (TransferError.File fault) fails = fails

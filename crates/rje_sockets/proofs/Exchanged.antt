@@ -19,12 +19,12 @@ use Rattle.rje_commands.specs.CommandFault.{IsFailing, status_of}
 use Rattle.rje_commands.specs.Commands.{OfFile}
 use Rattle.rje_commands.proofs.Inputs.{of_file}
 use Rattle.rje_session.specs.Stations.{LineTells}
-use Rattle.rje_sockets.specs.declared.broken_off.BrokenOff.{BrokenOff}
-use Rattle.rje_sockets.specs.declared.left.Left.{Left}
+use Rattle.rje_sockets.specs.declared.transfer_error.TransferError.{TransferError}
+use Rattle.rje_sockets.specs.declared.receive_end.ReceiveEnd.{ReceiveEnd}
 use Rattle.rje_orders.specs.declared.order.Destination.{Destination}
-use Rattle.rje_sockets.specs.declared.keeper.Keeper.{Keeper}
+use Rattle.rje_sockets.specs.declared.job_writer.JobWriter.{JobWriter}
 use Rattle.rje_sockets.specs.declared.kept_file.KeptFile.{KeptFile}
-use Rattle.rje_sockets.specs.declared.marker.Marker.{Marker}
+use Rattle.rje_sockets.specs.declared.sent_marker.SentMarker.{SentMarker}
 use Rattle.rje_sockets.specs.declared.socket_commands.ending.Ending.{Ending}
 use Rattle.rje_sockets.specs.BothWays.{ExchangesTo}
 use Rattle.rje_sockets.specs.Ending.{MakesJobFile, MarksSent}
@@ -61,7 +61,7 @@ makes_both was is had s g h on sets makes two files held =
     )
 
 -- a transmission each way that nothing ended but itself
-pub all_exchanged : (most : ℕ) (left : Result Left BrokenOff) (marked kept printed : Result (Unit {0}) CommandFault) (t u : LineTells) (s station : Contending) (was is : HeldSoFar) (g h : Option FileMap)
+pub all_exchanged : (most : ℕ) (left : Result ReceiveEnd TransferError) (marked kept printed : Result (Unit {0}) CommandFault) (t u : LineTells) (s station : Contending) (was is : HeldSoFar) (g h : Option FileMap)
     (had has : Option (List ℕ)) (text : List ℕ) → IfOk left (λ l. ExchangesTo most l s t station u)
     → OnOk left (GoesOnHolding was is (progress_of s) (progress_of station))
     → OnOk marked (MarksSent is.0.file.items station.sender.counted is.0.name.now is.2 g)
@@ -82,7 +82,7 @@ all_exchanged most (Ok l) (Ok m) (Ok k) (Ok p) t u s station was is g h had has 
 }
 
 -- and one that something ended: it is a line, a file or an output that failed, or memory
-pub exchange_fails : (r : Result Ending CommandFault) (so : Result Left CommandFault) (left : Result Left BrokenOff) (marked kept printed : Result (Unit {0}) CommandFault) (ending_by : Left → Ending) (old new : Marker)
+pub exchange_fails : (r : Result Ending CommandFault) (so : Result ReceiveEnd CommandFault) (left : Result ReceiveEnd TransferError) (marked kept printed : Result (Unit {0}) CommandFault) (ending_by : ReceiveEnd → Ending) (old new : SentMarker)
     → new.file ≡ old.file
     → (IfErr left (λ broken. IsFailing (status_of (of_broken_off broken))) → IfErr (result_and marked kept) (λ fault. IsFailing (status_of fault)) → IfErr printed (λ fault. IsFailing (status_of fault))
     → IfErr so (λ fault. IsFailing (status_of fault)))
@@ -104,7 +104,7 @@ pub three_lines : (a b c one two three : List ℕ) → a ≡ one → b ≡ two �
 three_lines a b c one two three is also last = ap₂ ◌++◌ is (ap₂ ◌++◌ also (append-nil c ∙ last)) ∙ sym (append_assoc one two three)
 
 -- a marker whose copy is in place, and a keeper, that have done nothing yet
-holds_nothing : (marker : Marker) (counted : ℕ) (front : List Entry) (keeper : Keeper) (jobs : List Job) (f g : Option FileMap) → marker.marked ≡ 0 → counted ≡ 0
+holds_nothing : (marker : SentMarker) (counted : ℕ) (front : List Entry) (keeper : JobWriter) (jobs : List Job) (f g : Option FileMap) → marker.marked ≡ 0 → counted ≡ 0
     → AreMarks marker.file.items marker.places.items → MarksSent marker.file.items 0 marker.name.now f g → marker.name.now ≢ keeper.file.into.jobs.now → IsOpened front keeper.file f
     → keeper.kept ≡ 0 → jobs ≡ [] → HoldsBoth marker counted keeper jobs f g
 holds_nothing marker counted front keeper jobs f g none zero are copy two opened kept empty =
@@ -117,7 +117,7 @@ holds_nothing marker counted front keeper jobs f g none zero are copy two opened
       marked (Some f) (Some g) (bytes, is, few, sets) opened =
           (Some g, (bytes, is, few, sets), opened_as front keeper.file f g (left_alone marker.name.now keeper.file.into.jobs.now bytes f g two sets) opened, same_itself (Some g))
 
-pub exchanges_left : (r : Result Ending CommandFault) (t u : LineTells) (rank : Rank) (most : ℕ) (send : List ℕ) (into : Destination) (jobs : List Job) (s : Contending) (marker : Marker) (front : List Entry) (keeper : Keeper)
+pub exchanges_left : (r : Result Ending CommandFault) (t u : LineTells) (rank : Rank) (most : ℕ) (send : List ℕ) (into : Destination) (jobs : List Job) (s : Contending) (marker : SentMarker) (front : List Entry) (keeper : JobWriter)
     (f g h : Option FileMap) (before after : Option (List ℕ))
     → IsOutgoing send f jobs marker → MarksSent marker.file.items 0 marker.name.now f g → s ≡ first_contending rank jobs
     → keeper.file.into ≡ into → keeper.kept ≡ 0 → IsOpened front keeper.file f → send ≢ into.jobs.now
@@ -153,7 +153,7 @@ so_known : (P Q : Type 0) (f : Option FileMap) → (P → Q) → IfSome f (λ _.
 so_known P Q None then known = tt
 so_known P Q (Some f) then known = then known
 
-pub leaves_so : (Unsaid : Type 0) (rank : Rank) (send : List ℕ) (into : Destination) (jobs : List Job) (s : Contending) (marker : Marker) (front : List Entry) (keeper : Keeper) (f g h : Option FileMap)
+pub leaves_so : (Unsaid : Type 0) (rank : Rank) (send : List ℕ) (into : Destination) (jobs : List Job) (s : Contending) (marker : SentMarker) (front : List Entry) (keeper : JobWriter) (f g h : Option FileMap)
     → IsOutgoing send f jobs marker → MarksSent marker.file.items 0 marker.name.now f g → s ≡ first_contending rank jobs
     → keeper.file.into ≡ into → keeper.kept ≡ 0 → IsOpened front keeper.file f → send ≢ into.jobs.now
     → (marker.marked ≡ s.sender.counted → keeper.file.place ≡ Growing → marker.name.now ≢ keeper.file.into.jobs.now → (files : Option FileMap)
@@ -179,7 +179,7 @@ file_before P name None g same read = tt
 file_before P name (Some f) None same read = absurd same
 file_before P name (Some f) (Some g) same read = subst (λ (known : Option (List ℕ)). IsSomeAnd known P) (same name) read
 
-pub outgoing_before : (name : List ℕ) (f g : Option FileMap) (jobs : List Job) (marker : Marker) → Discloses f g IsSame → IsOutgoing name g jobs marker → IsOutgoing name f jobs marker
+pub outgoing_before : (name : List ℕ) (f g : Option FileMap) (jobs : List Job) (marker : SentMarker) → Discloses f g IsSame → IsOutgoing name g jobs marker → IsOutgoing name f jobs marker
 outgoing_before name f g jobs marker same out = record {
   read = file_before (λ read. marker.file.items ≡ read) name f g same out.read;
   left = out.left;

@@ -12,7 +12,7 @@ use Rattle.rje_stores.specs.declared.store.Place.TheVariants.{Growing, Once}
 use Rattle.rje_stores.proofs.Changes.{same_after, same_twice, set_after, set_longer, set_over}
 use Rattle.rje_sockets.specs.Ending.{MakesJobFile}
 use Rattle.rje_orders.specs.declared.order.Destination.{Destination}
-use Rattle.rje_sockets.specs.declared.keeper.Keeper.{Keeper}
+use Rattle.rje_sockets.specs.declared.job_writer.JobWriter.{JobWriter}
 use Rattle.rje_sockets.specs.declared.kept_file.KeptFile.{KeptFile}
 use Rattle.rje_sockets.specs.InFront.{StandInFront}
 use Rattle.rje_sockets.specs.Inside.Keeping.{AreKept, GoesOnKeeping, KeepsJobs}
@@ -73,7 +73,7 @@ over_kept front [] long name bytes files f g same sets = set_after name bytes fi
 over_kept front (j ∷ js) long name bytes files f g (first, of, l, few, had) sets = set_over name first bytes files f g had sets
 
 -- where nothing came, it is that of the entries in front
-pub made_of_front : (keeper : Keeper) (jobs : List Job) (files f g : Option FileMap) → KeepsJobs keeper jobs files f → length jobs ≡ 0 → length keeper.file.front.bytes.items ≤ 16777216
+pub made_of_front : (keeper : JobWriter) (jobs : List Job) (files f g : Option FileMap) → KeepsJobs keeper jobs files f → length jobs ≡ 0 → length keeper.file.front.bytes.items ≤ 16777216
     → Discloses f g (Sets keeper.file.into.jobs.now keeper.file.front.bytes.items) → MakesJobFile jobs keeper.file.into files g
 made_of_front keeper (j ∷ js) files f g k none few sets = absurd (omega (arith, none))
 made_of_front keeper [] files f g k none few sets = (
@@ -86,7 +86,7 @@ made_of_front keeper [] files f g k none few sets = (
 )
 
 -- a device or a pipe gets all of them
-pub made_at_once : (keeper : Keeper) (jobs : List Job) (bytes : List ℕ) (files f g : Option FileMap) → KeepsJobs keeper jobs files f → keeper.file.place ≡ Once
+pub made_at_once : (keeper : JobWriter) (jobs : List Job) (bytes : List ℕ) (files f g : Option FileMap) → KeepsJobs keeper jobs files f → keeper.file.place ≡ Once
     → IsEntryFileOf Second (map entry_of jobs) bytes → length bytes ≤ 16777216 → Discloses f g (Sets keeper.file.into.jobs.now bytes) → MakesJobFile jobs keeper.file.into files g
 made_at_once keeper jobs bytes files f g k once of few sets = (
   [],
@@ -113,7 +113,7 @@ grows_not_once Once other = absurd (other refl)
 -- A WHOLE TRANSMISSION
 
 -- a keeper that has kept nothing
-pub none_kept : (keeper : Keeper) (front : List Entry) (f g : Option FileMap) → IsOpened front keeper.file f → keeper.kept ≡ 0 → Discloses f g IsSame → KeepsJobs keeper [] f g
+pub none_kept : (keeper : JobWriter) (front : List Entry) (f g : Option FileMap) → IsOpened front keeper.file f → keeper.kept ≡ 0 → Discloses f g IsSame → KeepsJobs keeper [] f g
 none_kept keeper front f g opened none same = record {
   front = front;
   opened = opened;
@@ -129,7 +129,7 @@ pub kept_still : (front : List Entry) (jobs : List Job) (long : ℕ) (name : Lis
 kept_still front [] long name files f g same still = same_twice files f g same still
 kept_still front (j ∷ js) long name files f g (bytes, file, l, few, sets) still = (bytes, file, l, few, same_after name bytes files f g sets still)
 
-pub still_keeps : (keeper : Keeper) (jobs : List Job) (files f g : Option FileMap) → KeepsJobs keeper jobs files f → Discloses f g IsSame → KeepsJobs keeper jobs files g
+pub still_keeps : (keeper : JobWriter) (jobs : List Job) (files f g : Option FileMap) → KeepsJobs keeper jobs files f → Discloses f g IsSame → KeepsJobs keeper jobs files g
 still_keeps keeper jobs files f g k still = record {
   front = k.front;
   opened = k.opened;
@@ -139,9 +139,9 @@ still_keeps keeper jobs files f g k still = record {
   kept = kept_still k.front (take keeper.kept jobs) keeper.long keeper.file.into.jobs.now files f g k.kept still;
 }
 
-pub goes_still : (keeper keeper' : Keeper) (jobs : List Job) (f g : Option FileMap) → keeper' ≡ keeper → Discloses f g IsSame → GoesOnKeeping keeper keeper' jobs jobs f g
+pub goes_still : (keeper keeper' : JobWriter) (jobs : List Job) (f g : Option FileMap) → keeper' ≡ keeper → Discloses f g IsSame → GoesOnKeeping keeper keeper' jobs jobs f g
 goes_still keeper keeper' jobs f g is still =
-    subst (λ (k : Keeper). GoesOnKeeping keeper k jobs jobs f g) (sym is) (refl, λ files k. still_keeps keeper jobs files f g k still)
+    subst (λ (k : JobWriter). GoesOnKeeping keeper k jobs jobs f g) (sym is) (refl, λ files k. still_keeps keeper jobs files f g k still)
 
 pub makes_still : (jobs : List Job) (into : Destination) (files f g : Option FileMap) → MakesJobFile jobs into files f → Discloses f g IsSame → MakesJobFile jobs into files g
 makes_still jobs into files f g (front, bytes, stand, of, few, sets) still = (front, bytes, stand, of, few, same_after into.jobs.now bytes files f g sets still)

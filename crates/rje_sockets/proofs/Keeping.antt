@@ -15,7 +15,7 @@ use Rattle.bsc_link.specs.declared.wish.Wish.{Wish}
 use Rattle.bsc_link.specs.Receiver.{receiver_news}
 use Rattle.rje_station.specs.Receiving.{Receiving, after_receiving, jobs_after, sound_taken}
 use Rattle.rje_files.specs.declared.entry.Entry.{Entry}
-use Rattle.rje_sockets.specs.declared.keeper.Keeper.{Keeper}
+use Rattle.rje_sockets.specs.declared.job_writer.JobWriter.{JobWriter}
 use Rattle.rje_sockets.specs.declared.kept_file.KeptFile.{KeptFile}
 use Rattle.rje_stores.specs.declared.store.Place.{Place}
 use Rattle.rje_stores.specs.declared.store.Place.TheVariants.{Growing, Once}
@@ -151,7 +151,7 @@ kept_all : (place : Place) (kept : ℕ) (js more : List Job) → Comes js more �
 kept_all place kept js more c all grows = ap (λ (p : Place). kept_after p kept more) grows ∙ ap (λ (n : ℕ). kept_after Growing n more) (all grows) ∙ c.next
 
 -- something came, and what has come whole was kept
-pub goes_on : (old new : Keeper) (js more : List Job) (f g : Option FileMap) → Comes js more → new.file ≡ old.file
+pub goes_on : (old new : JobWriter) (js more : List Job) (f g : Option FileMap) → Comes js more → new.file ≡ old.file
     → new.kept ≡ kept_after old.file.place old.kept more
     → ((front : List Entry) (files : Option FileMap) → HasFront front old.file.front → AreKept front (take old.kept more) old.long old.file.into.jobs.now files f
     → AreKept front (take new.kept more) new.long old.file.into.jobs.now files g)
@@ -171,14 +171,14 @@ goes_on old new js more f g c same next kept = (
 )
 
 -- one after another
-pub goes_on_twice : (first old new : Keeper) (js more all : List Job) (f g h : Option FileMap) → GoesOnKeeping first old js more f g → GoesOnKeeping old new more all g h → GoesOnKeeping first new js all f h
+pub goes_on_twice : (first old new : JobWriter) (js more all : List Job) (f g h : Option FileMap) → GoesOnKeeping first old js more f g → GoesOnKeeping old new more all g h → GoesOnKeeping first new js all f h
 goes_on_twice first old new js more all f g h p q = (q.0 ∙ p.0, λ files k. q.1 files (p.1 files k))
 
-pub goes_nowhere : (keeper : Keeper) (js : List Job) (f : Option FileMap) → GoesOnKeeping keeper keeper js js f f
+pub goes_nowhere : (keeper : JobWriter) (js : List Job) (f : Option FileMap) → GoesOnKeeping keeper keeper js js f f
 goes_nowhere keeper js f = (refl, λ files k. k)
 
 -- one turn of a station: it heard something, what has come whole was kept, and its jobs stay as it replies
-pub turn_kept : (r heard r' : Receiving) (what : Heard) (refused : Bool) (old new : Keeper) (jobs : List Job) (f g : Option FileMap) → heard ≡ after_receiving r what refused Wish.Go
+pub turn_kept : (r heard r' : Receiving) (what : Heard) (refused : Bool) (old new : JobWriter) (jobs : List Job) (f g : Option FileMap) → heard ≡ after_receiving r what refused Wish.Go
     → jobs ≡ heard.jobs → r'.jobs ≡ heard.jobs → new.file ≡ old.file → new.kept ≡ kept_after old.file.place old.kept jobs
     → ((front : List Entry) (files : Option FileMap) → HasFront front old.file.front → AreKept front (take old.kept jobs) old.long old.file.into.jobs.now files f
     → AreKept front (take new.kept jobs) new.long old.file.into.jobs.now files g)

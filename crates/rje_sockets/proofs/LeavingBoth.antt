@@ -8,11 +8,11 @@ use Rattle.rje_station.specs.declared.line_fault.LineFault.TheVariants.{Closed}
 use Rattle.rje_station.specs.declared.station_fault.StationFault.TheVariants as fault
 use Rattle.rje_commands.specs.declared.command_fault.CommandFault.{CommandFault}
 use Rattle.rje_session.specs.Stations.{LineTells}
-use Rattle.rje_sockets.specs.declared.broken_off.BrokenOff.{BrokenOff}
-use Rattle.rje_sockets.specs.declared.left.Left.{Left}
-use Rattle.rje_sockets.specs.declared.keeper.Keeper.{Keeper}
+use Rattle.rje_sockets.specs.declared.transfer_error.TransferError.{TransferError}
+use Rattle.rje_sockets.specs.declared.receive_end.ReceiveEnd.{ReceiveEnd}
+use Rattle.rje_sockets.specs.declared.job_writer.JobWriter.{JobWriter}
 use Rattle.rje_sockets.specs.declared.kept_file.KeptFile.{KeptFile}
-use Rattle.rje_sockets.specs.declared.marker.Marker.{Marker}
+use Rattle.rje_sockets.specs.declared.sent_marker.SentMarker.{SentMarker}
 use Rattle.rje_stores.specs.declared.store.Place.TheVariants.{Growing}
 use Rattle.rje_sockets.specs.Answering.{HasWhole}
 use Rattle.rje_sockets.specs.BothWays.{AreOver, ExchangesTo, LeavesFrom, StationTurn, Took, Waits, quiet_in_a_row}
@@ -39,18 +39,18 @@ counted_on s near start had has came before (inr new) = inr (near, came, sym new
 
 -- WHEN THEY ENDED
 
-came_left : (most : ℕ) (s s' : Contending) (t u : LineTells) (left : Left) → ExchangesTo most left s t s' u → CameTo s s'
-came_left most s s' t u Left.Ended (turns, near, mid, took, ends) = (turns, near, took_turns most NobodySawSender NobodySawReceiver (s, t, tt) turns (near, mid, tt) took, inl (by ends)) where
+came_left : (most : ℕ) (s s' : Contending) (t u : LineTells) (left : ReceiveEnd) → ExchangesTo most left s t s' u → CameTo s s'
+came_left most s s' t u ReceiveEnd.Ended (turns, near, mid, took, ends) = (turns, near, took_turns most NobodySawSender NobodySawReceiver (s, t, tt) turns (near, mid, tt) took, inl (by ends)) where
   by : (AreOver near × (s' ≡ near) × (u ≡ mid)) ⊎ (Waits near × (s' ≡ after_other_refusal (fault.Line Closed) near)) → LeavesFrom near s'
   by (inl (over, same, told)) = inl same
   by (inr (waits, closed)) = inr (inr closed)
-came_left most s s' t u Left.Abandoned (turns, near, took, ends) = (turns, near, took_turns most NobodySawSender NobodySawReceiver (s, t, tt) turns (near, u, tt) took, inl (by ends)) where
+came_left most s s' t u ReceiveEnd.Abandoned (turns, near, took, ends) = (turns, near, took_turns most NobodySawSender NobodySawReceiver (s, t, tt) turns (near, u, tt) took, inl (by ends)) where
   by : ((quiet_in_a_row turns ≡ most) × (s' ≡ after_other_ended near)) ⊎ ((length turns ≡ 1000000000) × (s' ≡ near)) → LeavesFrom near s'
   by (inl (quiet, ended)) = inr (inl ended)
   by (inr (long, same)) = inl same
 
 -- what was held then: of the jobs of the station where it stands, or, where the last one couldn't be kept, of those that it had before
-record Held (left : Result Left BrokenOff) (s s' : Contending) (was is : HeldSoFar) : Type 0 where
+record Held (left : Result ReceiveEnd TransferError) (s s' : Contending) (was is : HeldSoFar) : Type 0 where
   pub counted : ℕ
   pub last : Contending
   pub came : CameTo s last
@@ -58,27 +58,27 @@ record Held (left : Result Left BrokenOff) (s s' : Contending) (was is : HeldSoF
   pub same : IfErr left (λ broken. IsOfFile broken → ⊥) → last ≡ s'
   pub holds : GoesOnHolding was is (progress_of s) (counted, last.receiver.jobs)
 
-module _ (most : ℕ) (left : Result Left BrokenOff) (t u : LineTells) (s s' : Contending) (was is : HeldSoFar) (exchanges : IfOk left (λ l. ExchangesTo most l s t s' u))
+module _ (most : ℕ) (left : Result ReceiveEnd TransferError) (t u : LineTells) (s s' : Contending) (was is : HeldSoFar) (exchanges : IfOk left (λ l. ExchangesTo most l s t s' u))
     (holds : OnOk left (GoesOnHolding was is (progress_of s) (progress_of s'))) (breaks : IfErr left (BreaksBoth s s' was is)) where
   held : Held left s s' was is
   held = by left exchanges holds breaks where
-    by : (left : Result Left BrokenOff) → IfOk left (λ l. ExchangesTo most l s t s' u) → OnOk left (GoesOnHolding was is (progress_of s) (progress_of s')) → IfErr left (BreaksBoth s s' was is)
+    by : (left : Result ReceiveEnd TransferError) → IfOk left (λ l. ExchangesTo most l s t s' u) → OnOk left (GoesOnHolding was is (progress_of s) (progress_of s')) → IfErr left (BreaksBoth s s' was is)
         → Held left s s' was is
     by (Ok l) exchanges holds breaks =
         record { counted = s'.sender.counted; last = s'; came = came_left most s s' t u l exchanges; ended = came_left most s s' t u l exchanges; same = λ well. refl; holds = holds }
-    by (Err (BrokenOff.Line fault)) exchanges holds b = record {
+    by (Err (TransferError.Line fault)) exchanges holds b = record {
       counted = b.near.sender.counted;
       last = s';
-      came = (b.turns, b.near, b.took, inr (BrokenOff.Line fault, b.fails));
-      ended = (b.turns, b.near, b.took, inr (BrokenOff.Line fault, b.fails));
+      came = (b.turns, b.near, b.took, inr (TransferError.Line fault, b.fails));
+      ended = (b.turns, b.near, b.took, inr (TransferError.Line fault, b.fails));
       same = λ well. refl;
       holds = b.holds;
     }
-    by (Err (BrokenOff.File fault)) exchanges holds b = record {
+    by (Err (TransferError.File fault)) exchanges holds b = record {
       counted = b.near.sender.counted;
       last = b.near;
       came = came_near s b.near b.turns b.took;
-      ended = (b.turns, b.near, b.took, inr (BrokenOff.File fault, b.fails));
+      ended = (b.turns, b.near, b.took, inr (TransferError.File fault, b.fails));
       same = λ never. absurd (never tt);
       holds = b.holds;
     }
@@ -98,7 +98,7 @@ pub marks_as_many : {X : Type 0} (written : Result X CommandFault) (file : List 
     → OnOk written (MarksSent file counted name f g)
 marks_as_many written file n counted name f g sets is = subst (λ (n : ℕ). OnOk written (MarksSent file n name f g)) is sets
 
-module _ (s s' : Contending) (old new : Marker) (count : (new.marked ≡ old.marked) ⊎ HasCounted s new.marked) (start : old.marked ≡ s.sender.counted) where
+module _ (s s' : Contending) (old new : SentMarker) (count : (new.marked ≡ old.marked) ⊎ HasCounted s new.marked) (start : old.marked ≡ s.sender.counted) where
   alone : (files marked : Option FileMap) → MarksSent new.file.items new.marked new.name.now files marked → MarksAlone s new.file.items new.name.now files marked
   alone files marked sets = by count where
     at : (last : Contending) → CameTo s last → last.sender.counted ≡ new.marked → MarksAlone s new.file.items new.name.now files marked
@@ -109,7 +109,7 @@ module _ (s s' : Contending) (old new : Marker) (count : (new.marked ≡ old.mar
     by (inr (last, came, is)) = at last came is
 
   -- it is written, or what was marked in between stays
-  marked_then : {X : Type 0} (written : Result X CommandFault) (n : ℕ) (keeper : Keeper) (jobs : List Job) (files g h : Option FileMap) → new.name.now ≢ keeper.file.into.jobs.now → CameTo s s'
+  marked_then : {X : Type 0} (written : Result X CommandFault) (n : ℕ) (keeper : JobWriter) (jobs : List Job) (files g h : Option FileMap) → new.name.now ≢ keeper.file.into.jobs.now → CameTo s s'
       → OnOk written (MarksSent new.file.items s'.sender.counted new.name.now g h) → OnErr written (Discloses g h IsSame) → HoldsBoth new n keeper jobs files g
       → (marked : Option FileMap) × MarksAlone s new.file.items new.name.now files marked × KeepsJobs keeper jobs marked h
   marked_then (Ok x) n keeper jobs files g h apart came sets still both =
@@ -119,7 +119,7 @@ module _ (s s' : Contending) (old new : Marker) (count : (new.marked ≡ old.mar
 
 -- WHAT IS LEFT OF WHAT CAME
 
-module _ (kept : Result (Unit {0}) CommandFault) (keeper : Keeper) (last s' : Contending) (marked g made : Option FileMap) (grows : keeper.file.place ≡ Growing)
+module _ (kept : Result (Unit {0}) CommandFault) (keeper : JobWriter) (last s' : Contending) (marked g made : Option FileMap) (grows : keeper.file.place ≡ Growing)
     (k : KeepsJobs keeper last.receiver.jobs marked g) (still : OnErr kept (Discloses g made IsSame)) where
   rest_kept : (Well : Type 0) → Well → last ≡ s'
       → OnOk kept ((files : Option FileMap) → Well → KeepsJobs keeper s'.receiver.jobs files g → MakesJobFile s'.receiver.jobs keeper.file.into files made)
@@ -129,15 +129,15 @@ module _ (kept : Result (Unit {0}) CommandFault) (keeper : Keeper) (last s' : Co
       (on_ok_weaker kept
       (λ m. subst (λ (x : Contending). KeepsJobs keeper x.receiver.jobs marked g → MakesJobFile x.receiver.jobs keeper.file.into marked made) (sym same) (m marked well)) makes) still
 
-  kept_then : (left : Result Left BrokenOff) → (IfErr left (λ broken. IsOfFile broken → ⊥) → last ≡ s')
+  kept_then : (left : Result ReceiveEnd TransferError) → (IfErr left (λ broken. IsOfFile broken → ⊥) → last ≡ s')
       → OnOk kept ((files : Option FileMap) → IfErr left (λ broken. IsOfFile broken → ⊥) → KeepsJobs keeper s'.receiver.jobs files g → MakesJobFile s'.receiver.jobs keeper.file.into files made)
       → IfErr left (λ broken. IsOfFile broken → Discloses g made IsSame) → HasWhole last.receiver.jobs keeper.file.into marked made
   kept_then (Ok l) same makes refused = rest_kept _ tt (same tt) makes
-  kept_then (Err (BrokenOff.Line e)) same makes refused = rest_kept _ (λ never. never) (same (λ never. never)) makes
-  kept_then (Err (BrokenOff.File e)) same makes refused = has_kept keeper last.receiver.jobs marked made grows (still_keeps keeper last.receiver.jobs marked g made k (refused tt))
+  kept_then (Err (TransferError.Line e)) same makes refused = rest_kept _ (λ never. never) (same (λ never. never)) makes
+  kept_then (Err (TransferError.File e)) same makes refused = has_kept keeper last.receiver.jobs marked made grows (still_keeps keeper last.receiver.jobs marked g made k (refused tt))
 
 -- both
-pub leaves_both : {X : Type 0} (most : ℕ) (left : Result Left BrokenOff) (written : Result X CommandFault) (kept : Result (Unit {0}) CommandFault) (t u : LineTells) (s s' : Contending) (was is : HeldSoFar)
+pub leaves_both : {X : Type 0} (most : ℕ) (left : Result ReceiveEnd TransferError) (written : Result X CommandFault) (kept : Result (Unit {0}) CommandFault) (t u : LineTells) (s s' : Contending) (was is : HeldSoFar)
     (h made : Option FileMap) → IfOk left (λ l. ExchangesTo most l s t s' u)
     → OnOk left (GoesOnHolding was is (progress_of s) (progress_of s')) → IfErr left (BreaksBoth s s' was is)
     → (is.0.marked ≡ was.0.marked) ⊎ HasCounted s is.0.marked

@@ -16,5 +16,3 @@ pub mod Failing
 pub mod Looped
 pub mod Marked
 pub mod Watched
-pub mod Words
-mod Hearing

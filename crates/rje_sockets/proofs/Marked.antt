@@ -12,7 +12,7 @@ use Rattle.rje_station.specs.Sending.{Sending, after_refusal, after_speaking, fi
 use Rattle.line_world.specs.AnyLines.{SenderFails, SenderTook, SendsToFault}
 use Rattle.rje_stores.proofs.Changes.{byte_set, same_after, set_over}
 use Rattle.rje_session.specs.Stations.{LineTells}
-use Rattle.rje_sockets.specs.declared.marker.Marker.{Marker}
+use Rattle.rje_sockets.specs.declared.sent_marker.SentMarker.{SentMarker}
 use Rattle.rje_commands.specs.declared.command_fault.CommandFault.{CommandFault}
 use Rattle.rje_commands.specs.Commands.{OfFile}
 use Rattle.rje_sockets.specs.Ending.{MarksSent}
@@ -54,7 +54,7 @@ whole_marked (Ok x) file places name n counted g h sets = λ files are marked. w
 pub stays : (file name : List ℕ) (n : ℕ) (files g h : Option FileMap) → Discloses g h IsSame → MarksSent file n name files g → MarksSent file n name files h
 stays file name n files g h same (bytes, sent, few, sets) = (bytes, sent, few, same_after name bytes files g h sets same)
 
-pub gives_up : (old : Marker) (counted more : ℕ) (g h : Option FileMap) → Discloses g h IsSame → GoesOnMarking old (record old { gave_up = true }) counted more g h
+pub gives_up : (old : SentMarker) (counted more : ℕ) (g h : Option FileMap) → Discloses g h IsSame → GoesOnMarking old (record old { gave_up = true }) counted more g h
 gives_up old counted more g h same = (
   refl,
   refl,
@@ -66,23 +66,23 @@ gives_up old counted more g h same = (
 )
 
 -- a mark that was made
-pub marks_more : (old : Marker) (counted more : ℕ) (g h : Option FileMap)
+pub marks_more : (old : SentMarker) (counted more : ℕ) (g h : Option FileMap)
     → ((files : Option FileMap) → AreMarks old.file.items old.places.items → MarksSent old.file.items old.marked old.name.now files g → MarksSent old.file.items more old.name.now files h)
     → GoesOnMarking old (record old { marked = more }) counted more g h
 marks_more old counted more g h marked = (refl, refl, λ files m. record { places = m.places; all = λ goes_on. refl; file = marked files m.places m.file })
 
 -- ONE AFTER ANOTHER
 
-pub marks_nothing : (marker : Marker) (counted : ℕ) (f : Option FileMap) → GoesOnMarking marker marker counted counted f f
+pub marks_nothing : (marker : SentMarker) (counted : ℕ) (f : Option FileMap) → GoesOnMarking marker marker counted counted f f
 marks_nothing marker counted f = (refl, refl, λ files m. m)
 
-pub marks_on : (first old new : Marker) (start counted more : ℕ) (f g h : Option FileMap) → GoesOnMarking first old start counted f g → GoesOnMarking old new counted more g h
+pub marks_on : (first old new : SentMarker) (start counted more : ℕ) (f g h : Option FileMap) → GoesOnMarking first old start counted f g → GoesOnMarking old new counted more g h
     → GoesOnMarking first new start more f h
 marks_on first old new start counted more f g h p q = (q.0 ∙ p.0, q.1 ∙ p.1, λ files m. q.2 files (p.2 files m))
 
 -- THE END
 
-pub all_marked : (old new : Marker) (start counted : ℕ) (f g h : Option FileMap) → GoesOnMarking old new start counted f g
+pub all_marked : (old new : SentMarker) (start counted : ℕ) (f g h : Option FileMap) → GoesOnMarking old new start counted f g
     → MarksSent new.file.items counted new.name.now g h
     → (files : Option FileMap) → Marks old start files f → MarksSent old.file.items counted old.name.now files h
 all_marked old new start counted f g h (name, file, on) sets files m =
@@ -91,7 +91,7 @@ all_marked old new start counted f g h (name, file, on) sets files m =
     (written_over new.file.items new.name.now new.marked counted files g h (on files m).file sets))
 
 -- a marker whose copy is in place, and that has marked nothing yet
-pub nothing_marked : (marker : Marker) (counted : ℕ) (f g : Option FileMap) → marker.marked ≡ 0 → counted ≡ 0 → AreMarks marker.file.items marker.places.items
+pub nothing_marked : (marker : SentMarker) (counted : ℕ) (f g : Option FileMap) → marker.marked ≡ 0 → counted ≡ 0 → AreMarks marker.file.items marker.places.items
     → MarksSent marker.file.items 0 marker.name.now f g → Marks marker counted f g
 nothing_marked marker counted f g none zero are copy = record {
   places = are;
@@ -100,7 +100,7 @@ nothing_marked marker counted f g none zero are copy = record {
 }
 
 -- a transmission that it begins
-pub begun : {X E : Type 0} (r : Result X E) (marker : Marker) (name : List ℕ) (start counted : ℕ) (f g h : Option FileMap) → marker.name.now ≡ name → marker.marked ≡ 0 → start ≡ 0
+pub begun : {X E : Type 0} (r : Result X E) (marker : SentMarker) (name : List ℕ) (start counted : ℕ) (f g h : Option FileMap) → marker.name.now ≡ name → marker.marked ≡ 0 → start ≡ 0
     → AreMarks marker.file.items marker.places.items → MarksSent marker.file.items 0 marker.name.now f g
     → OnOk r ((files : Option FileMap) → Marks marker start files g → MarksSent marker.file.items counted marker.name.now files h)
     → OnOk r (MarksSent marker.file.items counted name f h)
@@ -139,7 +139,7 @@ marked_so_far : (s : Sending) (had has : ℕ) → had ≡ s.counted → (has ≡
 marked_so_far s had has new (inl same) = ([], s, refl, sym (same ∙ new))
 marked_so_far s had has new (inr counted) = counted
 
-at_end : {Y : Type 0} (written : Result Y CommandFault) (old new : Marker) (s s' : Sending) (n : ℕ) (f g h : Option FileMap) → GoesOnMarking old new s.counted n f g
+at_end : {Y : Type 0} (written : Result Y CommandFault) (old new : SentMarker) (s s' : Sending) (n : ℕ) (f g h : Option FileMap) → GoesOnMarking old new s.counted n f g
     → (new.marked ≡ old.marked) ⊎ WereCounted s new.marked → WereCounted s s'.counted
     → OnOk written (MarksSent new.file.items s'.counted new.name.now g h) → OnErr written (Discloses g h IsSame)
     → (files : Option FileMap) → old.marked ≡ s.counted → Marks old s.counted files f → MarksCounted s new.file.items new.name.now files h
@@ -148,12 +148,12 @@ at_end (Ok y) old new s s' n f g h on count ended sets same files start m =
 at_end (Err e) old new s s' n f g h on count ended sets same files start m =
     (new.marked, marked_so_far s old.marked new.marked start count, stays new.file.items new.name.now new.marked files g h same (on.2 files m).file)
 
-some_count : {X : Type 0} (sent : Result X StationFault) (old new : Marker) (s s' : Sending) (f g : Option FileMap) → OnOk sent (GoesOnMarking old new s.counted s'.counted f g)
+some_count : {X : Type 0} (sent : Result X StationFault) (old new : SentMarker) (s s' : Sending) (f g : Option FileMap) → OnOk sent (GoesOnMarking old new s.counted s'.counted f g)
     → OnErr sent ((n : ℕ) × GoesOnMarking old new s.counted n f g) → (n : ℕ) × GoesOnMarking old new s.counted n f g
 some_count (Ok x) old new s s' f g on broken = (s'.counted, on)
 some_count (Err e) old new s s' f g on broken = broken
 
-pub counted_alone : {X Y : Type 0} (sent : Result X StationFault) (written : Result Y CommandFault) (old new : Marker) (s s' : Sending) (f g h : Option FileMap)
+pub counted_alone : {X Y : Type 0} (sent : Result X StationFault) (written : Result Y CommandFault) (old new : SentMarker) (s s' : Sending) (f g h : Option FileMap)
     → OnOk sent (GoesOnMarking old new s.counted s'.counted f g) → OnErr sent ((n : ℕ) × GoesOnMarking old new s.counted n f g)
     → (new.marked ≡ old.marked) ⊎ WereCounted s new.marked → OnOk sent (WereCounted s s'.counted) → IfErr sent (SendsToFault s s')
     → OnOk written (MarksSent new.file.items s'.counted new.name.now g h) → OnErr written (Discloses g h IsSame)
@@ -177,7 +177,7 @@ counts_of name file jobs f h read left (n, (history, near, took, is), marks) = o
   marks = subst (λ (k : ℕ). MarksSent file k name f h) (sym is) marks;
 }) name f read
 
-pub begun_counts : (Unsaid : Type 0) (name : List ℕ) (jobs : List Job) (marker : Marker) (s : Sending) (f g h : Option FileMap) → IsOutgoing name f jobs marker
+pub begun_counts : (Unsaid : Type 0) (name : List ℕ) (jobs : List Job) (marker : SentMarker) (s : Sending) (f g h : Option FileMap) → IsOutgoing name f jobs marker
     → MarksSent marker.file.items 0 marker.name.now f g → s ≡ first_sending jobs
     → ((files : Option FileMap) → marker.marked ≡ s.counted → Marks marker s.counted files g → MarksCounted s marker.file.items marker.name.now files h)
     → MarksNoMore Unsaid name f h

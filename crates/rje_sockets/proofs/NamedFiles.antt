@@ -9,8 +9,8 @@ use Rattle.rje_station.specs.declared.station_fault.StationFault.TheVariants as 
 use Rattle.rje_commands.specs.declared.command_fault.CommandFault.{CommandFault}
 use Rattle.rje_commands.specs.declared.command_fault.CommandFault.TheVariants as told
 use Rattle.rje_commands.specs.CommandFault.{is_of_output, of_station, of_text}
-use Rattle.rje_sockets.specs.declared.broken_off.BrokenOff.{BrokenOff}
-use Rattle.rje_sockets.specs.declared.left.Left.{Left}
+use Rattle.rje_sockets.specs.declared.transfer_error.TransferError.{TransferError}
+use Rattle.rje_sockets.specs.declared.receive_end.ReceiveEnd.{ReceiveEnd}
 use Rattle.rje_sockets.specs.declared.socket_commands.ending.Ending.{Ending}
 use Rattle.rje_orders.specs.declared.order.Destination.{Destination}
 use Rattle.rje_sockets.specs.InFront.{LooksInto}
@@ -69,7 +69,7 @@ pub err_of_both : {X : Type 0} (r : Result X CommandFault) (named one other : Li
 err_of_both (Ok x) named one other is names = tt
 err_of_both (Err f) named one other is names = one_of_both f named one other is names
 
-pub left_of_both : (left : Result Left BrokenOff) (one other : List ℕ) → IfErr left (λ broken. NamesWritten other (of_broken_off broken))
+pub left_of_both : (left : Result ReceiveEnd TransferError) (one other : List ℕ) → IfErr left (λ broken. NamesWritten other (of_broken_off broken))
     → IfErr left (λ broken. NamesOne (λ _. ⊥) (λ n. (n ≡ one) ⊎ (n ≡ other)) (of_broken_off broken))
 left_of_both (Ok l) one other names = tt
 left_of_both (Err b) one other names = one_of_both (of_broken_off b) other one other (inr refl) names
@@ -87,14 +87,14 @@ output_of_none (Ok x) R W is = tt
 output_of_none (Err f) R W is = output_names f R W is
 
 -- of three that may fail the first that does is told
-module _ (r : Result Ending CommandFault) (so : Result Left CommandFault) (ending_by : Left → Ending) (P : CommandFault → Type 0) where
+module _ (r : Result Ending CommandFault) (so : Result ReceiveEnd CommandFault) (ending_by : ReceiveEnd → Ending) (P : CommandFault → Type 0) where
   no_err : is_ok so ≡ true → IfErr so P
   no_err ok = by so ok where
-    by : (s : Result Left CommandFault) → is_ok s ≡ true → IfErr s P
+    by : (s : Result ReceiveEnd CommandFault) → is_ok s ≡ true → IfErr s P
     by (Ok l) ok = tt
     by (Err e) ok = absurd (true≢false (sym ok))
 
-  first_of_three : (left : Result Left BrokenOff) (written printed : Result (Unit {0}) CommandFault) → IfErr left (λ broken. IsErrOf so (of_broken_off broken))
+  first_of_three : (left : Result ReceiveEnd TransferError) (written printed : Result (Unit {0}) CommandFault) → IfErr left (λ broken. IsErrOf so (of_broken_off broken))
       → (IsOk left → IfErr written (λ f. IsErrOf so f)) → (IsOk left → IsOk written → IfErr printed (λ f. IsErrOf so f)) → (IsOk left → IsOk written → IsOk printed → IsOk so)
       → IfErr left (λ broken. P (of_broken_off broken)) → IfErr written P → IfErr printed P → IfErr so P
   first_of_three (Err b) written printed first second third none one two three = rw first one
@@ -104,19 +104,19 @@ module _ (r : Result Ending CommandFault) (so : Result Left CommandFault) (endin
 
   told_of : MatchResult so (λ l. IsOkAnd r (λ ending. ending ≡ ending_by l)) (λ e. r ≡ Err e) → IfErr so P → IfErr r P
   told_of told names = by r so told names where
-    by : (r : Result Ending CommandFault) (so : Result Left CommandFault) → MatchResult so (λ l. IsOkAnd r (λ ending. ending ≡ ending_by l)) (λ e. r ≡ Err e) → IfErr so P → IfErr r P
+    by : (r : Result Ending CommandFault) (so : Result ReceiveEnd CommandFault) → MatchResult so (λ l. IsOkAnd r (λ ending. ending ≡ ending_by l)) (λ e. r ≡ Err e) → IfErr so P → IfErr r P
     by (Ok ending) so told names = tt
     by (Err e) (Ok l) told names = absurd told
     by (Err e) (Err x) told names = subst (λ (z : Result Ending CommandFault). IfErr z P) (sym told) names
 
   -- the one file of a receiver
-  pub received_names : (left : Result Left BrokenOff) (written printed : Result (Unit {0}) CommandFault) → MatchResult so (λ l. IsOkAnd r (λ ending. ending ≡ ending_by l)) (λ e. r ≡ Err e)
+  pub received_names : (left : Result ReceiveEnd TransferError) (written printed : Result (Unit {0}) CommandFault) → MatchResult so (λ l. IsOkAnd r (λ ending. ending ≡ ending_by l)) (λ e. r ≡ Err e)
       → IfErr left (λ broken. IsErrOf so (of_broken_off broken)) → (IsOk left → IfErr written (λ f. IsErrOf so f)) → (IsOk left → IsOk written → IfErr printed (λ f. IsErrOf so f))
       → (IsOk left → IsOk written → IsOk printed → IsOk so) → IfErr left (λ broken. P (of_broken_off broken)) → IfErr written P → IfErr printed P → IfErr r P
   received_names left written printed told first second third none one two three = told_of told (first_of_three left written printed first second third none one two three)
 
   -- the two files of an exchange
-  pub told_names : (left : Result Left BrokenOff) (marked kept printed : Result (Unit {0}) CommandFault) → MatchResult so (λ l. IsOkAnd r (λ ending. ending ≡ ending_by l)) (λ e. r ≡ Err e)
+  pub told_names : (left : Result ReceiveEnd TransferError) (marked kept printed : Result (Unit {0}) CommandFault) → MatchResult so (λ l. IsOkAnd r (λ ending. ending ≡ ending_by l)) (λ e. r ≡ Err e)
       → IfErr left (λ broken. IsErrOf so (of_broken_off broken)) → (IsOk left → IfErr (result_and marked kept) (λ f. IsErrOf so f))
       → (IsOk left → IsOk (result_and marked kept) → IfErr printed (λ f. IsErrOf so f)) → (IsOk left → IsOk (result_and marked kept) → IsOk printed → IsOk so)
       → IfErr left (λ broken. P (of_broken_off broken)) → IfErr marked P → IfErr kept P → IfErr printed P → IfErr r P

@@ -5,7 +5,7 @@ use Rattle.rje_jobs.specs.declared.job.Job.{Job}
 use Rattle.rje_station.specs.Sending.{Sending, first_sending, outcome_of}
 use Rattle.rje_commands.specs.declared.command_fault.CommandFault.{CommandFault}
 use Rattle.rje_session.specs.Stations.{LineTells}
-use Rattle.rje_sockets.specs.declared.marker.Marker.{Marker}
+use Rattle.rje_sockets.specs.declared.sent_marker.SentMarker.{SentMarker}
 use Rattle.rje_sockets.specs.declared.socket_commands.ending.Ending.{Ending}
 use Rattle.rje_sockets.specs.Ending.{MarksSent, SendsLeft, ending_of, sent_text}
 use Rattle.rje_sockets.specs.Inside.Sending.{IsOutgoing}
@@ -18,7 +18,7 @@ use Rattle.rje_sockets.proofs.Marked.{begun}
 use Rattle.rje_sockets.proofs.Sending.{sends_left}
 use Rattle.rje_stores.specs.Store.{FileMap}
 
-pub sends_outgoing : {W : Type 0} (Saw : SawSender W) (End : SawEnd W) (r : Result Ending CommandFault) (t u : LineTells) (w w' : W) (name : List ℕ) (jobs : List Job) (marker : Marker) (s s' : Sending)
+pub sends_outgoing : {W : Type 0} (Saw : SawSender W) (End : SawEnd W) (r : Result Ending CommandFault) (t u : LineTells) (w w' : W) (name : List ℕ) (jobs : List Job) (marker : SentMarker) (s s' : Sending)
     (f g h : Option FileMap) (before after : Option (List ℕ)) → IsOutgoing name f jobs marker → MarksSent marker.file.items 0 marker.name.now f g → s ≡ first_sending jobs
     → OnOk r (SendsOut Saw End (s, t, w) (s', u, w')) → IfOk r (λ ending. ending ≡ ending_of (outcome_of s'))
     → OnOk r (Appends before after (sent_text s'.counted (length s.jobs) (outcome_of s')))

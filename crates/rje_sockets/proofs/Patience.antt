@@ -7,7 +7,7 @@ use Rattle.bsc_history.specs.History.{History}
 use Rattle.line_world.specs.AnyLines.{Turns}
 use Rattle.line_world.proofs.TurnsOverLines.{arrival_is}
 use Rattle.rje_session.specs.Stations.{LineTells}
-use Rattle.rje_sockets.specs.declared.left.Left.{Left}
+use Rattle.rje_sockets.specs.declared.receive_end.ReceiveEnd.{ReceiveEnd}
 use Rattle.rje_sockets.specs.OverLine.{ReceiverTurn}
 use Rattle.rje_sockets.specs.Patience.{was_quiet, quiet_turns, WentOn, HearsOut}
 use Rattle.rje_sockets.specs.Watching.{SawReceiver}
@@ -35,7 +35,7 @@ module _ {W : Type 0} (most : ℕ) (Saw : SawReceiver W) (was : Receiving × Lin
   hears_first some = record { history = []; took = refl; long = refl; quiet_is = refl; few = some; went_on = tt }
 
   module _ (n quiet : ℕ) (near : Receiving × LineTells × W) (p : HearsSoFar n quiet near) where
-    pub hears_long : n ≡ 1000000000 → HearsOut most Saw Left.Abandoned was near
+    pub hears_long : n ≡ 1000000000 → HearsOut most Saw ReceiveEnd.Abandoned was near
     hears_long e = (p.history, p.went_on, p.took, inr (p.long ∙ e))
 
     -- one more
@@ -54,10 +54,10 @@ module _ {W : Type 0} (most : ℕ) (Saw : SawReceiver W) (was : Receiving × Lin
       went_on : WentOn most history
       went_on = (omega (arith, p.quiet_is, p.few), p.went_on)
 
-      pub hears_end : is.0.over ≡ true → HearsOut most Saw Left.Ended was is
+      pub hears_end : is.0.over ≡ true → HearsOut most Saw ReceiveEnd.Ended was is
       hears_end over = (history, went_on, one_more, over)
 
-      pub hears_quiet : (now : ℕ) → now ≡ (if was_quiet is.0.arrival then quiet + 1 else 0) → now ≡ most → HearsOut most Saw Left.Abandoned was is
+      pub hears_quiet : (now : ℕ) → now ≡ (if was_quiet is.0.arrival then quiet + 1 else 0) → now ≡ most → HearsOut most Saw ReceiveEnd.Abandoned was is
       hears_quiet now is_now all = (history, went_on, one_more, inl (quiet_now ∙ sym is_now ∙ all))
 
       pub hears_on : (now : ℕ) → now ≡ (if was_quiet is.0.arrival then quiet + 1 else 0) → (now ≡ most → ⊥) → HearsSoFar (n + 1) now is

@@ -18,7 +18,7 @@ use Rattle.line_world.specs.AnyLines.{BothFail, BothToEnd, BothToFault, Receiver
 use Rattle.line_world.specs.declared.spoken.Spoken.{Spoken}
 use Rattle.line_world.proofs.TurnsOverLines.{arrived_turn, heard_turn, hears, no_end, turns_as}
 use Rattle.rje_session.specs.Stations.{HeardAndReplied, LineTells, SpokeAndHeard}
-use Rattle.rje_sockets.specs.declared.left.Left.{Left}
+use Rattle.rje_sockets.specs.declared.receive_end.ReceiveEnd.{ReceiveEnd}
 use Rattle.rje_sockets.specs.OverLine.{BothTook, BothTookOut, BothTurn, ReceiverTurn, SenderTurn, Sends, SendsOut, SendsOver}
 use Rattle.rje_sockets.specs.Patience.{Leaves, LeavesSo}
 use Rattle.rje_sockets.specs.Watching.{NobodySawReceiver, NobodySawSender, SawBoth, SawEnd, SawReceiver, SawSender}
@@ -91,9 +91,9 @@ receiver_unseen : {W : Type 0} (Saw : SawReceiver W) (r r' : Receiving) (t u : L
 receiver_unseen Saw r r' t u w w' h took =
     turns_as (λ _. ReceiverTurn Saw) (λ _. ReceiverTurn NobodySawReceiver) (λ a. (a.0, a.1, tt)) (λ past a b x turn. (turn.0, turn.1, turn.2, tt)) (r, t, w) h (r', u, w') took
 
-pub leaves_unseen : {W : Type 0} (most : ℕ) (Saw : SawReceiver W) (left : Left) (r r' : Receiving) (t u : LineTells) (w w' : W) → Leaves most Saw left (r, t, w) (r', u, w') → LeavesSo most left r t r' u
-leaves_unseen most Saw Left.Ended r r' t u w w' (h, on, took, over) = (h, on, receiver_unseen Saw r r' t u w w' h took, over)
-leaves_unseen most Saw Left.Abandoned r r' t u w w' (far, (h, on, took, why), is) = (far, (h, on, receiver_unseen Saw r far t u w w' h took, why), is)
+pub leaves_unseen : {W : Type 0} (most : ℕ) (Saw : SawReceiver W) (left : ReceiveEnd) (r r' : Receiving) (t u : LineTells) (w w' : W) → Leaves most Saw left (r, t, w) (r', u, w') → LeavesSo most left r t r' u
+leaves_unseen most Saw ReceiveEnd.Ended r r' t u w w' (h, on, took, over) = (h, on, receiver_unseen Saw r r' t u w w' h took, over)
+leaves_unseen most Saw ReceiveEnd.Abandoned r r' t u w w' (far, (h, on, took, why), is) = (far, (h, on, receiver_unseen Saw r far t u w w' h took, why), is)
 
 -- both took the same
 pub both_took : {W : Type 0} (Saw : SawBoth W) (was is : Sending × Receiving × W) (turns : List Spoken) → Turns (λ _. BothTurn Saw) was turns is

@@ -14,8 +14,8 @@ use Rattle.rje_station.specs.Station.{Contending, due_at, is_receiving, after_ot
 use Rattle.rje_station.specs.declared.line_fault.LineFault.TheVariants.{Closed}
 use Rattle.rje_station.specs.declared.station_fault.StationFault.TheVariants as fault
 use Rattle.rje_session.specs.Stations.{FailsInOwn, HeardAndReplied, LineTells, SpokeAndHeard, TakesOthers, TakesOwn}
-use Rattle.rje_sockets.specs.declared.broken_off.BrokenOff.{BrokenOff}
-use Rattle.rje_sockets.specs.declared.left.Left.{Left}
+use Rattle.rje_sockets.specs.declared.transfer_error.TransferError.{TransferError}
+use Rattle.rje_sockets.specs.declared.receive_end.ReceiveEnd.{ReceiveEnd}
 use Rattle.rje_sockets.specs.Watching.{NobodySawReceiver, NobodySawSender, SawReceiver, SawSender}
 
 -- a turn: its own, of what it said and heard; or the other's, of what came and what it replied
@@ -84,30 +84,30 @@ TookOver Sent Came was = Turns (λ past a b x. IsNext was.0.contender.rank past 
 
 -- it took some turns so, until both transmissions were over, or the other hung up for which it waited; or until so many of the other's turns
 -- in a row brought nothing, or a billion turns were taken in all
-abbrev pub TakesTurnsTo : {W : Type 0} → (most : ℕ) → SawSender W → SawReceiver W → Left → Contending × LineTells × W → Contending × LineTells × W → Type 0
-TakesTurnsTo most Sent Came Left.Ended was (s', u, w') =
+abbrev pub TakesTurnsTo : {W : Type 0} → (most : ℕ) → SawSender W → SawReceiver W → ReceiveEnd → Contending × LineTells × W → Contending × LineTells × W → Type 0
+TakesTurnsTo most Sent Came ReceiveEnd.Ended was (s', u, w') =
     (turns : List StationTurn) × (near : Contending) × (mid : LineTells) × TookOver Sent Came was turns (near, mid, w')
     × ((AreOver near × (s' ≡ near) × (u ≡ mid)) ⊎ (Waits near × (s' ≡ after_other_refusal (fault.Line Closed) near)))
-TakesTurnsTo most Sent Came Left.Abandoned was (s', u, w') =
+TakesTurnsTo most Sent Came ReceiveEnd.Abandoned was (s', u, w') =
     (turns : List StationTurn) × (near : Contending) × TookOver Sent Came was turns (near, u, w')
     × (((quiet_in_a_row turns ≡ most) × (s' ≡ after_other_ended near)) ⊎ ((length turns ≡ 1000000000) × (s' ≡ near)))
 
 -- over a line that nobody watches
-abbrev pub ExchangesTo : (most : ℕ) → Left → Contending → LineTells → Contending → LineTells → Type 0
+abbrev pub ExchangesTo : (most : ℕ) → ReceiveEnd → Contending → LineTells → Contending → LineTells → Type 0
 ExchangesTo most left s t s' u = TakesTurnsTo most NobodySawSender NobodySawReceiver left (s, t, tt) (s', u, tt)
 
 -- a fault ended the other's turn: one of the line, as it listened, or as it replied; or a job couldn't be kept, and it left without a reply
-abbrev pub FailsInOthers : Contending → Contending → BrokenOff → Type 0
-FailsInOthers s s' (BrokenOff.Line fault) =
+abbrev pub FailsInOthers : Contending → Contending → TransferError → Type 0
+FailsInOthers s s' (TransferError.Line fault) =
     (s' ≡ after_other_refusal fault s)
     ⊎ ((what : Heard) × (refused : Bool) × MayRefuse what (begun_in s.receiver.jobs) refused × (s' ≡ after_other_refusal fault (after_other s what refused Wish.Go)))
-FailsInOthers s s' (BrokenOff.File fault) =
+FailsInOthers s s' (TransferError.File fault) =
     (what : Heard) × (refused : Bool) × MayRefuse what (begun_in s.receiver.jobs) refused × (s' ≡ after_other_ended (after_other s what refused Wish.Go))
 
 -- either
-abbrev pub Fails : Contending → Contending → BrokenOff → Type 0
-Fails s s' (BrokenOff.Line fault) = FailsInOwn s s' fault ⊎ FailsInOthers s s' (BrokenOff.Line fault)
-Fails s s' (BrokenOff.File fault) = FailsInOthers s s' (BrokenOff.File fault)
+abbrev pub Fails : Contending → Contending → TransferError → Type 0
+Fails s s' (TransferError.Line fault) = FailsInOwn s s' fault ⊎ FailsInOthers s s' (TransferError.Line fault)
+Fails s s' (TransferError.File fault) = FailsInOthers s s' (TransferError.File fault)
 
 -- it left as it was, after it gave up the other's transmission, or when the other hung up
 abbrev pub LeavesFrom : Contending → Contending → Type 0

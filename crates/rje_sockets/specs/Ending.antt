@@ -13,7 +13,7 @@ use Rattle.rje_station.specs.Receiving.{Receiving, first_receiving}
 use Rattle.rje_station.specs.Sending.{Sending, first_sending, outcome_of}
 use Rattle.rje_print.specs.ReportTexts.{counted_line, handed_line, outcome_line, whole_jobs}
 use Rattle.rje_sockets.specs.declared.socket_commands.ending.Ending.{Ending}
-use Rattle.rje_sockets.specs.declared.left.Left.{Left}
+use Rattle.rje_sockets.specs.declared.receive_end.ReceiveEnd.{ReceiveEnd}
 use Rattle.rje_commands.specs.declared.command_fault.CommandFault.{CommandFault}
 use Rattle.rje_commands.specs.CommandFault.{status_of}
 use Rattle.rje_commands.specs.Commands.{OfFile}
@@ -53,15 +53,15 @@ MakesJobFile jobs into files made =
     × IsEntryFileOf Second (front ++ map entry_of jobs) bytes × (length bytes ≤ 16777216) × Discloses files made (Sets into.jobs.now bytes)
 
 -- only where the sender ended the transmission all was received
-abbrev pub ending_of_left : Left → Ending
-ending_of_left Left.Ended = Ending.Done
-ending_of_left Left.Abandoned = Ending.Other
+abbrev pub ending_of_left : ReceiveEnd → Ending
+ending_of_left ReceiveEnd.Ended = Ending.Done
+ending_of_left ReceiveEnd.Abandoned = Ending.Other
 
 -- one transmission was received over a line: a new station, which left after so many quiet hearings in a row at most, took some turns there and
 -- left so, the file of the destination became that of the
 -- entries in front and its jobs, and just their line was printed
 pub record Receives (most : ℕ) (ending : Ending) (into : Destination) (was is : Outside) : Type 0 where
-  pub left : Left
+  pub left : ReceiveEnd
   pub station : Receiving
   pub leaves : LeavesSo most left first_receiving was.0 station is.0
   pub makes : MakesJobFile station.jobs into was.1 is.1

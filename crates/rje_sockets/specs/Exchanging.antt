@@ -12,7 +12,7 @@ use Rattle.rje_station.specs.Sending.{outcome_of}
 use Rattle.rje_station.specs.Station.{Contending, first_contending}
 use Rattle.rje_orders.specs.declared.order.Destination.{Destination}
 use Rattle.rje_commands.specs.Commands.{OfFile}
-use Rattle.rje_sockets.specs.declared.left.Left.{Left}
+use Rattle.rje_sockets.specs.declared.receive_end.ReceiveEnd.{ReceiveEnd}
 use Rattle.rje_sockets.specs.declared.socket_commands.ending.Ending.{Ending}
 use Rattle.rje_sockets.specs.BothWays.{ExchangesTo}
 use Rattle.rje_print.specs.ReportTexts.{counted_line, outcome_line}
@@ -30,9 +30,9 @@ is_idle given [] = given == 0
 is_idle given (job ∷ jobs) = false
 
 -- both directions ended as they should, or one ended otherwise; an idle one ended as it should also where the other was quiet for long
-abbrev pub ending_of_both : Option Outcome → (is_idle : Bool) → Left → Ending
-ending_of_both (Some Outcome.Done) idle Left.Ended = Ending.Done
-ending_of_both (Some Outcome.Done) true Left.Abandoned = Ending.Done
+abbrev pub ending_of_both : Option Outcome → (is_idle : Bool) → ReceiveEnd → Ending
+ending_of_both (Some Outcome.Done) idle ReceiveEnd.Ended = Ending.Done
+ending_of_both (Some Outcome.Done) true ReceiveEnd.Abandoned = Ending.Done
 ending_of_both _ _ _ = Ending.Other
 
 -- the lines of both: how many of so many jobs were counted, how that ended, and what came
@@ -51,7 +51,7 @@ MakesBoth file s send into files made =
 pub record ExchangesLeft (ending : Ending) (part : Part) (send : List ℕ) (into : Destination) (was is : Outside) : Type 0 where
   pub file : List ℕ
   pub entries : List Entry
-  pub left : Left
+  pub left : ReceiveEnd
   pub station : Contending
   pub read : OfFile send was.1 (λ read. file ≡ read)
   pub file_is : HasEntries entries file

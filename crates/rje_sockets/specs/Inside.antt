@@ -5,4 +5,3 @@ pub mod Keeping
 pub mod Marking
 pub mod BreakingOff
 pub mod BothFiles
-pub mod Reading

@@ -8,7 +8,7 @@ use Rattle.rje_files.specs.Unsent.{unsent}
 use Rattle.rje_station.specs.Station.{Contending, first_contending}
 use Rattle.rje_commands.specs.Commands.{OfFile}
 use Rattle.rje_orders.specs.declared.order.Destination.{Destination}
-use Rattle.rje_sockets.specs.declared.broken_off.BrokenOff.{BrokenOff}
+use Rattle.rje_sockets.specs.declared.transfer_error.TransferError.{TransferError}
 use Rattle.rje_sockets.specs.Answering.{HasWhole}
 use Rattle.rje_sockets.specs.BothWays.{Fails, LeavesFrom, StationTurn, Took}
 use Rattle.rje_sockets.specs.Ending.{MarksSent}
@@ -18,7 +18,7 @@ use Rattle.rje_stores.specs.Store.{FileMap, Discloses, IsSame}
 abbrev pub CameTo : Contending → Contending → Type 0
 CameTo s s' =
     (turns : List StationTurn) × (near : Contending) × Took s.contender.rank s turns near
-    × (LeavesFrom near s' ⊎ ((broken : BrokenOff) × Fails near s' broken))
+    × (LeavesFrom near s' ⊎ ((broken : TransferError) × Fails near s' broken))
 
 -- the file of this name became that of the same entries as this file's, in which just so many of those that were not Sent are Sent as it had
 -- counted, and no other file changed

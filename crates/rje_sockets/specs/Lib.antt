@@ -1,5 +1,5 @@
 pub mod InFront
-pub mod LineCause
+pub mod Connecting
 pub mod Answering
 pub mod NamedFiles
 pub mod OverLine
@@ -14,6 +14,3 @@ pub mod LeavingBoth
 pub mod Exchanging
 pub mod Looping
 pub mod SocketCommand
-pub mod Words
-pub mod Hearing
-pub mod Streams

@@ -7,7 +7,7 @@ use Rattle.line_world.specs.AnyLines.{Turns}
 use Rattle.rje_station.specs.declared.arrival.Arrival.{Arrival}
 use Rattle.rje_station.specs.Receiving.{Receiving, after_abandon}
 use Rattle.rje_session.specs.Stations.{LineTells}
-use Rattle.rje_sockets.specs.declared.left.Left.{Left}
+use Rattle.rje_sockets.specs.declared.receive_end.ReceiveEnd.{ReceiveEnd}
 use Rattle.rje_sockets.specs.OverLine.{ReceiverTurn}
 use Rattle.rje_sockets.specs.Watching.{NobodySawReceiver, SawReceiver}
 
@@ -31,16 +31,16 @@ WentOn most [] = Unit {0}
 WentOn most (t ∷ past) = (quiet_turns past < most) × WentOn most past
 
 -- the station took some turns; and then the sender ended it, or so many quiet turns had come one after another, or a billion turns in all
-abbrev pub HearsOut : {W : Type 0} → (most : ℕ) → SawReceiver W → Left → Receiving × LineTells × W → Receiving × LineTells × W → Type 0
-HearsOut most Saw Left.Ended was is = (h : History) × WentOn most h × Turns (λ _. ReceiverTurn Saw) was h is × (is.0.over ≡ true)
-HearsOut most Saw Left.Abandoned was is =
+abbrev pub HearsOut : {W : Type 0} → (most : ℕ) → SawReceiver W → ReceiveEnd → Receiving × LineTells × W → Receiving × LineTells × W → Type 0
+HearsOut most Saw ReceiveEnd.Ended was is = (h : History) × WentOn most h × Turns (λ _. ReceiverTurn Saw) was h is × (is.0.over ≡ true)
+HearsOut most Saw ReceiveEnd.Abandoned was is =
     (h : History) × WentOn most h × Turns (λ _. ReceiverTurn Saw) was h is × ((quiet_turns h ≡ most) ⊎ (length h ≡ 1000000000))
 
 -- so, and in the second case the station was told to end
-abbrev pub Leaves : {W : Type 0} → (most : ℕ) → SawReceiver W → Left → Receiving × LineTells × W → Receiving × LineTells × W → Type 0
-Leaves most Saw Left.Ended was is = HearsOut most Saw Left.Ended was is
-Leaves most Saw Left.Abandoned was (r', u, w) = (far : Receiving) × HearsOut most Saw Left.Abandoned was (far, u, w) × (r' ≡ after_abandon far)
+abbrev pub Leaves : {W : Type 0} → (most : ℕ) → SawReceiver W → ReceiveEnd → Receiving × LineTells × W → Receiving × LineTells × W → Type 0
+Leaves most Saw ReceiveEnd.Ended was is = HearsOut most Saw ReceiveEnd.Ended was is
+Leaves most Saw ReceiveEnd.Abandoned was (r', u, w) = (far : Receiving) × HearsOut most Saw ReceiveEnd.Abandoned was (far, u, w) × (r' ≡ after_abandon far)
 
 -- over a line that nobody watches
-abbrev pub LeavesSo : (most : ℕ) → Left → Receiving → LineTells → Receiving → LineTells → Type 0
+abbrev pub LeavesSo : (most : ℕ) → ReceiveEnd → Receiving → LineTells → Receiving → LineTells → Type 0
 LeavesSo most left r t r' u = Leaves most NobodySawReceiver left (r, t, tt) (r', u, tt)

@@ -17,12 +17,12 @@ ghost use Rattle.rje_sockets.specs.Inside.BreakingOff.{of_broken_off};
 ghost use Rattle.rje_sockets.specs.Inside.BothFiles.{BreaksBoth, GoesOnHolding, kept_of, progress_of, HasCounted};
 ghost use Rattle.rje_sockets.specs.NamedFiles.{NamesWritten};
 
-use crate::broken_off::BrokenOff;
-use crate::keeper::Keeper;
-use crate::left::Left;
-use crate::marker::Marker;
+use crate::job_writer::JobWriter;
+use crate::observer::Observer;
 use crate::one_way::{MAX_HEARINGS, was_quiet};
-use crate::watch::Watch;
+use crate::receive_end::ReceiveEnd;
+use crate::sent_marker::SentMarker;
+use crate::transfer_error::TransferError;
 use bsc_link::{Rank, Say};
 use rje_session::turns;
 use rje_station::{Line, LineFault, Station, StationFault};
@@ -32,15 +32,15 @@ use rje_stores::Store;
 /// quiet for so many of its turns in a row. Each job that it sends is marked as soon as it is counted, and each that comes is kept before
 /// its last block is answered; where it can't be, the station leaves. A primary bids as soon as something is due; a secondary listens
 /// first, and after each bid that isn't granted.
-pub fn exchange_all<'a, 'b, L: Line, S: Store, W: Watch>(
+pub fn exchange_all<'a, 'b, L: Line, S: Store, W: Observer>(
     station: &mut Station<'a>,
     line: &mut L,
     patience: u32,
-    marker: &mut Marker<'b>,
-    keeper: &mut Keeper<'b>,
+    marker: &mut SentMarker<'b>,
+    keeper: &mut JobWriter<'b>,
     store: &mut S,
     watch: &mut W,
-) -> Result<Left, BrokenOff<'b>>
+) -> Result<ReceiveEnd, TransferError<'b>>
     requires patient { 0 < patience }
     ensures left { IfOk result (λ left. TakesTurnsTo patience W.saw_sender W.saw_receiver left
         (station.old, (L.talk line.old, L.transmissions line.old), watch.old)
@@ -62,7 +62,7 @@ pub fn exchange_all<'a, 'b, L: Line, S: Store, W: Watch>(
     let mut quiet = 0;
     for _ in 0..MAX_HEARINGS {
         if is_over(station) {
-            return Ok(Left::Ended);
+            return Ok(ReceiveEnd::Ended);
         }
         if turns::is_own_turn(station, has_listened) {
             take_own_turn(station, line, marker, store, watch)?;
@@ -71,16 +71,16 @@ pub fn exchange_all<'a, 'b, L: Line, S: Store, W: Watch>(
             continue;
         }
         if !take_others_turn(station, line, keeper, store, watch)? {
-            return Ok(Left::Ended);
+            return Ok(ReceiveEnd::Ended);
         }
         has_listened = true;
         quiet = turns::quiet_after(quiet, was_quiet(station.receiver()));
         if quiet == patience {
             station.other_ended();
-            return Ok(Left::Abandoned);
+            return Ok(ReceiveEnd::Abandoned);
         }
     }
-    Ok(Left::Abandoned)
+    Ok(ReceiveEnd::Abandoned)
 }
 
 /// Whether a station may bid before it has listened: a primary may.
@@ -98,11 +98,11 @@ fn is_over<'a>(station: &Station<'a>) -> bool
     station.due() == Say::Nothing && station.receiver().is_over()
 }
 
-/// A station's own turn: it says what is due, and but for EOT it listens. Then as many jobs are marked as it has counted.
-fn take_own_turn<'a, 'b, L: Line, S: Store, W: Watch>(
+/// A station's own turn: it says what is due, and listens unless that is EOT. Then as many jobs are marked as it has counted.
+fn take_own_turn<'a, 'b, L: Line, S: Store, W: Observer>(
     station: &mut Station<'a>,
     line: &mut L,
-    marker: &mut Marker<'b>,
+    marker: &mut SentMarker<'b>,
     store: &mut S,
     watch: &mut W,
 ) -> Result<(), StationFault>
@@ -129,13 +129,13 @@ fn take_own_turn<'a, 'b, L: Line, S: Store, W: Watch>(
 
 /// The other's turn, and whether there is one: the station listens, keeps the job that has come to its end, and replies where a reply is
 /// due. Where the job can't be kept, it leaves and doesn't reply. There is none where the other hangs up and the station waits for it.
-fn take_others_turn<'a, 'b, L: Line, S: Store, W: Watch>(
+fn take_others_turn<'a, 'b, L: Line, S: Store, W: Observer>(
     station: &mut Station<'a>,
     line: &mut L,
-    keeper: &mut Keeper<'b>,
+    keeper: &mut JobWriter<'b>,
     store: &mut S,
     watch: &mut W,
-) -> Result<bool, BrokenOff<'b>>
+) -> Result<bool, TransferError<'b>>
     ensures takes { IfOk result (λ is_turn. is_turn ≡ true → (arrival : Coming)
         × (reply : Option Answer)
         × (takes : TakesOthers station.old station.new arrival reply)
@@ -160,14 +160,14 @@ fn take_others_turn<'a, 'b, L: Line, S: Store, W: Watch>(
     let (arrival, reply) = match turns::hear_other(station, line) {
         Ok(came) => came,
         Err(StationFault::Line(LineFault::Closed)) if waits => return Ok(false),
-        Err(fault) => return Err(BrokenOff::Line(fault)),
+        Err(fault) => return Err(TransferError::Line(fault)),
     };
     let receiver = station.receiver();
     if let Err(fault) = keeper.keep(receiver.jobs(), receiver.refusal(), store) {
         station.other_ended();
         let receiver = station.receiver();
         watch.receiver_took(receiver, arrival, None);
-        return Err(BrokenOff::File(fault));
+        return Err(TransferError::File(fault));
     }
     turns::answer_other(station, line)?;
     let receiver = station.receiver();

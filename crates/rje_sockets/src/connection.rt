@@ -1,15 +1,12 @@
 //! Connections, and whether the time-out is longer than they take.
 ghost use Rattle.std.specs.Prelude.{◌≡◌, true, IfErr, IfOk, IsSome};
 ghost use Rattle.rje_orders.specs.Callers.{IsLetIn};
-ghost use Rattle.rje_sockets.specs.LineCause.{IsPeerAt, IsUnmet};
-ghost use Rattle.rje_sockets.specs.Words.{HasSpokenWhereAwaited, HasWord};
+ghost use Rattle.rje_net.specs.Words.{HasWord};
+ghost use Rattle.rje_sockets.specs.Connecting.{HasSpokenWhereAwaited, IsPeerAt, IsUnmet};
 
-use crate::adapter_stream::AdapterStream;
-use crate::line_cause::LineCause;
-use crate::observed_stream::ObservedStream;
-use crate::report::Report;
-use crate::socket_line::SocketLine;
+use crate::verbosity::Verbosity;
 use bsc_link::Rank;
+use rje_net::{AdapterStream, LineCause, ObservedStream, SocketLine};
 use rje_orders::{Callers, Connection, Meeting};
 use rje_print::{listening_text, shown_listening};
 use std::io::{self, ErrorKind, Write};
@@ -32,7 +29,7 @@ pub(crate) fn met<'r, R: Net + Clock, E: Write>(
     connection: Connection,
     rank: Rank,
     hearings: Option<u32>,
-    report: Report,
+    report: Verbosity,
     err: &mut E,
 ) -> Result<(ObservedLine<'r, R>, SocketAddr), LineCause>
     ensures unused { IfOk result (λ met. met.0.transmissions ≡ 0) }
@@ -90,7 +87,7 @@ struct Listening<'a> {
     // Within how many hearings a caller has to say a word, where it has to.
     hearings: Option<u32>,
     // What is reported meanwhile.
-    report: Report,
+    report: Verbosity,
 }
 
 /// Waits for the first call that is taken, and answers the caller's address too. Other callers are hung up.
@@ -134,14 +131,14 @@ fn accepted<'r, R: Net + Clock, E: Write>(
 }
 
 /// Reports at which address calls are awaited, with the port that was got. A line that can't be written is left out.
-fn tell_listening<L: OpenListener, E: Write>(report: Report, listener: &L, err: &mut E) {
+fn tell_listening<L: OpenListener, E: Write>(report: Verbosity, listener: &L, err: &mut E) {
     let Ok(address) = listener.local_addr() else {
         return;
     };
     let line = match report {
-        Report::Trace => listening_text(address),
-        Report::Progress => shown_listening(address),
-        Report::Nothing => return,
+        Verbosity::Trace => listening_text(address),
+        Verbosity::Progress => shown_listening(address),
+        Verbosity::Nothing => return,
     };
     if let Ok(line) = line {
         let _ = err.write_all(line.as_slice());
@@ -150,14 +147,14 @@ fn tell_listening<L: OpenListener, E: Write>(report: Report, listener: &L, err: 
 
 /// Reports that a caller was hung up; calls are awaited on. A line that can't be written is left out.
 fn tell_hung_up<L: OpenListener, E: Write>(
-    report: Report,
+    report: Verbosity,
     peer: SocketAddr,
     listener: &L,
     err: &mut E,
 ) {
     report.erase(err);
     let _ = writeln!(err, "rje: hung up on {peer}");
-    if report == Report::Progress {
+    if report == Verbosity::Progress {
         tell_listening(report, listener, err);
     }
 }

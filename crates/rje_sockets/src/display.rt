@@ -1,9 +1,9 @@
 //! The watch that shows on a terminal how far it is.
 ghost use Rattle.std.specs.Prelude.{⊤};
 
+use crate::observer::Observer;
 use crate::received_amount::ReceivedAmount;
 use crate::sent_amount::SentAmount;
-use crate::watch::Watch;
 use bsc_link::{Reply, Say, Sound};
 use line_world::Spoken;
 use rje_files::JobName;
@@ -13,7 +13,7 @@ use std::io::Write;
 use std::net::SocketAddr;
 use std::time::{Clock, Duration, Instant};
 
-/// How many milliseconds a line stands at least.
+/// How many milliseconds a line stays at least.
 const REST: usize = 100;
 
 /// Shows on a terminal how far it is, in one line that is written again and again, some ten times a second at most. It shows nothing more
@@ -95,7 +95,7 @@ impl<'a, C: Clock, W: Write> Display<'a, C, W> {
     }
 }
 
-impl<C: Clock, W: Write> Watch for Display<'_, C, W> {
+impl<C: Clock, W: Write> Observer for Display<'_, C, W> {
     ghost saw_sender = { λ _ _ _ _. ⊤ };
 
     ghost saw_receiver = { λ _ _ _ _. ⊤ };

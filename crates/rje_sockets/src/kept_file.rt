@@ -4,7 +4,7 @@ ghost use Rattle.rje_files.specs.declared.entry.Entry.{Entry};
 ghost use Rattle.rje_sockets.specs.Inside.Opening.{IsDestinationFault, IsOpened};
 ghost use Rattle.rje_stores.specs.Store.{Discloses, IsSame};
 
-use crate::front::Front;
+use crate::existing_entries::ExistingEntries;
 use rje_commands::{CommandFault, lock_file, look_at_file};
 use rje_orders::Destination;
 use rje_stores::{Place, Store};
@@ -17,8 +17,8 @@ pub struct KeptFile<'a> {
     pub(crate) into: Destination<'a>,
     /// How it can be written.
     pub(crate) place: Place,
-    /// What stands in front of the jobs that come.
-    pub(crate) front: Front,
+    /// What is before the jobs that come.
+    pub(crate) front: ExistingEntries,
 }
 
 impl<'a> KeptFile<'a> {
@@ -39,8 +39,8 @@ impl<'a> KeptFile<'a> {
         let place = look_at_file(into.jobs, store)?;
         lock_file(alloc, into.jobs, store)?;
         let front = match place {
-            Place::Growing => Front::read(alloc, into, store)?,
-            Place::Once => Front::none(alloc)?,
+            Place::Growing => ExistingEntries::read(alloc, into, store)?,
+            Place::Once => ExistingEntries::none(alloc)?,
         };
         Ok(KeptFile { into, place, front })
     }

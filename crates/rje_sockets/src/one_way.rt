@@ -10,11 +10,11 @@ ghost use Rattle.rje_sockets.specs.OverLine.{BothTook, ReceiverTurn, Sends, Send
 ghost use Rattle.rje_sockets.specs.Patience.{HearsOut, Leaves, most_quiet, was_quiet};
 ghost use Rattle.line_world.specs.AnyLines.{SenderFails, SendsToFault, BothTake, BothFail, BothToFault};
 
-use crate::broken_off::BrokenOff;
-use crate::keeper::Keeper;
-use crate::left::Left;
-use crate::marker::Marker;
-use crate::watch::Watch;
+use crate::job_writer::JobWriter;
+use crate::observer::Observer;
+use crate::receive_end::ReceiveEnd;
+use crate::sent_marker::SentMarker;
+use crate::transfer_error::TransferError;
 use bsc_link::{Say, Sound, Wish};
 use line_world::Spoken;
 use rje_session::turns;
@@ -29,10 +29,10 @@ pub const MAX_HEARINGS: u32 = 1_000_000_000;
 
 /// Sends what the station has, to the end of its transmission. Each job is marked in its file as soon as it is counted; where that fails, no
 /// more are, and the transmission goes on.
-pub fn send_all<'a, L: Line, S: Store, W: Watch>(
+pub fn send_all<'a, L: Line, S: Store, W: Observer>(
     station: &mut SendingStation,
     line: &mut L,
-    marker: &mut Marker<'a>,
+    marker: &mut SentMarker<'a>,
     store: &mut S,
     watch: &mut W,
 ) -> Result<(), StationFault>
@@ -57,10 +57,10 @@ pub fn send_all<'a, L: Line, S: Store, W: Watch>(
 }
 
 /// One turn of a sending station, and whether there is one; then as many jobs are marked as it has counted.
-fn speak_hear_and_mark<'a, L: Line, S: Store, W: Watch>(
+fn speak_hear_and_mark<'a, L: Line, S: Store, W: Observer>(
     station: &mut SendingStation,
     line: &mut L,
-    marker: &mut Marker<'a>,
+    marker: &mut SentMarker<'a>,
     store: &mut S,
     watch: &mut W,
 ) -> Result<bool, StationFault>
@@ -83,8 +83,8 @@ fn speak_hear_and_mark<'a, L: Line, S: Store, W: Watch>(
     Ok(is_turn)
 }
 
-/// One turn of a sending station, and whether there is one: it says what is due, and but for EOT it listens.
-fn speak_and_hear<L: Line, W: Watch>(
+/// One turn of a sending station, and whether there is one: it says what is due, and listens unless that is EOT.
+fn speak_and_hear<L: Line, W: Observer>(
     station: &mut SendingStation,
     line: &mut L,
     watch: &mut W,
@@ -126,14 +126,14 @@ pub fn most_quiet(patience: u32) -> u32
 
 /// Receives what comes, until the sender ends the transmission or stays quiet for so many hearings in a row. Each job is kept before its last
 /// block is answered; where it can't be, the station leaves.
-pub fn receive_all<'a, L: Line, S: Store, W: Watch>(
+pub fn receive_all<'a, L: Line, S: Store, W: Observer>(
     station: &mut ReceivingStation,
     line: &mut L,
     patience: u32,
-    keeper: &mut Keeper<'a>,
+    keeper: &mut JobWriter<'a>,
     store: &mut S,
     watch: &mut W,
-) -> Result<Left, BrokenOff<'a>>
+) -> Result<ReceiveEnd, TransferError<'a>>
     requires patient { 0 < patience }
     ensures left { IfOk result (λ left. Leaves patience W.saw_receiver left
         (station.old, (L.talk line.old, L.transmissions line.old), watch.old)
@@ -148,21 +148,21 @@ pub fn receive_all<'a, L: Line, S: Store, W: Watch>(
         station.new.jobs (S.files store.old) (S.files store.new)) }
 {
     let left = hear_out(station, line, patience, keeper, store, watch)?;
-    if left == Left::Abandoned {
+    if left == ReceiveEnd::Abandoned {
         station.abandon();
     }
     Ok(left)
 }
 
 /// Receives until the sender ends the transmission, or there is no more hope of it.
-fn hear_out<'a, L: Line, S: Store, W: Watch>(
+fn hear_out<'a, L: Line, S: Store, W: Observer>(
     station: &mut ReceivingStation,
     line: &mut L,
     patience: u32,
-    keeper: &mut Keeper<'a>,
+    keeper: &mut JobWriter<'a>,
     store: &mut S,
     watch: &mut W,
-) -> Result<Left, BrokenOff<'a>>
+) -> Result<ReceiveEnd, TransferError<'a>>
     requires patient { 0 < patience }
     ensures heard { IfOk result (λ left. HearsOut patience W.saw_receiver left
         (station.old, (L.talk line.old, L.transmissions line.old), watch.old)
@@ -179,14 +179,14 @@ fn hear_out<'a, L: Line, S: Store, W: Watch>(
     let mut quiet = 0;
     for _ in 0..MAX_HEARINGS {
         if !hear_keep_and_speak(station, line, keeper, store, watch)? {
-            return Ok(Left::Ended);
+            return Ok(ReceiveEnd::Ended);
         }
         quiet = turns::quiet_after(quiet, was_quiet(station));
         if quiet == patience {
-            return Ok(Left::Abandoned);
+            return Ok(ReceiveEnd::Abandoned);
         }
     }
-    Ok(Left::Abandoned)
+    Ok(ReceiveEnd::Abandoned)
 }
 
 /// Whether the last hearing brought nothing.
@@ -201,13 +201,13 @@ pub fn was_quiet(station: &ReceivingStation) -> bool
 
 /// One turn of a receiving station: it listens, it keeps the job that has come to its end, and it replies where the transmission isn't
 /// over, which is answered. Where the job can't be kept, it leaves and doesn't reply.
-fn hear_keep_and_speak<'a, L: Line, S: Store, W: Watch>(
+fn hear_keep_and_speak<'a, L: Line, S: Store, W: Observer>(
     station: &mut ReceivingStation,
     line: &mut L,
-    keeper: &mut Keeper<'a>,
+    keeper: &mut JobWriter<'a>,
     store: &mut S,
     watch: &mut W,
-) -> Result<bool, BrokenOff<'a>>
+) -> Result<bool, TransferError<'a>>
     ensures turn { OnOk result ((t : SpokenTurn) × ReceiverTurn W.saw_receiver
         (station.old, (L.talk line.old, L.transmissions line.old), watch.old)
         (station.new, (L.talk line.new, L.transmissions line.new), watch.new) t) }
@@ -228,7 +228,7 @@ fn hear_keep_and_speak<'a, L: Line, S: Store, W: Watch>(
     if let Err(fault) = keeper.keep(station.jobs(), station.refusal(), store) {
         station.abandon();
         watch.receiver_took(station, arrival, None);
-        return Err(BrokenOff::File(fault));
+        return Err(TransferError::File(fault));
     }
     match station.speak(line) {
         Ok(_) => {
@@ -239,12 +239,12 @@ fn hear_keep_and_speak<'a, L: Line, S: Store, W: Watch>(
             watch.receiver_took(station, arrival, reply);
             Ok(false)
         }
-        Err(fault) => Err(BrokenOff::Line(fault)),
+        Err(fault) => Err(TransferError::Line(fault)),
     }
 }
 
 /// Lets a sender and a receiver take turns, each at its end of a line, to the end of the transmission.
-pub fn take_turns<N: Line, F: Line, W: Watch>(
+pub fn take_turns<N: Line, F: Line, W: Observer>(
     sender: &mut SendingStation,
     near: &mut N,
     receiver: &mut ReceivingStation,

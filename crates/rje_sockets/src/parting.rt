@@ -1,7 +1,7 @@
 //! What an end does where its transmission is over.
 ghost use Rattle.std.specs.Prelude.{◌≡◌};
 
-use crate::socket_line::SocketLine;
+use rje_net::SocketLine;
 use rje_station::Line;
 use std::io::{Read, Write};
 use std::net::OpenStream;

@@ -5,9 +5,9 @@ ghost use Rattle.rje_sockets.specs.declared.reporter.Reporter.TheVariants as rep
 ghost use Rattle.rje_print.specs.TurnTexts.{sender_line, receiver_line, both_line};
 
 use crate::display::Display;
-use crate::report::Report;
+use crate::observer::Observer;
 use crate::tracer::Tracer;
-use crate::watch::Watch;
+use crate::verbosity::Verbosity;
 use bsc_link::{Reply, Say, Sound};
 use line_world::Spoken;
 use rje_files::JobName;
@@ -27,11 +27,11 @@ pub enum Reporter<'a, C, W> {
 
 impl<'a, C: Clock, W: Write> Reporter<'a, C, W> {
     /// Reports a transmission that starts now, whose jobs that are sent have these names, where they are known.
-    pub fn new(clock: C, report: Report, names: &'a [JobName], out: W) -> Reporter<'a, C, W> {
+    pub fn new(clock: C, report: Verbosity, names: &'a [JobName], out: W) -> Reporter<'a, C, W> {
         match report {
-            Report::Trace => Reporter::Tracer(Tracer::new(clock, true, out)),
-            Report::Progress => Reporter::Display(Display::new(clock, names, out)),
-            Report::Nothing => Reporter::Tracer(Tracer::new(clock, false, out)),
+            Verbosity::Trace => Reporter::Tracer(Tracer::new(clock, true, out)),
+            Verbosity::Progress => Reporter::Display(Display::new(clock, names, out)),
+            Verbosity::Nothing => Reporter::Tracer(Tracer::new(clock, false, out)),
         }
     }
 
@@ -44,7 +44,7 @@ impl<'a, C: Clock, W: Write> Reporter<'a, C, W> {
     }
 }
 
-impl<C: Clock, W: Write> Watch for Reporter<'_, C, W> {
+impl<C: Clock, W: Write> Observer for Reporter<'_, C, W> {
     ghost saw_sender = { λ old new said heard.
         (t : _) → old ≡ reporter.Tracer t → (u : _) × (new ≡ reporter.Tracer u)
         × TracesTurn u.start (W.contents t.out) (W.contents u.out)

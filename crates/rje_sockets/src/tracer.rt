@@ -3,9 +3,9 @@ ghost use Rattle.std.specs.Prelude.{◌≡◌, false, None};
 ghost use Rattle.rje_sockets.specs.Tracing.{TracesLine, TracesTurn};
 ghost use Rattle.rje_print.specs.TurnTexts.{peer_line, sender_line, receiver_line, both_line};
 
+use crate::observer::Observer;
 use crate::received_blocks::ReceivedBlocks;
 use crate::sent_blocks::SentBlocks;
-use crate::watch::Watch;
 use bsc_link::{Reply, Say, Sound};
 use line_world::Spoken;
 use rje_print::{both_text, peer_text, receiver_text, sender_text};
@@ -75,7 +75,7 @@ impl<C: Clock, W: Write> Tracer<C, W> {
     }
 }
 
-impl<C: Clock, W: Write> Watch for Tracer<C, W> {
+impl<C: Clock, W: Write> Observer for Tracer<C, W> {
     ghost saw_sender = { λ old new said heard.
         TracesTurn new.start (W.contents old.out) (W.contents new.out)
         (λ nanos place. sender_line nanos said heard place) × (old.start ≡ None → new ≡ old) };

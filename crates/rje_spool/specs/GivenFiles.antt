@@ -7,8 +7,8 @@ use Rattle.rje_folders.specs.declared.file_identity.FileIdentity.{FileIdentity}
 use Rattle.rje_folders.specs.Marking.{IsMarked, IsSaid}
 use Rattle.rje_stores.specs.Disk.{Asked, Opened}
 use Rattle.rje_spool.specs.declared.given_file.GivenFile.{GivenFile}
-use Rattle.rje_spool.specs.declared.given_file.Place.{Place}
-use Rattle.rje_spool.specs.declared.given_file.Place.TheVariants.{Promised}
+use Rattle.rje_spool.specs.declared.given_file.Standing.{Standing}
+use Rattle.rje_spool.specs.declared.given_file.Standing.TheVariants.{Promised}
 use Rattle.rje_spool.specs.GivenFile.{HasSecondName, IsDoubted, IsInSent, IsOfRead, IsPromised}
 
 -- the job is one of the file's
@@ -41,7 +41,7 @@ jobs_of files = option_map_or (λ file. min (file.first + file.count) 1844674407
 pub record IsNext (files : List GivenFile) (count : ℕ) (file : GivenFile) : Type 0 where
   pub first : file.first ≡ jobs_of files
   pub many : file.count ≡ count
-  pub ready : file.place ≡ Place.Ready
+  pub ready : file.place ≡ Standing.Ready
 
 -- the file that a job is of, the first such
 abbrev pub file_of : ℕ → List GivenFile → Option GivenFile
@@ -56,9 +56,9 @@ OfFile job Holds before after =
 -- it doesn't stand in out/ alone; and where it did, it has a name in doubt/ now, on disk, beside the one in out/, which stands for the very file that
 -- was read, as the disk said
 pub record HasGoneOut (is_file : List Asked → List ℕ → FileIdentity → Type 0) (station : List ℕ) (file now : GivenFile) (before after : List Asked) : Type 0 where
-  pub out : now.place ≢ Place.Ready
-  pub promised : file.place ≡ Place.Ready → IsPromised station (string_bytes file.name) now.place before after
-  pub same : file.place ≡ Place.Ready → IsOfRead (is_file after) now.place file.file
+  pub out : now.place ≢ Standing.Ready
+  pub promised : file.place ≡ Standing.Ready → IsPromised station (string_bytes file.name) now.place before after
+  pub same : file.place ≡ Standing.Ready → IsOfRead (is_file after) now.place file.file
 
 -- where its last job was counted, and it had a name in doubt/, it stands in sent/ now, on disk
 abbrev pub HasBeenCounted : (job : ℕ) → (station : List ℕ) → (file now : GivenFile) → (after : List Asked) → Type 0
@@ -69,4 +69,4 @@ HasBeenCounted job station file now after =
 abbrev pub IsSettledSo : (job : ℕ) → Disposition → (station : List ℕ) → (after : List Asked) → (file now : GivenFile) → Type 0
 IsSettledSo job disposition.Sent station after file now = HasBeenCounted job station file now after
 IsSettledSo job disposition.InDoubt station after file now = IsDoubted now.place
-IsSettledSo job disposition.Ready station after file now = HasSecondName file.place → now.place ≡ Place.Ready
+IsSettledSo job disposition.Ready station after file now = HasSecondName file.place → now.place ≡ Standing.Ready

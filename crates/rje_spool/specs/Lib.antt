@@ -8,3 +8,4 @@ pub mod GivenFiles
 pub mod Keeping
 pub mod Backed
 pub mod GivenJob
+pub mod Passing

@@ -8,7 +8,7 @@ use std::alloc::{AllocError, Global};
 use std::io::{self, ErrorKind, Write};
 use std::time::{Clock, Duration, Instant};
 
-/// How many milliseconds a line of a terminal that is rewritten stands at least.
+/// How many milliseconds a line of a terminal that is rewritten stays at least.
 const REST: u64 = 100;
 
 /// A station's console: each line goes to its operator and to its log, with the time in front. What can't be written is left out.

@@ -2,10 +2,10 @@
 
 use rje_folders::FileIdentity;
 
-/// Where the records of a job stand in the job file of it alone.
+/// Where the records of a job are in the job file of it alone.
 const RECORDS: usize = 33;
 
-/// Where its device and its mode stand there.
+/// Where its device and its mode are there.
 const DEVICE: usize = 23;
 
 const MODE: usize = 24;

@@ -168,7 +168,7 @@ impl<D: FolderDisk + Drop, C: Clock, W: Write, L: Write, B: Book + Drop> Spool
         ensures stands { D.discloses → OnOk result (OfFile job
             (IsSettledSo job what self.old.station self.new.asked)
             self.old.files self.new.files) }
-        // Where it can't, a file with a name in doubt/ stands there.
+        // Where it can't, a file with a name in doubt/ is there.
         ensures left { OnErr result (OfFile job
             (λ file now. HasSecondName file.place → IsDoubted now.place)
             self.old.files self.new.files) }

@@ -7,7 +7,7 @@ ghost use Rattle.rje_folders.specs.declared.settled.OutName.TheVariants.{TakenAw
 ghost use Rattle.rje_folders.specs.Folder.{path_in};
 ghost use Rattle.rje_folders.specs.Moving.{IsGone};
 ghost use Rattle.rje_folders.specs.Promising.{MayPromise, MaySettle};
-ghost use Rattle.rje_spool.specs.declared.given_file.Place.TheVariants.{Promised, Ready};
+ghost use Rattle.rje_spool.specs.declared.given_file.Standing.TheVariants.{Promised, Ready};
 ghost use Rattle.rje_spool.specs.Backed.{GoesOn};
 ghost use Rattle.rje_spool.specs.GivenFile.{HasSecondName, HasSent, IsDoubted, IsDoubtedUnder, IsInSent, IsOfRead, IsUnsettled, OfPromised, StaysInDoubt};
 ghost use Rattle.rje_spool.specs.GivenFiles.{HasBeenCounted, HasGoneOut, HasMark, IsKnownAsMarked, is_last_of, is_of, mark_of};
@@ -22,7 +22,7 @@ use std::mem;
 
 /// Where the file of a job stands.
 #[derive(Debug, Drop)]
-pub(crate) enum Place {
+pub(crate) enum Standing {
     /// In out/ alone.
     Ready,
     /// In out/, with a second name in doubt/ of this path.
@@ -47,7 +47,7 @@ pub(crate) struct GivenFile {
     /// Which file it is, as it was read or marked.
     pub(crate) file: FileIdentity,
     /// Where it stands.
-    pub(crate) place: Place,
+    pub(crate) place: Standing,
     /// What became of its name in out/.
     pub(crate) out: OutName,
 }
@@ -108,13 +108,13 @@ impl GivenFile {
             → GoesOn (D.asked folder.old.disk) (D.asked folder.new.disk) }
         ensures path { folder.new.path ≡ folder.old.path }
     {
-        if let Place::Ready = self.place {
-            self.place = Place::Promised(folder.promise(self.name.as_str(), self.file)?);
+        if let Standing::Ready = self.place {
+            self.place = Standing::Promised(folder.promise(self.name.as_str(), self.file)?);
         }
         Ok(())
     }
 
-    /// One of its jobs was counted: it is marked as sent, and where it is the last one the file goes to sent/. Where that fails, the file stands in
+    /// One of its jobs was counted: it is marked as sent, and where it is the last one the file goes to sent/. Where that fails, the file is in
     /// doubt/ alone.
     pub(crate) fn was_counted<D: FolderDisk + Drop>(
         &mut self,
@@ -187,7 +187,7 @@ impl GivenFile {
             → GoesOn (D.asked folder.old.disk) (D.asked folder.new.disk) }
         ensures path { folder.new.path ≡ folder.old.path }
     {
-        if let (Place::Promised(doubt), Some(mark)) = (&self.place, self.mark_of(job)) {
+        if let (Standing::Promised(doubt), Some(mark)) = (&self.place, self.mark_of(job)) {
             self.file = folder.mark(doubt.as_str(), mark as u64, MARK, self.file)?;
         }
         Ok(())
@@ -201,7 +201,7 @@ impl GivenFile {
         ensures { OnOk result (HasSecondName self.now.place → IsOfRead
             (D.is_file (D.asked folder.now.disk)) self.now.place self.now.file) }
     {
-        let Place::Promised(doubt) = &self.place else {
+        let Standing::Promised(doubt) = &self.place else {
             return Ok(());
         };
         let same = folder.has_file(doubt.as_str(), self.file)?;
@@ -233,15 +233,15 @@ impl GivenFile {
             → GoesOn (D.asked folder.old.disk) (D.asked folder.new.disk) }
         ensures path { folder.new.path ≡ folder.old.path }
     {
-        if let Place::Promised(doubt) = &self.place {
+        if let Standing::Promised(doubt) = &self.place {
             let settled = folder.settle(self.name.as_str(), doubt.as_str(), Disposition::Sent)?;
             self.out = settled.out;
-            self.place = Place::Sent(settled.path);
+            self.place = Standing::Sent(settled.path);
         }
         Ok(())
     }
 
-    /// What is left of it lies ready still. Where that fails, it stands in doubt/ alone.
+    /// What is left of it lies ready still. Where that fails, it is in doubt/ alone.
     pub(crate) fn lies_ready<D: FolderDisk + Drop>(
         &mut self,
         folder: &mut StationFolder<D>,
@@ -276,17 +276,17 @@ impl GivenFile {
             → GoesOn (D.asked folder.old.disk) (D.asked folder.new.disk) }
         ensures path { folder.new.path ≡ folder.old.path }
     {
-        if let Place::Promised(doubt) = &self.place {
+        if let Standing::Promised(doubt) = &self.place {
             let settled = folder.settle(self.name.as_str(), doubt.as_str(), Disposition::Ready)?;
             if settled.out != OutName::Stands {
                 return Err(FolderFault::Replaced);
             }
-            self.place = Place::Ready;
+            self.place = Standing::Ready;
         }
         Ok(())
     }
 
-    /// Nobody knows whether one of its jobs arrived, or whether all did that were counted: it stands in doubt/. Whether it didn't before.
+    /// Nobody knows whether one of its jobs arrived, or whether all did that were counted: it is in doubt/. Whether it didn't before.
     pub(crate) fn is_doubted<D: FolderDisk + Drop>(
         &mut self,
         folder: &mut StationFolder<D>,
@@ -302,10 +302,10 @@ impl GivenFile {
         ensures path { folder.new.path ≡ folder.old.path }
     {
         match &self.place {
-            Place::Doubted(_) => Ok(false),
-            Place::Sent(sent) => {
+            Standing::Doubted(_) => Ok(false),
+            Standing::Sent(sent) => {
                 let doubt = folder.doubt(sent.as_str(), self.name.as_str())?;
-                self.place = Place::Doubted(doubt);
+                self.place = Standing::Doubted(doubt);
                 Ok(true)
             }
             _ => {
@@ -316,7 +316,7 @@ impl GivenFile {
         }
     }
 
-    /// It was promised, and may have arrived: it stands in doubt/ alone, but where its name in out/ can't be taken away.
+    /// It was promised, and may have arrived: it is in doubt/ alone, unless its name in out/ can't be taken away.
     fn stays_in_doubt<D: FolderDisk + Drop>(&mut self, folder: &mut StationFolder<D>)
         ensures asks { D.discloses → Adds (OfPromised (λ doubt. MaySettle D.are_one
             (string_bytes folder.old.path) (string_bytes self.old.name) doubt Disposition.InDoubt)
@@ -333,30 +333,30 @@ impl GivenFile {
             → GoesOn (D.asked folder.old.disk) (D.asked folder.new.disk) }
         ensures path { folder.new.path ≡ folder.old.path }
     {
-        if let Place::Promised(doubt) = &self.place {
+        if let Standing::Promised(doubt) = &self.place {
             self.out = leave_in_doubt(folder, self.name.as_str(), doubt.as_str());
-            self.place = doubted(mem::replace(&mut self.place, Place::Ready));
+            self.place = doubted(mem::replace(&mut self.place, Standing::Ready));
         }
     }
 
-    /// Where it stands in doubt/, if it does.
+    /// Where it is in doubt/, if it is.
     pub(crate) fn doubt_path(&self) -> Option<&str>
         ensures path { IfSome result (λ path. IsDoubtedUnder self.now.place path.now) }
         ensures none { IfNone result (IsDoubted self.now.place → ⊥) }
     {
         match &self.place {
-            Place::Doubted(path) => Some(path.as_str()),
+            Standing::Doubted(path) => Some(path.as_str()),
             _ => None,
         }
     }
 }
 
-/// Where a file stands in doubt/ alone that had a name there beside the one in out/.
-fn doubted(place: Place) -> Place
+/// Where a file is in doubt/ alone that had a name there beside the one in out/.
+fn doubted(place: Standing) -> Standing
     ensures { HasSecondName place → IsDoubted result }
 {
     match place {
-        Place::Promised(doubt) => Place::Doubted(doubt),
+        Standing::Promised(doubt) => Standing::Doubted(doubt),
         place => place,
     }
 }

@@ -1,12 +1,12 @@
 //! The files whose jobs are in a transmission.
 ghost use Rattle.std.specs.Prelude.{◌≡◌, ◌+◌, ◌++◌, ◌∷◌, false, [], min, position, option_copied, string_bytes, OnOk, OnErr};
 ghost use Rattle.rje_spool.specs.declared.given_file.GivenFile.{GivenFile as Item};
-ghost use Rattle.rje_spool.specs.declared.given_file.Place.TheVariants.{Ready};
+ghost use Rattle.rje_spool.specs.declared.given_file.Standing.TheVariants.{Ready};
 ghost use Rattle.rje_spool.specs.Backed.{GoesOn};
 ghost use Rattle.rje_spool.specs.GivenFile.{HasSecondName, IsDoubted};
 ghost use Rattle.rje_spool.specs.GivenFiles.{HasBeenCounted, HasGoneOut, IsNext, OfFile, file_of, is_last_of, is_of, jobs_of};
 
-use crate::given_file::{GivenFile, Place};
+use crate::given_file::{GivenFile, Standing};
 use rje_folders::{FileIdentity, FolderDisk, FolderFault, OutName, StationFolder};
 use std::alloc::{AllocError, Global};
 
@@ -57,7 +57,7 @@ impl GivenFiles {
             count,
             places,
             file,
-            place: Place::Ready,
+            place: Standing::Ready,
             out: OutName::Stands,
         };
         self.files.push(next)?;
@@ -99,7 +99,7 @@ impl GivenFiles {
     }
 
     /// A job was counted: it is marked as sent, and where it is the last one of its file the file goes to sent/. Where that fails, a file with a name in
-    /// doubt/ stands there alone.
+    /// doubt/ is there alone.
     pub(crate) fn is_counted<D: FolderDisk + Drop>(
         &mut self,
         job: usize,
@@ -146,7 +146,7 @@ impl GivenFiles {
         }
     }
 
-    /// Nobody knows whether a job arrived: its file stands in doubt/. Whether it didn't before.
+    /// Nobody knows whether a job arrived: its file is in doubt/. Whether it didn't before.
     pub(crate) fn is_doubted<D: FolderDisk + Drop>(
         &mut self,
         job: usize,

@@ -1,4 +1,4 @@
-//! What a station tells its operator.
+//! What a station reports to its operator.
 ghost use Rattle.std.specs.Prelude.{◌≡◌, length};
 
 use crate::refused_file::RefusedFile;
@@ -41,7 +41,7 @@ impl JobLabel {
     }
 }
 
-/// Something that a station tells its operator, one line each.
+/// Something that a station reports to its operator, one line each.
 #[derive(Clone, Copy, Debug)]
 pub enum Notice<'a> {
     /// The station has its folder.

@@ -34,7 +34,7 @@ pub fn paper_of(alloc: Global, job: &Job) -> Result<Vec<u8>, FileFault>
     }
 }
 
-/// The folder of a job's paper, and how the paper's name ends.
+/// The folder of a job's printout or cards, and how its name ends.
 pub(crate) fn place_of_paper(job: &Job) -> (Folder, &'static str)
     ensures folder { result.0 ≡ paper_folder job.now.select }
     ensures ending { result.1.now ≡ paper_ending job.now.select job.now.mode }

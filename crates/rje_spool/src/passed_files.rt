@@ -1,9 +1,9 @@
 //! The files of out/ that are passed over.
-ghost use Rattle.std.specs.Prelude.{◌≡◌, false, is_some, IfSome, None, OnOk, Some, string_bytes};
+ghost use Rattle.std.specs.Prelude.{◌≡◌, is_some, IfSome, None, OnOk, Some, string_bytes};
 ghost use Rattle.std.specs.BTreeMap.{get_by_text};
-ghost use Rattle.std.specs.declared.io.ErrorKind.TheVariants.{StorageFull};
 ghost use Rattle.rje_folders.specs.declared.folder.Folder.{Folder};
 ghost use Rattle.rje_folders.specs.Folder.{path_in};
+ghost use Rattle.rje_spool.specs.Passing.{is_lasting as lasts};
 ghost use Rattle.rje_spool.specs.declared.passed_files.Until.TheVariants.{NextLook, Replaced, ThisLook};
 
 use rje_folders::{FileIdentity, FolderDisk, StationFolder};
@@ -18,7 +18,7 @@ pub(crate) enum Until {
     NextLook,
     /// At this look, and not at the next one.
     ThisLook,
-    /// As long as this file has its name; none is known of one that can't be looked at.
+    /// As long as this file has its name; none is known of one that can't be read.
     Replaced(Option<FileIdentity>),
 }
 
@@ -62,7 +62,7 @@ impl PassedFiles {
         self.files.contains_key(name)
     }
 
-    /// The folder was looked at, and these names lie ready there: those are forgotten that were passed over long enough, and those whose file is gone or
+    /// The folder was read, and these names lie ready there: those are forgotten that were passed over long enough, and those whose file is gone or
     /// another one. One that doesn't lie ready for now, since it has a name in doubt/ too, isn't forgotten.
     pub(crate) fn look_again<D: FolderDisk + Drop>(
         &mut self,
@@ -111,7 +111,7 @@ impl Until {
 
 /// Whether a file that got no second name for this gets none later either. One for which there was no room may.
 pub(crate) fn is_lasting(kind: ErrorKind) -> bool
-    ensures room { kind ≡ StorageFull → result ≡ false }
+    ensures { result ≡ lasts kind }
 {
     matches!(
         kind,

@@ -1,9 +1,9 @@
-//! What a station that settles doubt by receipts tells its operator.
+//! What a station that settles doubt by receipts reports to its operator.
 
 use crate::notice::in_folder;
 use std::fmt::{self, Display, Formatter, Write};
 
-/// Something that a station which settles doubt by receipts tells its operator.
+/// Something that a station which settles doubt by receipts reports to its operator.
 #[derive(Clone, Copy, Debug)]
 pub enum SettlingNotice<'a> {
     /// The other end kept so many jobs: from now on its jobs are counted from there.

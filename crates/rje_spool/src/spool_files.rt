@@ -63,7 +63,7 @@ pub(crate) struct SpoolFiles<D: FolderDisk + Drop, C, W, L> {
     cut: Option<CutJob>,
     // What couldn't be kept.
     unkept: Unkept,
-    // Why the folder couldn't be looked at last, as it was told.
+    // Why the folder couldn't be read last, as it was reported.
     look: Option<FolderFault>,
     // Whether the other end's receipts tell what may have arrived.
     settles: bool,
@@ -121,7 +121,7 @@ impl<D: FolderDisk + Drop, C: Clock, W: Write, L: Write> SpoolFiles<D, C, W, L> 
         self.given.jobs()
     }
 
-    /// What lies ready, and what the operator wants.
+    /// What lies ready, and what the operator asks for.
     pub(crate) fn seen(&mut self) -> Seen
         ensures held { result.held ≡ true → result.ready ≡ false }
         ensures call { result.call_due ≡ false }
@@ -155,7 +155,7 @@ impl<D: FolderDisk + Drop, C: Clock, W: Write, L: Write> SpoolFiles<D, C, W, L> 
         }
     }
 
-    /// Whether nothing is to be sent. What can't be looked at is taken for held.
+    /// Whether nothing is to be sent. What can't be read is taken for held.
     fn is_held(&mut self) -> bool
         ensures folder { self.new.folder ≡ self.old.folder }
     {
@@ -168,7 +168,7 @@ impl<D: FolderDisk + Drop, C: Clock, W: Write, L: Write> SpoolFiles<D, C, W, L> 
         }
     }
 
-    /// Tells why the folder can't be looked at, once as long as it can't for that.
+    /// Reports why the folder can't be read, once as long as it can't for that reason.
     fn tell_look(&mut self, why: FolderFault)
         ensures folder { self.new.folder ≡ self.old.folder }
     {

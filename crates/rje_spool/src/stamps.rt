@@ -1,11 +1,11 @@
-//! The time of day, as it stands in lines and in names.
+//! The time of day, as it is in lines and in names.
 
 use jiff::Timestamp;
 use jiff::tz::Offset;
 use std::alloc::{AllocError, Global};
 use std::time::{Clock, Duration};
 
-/// What stands in a name where the time can't be had.
+/// What a name has where the time can't be had.
 const NO_STAMP: &str = "00000000T000000Z";
 
 /// Times of a clock, in UTC.

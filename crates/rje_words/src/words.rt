@@ -1,4 +1,4 @@
-//! The words of the command line.
+//! The arguments.
 ghost use Rattle.std.specs.Prelude.{◌≡◌, Some, map, codes, IfOk, IfErr, option_map};
 ghost use Rattle.clap.specs.Words.{first_of, found_of, one_of, rows_of};
 ghost use Rattle.rje_words.specs.CommandLine.{IsOneOf, command_names};

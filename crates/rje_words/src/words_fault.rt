@@ -40,7 +40,7 @@ pub enum WordsFault<'a> {
     /// It is to call at intervals, but it listens.
     #[error("--every goes with --to")]
     EveryListens,
-    /// Doubt is to be settled by receipts, but with a line adapter.
+    /// Doubt is to be settled by receipts, over a line adapter.
     #[error("--settle doesn't go with --adapter")]
     SettlesWithAdapter,
     /// Doubt is to be settled by receipts, but they are waited for for ever.

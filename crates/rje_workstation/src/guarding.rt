@@ -14,7 +14,7 @@ const OWN_FOLDERS: [&str; 9] = [
 /// The station's own files, which are no links.
 const OWN_FILES: [&str; 2] = ["/log", "/lock"];
 
-/// What stands for the process itself: its owner is the user that the program runs as. It isn't there where the system shows no processes.
+/// The folder of the process itself: its owner is the user that the program runs as. It isn't there where the system shows no processes.
 const OWN_PROCESS: &str = "/proc/self";
 
 /// Why a station's folder isn't taken.
@@ -81,7 +81,7 @@ fn open_file<D: Disk>(
 ) -> Result<Option<Openness>, AllocError> {
     for part in OWN_FILES {
         let path = format!(in alloc; "{station}{part}")?;
-        // (what can't be looked at can't be used either, and is reported then)
+        // (what can't be read can't be used either, and is reported then)
         if let Ok(found) = disk.status_of_name(path.as_str()) {
             if found.kind != FileKind::Regular {
                 return Ok(Some(Openness::NoFile(part)));

@@ -2,7 +2,7 @@
 ghost use Rattle.std.specs.Prelude.{◌≡◌, ◌≤◌, ◌↔◌, ◌*◌, IsTrue, None, OnOk, false, max, min, true};
 ghost use Rattle.std.specs.Duration.{as_nanos, max_nanos};
 ghost use Rattle.rje_workstation.specs.Pausing.{IsEnd, IsShort, after_nothing as next_after_nothing};
-ghost use Rattle.rje_workstation.specs.declared.paced_stream.Wait.TheVariants.{Hearing, Idle};
+ghost use Rattle.rje_workstation.specs.declared.paced_stream.Wait.TheVariants.{Hearing, Idle, Pause};
 
 use bsc_codes::{EOT, PAD, SYN};
 use std::cell::Cell;
@@ -28,7 +28,7 @@ const MAX_HEARINGS: u32 = 10;
 enum Wait {
     /// For a hearing, as long as was set.
     Hearing,
-    /// For a hearing with no transmission in hand, as long as was set, but for some seconds at most.
+    /// For a hearing with no transmission in hand, as long as was set, but some seconds at most.
     Idle,
     /// After its own EOT: for a moment, in which the other end may bid.
     Pause,
@@ -50,13 +50,13 @@ pub struct PacedStream<C, S> {
     // How long the stream waits now, and how long it is to at the next read.
     waits: Wait,
     next: Wait,
-    // Whether anything was heard on the connection.
+    // Whether anything came over the connection.
     heard: bool,
     // When something was written that wasn't answered yet, once something was heard.
     wrote: Option<Instant>,
     // How long the slowest answer took since the last pause.
     slowest: Duration,
-    // Since when bytes come, with nothing written and no read in vain in between.
+    // Since when bytes come, with nothing written and no read without a byte in between.
     comes: Option<Instant>,
 }
 
@@ -127,6 +127,16 @@ impl<C: Clock, S: OpenStream> PacedStream<C, S> {
         Ok(())
     }
 
+    /// These bytes are written: after its own EOT the next read waits as a pause does, after anything else as a hearing.
+    fn note_written(&mut self, bytes: &[u8])
+        ensures end { IsEnd bytes.now → self.new.next ≡ Pause }
+        ensures other { (IsEnd bytes.now → ⊥) → self.new.next ≡ Hearing }
+        ensures stream { self.new.stream ≡ self.old.stream }
+    {
+        self.next = wait_after(bytes, Wait::Pause);
+        self.comes = None;
+    }
+
     /// Something came: the answer to what was written, where that wasn't answered yet.
     fn note_answer(&mut self)
         ensures heard { self.new.heard ≡ true }
@@ -156,7 +166,7 @@ fn pause_after(slowest: Duration) -> Duration
         .max(Duration::from_millis(MIN_PAUSE))
 }
 
-/// Whether this is EOT, as it stands on the line or as a line adapter takes it.
+/// Whether this is EOT, as it is on the line or as a line adapter takes it.
 fn is_end(bytes: &[u8]) -> bool
     ensures { IsTrue result ↔ IsEnd bytes.now }
 {
@@ -208,8 +218,7 @@ impl<C: Clock, S: OpenStream + Write> Write for PacedStream<C, S> {
     ghost contents = { λ s. S.contents s.stream };
 
     fn write(&mut self, buf: &[u8]) -> io::Result<usize> {
-        self.next = wait_after(buf, Wait::Pause);
-        self.comes = None;
+        self.note_written(buf);
         let written = self.stream.write(buf);
         self.wrote = match self.heard {
             true => Instant::now(&self.clock).ok(),

@@ -7,9 +7,9 @@ use crate::attendant::Attendant;
 use crate::paced_stream::PacedStream;
 use crate::station_spool::StationSpool;
 use rje_day::{Day, Event, Seen};
+use rje_net::{AdapterStream, LineCause, ObservedStream, SocketLine};
 use rje_orders::StationOrder;
 use rje_session::{Parting, StayFault, Terms, stay};
-use rje_sockets::{AdapterStream, LineCause, ObservedStream, SocketLine};
 use rje_spool::Notice;
 use std::alloc::Global;
 use std::fmt::Display;
@@ -22,7 +22,7 @@ type StationLine<'r, R> = SocketLine<
     ObservedStream<&'r R, AdapterStream<PacedStream<&'r R, <R as Net>::Stream>>>,
 >;
 
-/// Stays on this connection until it is over, and tells why that is.
+/// Stays on this connection until it is over, and reports why that is.
 pub(crate) fn speak<R: Net + Clock, S: StationSpool + Drop>(
     rt: &R,
     alloc: Global,
@@ -59,6 +59,20 @@ fn line_over<'r, R: Net + Clock>(
     )
 }
 
+/// What an order asks of each connection.
+fn terms_of(order: &StationOrder) -> Terms
+    ensures rank { result.rank ≡ order.now.rank }
+    ensures patience { result.patience
+        ≡ (if order.now.patience == 0 then 4_294_967_295 else order.now.patience) }
+    ensures host { result.host ≡ order.now.adapter }
+{
+    Terms {
+        rank: order.rank,
+        patience: most_quiet(order.patience),
+        host: order.adapter,
+    }
+}
+
 /// Stays on this line until the connection is over.
 fn speak_over<'r, R: Net + Clock, S: StationSpool + Drop>(
     alloc: Global,
@@ -69,12 +83,7 @@ fn speak_over<'r, R: Net + Clock, S: StationSpool + Drop>(
 )
     ensures day { GoesOnAsDay day.old day.new }
 {
-    let terms = Terms {
-        rank: order.rank,
-        patience: most_quiet(order.patience),
-        host: order.adapter,
-    };
-    let stayed = stay(alloc, terms, day, &mut line, attendant);
+    let stayed = stay(alloc, terms_of(order), day, &mut line, attendant);
     // Nothing changes by that where the connection was over before.
     day.note(Event::Disconnected);
     let cause = line.cause();

@@ -114,7 +114,7 @@ IsLastSaid past r verdict = (is_said past ≡ true) × (r ≡ said_last past)
 
 -- of the jobs that were put out, of which these are the files
 abbrev pub IsInTurn : (ℕ → JobFile) → History → Happening → Ends → Type 0
--- a job that is kept was promised, and no receipt was said since
+-- a job is kept only while jobs may be on their way: something was promised, and no receipt was said since
 IsInTurn put_out past (Keeps file) after = is_out past ≡ true
 -- nothing is promised before a receipt came on this connection and agreed; and just what lies ready: neither promised nor settled
 IsInTurn put_out past (Promises which file place) after =
@@ -142,6 +142,12 @@ abbrev pub SettlesDoubt : Type 0
 SettlesDoubt = (put_out : ℕ → JobFile) (m : Moment) (past : History) (r : Receipt) (came : ℕ) → IsDay (m ∷ past) → AllTrusted (m ∷ past)
     → AllInTurn put_out (m ∷ past) → m.what ≡ Hears r (Verdict.Agrees came) → SettlesAll put_out m past
 
--- no job that was put out is settled twice: so each that is kept by a day is kept once
+-- no job that was put out is settled twice
 abbrev pub BringsEachOnce : Type 0
 BringsEachOnce = (put_out : ℕ → JobFile) (h : History) → AllInTurn put_out h → IsEachOnce (settled_in h)
+
+-- Once a receipt agrees, each job that the other end has kept since it was begun to count was put out, and is kept once.
+abbrev pub KeepsEachOnce : Type 0
+KeepsEachOnce = (put_out : ℕ → JobFile) (m : Moment) (past : History) (r : Receipt) (came : ℕ) → IsDay (m ∷ past) → AllTrusted (m ∷ past)
+    → AllInTurn put_out (m ∷ past) → m.what ≡ Hears r (Verdict.Agrees came)
+    → (names : List ℕ) × IsEachOnce names × (m.after.kept ≡ begun_in past ++ map put_out names)

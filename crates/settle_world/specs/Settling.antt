@@ -8,7 +8,7 @@ use Rattle.settle_world.specs.Day.{Ends, Happening, Hears, History, Settled, IsD
 
 -- ---- The premises.
 
--- at some moment the other end said this: it is the receipt of what it had kept then
+-- at some moment this was the receipt of what the other end had kept, whether it was said or not
 pub record WasSaid (past : History) (r : Receipt) : Type 0 where
   pub then : Ends
   pub stood : Stood past then

@@ -59,7 +59,7 @@ fn saying(rt: &(impl Abort + AllocGlobal), receipt: Receipt) -> Job {
     receipt_job(rt.alloc(), receipt).expect(rt, "memory")
 }
 
-/// Whether a file of these bytes stands there.
+/// Whether a file of these bytes is there.
 fn stands(disk: &RefCell<FailingDisk>, path: &str, bytes: &[u8]) -> bool {
     match SharedDisk::new(disk).seen() {
         Ok(disk) => disk.has(path, bytes),

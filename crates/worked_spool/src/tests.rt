@@ -26,7 +26,7 @@ use test_clock::TestClock;
 /// A spool of the tests.
 type TestSpool<'a> = FolderSpool<SharedDisk<'a>, TestClock<'a>, Page<'a>, Page<'a>>;
 
-/// What a spool stands on: a disk, a clock, the page of its console, and its log.
+/// What a spool uses: a disk, a clock, the page of its console, and its log.
 #[derive(Drop)]
 struct Ground {
     alloc: Global,
@@ -74,13 +74,13 @@ impl Ground {
         }
     }
 
-    /// A file of just these bytes stands there.
+    /// A file of just these bytes is there.
     fn assert_file(&self, rt: &impl Abort, path: &str, bytes: &[u8]) {
         let disk = self.disk().seen().expect(rt, "a disk");
         assert!(rt; disk.has(path, bytes));
     }
 
-    /// Whether a file stands there.
+    /// Whether a file is there.
     fn stands(&self, path: &str) -> bool {
         match self.disk().seen() {
             Ok(disk) => disk.file_of(path).is_some(),
@@ -88,7 +88,7 @@ impl Ground {
         }
     }
 
-    /// Nothing stands there.
+    /// Nothing is there.
     fn assert_none(&self, rt: &impl Abort, path: &str) {
         assert!(rt; !self.stands(path));
     }
@@ -106,7 +106,7 @@ impl Ground {
         disk.set(file, 0, byte);
     }
 
-    /// The file that stands there is another user's: it gets no second name.
+    /// The file there is another user's: it gets no second name.
     fn deny(&self, rt: &impl Abort, path: &str) {
         let mut disk = self.disk().changed().expect(rt, "a disk");
         let file = disk.file_of(path).expect(rt, "a file");
@@ -183,7 +183,7 @@ impl Ground {
         self.console_on(false)
     }
 
-    /// Just this stands on the page and in the log.
+    /// Just this is on the page and in the log.
     fn assert_told(&self, rt: &impl Abort, lines: &[u8]) {
         assert!(rt; Page::new(&self.page).shows(lines));
         assert!(rt; Page::new(&self.log).shows(lines));

@@ -27,6 +27,8 @@ impl<D: FolderDisk + Drop, C: Clock, W: Write, L: Write> SettlingFiles<D, C, W, 
         match verdict {
             Verdict::BeginsToCount => self.begin_to_count(receipt)?,
             Verdict::Agrees { came } => self.settle_by(receipt, came)?,
+            // (told already, when the accounts were read)
+            Verdict::DoesNotAgree if !self.accounts.is_in_order() => {}
             Verdict::DoesNotAgree => {
                 let sent = self.accounts.sent();
                 self.tell_of(SettlingNotice::DoesNotAgree {
@@ -97,6 +99,10 @@ impl<D: FolderDisk + Drop, C: Clock, W: Write, L: Write> SettlingFiles<D, C, W, 
             return Ok(());
         }
         self.tell_of(SettlingNotice::HasNotCome(path));
+        // (one that didn't go out, since a file of the station's own couldn't be written, isn't the other end's to keep)
+        if self.unsaid.take() == Some(promise.receipt.kept) {
+            return Ok(());
+        }
         if self.attempts.are_too_many(filed.file, promise.place) {
             self.attempts.forget();
             self.refuse_filed(&filed)?;

@@ -7,10 +7,10 @@ use Rattle.std.specs.Prelude.{List, Option, length, map, ℕ, take, ⊤, None, S
 use Rattle.rje_files.specs.declared.job_file.version.FileVersion.TheVariants.{Second}
 use Rattle.rje_files.specs.Entry.{entry_of}
 use Rattle.rje_stores.specs.declared.store.Place.TheVariants.{Growing, Once}
-use Rattle.rje_sockets.specs.declared.keeper.Keeper.{Keeper}
+use Rattle.rje_sockets.specs.declared.job_writer.JobWriter.{JobWriter}
 use Rattle.rje_sockets.specs.Answering.{whole_in_front}
 use Rattle.rje_sockets.specs.Inside.Opening.{IsOpened}
-use Rattle.rje_sockets.specs.declared.broken_off.BrokenOff.{BrokenOff}
+use Rattle.rje_sockets.specs.declared.transfer_error.TransferError.{TransferError}
 use Rattle.rje_stores.specs.declared.store.Place.{Place}
 use Rattle.std.specs.List.{slice_get}
 
@@ -23,7 +23,7 @@ AreKept front (job ∷ jobs) long name files made =
 
 -- What a keeper has kept of these jobs since the files were these, after the entries in front: some of the first that have come whole, and in a
 -- file that grows all of these. But for the last one all jobs have come whole.
-pub record KeepsJobs (keeper : Keeper) (jobs : List Job) (files made : Option FileMap) : Type 0 where
+pub record KeepsJobs (keeper : JobWriter) (jobs : List Job) (files made : Option FileMap) : Type 0 where
   pub front : List Entry
   pub opened : IsOpened front keeper.file files
   pub few : keeper.kept ≤ whole_in_front jobs
@@ -32,14 +32,14 @@ pub record KeepsJobs (keeper : Keeper) (jobs : List Job) (files made : Option Fi
   pub kept : AreKept front (take keeper.kept jobs) keeper.long keeper.file.into.jobs.now files made
 
 -- a keeper of the same file went on to keep what it had kept, and what came since
-abbrev pub GoesOnKeeping : (old new : Keeper) → (jobs more : List Job) → (before after : Option FileMap) → Type 0
+abbrev pub GoesOnKeeping : (old new : JobWriter) → (jobs more : List Job) → (before after : Option FileMap) → Type 0
 GoesOnKeeping old new jobs more before after =
     (new.file ≡ old.file) × ((files : Option FileMap) → KeepsJobs old jobs files before → KeepsJobs new more files after)
 
 -- a job couldn't be kept
-abbrev pub IsOfFile : BrokenOff → Type 0
-IsOfFile (BrokenOff.Line fault) = ⊥
-IsOfFile (BrokenOff.File fault) = ⊤
+abbrev pub IsOfFile : TransferError → Type 0
+IsOfFile (TransferError.Line fault) = ⊥
+IsOfFile (TransferError.File fault) = ⊤
 
 -- how many jobs are kept after a hearing: in a file that grows one more, where the next has come to its end
 abbrev pub kept_after : Place → ℕ → List Job → ℕ

@@ -1,6 +1,6 @@
 -- A file that is received into, as it was opened, and why it isn't received into (own profile); no promise rests on it.
 use Rattle.rje_files.specs.declared.entry.Entry.{Entry}
-use Rattle.rje_sockets.specs.declared.front.Front.{Front}
+use Rattle.rje_sockets.specs.declared.existing_entries.ExistingEntries.{ExistingEntries}
 use Rattle.rje_files.specs.JobFile.{IsEntryFileOf}
 use Rattle.std.specs.Prelude.{List, length, IfSome, Option, ◌≡◌, ◌⊎◌, []}
 use Rattle.rje_files.specs.declared.job_file.version.FileVersion.TheVariants.{Second}
@@ -14,7 +14,7 @@ use Rattle.rje_commands.specs.CommandFault.{IsFailing, status_of}
 use Rattle.rje_sockets.specs.NamedFiles.{NamesOne}
 
 -- it is the version 2 file of these entries, and counts them
-abbrev pub HasFront : List Entry → Front → Type 0
+abbrev pub HasFront : List Entry → ExistingEntries → Type 0
 HasFront entries front = IsEntryFileOf Second entries front.bytes.items × (front.jobs ≡ length entries)
 
 -- the file of a destination with these entries in front of what comes, where the files are these: a device or a pipe has none, and where the

@@ -6,7 +6,7 @@ use Rattle.rje_files.specs.Unsent.{IsLeft}
 use Rattle.rje_commands.specs.declared.command_fault.CommandFault.{CommandFault}
 use Rattle.rje_commands.specs.CommandFault.{IsFailing, status_of}
 use Rattle.rje_commands.specs.Commands.{OfFile}
-use Rattle.rje_sockets.specs.declared.marker.Marker.{Marker}
+use Rattle.rje_sockets.specs.declared.sent_marker.SentMarker.{SentMarker}
 use Rattle.rje_sockets.specs.Ending.{IsUnsentFault}
 use Rattle.rje_orders.specs.declared.order.Destination.{Destination}
 use Rattle.rje_sockets.specs.InFront.{HasStandingFault, LooksInto}
@@ -14,7 +14,7 @@ use Rattle.rje_sockets.specs.NamedFiles.{NamesOne}
 use Rattle.rje_stores.specs.Store.{FileMap}
 
 -- these jobs are left to send of the file of this name, and the marker marks them in it; none is marked yet
-pub record IsOutgoing (name : List ℕ) (files : Option FileMap) (jobs : List Job) (marker : Marker) : Type 0 where
+pub record IsOutgoing (name : List ℕ) (files : Option FileMap) (jobs : List Job) (marker : SentMarker) : Type 0 where
   pub read : OfFile name files (λ file. marker.file.items ≡ file)
   pub left : IsLeft marker.file.items jobs
   pub marks : AreMarks marker.file.items marker.places.items

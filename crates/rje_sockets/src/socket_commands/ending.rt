@@ -2,7 +2,7 @@
 ghost use Rattle.std.specs.Prelude.{◌≡◌};
 ghost use Rattle.rje_sockets.specs.Ending.{ending_of, ending_of_left, ending_status};
 
-use crate::left::Left;
+use crate::receive_end::ReceiveEnd;
 use bsc_link::Outcome;
 
 /// How a transmission ended that no fault ended.
@@ -37,13 +37,13 @@ impl From<Option<Outcome>> for Ending {
     }
 }
 
-impl From<Left> for Ending {
+impl From<ReceiveEnd> for Ending {
     ghost from_gives = { λ left ending. ending ≡ ending_of_left left };
 
-    fn from(left: Left) -> Ending {
+    fn from(left: ReceiveEnd) -> Ending {
         match left {
-            Left::Ended => Ending::Done,
-            Left::Abandoned => Ending::Other,
+            ReceiveEnd::Ended => Ending::Done,
+            ReceiveEnd::Abandoned => Ending::Other,
         }
     }
 }

@@ -21,19 +21,19 @@ ghost use Rattle.rje_stores.specs.declared.store.Place.TheVariants.{Growing};
 
 use crate::both_ways::exchange_all;
 use crate::connection::{met, tell_if_late};
-use crate::keeper::Keeper;
+use crate::job_writer::JobWriter;
 use crate::kept_file::KeptFile;
-use crate::left::Left;
-use crate::line_cause::tell_cause;
-use crate::marker::Marker;
+use crate::observer::{Observer, Unwatched};
 use crate::one_way::{USUAL_PATIENCE, most_quiet};
 use crate::parting::{HearsOut, Leaves, Parting, parts_in_step};
-use crate::report::Report;
+use crate::receive_end::ReceiveEnd;
+use crate::reported_cause::{report_cause, report_failure};
 use crate::reporter::Reporter;
+use crate::sent_marker::SentMarker;
 use crate::socket_commands::Ending;
 use crate::socket_commands::receive_command::{keep_rest, left_after, unless_refused};
-use crate::socket_commands::send_command::{Outgoing, look_at_outgoing, read_outgoing};
-use crate::watch::{Unwatched, Watch};
+use crate::socket_commands::send_command::{UnsentJobs, look_at_outgoing, read_outgoing};
+use crate::verbosity::Verbosity;
 use bsc_link::{Outcome, Rank};
 use rje_commands::{CommandFault, lock_file, look_beside, put_lines, tell};
 use rje_jobs::{FileFault, Job};
@@ -74,12 +74,12 @@ pub fn exchange<'a, R: Net + Clock, S: Store, O: Write, E: Write>(
 {
     look_before_meeting(alloc, order.send, order.connection.place, store, err)?;
     let keeper = keeper_beside(alloc, order.send, order.received, store, err)?;
-    let report = Report::of(order.connection.trace, order.connection.quiet, is_terminal);
+    let report = Verbosity::of(order.connection.trace, order.connection.quiet, is_terminal);
     let (mut line, peer) = match met(rt, order.connection, order.rank, None, report, err) {
         Ok(met) => met,
-        Err(cause) => return Err(cause.told(err)),
+        Err(cause) => return Err(report_cause(cause, err)),
     };
-    let Outgoing {
+    let UnsentJobs {
         jobs,
         marker,
         names,
@@ -100,14 +100,14 @@ pub fn exchange<'a, R: Net + Clock, S: Store, O: Write, E: Write>(
         out,
     );
     tell_if_late(order.connection, &line, err);
-    tell_cause(&ending, line.cause(), err);
+    report_failure(&ending, line.cause(), err);
     ending
 }
 
 /// Exchanges over a line what is left of the job file of one name for the other station's jobs, which go into the file of another name.
 /// Forty of the other's turns in a row that bring nothing are the end. Then, also after a fault of the line, marks in the one what was
 /// counted, and prints how many of its jobs were counted, how it ended, and how many jobs came. Each job is in its file before its last
-/// block is answered. Answers the exit status, and tells why it isn't 0.
+/// block is answered. Answers the exit status, and reports why it isn't 0.
 pub fn exchange_over<L: Line, S: Store, O: Write, E: Write>(
     alloc: Global,
     rank: Rank,
@@ -159,7 +159,7 @@ fn exchanged<'a, L: Line, S: Store, O: Write, E: Write>(
     ensures silent { IfErr result (λ fault. status_of fault ≡ 1
         → (line.new ≡ line.old) × (out.new ≡ out.old)) }
 {
-    let Outgoing {
+    let UnsentJobs {
         jobs,
         marker,
         names: _,
@@ -216,7 +216,7 @@ fn keeper_beside<'a, S: Store, E: Write>(
     into: Destination<'a>,
     store: &mut S,
     err: &mut E,
-) -> Result<Keeper<'a>, CommandFault<'a>>
+) -> Result<JobWriter<'a>, CommandFault<'a>>
     ensures two { OnOk result (other.now ≢ into.entry.jobs.now) }
     ensures into { IfOk result (λ keeper. keeper.file.into ≡ into.entry) }
     ensures none { IfOk result (λ keeper. keeper.kept ≡ 0) }
@@ -228,16 +228,16 @@ fn keeper_beside<'a, S: Store, E: Write>(
     look_beside(alloc, other, into.jobs, store)?;
     let file = KeptFile::open(alloc, into, store);
     name_no_job_file(&file, into.jobs, err);
-    Ok(Keeper::new(alloc, file?))
+    Ok(JobWriter::new(alloc, file?))
 }
 
 /// Exchanges over a line what the station has for what comes. At the end it marks what was counted in the whole file, keeps what is left of
 /// what came, and prints the lines of both. Where an answer came after the end of its own transmission, it is in doubt what was received, and
 /// nothing more is marked.
-fn exchange_files<'a, 'b, L: Line, P: Parting<L>, S: Store, W: Watch, O: Write>(
+fn exchange_files<'a, 'b, L: Line, P: Parting<L>, S: Store, W: Observer, O: Write>(
     mut station: Station<'b>,
-    mut marker: Marker<'a>,
-    mut keeper: Keeper<'a>,
+    mut marker: SentMarker<'a>,
+    mut keeper: JobWriter<'a>,
     line: &mut L,
     patience: u32,
     parting: &P,
@@ -313,12 +313,12 @@ fn is_idle(given: usize, jobs: &[Job]) -> bool
 
 /// Both directions ended as they should, or one ended otherwise. Where there was nothing to send either way, the other's ended so however it
 /// was left.
-fn ending_of_both(outcome: Option<Outcome>, is_idle: bool, left: Left) -> Ending
+fn ending_of_both(outcome: Option<Outcome>, is_idle: bool, left: ReceiveEnd) -> Ending
     ensures { result ≡ ending_of_both outcome is_idle left }
 {
     match (Ending::from(outcome), left) {
-        (Ending::Done, Left::Ended) => Ending::Done,
-        (Ending::Done, Left::Abandoned) if is_idle => Ending::Done,
+        (Ending::Done, ReceiveEnd::Ended) => Ending::Done,
+        (Ending::Done, ReceiveEnd::Abandoned) if is_idle => Ending::Done,
         _ => Ending::Other,
     }
 }

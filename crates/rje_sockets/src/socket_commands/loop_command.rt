@@ -11,15 +11,16 @@ ghost use Rattle.rje_sockets.specs.NamedFiles.{NamesOne};
 ghost use Rattle.rje_stores.specs.Store.{Discloses, IsSame};
 
 use crate::connection::{ObservedLine, line_over};
-use crate::line_cause::{LineCause, tell_cause};
+use crate::observer::Observer;
 use crate::one_way::take_turns;
-use crate::report::Report;
+use crate::reported_cause::{report_cause, report_failure};
 use crate::reporter::Reporter;
 use crate::socket_commands::Ending;
-use crate::watch::Watch;
+use crate::verbosity::Verbosity;
 use bsc_link::{Outcome, Rank};
 use rje_commands::{CommandFault, put_lines, read_job_file};
 use rje_jobs::Job;
+use rje_net::LineCause;
 use rje_orders::LoopOrder;
 use rje_print::{counted_text, handed_text, outcome_text};
 use rje_station::{Line, ReceivingStation, SendingStation};
@@ -29,7 +30,7 @@ use std::io::{self, Write};
 use std::net::{Ipv4Addr, Net, OpenListener, SocketAddr, TcpListener, TcpStream};
 use std::time::Clock;
 
-/// Sends the jobs of a job file from one end of a connection to the other, and prints how many were counted, how many handed out, and how
+/// Sends the jobs of a job file from one end of a connection to the other, and prints how many were counted, how many delivered, and how
 /// it ended. Where that is asked for, each turn is told to `err` as it happens, and else, where that is a terminal, how far it is.
 pub fn loopback<'a, R: Net + Clock, S: Store, O: Write, E: Write>(
     rt: &R,
@@ -54,9 +55,9 @@ pub fn loopback<'a, R: Net + Clock, S: Store, O: Write, E: Write>(
     let mut receiver = ReceivingStation::new(alloc)?;
     let (mut near, mut far) = match both_ends(rt, order.timeout) {
         Ok(ends) => ends,
-        Err(error) => return Err(LineCause::Failed(error.kind()).told(err)),
+        Err(error) => return Err(report_cause(LineCause::Failed(error.kind()), err)),
     };
-    let report = Report::of(order.trace, order.quiet, is_terminal);
+    let report = Verbosity::of(order.trace, order.quiet, is_terminal);
     let mut reporter = Reporter::new(rt, report, &[], &mut *err);
     let ending = loop_over(
         &mut sender,
@@ -67,12 +68,12 @@ pub fn loopback<'a, R: Net + Clock, S: Store, O: Write, E: Write>(
         &mut reporter,
         out,
     );
-    tell_cause(&ending, near.cause().or(far.cause()), err);
+    report_failure(&ending, near.cause().or(far.cause()), err);
     ending
 }
 
 /// Sends what the sender has to the receiver, each at its end of a line, and prints the lines of it, also after a fault of the line.
-fn loop_over<'a, N: Line, F: Line, W: Watch, O: Write>(
+fn loop_over<'a, N: Line, F: Line, W: Observer, O: Write>(
     sender: &mut SendingStation,
     near: &mut N,
     receiver: &mut ReceivingStation,
@@ -98,7 +99,7 @@ fn loop_over<'a, N: Line, F: Line, W: Watch, O: Write>(
     Ok(Ending::from(outcome))
 }
 
-/// Prints how many of so many jobs were counted, how many were handed out, and how it ended.
+/// Prints how many of so many jobs were counted, how many were delivered, and how it ended.
 fn print_looped<'a, O: Write>(
     counted: usize,
     given: usize,

@@ -15,17 +15,17 @@ ghost use Rattle.rje_sockets.specs.OverLine.{OverConnection};
 ghost use Rattle.rje_sockets.specs.Patience.{most_quiet};
 ghost use Rattle.rje_stores.specs.Store.{FileMap, Discloses, IsSame};
 
-use crate::broken_off::BrokenOff;
 use crate::connection::{met, tell_if_late};
-use crate::keeper::Keeper;
+use crate::job_writer::JobWriter;
 use crate::kept_file::KeptFile;
-use crate::left::Left;
-use crate::line_cause::tell_cause;
+use crate::observer::{Observer, Unwatched};
 use crate::one_way::{USUAL_PATIENCE, most_quiet, receive_all};
-use crate::report::Report;
+use crate::receive_end::ReceiveEnd;
+use crate::reported_cause::{report_cause, report_failure};
 use crate::reporter::Reporter;
 use crate::socket_commands::Ending;
-use crate::watch::{Unwatched, Watch};
+use crate::transfer_error::TransferError;
+use crate::verbosity::Verbosity;
 use bsc_link::Rank;
 use rje_commands::{CommandFault, put, tell};
 use rje_jobs::Job;
@@ -67,23 +67,23 @@ pub fn receive<'a, R: Net + Clock, S: Store, O: Write, E: Write>(
         true => Some(patience),
         false => None,
     };
-    let report = Report::of(order.connection.trace, order.connection.quiet, is_terminal);
+    let report = Verbosity::of(order.connection.trace, order.connection.quiet, is_terminal);
     let (mut line, peer) = match met(rt, order.connection, Rank::Secondary, hearings, report, err) {
         Ok(met) => met,
-        Err(cause) => return Err(cause.told(err)),
+        Err(cause) => return Err(report_cause(cause, err)),
     };
     let mut reporter = Reporter::new(rt, report, &[], &mut *err);
     reporter.connected(peer);
     let ending = received(alloc, &mut line, patience, file, store, &mut reporter, out);
     reporter.ended();
     tell_if_late(order.connection, &line, err);
-    tell_cause(&ending, line.cause(), err);
+    report_failure(&ending, line.cause(), err);
     ending
 }
 
 /// Receives one transmission over a line into the file of a destination, also where the line fails, and prints how many jobs there are.
 /// Forty quiet hearings in a row are the end of it. Each job is in the file before its last block is answered. Answers the exit status, and
-/// tells why it isn't 0.
+/// reports why it isn't 0.
 pub fn receive_over<L: Line, S: Store, O: Write, E: Write>(
     alloc: Global,
     line: &mut L,
@@ -141,7 +141,7 @@ fn received_into<'a, L: Line, S: Store, O: Write>(
 }
 
 /// Receives one transmission over a line into this file.
-fn received<'a, L: Line, S: Store, W: Watch, O: Write>(
+fn received<'a, L: Line, S: Store, W: Observer, O: Write>(
     alloc: Global,
     line: &mut L,
     patience: u32,
@@ -164,7 +164,7 @@ fn received<'a, L: Line, S: Store, W: Watch, O: Write>(
         (L.transmissions line.old) (L.transmissions line.new)) }
 {
     let mut station = ReceivingStation::new(alloc)?;
-    let mut keeper = Keeper::new(alloc, file);
+    let mut keeper = JobWriter::new(alloc, file);
     let left = receive_all(&mut station, line, patience, &mut keeper, store, watch);
     watch.ended();
     let handed = handed_text(station.jobs());
@@ -193,8 +193,8 @@ pub(super) fn unless_refused<'a>(
 
 /// Keeps what is left of the jobs, where none of them was refused by the file before.
 pub(super) fn keep_rest<'a, S: Store>(
-    left: &Result<Left, BrokenOff<'a>>,
-    keeper: &mut Keeper<'a>,
+    left: &Result<ReceiveEnd, TransferError<'a>>,
+    keeper: &mut JobWriter<'a>,
     jobs: Vec<Job>,
     store: &mut S,
 ) -> Result<(), CommandFault<'a>>
@@ -209,7 +209,7 @@ pub(super) fn keep_rest<'a, S: Store>(
     ensures same { OnErr result (Discloses (S.files store.old) (S.files store.new) IsSame) }
 {
     let written = match left {
-        Err(BrokenOff::File(_)) => Ok(()),
+        Err(TransferError::File(_)) => Ok(()),
         _ => keeper.finish(jobs, store),
     };
     store.settle();
@@ -218,10 +218,10 @@ pub(super) fn keep_rest<'a, S: Store>(
 
 /// How the transmission was left, where nothing failed of it, of its files and of its lines on the output; else the first of their faults.
 pub(super) fn left_after<'a>(
-    left: Result<Left, BrokenOff<'a>>,
+    left: Result<ReceiveEnd, TransferError<'a>>,
     written: Result<(), CommandFault<'a>>,
     printed: Result<(), CommandFault<'a>>,
-) -> Result<Left, CommandFault<'a>>
+) -> Result<ReceiveEnd, CommandFault<'a>>
     ensures left { IfOk result (λ so. IsOkAnd left.entry (λ left. left ≡ so)
         × IsOk written.entry × IsOk printed.entry) }
     ensures first { IfErr left.entry (λ broken. IsErrOf result (of_broken_off broken)) }

@@ -16,14 +16,14 @@ ghost use Rattle.rje_sockets.specs.NamedFiles.{NamesOne, NamesWritten};
 ghost use Rattle.rje_sockets.specs.OverLine.{OverConnection, SendsOut};
 
 use crate::connection::{met, tell_if_late};
-use crate::line_cause::tell_cause;
-use crate::marker::Marker;
+use crate::observer::{Observer, Unwatched};
 use crate::one_way::send_all;
 use crate::parting::{HearsOut, Leaves, Parting, parts_in_step};
-use crate::report::Report;
+use crate::reported_cause::{report_cause, report_failure};
 use crate::reporter::Reporter;
+use crate::sent_marker::SentMarker;
 use crate::socket_commands::Ending;
-use crate::watch::{Unwatched, Watch};
+use crate::verbosity::Verbosity;
 use bsc_link::{Outcome, Rank};
 use rje_commands::{CommandFault, HeldFile, put_lines, read_file, tell};
 use rje_files::{Entry, JobName, State, first_unsendable, mark_places, read_entries, unsent_jobs};
@@ -59,16 +59,16 @@ pub fn send<'a, R: Net + Clock, S: Store, O: Write, E: Write>(
         → Discloses (S.files store.old) (S.files store.new) IsSame) }
     ensures silent { IfErr result (λ fault. status_of fault ≡ 1 → out.new ≡ out.old) }
 {
-    let Outgoing {
+    let UnsentJobs {
         jobs,
         mut marker,
         names,
     } = read_outgoing(alloc, order.jobs, store)?;
     let mut station = SendingStation::new(alloc, jobs.as_slice())?;
-    let report = Report::of(order.connection.trace, order.connection.quiet, is_terminal);
+    let report = Verbosity::of(order.connection.trace, order.connection.quiet, is_terminal);
     let (mut line, peer) = match met(rt, order.connection, Rank::Primary, None, report, err) {
         Ok(met) => met,
-        Err(cause) => return Err(cause.told(err)),
+        Err(cause) => return Err(report_cause(cause, err)),
     };
     let mut reporter = Reporter::new(rt, report, names.as_slice(), &mut *err);
     reporter.connected(peer);
@@ -87,13 +87,13 @@ pub fn send<'a, R: Net + Clock, S: Store, O: Write, E: Write>(
         out,
     );
     tell_if_late(order.connection, &line, err);
-    tell_cause(&ending, line.cause(), err);
+    report_failure(&ending, line.cause(), err);
     ending
 }
 
 /// Sends over a line what is left of the job file of this name. Then, also after a fault of the line, marks in
 /// it what was counted, and prints how many of the jobs were counted and how it ended. Answers the exit status,
-/// and tells why it isn't 0.
+/// and reports why it isn't 0.
 pub fn send_over<L: Line, S: Store, O: Write, E: Write>(
     alloc: Global,
     line: &mut L,
@@ -137,7 +137,7 @@ fn sent<'a, L: Line, S: Store, O: Write>(
     ensures silent { IfErr result (λ fault. status_of fault ≡ 1
         → (line.new ≡ line.old) × (out.new ≡ out.old)) }
 {
-    let Outgoing {
+    let UnsentJobs {
         jobs,
         mut marker,
         names: _,
@@ -157,9 +157,9 @@ fn sent<'a, L: Line, S: Store, O: Write>(
 
 /// What is left to send of a job file, and what marks it there.
 #[derive(Drop)]
-pub(super) struct Outgoing<'a> {
+pub(super) struct UnsentJobs<'a> {
     pub(super) jobs: Jobs,
-    pub(super) marker: Marker<'a>,
+    pub(super) marker: SentMarker<'a>,
     /// The names of the jobs.
     pub(super) names: Vec<JobName>,
 }
@@ -169,7 +169,7 @@ pub(super) fn read_outgoing<'a, S: Store>(
     alloc: Global,
     name: &'a str,
     store: &mut S,
-) -> Result<Outgoing<'a>, CommandFault<'a>>
+) -> Result<UnsentJobs<'a>, CommandFault<'a>>
     ensures outgoing { IfOk result (λ left.
         IsOutgoing name.entry.now (S.files store.old) left.jobs left.marker) }
     ensures fault { IfErr result (IsSendFault (λ named. named ≡ name.entry.now)
@@ -182,8 +182,8 @@ pub(super) fn read_outgoing<'a, S: Store>(
         places,
         names,
     } = unsent_of(alloc, held.bytes())?;
-    let marker = Marker::new(alloc, held, places);
-    Ok(Outgoing {
+    let marker = SentMarker::new(alloc, held, places);
+    Ok(UnsentJobs {
         jobs,
         marker,
         names,
@@ -247,9 +247,9 @@ fn unsent_names(alloc: Global, entries: &[Entry]) -> Result<Vec<JobName>, AllocE
 
 /// Sends what the station has over a line, marks what is counted, at the end in the whole file, and prints the lines of it. Where an answer
 /// came after the end, it is in doubt what was received, and nothing more is marked.
-fn transmit<'a, L: Line, P: Parting<L>, S: Store, W: Watch, O: Write>(
+fn transmit<'a, L: Line, P: Parting<L>, S: Store, W: Observer, O: Write>(
     station: &mut SendingStation,
-    marker: &mut Marker<'a>,
+    marker: &mut SentMarker<'a>,
     line: &mut L,
     parting: &P,
     store: &mut S,

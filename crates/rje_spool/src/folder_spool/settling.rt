@@ -44,7 +44,7 @@ impl<D: FolderDisk + Drop, C: Clock, W: Write, L: Write, B: Book + Drop> FolderS
         self.files.given(job)
     }
 
-    /// What lies ready is looked at anew.
+    /// What lies ready is read anew.
     pub fn look_anew(&mut self)
         ensures same { self.new ≡ self.old }
     {
@@ -58,7 +58,7 @@ impl<D: FolderDisk + Drop, C: Clock, W: Write, L: Write, B: Book + Drop> FolderS
         self.files.lies_ready(name);
     }
 
-    /// The time, as it stands in names.
+    /// The time, as it is in names.
     pub fn stamp(&self) -> Result<String, AllocError> {
         self.files.stamp()
     }
@@ -78,7 +78,7 @@ impl<D: FolderDisk + Drop, C: Clock, W: Write, L: Write, B: Book + Drop> FolderS
         self.files.note_not_kept(job);
     }
 
-    /// Puts this file of out/ aside, for this reason, which stands beside it.
+    /// Puts this file of out/ aside, for this reason, which is beside it.
     pub fn refuse(
         &mut self,
         name: String,

@@ -1,9 +1,10 @@
 //! What becomes of the files of the jobs that go out.
-ghost use Rattle.std.specs.Prelude.{◌≡◌, [], OnErr, OnOk, string_bytes};
+ghost use Rattle.std.specs.Prelude.{◌≡◌, [], OnErr, OnOk, string_bytes, true};
 ghost use Rattle.rje_spool.specs.Backed.{GoesOn};
-ghost use Rattle.rje_spool.specs.declared.given_file.Place.TheVariants.{Ready};
+ghost use Rattle.rje_spool.specs.declared.given_file.Standing.TheVariants.{Ready};
 ghost use Rattle.rje_spool.specs.GivenFile.{HasSecondName, IsDoubted};
 ghost use Rattle.rje_spool.specs.GivenFiles.{HasBeenCounted, HasGoneOut, IsSettledSo, OfFile};
+ghost use Rattle.rje_spool.specs.Passing.{may_be_hidden};
 
 use super::SpoolFiles;
 use crate::notice::Notice;
@@ -68,7 +69,7 @@ impl<D: FolderDisk + Drop, C: Clock, W: Write, L: Write> SpoolFiles<D, C, W, L> 
         }
     }
 
-    /// A job may have arrived, or nobody knows: its file stands in doubt/.
+    /// A job may have arrived, or nobody knows: its file is in doubt/.
     fn doubt(&mut self, job: usize) -> Result<(), SpoolFault>
         ensures doubted { OnOk result (OfFile job (λ file now. IsDoubted now.place)
             self.old.given.files.items self.new.given.files.items) }
@@ -115,9 +116,10 @@ impl<D: FolderDisk + Drop, C: Clock, W: Write, L: Write> SpoolFiles<D, C, W, L> 
         SpoolFault::OfFile(fault)
     }
 
-    /// Tells that the file of a job stands in doubt/.
+    /// Reports that the file of a job is in doubt/.
     fn tell_doubt(&mut self, job: usize)
         ensures ready { self.new.ready ≡ self.old.ready }
+        ensures brake { self.old.settles ≡ true → self.new.brake ≡ self.old.brake }
         ensures folder { self.new.folder ≡ self.old.folder }
         ensures given { self.new.given ≡ self.old.given }
     {
@@ -231,7 +233,9 @@ impl<D: FolderDisk + Drop, C: Clock, W: Write, L: Write> SpoolFiles<D, C, W, L> 
 }
 
 /// Whether another file may have been hidden, and not been given its name back, as this became of a name in out/.
-pub(super) fn is_hidden_perhaps(out: OutName) -> bool {
+pub(super) fn is_hidden_perhaps(out: OutName) -> bool
+    ensures { result ≡ may_be_hidden out }
+{
     matches!(
         out,
         OutName::Missing | OutName::OfAnother | OutName::Left(_)

@@ -1,12 +1,12 @@
 //! What a transmission is given of the files in out/.
 ghost use Rattle.std.specs.Prelude.{◌≡◌, ◌≢◌, ◌↔◌, ◌||◌, ◌&&◌, [], length, nat_le, nat_lt, true, false, IfOk, IsTrue, OnOk, Some, string_bytes};
 ghost use Rattle.std.specs.BTreeMap.{get_by_text};
-ghost use Rattle.std.specs.declared.io.ErrorKind.TheVariants.{StorageFull};
 ghost use Rattle.rje_folders.specs.declared.folder_fault.FolderFault.TheVariants.{BeingWritten, Failed, NoSecondName};
 ghost use Rattle.rje_spool.specs.Backed.{GoesOn};
 ghost use Rattle.rje_spool.specs.declared.passed_files.Until.TheVariants.{NextLook, Replaced};
 ghost use Rattle.rje_spool.specs.GivenFiles.{jobs_of};
 ghost use Rattle.rje_spool.specs.Pace.{has_as_much};
+ghost use Rattle.rje_spool.specs.Passing.{IsNoRoom};
 ghost use Rattle.rje_spool.specs.RefusedFile.{is_want_of_memory as is_want};
 
 use super::SpoolFiles;
@@ -54,7 +54,7 @@ impl<D: FolderDisk + Drop, C: Clock, W: Write, L: Write> SpoolFiles<D, C, W, L> 
         !self.ready.is_empty()
     }
 
-    /// The names that lie ready, the last one first, but for those that are passed over. None where the folder can't be read.
+    /// The names that lie ready, the last one first, except those that are passed over. None where the folder can't be read.
     fn names_anew(&mut self) -> Vec<String>
         ensures folder { self.new.folder ≡ self.old.folder }
     {
@@ -162,9 +162,9 @@ impl<D: FolderDisk + Drop, C: Clock, W: Write, L: Write> SpoolFiles<D, C, W, L> 
         ensures written { OnOk result ((folder : _) → fault ≡ BeingWritten folder
             → get_by_text self.new.passed.files (string_bytes name) ≡ Some NextLook) }
         // So is one for whose second name, or copy, there is no room.
-        ensures room { OnOk result (fault ≡ NoSecondName StorageFull
+        ensures room { OnOk result ((kind : _) → IsNoRoom kind → fault ≡ NoSecondName kind
             → get_by_text self.new.passed.files (string_bytes name) ≡ Some NextLook) }
-        ensures copy { OnOk result ((folder : _) → fault ≡ Failed folder StorageFull
+        ensures copy { OnOk result ((folder kind : _) → IsNoRoom kind → fault ≡ Failed folder kind
             → get_by_text self.new.passed.files (string_bytes name) ≡ Some NextLook) }
         ensures given { self.new.given ≡ self.old.given }
         ensures on { D.discloses
@@ -255,7 +255,7 @@ impl<D: FolderDisk + Drop, C: Clock, W: Write, L: Write> SpoolFiles<D, C, W, L> 
         Ok(cards)
     }
 
-    /// Puts a file aside that can't be sent. One that was replaced meanwhile is looked at again.
+    /// Puts a file aside that can't be sent. One that was replaced meanwhile is read again.
     pub(super) fn refuse(
         &mut self,
         name: String,
@@ -268,8 +268,11 @@ impl<D: FolderDisk + Drop, C: Clock, W: Write, L: Write> SpoolFiles<D, C, W, L> 
         ensures path { self.new.folder.path ≡ self.old.folder.path }
     {
         match self.put_aside(name.as_str(), file, why) {
-            Ok(()) => {
+            Ok(explained) => {
                 self.console.tell(Notice::Refused(name.as_str(), why));
+                if let Err(fault) = explained {
+                    self.tell_unexplained(name.as_str(), &fault);
+                }
                 Ok(())
             }
             Err(FolderFault::Replaced) => Ok(self.passed.add(name, Until::NextLook)?),
@@ -296,21 +299,44 @@ impl<D: FolderDisk + Drop, C: Clock, W: Write, L: Write> SpoolFiles<D, C, W, L> 
         }
     }
 
+    /// Reports that the reason of a file that was put aside couldn't be written beside it.
+    fn tell_unexplained(&mut self, name: &str, fault: &FolderFault)
+        ensures folder { self.new.folder ≡ self.old.folder }
+        ensures given { self.new.given ≡ self.old.given }
+    {
+        if let Ok(text) = format!(in self.alloc;
+            "{name}: why it is refused can't be written: {fault}"
+        ) {
+            self.tell_name(text.as_str());
+        }
+    }
+
+    /// Puts a file into refused/, and why beside it. Whether that could be written, where the file is there.
     fn put_aside(
         &mut self,
         name: &str,
         file: FileIdentity,
         why: RefusedFile,
-    ) -> Result<(), FolderFault>
+    ) -> Result<Result<(), FolderFault>, FolderFault>
         ensures given { self.new.given ≡ self.old.given }
         ensures on { D.discloses
             → GoesOn (D.asked self.old.folder.disk) (D.asked self.new.folder.disk) }
         ensures path { self.new.folder.path ≡ self.old.folder.path }
     {
         let path = self.folder.refuse(name, file)?;
+        Ok(self.explain(path.as_str(), why))
+    }
+
+    /// Writes beside a file in refused/ why it is there.
+    fn explain(&mut self, path: &str, why: RefusedFile) -> Result<(), FolderFault>
+        ensures given { self.new.given ≡ self.old.given }
+        ensures on { D.discloses
+            → GoesOn (D.asked self.old.folder.disk) (D.asked self.new.folder.disk) }
+        ensures path { self.new.folder.path ≡ self.old.folder.path }
+    {
         match format!(in self.alloc; "{why}\n") {
             Ok(text) => {
-                self.folder.explain(path.as_str(), text.as_str())?;
+                self.folder.explain(path, text.as_str())?;
                 Ok(())
             }
             Err(_) => Err(FolderFault::OutOfMemory),

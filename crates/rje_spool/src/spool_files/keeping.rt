@@ -96,7 +96,7 @@ impl<D: FolderDisk + Drop, C: Clock, W: Write, L: Write> SpoolFiles<D, C, W, L> 
         self.note_not_kept(job);
     }
 
-    /// Makes the paper that is due, if one is. It is told where that can't be.
+    /// Makes the printout that is due, if one is. It is told where that can't be.
     pub(crate) fn make_paper(&mut self)
         ensures on { D.discloses
             → GoesOn (D.asked self.old.folder.disk) (D.asked self.new.folder.disk) }

@@ -1,5 +1,5 @@
 //! What the files of a spool are asked for where doubt is settled by receipts.
-ghost use Rattle.std.specs.Prelude.{◌≡◌, [], IfSome, None, Some, string_bytes};
+ghost use Rattle.std.specs.Prelude.{◌≡◌, [], IfSome, None, OnErr, OnOk, Some, string_bytes};
 ghost use Rattle.std.specs.BTreeMap.{get_by_text};
 ghost use Rattle.rje_spool.specs.Backed.{GoesOn};
 ghost use Rattle.rje_spool.specs.GivenFiles.{file_of};
@@ -49,7 +49,7 @@ impl<D: FolderDisk + Drop, C: Clock, W: Write, L: Write> SpoolFiles<D, C, W, L> 
         Some(file.given(job))
     }
 
-    /// What lies ready is looked at anew.
+    /// What lies ready is read anew.
     pub(crate) fn look_anew(&mut self)
         ensures anew { self.new.ready.items ≡ [] }
         ensures passed { self.new.passed ≡ self.old.passed }
@@ -70,7 +70,7 @@ impl<D: FolderDisk + Drop, C: Clock, W: Write, L: Write> SpoolFiles<D, C, W, L> 
         self.look_anew();
     }
 
-    /// The time, as it stands in names.
+    /// The time, as it is in names.
     pub(crate) fn stamp(&self) -> Result<String, AllocError> {
         self.console.stamps().stamp()
     }
@@ -125,9 +125,17 @@ impl<D: FolderDisk + Drop, C: Clock, W: Write, L: Write> SpoolFiles<D, C, W, L> 
         if is_hidden_perhaps(settled.out) {
             self.hidden.add(self.console.stamps().clock());
         }
-        match settled.out {
-            OutName::Left(kind) => Err(SpoolFault::Folder(FolderFault::Failed(Folder::Out, kind))),
-            _ => Ok(()),
-        }
+        unless_left(settled.out)
+    }
+}
+
+/// The fault of a name in out/ that stays, which was to be taken away.
+fn unless_left(out: OutName) -> Result<(), SpoolFault>
+    ensures left { (kind : _) → out ≡ OutName.Left kind → OnOk result ⊥ }
+    ensures gone { OnErr result ((kind : _) × (out ≡ OutName.Left kind)) }
+{
+    match out {
+        OutName::Left(kind) => Err(SpoolFault::Folder(FolderFault::Failed(Folder::Out, kind))),
+        OutName::Stands | OutName::Missing | OutName::OfAnother | OutName::TakenAway => Ok(()),
     }
 }

@@ -13,7 +13,7 @@ use clap::{Arg, ArgAction, Command, value_parser};
 use std::alloc::{AllocError, Global};
 
 /// The program's version.
-const VERSION: &str = "1.7.0";
+const VERSION: &str = "1.7.1";
 
 /// What stands after the commands where help is given.
 const AFTER_HELP: &str = "\

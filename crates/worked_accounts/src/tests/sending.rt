@@ -44,6 +44,8 @@ fn a_promise_stands_once_it_is_made_and_not_after_it_is_dropped(
             let made = promise(&mut disk, alloc, "s", "A.deck", file, one);
             let stands = disk.file_of(second.as_str());
             assert!(rt; made.is_err() || stands == disk.file_of("s/out/A.deck"));
+            // (one that isn't made leaves no name, if the call that failed did nothing)
+            assert!(rt; is_done || made.is_ok() || stands.is_none());
             let dropped = drop_promise(&mut disk, alloc, "s", one);
             assert!(rt; dropped.is_err() || disk.file_of(second.as_str()).is_none());
             assert!(rt; disk.has("s/out/A.deck", b"JOB"));

@@ -1,4 +1,4 @@
-//! Which call serves which command, and an input that fails. What commands print, and what they refuse, stands in tests/.
+//! Which call serves which command, and an input that fails. What commands print, and what they refuse, is in tests/.
 use super::{FILE, Written, store_of};
 use rje_program::{command, is_for_sockets, is_for_station, socket_command};
 use rje_stores::{MAX_INPUT, MemoryStore};
@@ -65,7 +65,15 @@ fn each_call_serves_its_own_commands(rt: HostRuntime) {
     let mut out = Written::new();
     let mut err = Written::new();
     let words = ["show", "jobs"];
-    let over_sockets = socket_command(&rt, rt.alloc(), &words, &mut store, &mut out, &mut err);
+    let over_sockets = socket_command(
+        &rt,
+        rt.alloc(),
+        &words,
+        &mut store,
+        &mut out,
+        &mut err,
+        false,
+    );
     let mut input: &[u8] = b"";
     let words = ["loop", "jobs"];
     let over_files = command(

@@ -3,8 +3,8 @@ use super::scripted_stream::{Notes, ScriptedStream};
 use super::traced::Ticking;
 use super::{FILE, NO_JOBS, Written, store_of};
 use bsc_link::Rank;
+use rje_net::SocketLine;
 use rje_program::socket_command;
-use rje_sockets::SocketLine;
 use rje_station::{Came, Line, LineFault};
 use std::cell::Cell;
 use std::io::{self, ErrorKind};
@@ -228,7 +228,15 @@ fn called<R: Net + Abort + AllocGlobal>(rt: &R, timeout: &str) -> Option<(Socket
     let mut store = store_of(rt, "jobs", FILE);
     let mut out = Written::new();
     let mut err = Written::new();
-    let ended = socket_command(&net, rt.alloc(), &words, &mut store, &mut out, &mut err);
+    let ended = socket_command(
+        &net,
+        rt.alloc(),
+        &words,
+        &mut store,
+        &mut out,
+        &mut err,
+        false,
+    );
     assert!(rt; ended == 3);
     assert!(rt; out.is_empty());
     assert!(rt;
@@ -254,7 +262,15 @@ fn told_of_a_call<R: Net + Abort + AllocGlobal>(rt: &R, timeout: &str) -> Result
     let mut out = Written::new();
     let mut err = Written::new();
     let clock = Ticking::new(rt, 100);
-    let ended = socket_command(&clock, rt.alloc(), &words, &mut store, &mut out, &mut err);
+    let ended = socket_command(
+        &clock,
+        rt.alloc(),
+        &words,
+        &mut store,
+        &mut out,
+        &mut err,
+        false,
+    );
     assert!(rt; ended == 0);
     assert!(rt; out.as_slice() == b"counted 0 of 0 jobs\noutcome done\n".as_slice());
     Ok(err)

@@ -2,7 +2,7 @@
 use super::traced::{Failing, TEXT, Ticking};
 use super::{FILE, Written, store_of};
 use rje_print::{Progress, shown_listening, shown_peer, shown_progress};
-use rje_program::socket_command_at;
+use rje_program::socket_command;
 use std::io::Write;
 use std::net::{Ipv4Addr, Net, SocketAddr};
 use std::process::Abort;
@@ -55,7 +55,7 @@ fn assert_loop<R: Net + Abort + AllocGlobal>(
     let clock = Ticking::new(rt, looks);
     let mut store = store_of(rt, "jobs", FILE);
     let mut out = Written::new();
-    let ended = socket_command_at(&clock, rt.alloc(), words, &mut store, &mut out, err, true);
+    let ended = socket_command(&clock, rt.alloc(), words, &mut store, &mut out, err, true);
     assert!(rt; ended == 0);
     assert!(rt; out.as_slice() == TEXT);
 }

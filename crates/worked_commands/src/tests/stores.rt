@@ -1,4 +1,4 @@
-//! What no clause says: that files in memory are there. What the system's files do stands in tests/.
+//! What no clause says: that files in memory are there. What the system's files do is in tests/.
 use super::recorded_disk::RecordedDisk;
 use super::{assert_file, joined};
 use rje_stores::{Disk, FileKind, FileStore, MemoryStore, Store, StoreFault, SystemDisk};

@@ -126,7 +126,7 @@ fn assert_loop<R: Net + Abort + AllocGlobal>(
     let clock = Ticking::new(rt, looks);
     let mut store = store_of(rt, "jobs", FILE);
     let mut out = Written::new();
-    let ended = socket_command(&clock, rt.alloc(), words, &mut store, &mut out, err);
+    let ended = socket_command(&clock, rt.alloc(), words, &mut store, &mut out, err, false);
     assert!(rt; ended == 0);
     assert!(rt; out.as_slice() == TEXT);
 }

@@ -155,6 +155,22 @@ fn a_file_is_kept_under_the_next_number(rt: HostRuntime) -> Result<(), Fail> {
     Ok(())
 }
 
+/// Whichever call fails, a file that can't be kept isn't there, and nothing of it is left.
+#[test]
+fn nothing_is_left_of_a_file_that_cannot_be_kept(rt: HostRuntime) -> Result<(), Fail> {
+    let alloc = rt.alloc();
+    for fails_at in 0..MAX_CALLS {
+        let mut station = opened(&rt, alloc, FailingDisk::new(alloc, fails_at, false));
+        let kept = station.keep(Folder::In, "T", 7, ".job", b"1");
+        let disk = station.close();
+        let is_there = disk.has("s/in/T-7.job", b"1");
+        assert!(rt; is_there == kept.is_ok());
+        // (the lock is there too)
+        assert!(rt; is_there || disk.count() == 1);
+    }
+    Ok(())
+}
+
 /// Names under which a killed station was writing.
 const LEFT: [&str; 5] = [
     "s/in/.rje-0.part",

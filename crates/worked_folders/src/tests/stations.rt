@@ -115,6 +115,34 @@ fn a_job_that_was_not_accepted_lies_ready(rt: HostRuntime) -> Result<(), Fail> {
     whichever_call_fails(&rt, Disposition::Ready, at_the_end)
 }
 
+/// A file whose name in doubt/ can't be put on disk hasn't one, and lies ready still.
+#[test]
+fn a_file_that_cannot_be_promised_lies_ready(rt: HostRuntime) -> Result<(), Fail> {
+    let alloc = rt.alloc();
+    for fails_at in 1..=2 {
+        let mut station = opened(&rt, alloc, disk_with_a_file(alloc, fails_at, false)?);
+        let file = station.identity("A.deck").expect(&rt, "a file");
+        assert!(rt; station.promise("A.deck", file).is_err());
+        assert!(rt; station.names_ready().expect(&rt, "names").len() == 1);
+        let left = find_file(&station.close(), 1);
+        assert!(rt; left.out && !left.doubt && !left.sent);
+    }
+    Ok(())
+}
+
+/// A file in sent/ whose name in out/ is another user's to take away keeps no station from its folder, and doesn't lie ready.
+#[test]
+fn a_name_that_stays_keeps_no_station_from_its_folder(rt: HostRuntime) -> Result<(), Fail> {
+    let alloc = rt.alloc();
+    let mut disk = FailingDisk::new(alloc, 0, false);
+    let file = disk.put("s/sent/A.deck")?;
+    disk.link("s/sent/A.deck", "s/out/A.deck")?;
+    disk.stick(file);
+    let station = opened(&rt, alloc, disk);
+    assert!(rt; station.names_ready().expect(&rt, "names").is_empty());
+    Ok(())
+}
+
 #[test]
 fn a_job_that_was_counted_never_lies_ready_again(rt: HostRuntime) -> Result<(), Fail> {
     let alloc = rt.alloc();

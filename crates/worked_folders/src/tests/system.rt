@@ -1,4 +1,4 @@
-//! What the system's disk tells of folders.
+//! What the system's disk says of folders.
 use rje_folders::FolderDisk;
 use rje_stores::SystemDisk;
 use std::io::ErrorKind;

@@ -72,7 +72,7 @@ fn a_stopped_station_goes_on_once_nothing_is_in_doubt(rt: HostRuntime) {
     assert!(rt; given(&rt, &mut spool) == 1);
 }
 
-/// Once the file that is tried is counted all goes on, though files stand in doubt/; the next wait is a minute again.
+/// Once the file that is tried is counted all goes on, though files are in doubt/; the next wait is a minute again.
 #[test]
 fn a_stopped_station_goes_on_once_a_file_is_counted(rt: HostRuntime) {
     let ground = Ground::new(rt.alloc());

@@ -57,7 +57,7 @@ fn amount(records: usize) -> Progress {
     }
 }
 
-/// A line that is rewritten stands for a tenth of a second at least, and is taken away before another one.
+/// A line that is rewritten stays for a tenth of a second at least, and is taken away before another one.
 #[test]
 fn a_line_that_is_rewritten_stands_a_while(rt: HostRuntime) {
     let ground = Ground::new(rt.alloc());
@@ -79,7 +79,7 @@ fn a_line_that_is_rewritten_stands_a_while(rt: HostRuntime) {
     assert!(rt; log.shows(b"2026-11-28 13:05:10 hung up\n"));
 }
 
-/// Where the one can't be written the line stands in the other.
+/// If one can't be written the line is in the other.
 #[test]
 fn a_page_that_cannot_be_written_keeps_no_line_from_the_log(rt: HostRuntime) {
     let ground = Ground::new(rt.alloc());

@@ -16,7 +16,7 @@ fn cut(rt: &(impl Abort + AllocGlobal), spool: &mut TestSpool<'_>, cards: &[u8])
     assert!(rt; spool.keep_cut(&job).is_ok());
 }
 
-/// The file in cut/ that was kept as the one of this number stands there just where this is so.
+/// The file in cut/ that was kept as the one of this number is there just if this is so.
 fn assert_kept(rt: &(impl Abort + AllocGlobal), ground: &Ground, number: usize, is_kept: bool) {
     let path = format!(in rt.alloc(); "s/cut/20261128T130509Z-{number}.job").expect(rt, "memory");
     assert!(rt; ground.stands(path.as_str()) == is_kept);

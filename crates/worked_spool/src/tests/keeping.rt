@@ -109,7 +109,7 @@ fn room_for_a_shorter_file_is_none(rt: HostRuntime) {
     assert!(rt; spool.keep(&job_of(&rt, b"ONE", Select::Unset)).is_ok());
 }
 
-/// A station that ends makes the paper of the job that came last.
+/// A station that ends makes the printout of the job that came last.
 #[test]
 fn a_station_that_ends_leaves_no_job_without_paper(rt: HostRuntime) {
     let ground = Ground::new(rt.alloc());

@@ -14,7 +14,7 @@ impl<'a> Page<'a> {
         Page { text }
     }
 
-    /// Whether just this stands on it.
+    /// Whether just this is on it.
     pub(super) fn shows(&self, text: &[u8]) -> bool {
         match self.text.try_borrow() {
             Ok(written) => written.as_slice() == text,
@@ -22,7 +22,7 @@ impl<'a> Page<'a> {
         }
     }
 
-    /// Whether this stands on it, among others.
+    /// Whether this is on it, among others.
     pub(super) fn has(&self, text: &[u8]) -> bool {
         let Ok(written) = self.text.try_borrow() else {
             return false;
@@ -38,7 +38,7 @@ impl<'a> Page<'a> {
         false
     }
 
-    /// Whether this stands at its end.
+    /// Whether this is at its end.
     pub(super) fn ends_with(&self, text: &[u8]) -> bool {
         match self.text.try_borrow() {
             Ok(written) => written.ends_with(text),
@@ -46,7 +46,7 @@ impl<'a> Page<'a> {
         }
     }
 
-    /// Takes away what stands on it.
+    /// Takes away what is on it.
     pub(super) fn clear(&self) {
         if let Ok(mut written) = self.text.try_borrow_mut() {
             written.clear();

@@ -45,7 +45,7 @@ fn nothing_is_sent_while_the_operator_holds_it(rt: HostRuntime) {
     assert!(rt; seen.drained);
 }
 
-/// What can't be looked at is taken for held. That is told once as long as it can't be, and again once it could.
+/// What can't be read is taken for held. That is told once as long as it can't be, and again once it could.
 #[test]
 fn what_cannot_be_looked_at_is_taken_for_held(rt: HostRuntime) {
     let ground = Ground::new(rt.alloc());
@@ -67,7 +67,7 @@ fn what_cannot_be_looked_at_is_taken_for_held(rt: HostRuntime) {
     );
 }
 
-/// What can't be sent goes to refused/, and why stands beside it.
+/// What can't be sent goes to refused/, and why is beside it.
 #[test]
 fn a_file_that_cannot_be_sent_is_put_aside(rt: HostRuntime) {
     let ground = Ground::new(rt.alloc());

@@ -30,7 +30,8 @@ returns-clause-asks g c = λ told.
     let may = MayRename from to in
     let renamed = added_call may _ _ _ c.rename.result (Rename from to) (added_none may _) (c.rename.ensures told) (inl refl) in
     let first = added_twice may _ _ _ renamed (sync_added may to _ _ (inr (inl refl)) (rw (c.in_ok-to_folder.ensures told) at (c.sync_names.ensures.asks told))) in
-    added_twice may _ _ _ first (sync_added may from _ _ (inr (inr refl)) (rw (c.in_ok-from_folder.ensures told) at (c.sync_names-2.ensures.asks told)))
+    let synced = rw (c.in_ok-to_folder.ensures told) at (c.in_ok-sync_names.ensures.synced told) in
+    added_twice may _ _ _ first (sync_added may from _ _ (inr (inr (refl, synced))) (rw (c.in_ok-from_folder.ensures told) at (c.sync_names-2.ensures.asks told)))
 
 pub returns-clause-moved : goal.returns-clause-moved
 returns-clause-moved g c = λ told.

@@ -1,7 +1,7 @@
 use Rattle.std.proofs.Common.{rules, ◌≡◌, ap, refl, ◌∙◌}
 use Rattle.rje_station.specs.Receiving.{Receiving}
 use Rattle.rje_session.proofs.Passed.{others_answered}
-use Rattle.rje_sockets.specs.declared.broken_off.BrokenOff.{BrokenOff}
+use Rattle.rje_sockets.specs.declared.transfer_error.TransferError.{TransferError}
 use Rattle.rje_sockets.specs.Inside.Keeping.{GoesOnKeeping}
 use Rattle.rje_sockets.specs.Inside.BothFiles.{kept_of}
 use Rattle.rje_sockets.proofs.BothFiles.{answer_leaves, other_kept, refusal_leaves}
@@ -22,7 +22,7 @@ returns-in_err-answer_other-clause-broken g c =
     let heard = c.in-Ok.ensures.heard in
     let mid = c.hear_other.new.station in
     let fault = c.in_err-answer_other.field-0.0 in
-    fails_as c.from_residual.result (BrokenOff.Line fault)
+    fails_as c.from_residual.result (TransferError.Line fault)
     (λ broken. GoesOnKeeping c.args.keeper.now c.keep.new.self c.args.station.now.receiver.jobs (kept_of c.args.station.now c.answer_other.new.station broken)
     (g.S.Store.files c.args.store.now) (g.S.Store.files c.keep.new.store)) c.from_residual.ensures.1
     (other_kept c.args.station.now mid heard.what c.in-Ok.came.0.refused c.args.keeper.now c.keep.new.self c.jobs.result.now c.answer_other.new.station.receiver.jobs

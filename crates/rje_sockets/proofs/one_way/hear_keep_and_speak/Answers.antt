@@ -3,7 +3,7 @@ use Rattle.rje_station.specs.declared.station_fault.StationFault.{StationFault}
 use Rattle.rje_station.specs.Line.{one_more}
 use Rattle.rje_station.specs.Receiving.{Receiving, after_abandon, after_refusal, with_reply}
 use Rattle.rje_session.proofs.Passed.{last_passed, reply_passed}
-use Rattle.rje_sockets.specs.declared.broken_off.BrokenOff.{BrokenOff}
+use Rattle.rje_sockets.specs.declared.transfer_error.TransferError.{TransferError}
 use Rattle.rje_sockets.proofs.Answering.{line_failed, refusal_jobs}
 use Rattle.rje_sockets.proofs.Failing.{line_fails}
 use Rattle.rje_sockets.proofs.Growing.{goes_still}
@@ -16,7 +16,7 @@ use Rattle.rje_sockets.proofs.one_way.hear_keep_and_speak.Goals as goal
 pub returns-in-Ok-clause-turn : goal.returns-in-Ok-clause-turn
 returns-in-Ok-clause-turn g c =
     let heard = c.in_ok-reply.ensures.heard in
-    reply_turn g.W.Watch.saw_receiver c.args.station.now c.hear.new.self c.speak.new.self (g.L.Line.talk c.args.line.now, g.L.Line.transmissions c.args.line.now) (g.L.Line.talk c.speak.new.line, g.L.Line.transmissions c.speak.new.line) c.args.watch.now c.receiver_took-in-Ok.new.self heard.what heard.refused c.in-Some.arrival c.in_ok-reply.reply
+    reply_turn g.W.Observer.saw_receiver c.args.station.now c.hear.new.self c.speak.new.self (g.L.Line.talk c.args.line.now, g.L.Line.transmissions c.args.line.now) (g.L.Line.talk c.speak.new.line, g.L.Line.transmissions c.speak.new.line) c.args.watch.now c.receiver_took-in-Ok.new.self heard.what heard.refused c.in-Some.arrival c.in_ok-reply.reply
     heard.may heard.state c.in-Ok.ensures.state (search rules) heard.reply_is
     (reply_passed heard.what c.in_ok-reply.reply _ _ _ (g.L.Line.talk c.hear.new.line) heard.told heard.reply_is c.in-Ok.ensures.sent
     (c.in-Ok.ensures.once ∙ ap (with_reply _) c.in_ok-reply.ensures.none)) c.receiver_took-in-Ok.ensures.saw
@@ -24,7 +24,7 @@ returns-in-Ok-clause-turn g c =
 pub returns-in-Err-Over-clause-turn : goal.returns-in-Err-Over-clause-turn
 returns-in-Err-Over-clause-turn g c =
     let heard = c.in_ok-reply.ensures.heard in
-    last_turn g.W.Watch.saw_receiver c.args.station.now c.hear.new.self c.speak.new.self (g.L.Line.talk c.args.line.now, g.L.Line.transmissions c.args.line.now) (g.L.Line.talk c.speak.new.line, g.L.Line.transmissions c.speak.new.line) c.args.watch.now c.receiver_took-in-Err-Over.new.self heard.what heard.refused c.in-Some.arrival c.in_ok-reply.reply
+    last_turn g.W.Observer.saw_receiver c.args.station.now c.hear.new.self c.speak.new.self (g.L.Line.talk c.args.line.now, g.L.Line.transmissions c.args.line.now) (g.L.Line.talk c.speak.new.line, g.L.Line.transmissions c.speak.new.line) c.args.watch.now c.receiver_took-in-Err-Over.new.self heard.what heard.refused c.in-Some.arrival c.in_ok-reply.reply
     heard.may heard.state (search rules) (search rules) heard.reply_is
     (last_passed heard.what c.in_ok-reply.reply _ _ (g.L.Line.talk c.hear.new.line) heard.told
     (heard.reply_is ∙ over_owes c.args.station.now c.hear.new.self heard.what heard.refused heard.state (search rules)) (search rules) (search rules)) c.receiver_took-in-Err-Over.ensures.saw
@@ -44,7 +44,7 @@ returns-in-Err-Over-clause-kept g c =
 pub returns-in_err-reply-clause-broken : goal.returns-in_err-reply-clause-broken
 returns-in_err-reply-clause-broken g c =
     let fault = c.in_err-reply.field-0.0 in
-    let is : c.from_residual.result ≡ Err (BrokenOff.Line fault) = search rules in
+    let is : c.from_residual.result ≡ Err (TransferError.Line fault) = search rules in
     rw is (inl (c.in_err-reply.ensures.kept, c.in_err-reply.ensures.none, goes_nowhere c.args.keeper.now c.args.station.now.jobs (g.S.Store.files c.args.store.now)))
 
 pub returns-in-Err-clause-broken : goal.returns-in-Err-clause-broken

@@ -6,7 +6,7 @@ use Rattle.rje_sockets.proofs.one_way.hear_out.Goals as goal
 
 pub loop-init : goal.loop-init
 loop-init g c = record {
-  turns = hears_first c.args.patience g.W.Watch.saw_receiver (c.args.station.now, (g.L.Line.talk c.args.line.now, g.L.Line.transmissions c.args.line.now), c.args.watch.now) c.requires.patient;
+  turns = hears_first c.args.patience g.W.Observer.saw_receiver (c.args.station.now, (g.L.Line.talk c.args.line.now, g.L.Line.transmissions c.args.line.now), c.args.watch.now) c.requires.patient;
   kept = goes_nowhere c.args.keeper.now c.args.station.now.jobs (g.S.Store.files c.args.store.now);
 }
 
@@ -17,14 +17,14 @@ returns-in_err-hear_keep_and_speak-clause-broken g c =
     rw told (record {
       far = c.loop.station;
       mid = (c.loop.keeper, g.L.Line.transmissions c.loop.line, g.S.Store.files c.loop.store);
-      answered = took_answered g.W.Watch.saw_receiver (c.args.station.now, (g.L.Line.talk c.args.line.now, g.L.Line.transmissions c.args.line.now), c.args.watch.now) (c.loop.station, (g.L.Line.talk c.loop.line, g.L.Line.transmissions c.loop.line), c.loop.watch) turns.history turns.took;
+      answered = took_answered g.W.Observer.saw_receiver (c.args.station.now, (g.L.Line.talk c.args.line.now, g.L.Line.transmissions c.args.line.now), c.args.watch.now) (c.loop.station, (g.L.Line.talk c.loop.line, g.L.Line.transmissions c.loop.line), c.loop.watch) turns.history turns.took;
       kept = c.loop.invariant.kept;
       breaks = c.in_err-hear_keep_and_speak.ensures.broken;
     })
 
 pub returns-then-not-branch-clause-heard : goal.returns-then-not-branch-clause-heard
 returns-then-not-branch-clause-heard g c =
-    hears_end c.args.patience g.W.Watch.saw_receiver (c.args.station.now, (g.L.Line.talk c.args.line.now, g.L.Line.transmissions c.args.line.now), c.args.watch.now) c.loop.counter c.loop.quiet (c.loop.station, (g.L.Line.talk c.loop.line, g.L.Line.transmissions c.loop.line), c.loop.watch) c.loop.invariant.turns
+    hears_end c.args.patience g.W.Observer.saw_receiver (c.args.station.now, (g.L.Line.talk c.args.line.now, g.L.Line.transmissions c.args.line.now), c.args.watch.now) c.loop.counter c.loop.quiet (c.loop.station, (g.L.Line.talk c.loop.line, g.L.Line.transmissions c.loop.line), c.loop.watch) c.loop.invariant.turns
     (c.hear_keep_and_speak.new.station, (g.L.Line.talk c.hear_keep_and_speak.new.line, g.L.Line.transmissions c.hear_keep_and_speak.new.line), c.hear_keep_and_speak.new.watch) c.in_ok-hear_keep_and_speak.ensures.turn (search rules)
 
 pub returns-then-not-branch-clause-kept : goal.returns-then-not-branch-clause-kept
@@ -37,7 +37,7 @@ quiet_after-quiet-requires g c = record { few = omega (arith, c.loop.invariant.t
 
 pub returns-then-quiet-patience-clause-heard : goal.returns-then-quiet-patience-clause-heard
 returns-then-quiet-patience-clause-heard g c =
-    hears_quiet c.args.patience g.W.Watch.saw_receiver (c.args.station.now, (g.L.Line.talk c.args.line.now, g.L.Line.transmissions c.args.line.now), c.args.watch.now) c.loop.counter c.loop.quiet (c.loop.station, (g.L.Line.talk c.loop.line, g.L.Line.transmissions c.loop.line), c.loop.watch) c.loop.invariant.turns
+    hears_quiet c.args.patience g.W.Observer.saw_receiver (c.args.station.now, (g.L.Line.talk c.args.line.now, g.L.Line.transmissions c.args.line.now), c.args.watch.now) c.loop.counter c.loop.quiet (c.loop.station, (g.L.Line.talk c.loop.line, g.L.Line.transmissions c.loop.line), c.loop.watch) c.loop.invariant.turns
     (c.hear_keep_and_speak.new.station, (g.L.Line.talk c.hear_keep_and_speak.new.line, g.L.Line.transmissions c.hear_keep_and_speak.new.line), c.hear_keep_and_speak.new.watch) c.in_ok-hear_keep_and_speak.ensures.turn c.quiet_after-quiet.result (search rules) (search rules)
 
 pub returns-then-quiet-patience-clause-kept : goal.returns-then-quiet-patience-clause-kept
@@ -47,11 +47,11 @@ returns-then-quiet-patience-clause-kept g c =
 
 pub loop-preserved : goal.loop-preserved
 loop-preserved g c = record {
-  turns = hears_on c.args.patience g.W.Watch.saw_receiver (c.args.station.now, (g.L.Line.talk c.args.line.now, g.L.Line.transmissions c.args.line.now), c.args.watch.now) c.loop.counter c.loop.quiet (c.loop.station, (g.L.Line.talk c.loop.line, g.L.Line.transmissions c.loop.line), c.loop.watch) c.loop.invariant.turns
+  turns = hears_on c.args.patience g.W.Observer.saw_receiver (c.args.station.now, (g.L.Line.talk c.args.line.now, g.L.Line.transmissions c.args.line.now), c.args.watch.now) c.loop.counter c.loop.quiet (c.loop.station, (g.L.Line.talk c.loop.line, g.L.Line.transmissions c.loop.line), c.loop.watch) c.loop.invariant.turns
       (c.hear_keep_and_speak.new.station, (g.L.Line.talk c.hear_keep_and_speak.new.line, g.L.Line.transmissions c.hear_keep_and_speak.new.line), c.hear_keep_and_speak.new.watch) c.in_ok-hear_keep_and_speak.ensures.turn c.quiet_after-quiet.result (search rules) (search rules);
   kept = goes_on_twice c.args.keeper.now c.loop.keeper c.hear_keep_and_speak.new.keeper c.args.station.now.jobs c.loop.station.jobs c.hear_keep_and_speak.new.station.jobs
       (g.S.Store.files c.args.store.now) (g.S.Store.files c.loop.store) (g.S.Store.files c.hear_keep_and_speak.new.store) c.loop.invariant.kept c.in_ok-hear_keep_and_speak.ensures.kept;
 }
 
 pub returns-clause-heard : goal.returns-clause-heard
-returns-clause-heard g c = hears_long c.args.patience g.W.Watch.saw_receiver (c.args.station.now, (g.L.Line.talk c.args.line.now, g.L.Line.transmissions c.args.line.now), c.args.watch.now) c.loop.counter c.loop.quiet (c.loop.station, (g.L.Line.talk c.loop.line, g.L.Line.transmissions c.loop.line), c.loop.watch) c.loop.invariant.turns (search rules)
+returns-clause-heard g c = hears_long c.args.patience g.W.Observer.saw_receiver (c.args.station.now, (g.L.Line.talk c.args.line.now, g.L.Line.transmissions c.args.line.now), c.args.watch.now) c.loop.counter c.loop.quiet (c.loop.station, (g.L.Line.talk c.loop.line, g.L.Line.transmissions c.loop.line), c.loop.watch) c.loop.invariant.turns (search rules)

@@ -6,5 +6,5 @@ use Rattle.rje_sockets.proofs.one_way.take_turns.Given as goal
 
 abbrev pub invariant-loop : goal.invariant-loop
 invariant-loop g l =
-    (turns : List Spoken) × Turns (λ _. BothTurn g.W.Watch.saw_both) (l.initial.sender, l.initial.receiver, l.initial.watch) turns (l.sender, l.receiver, l.watch)
+    (turns : List Spoken) × Turns (λ _. BothTurn g.W.Observer.saw_both) (l.initial.sender, l.initial.receiver, l.initial.watch) turns (l.sender, l.receiver, l.watch)
     × (length (map unhindered turns) ≡ l.counter)

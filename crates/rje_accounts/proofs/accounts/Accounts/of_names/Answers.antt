@@ -1,6 +1,6 @@
 use Rattle.std.proofs.Common.{◌∙◌, ℕ, List, subst, rules}
 use Rattle.std.specs.Prelude.{IsPermutation}
-use Rattle.std.proofs.lemmas.List.Sorted.{IsNonDecreasingBy-from_sort_by_key}
+use Rattle.std.proofs.lemmas.List.Sorted.{IsNonDecreasingBy-from_sort, IsNonDecreasingBy-from_sort_by_key}
 use Rattle.rje_settle.specs.declared.promise.Promise.{Promise}
 use Rattle.rje_settle.specs.declared.receipt.Receipt.{Receipt}
 use Rattle.rje_accounts.specs.Accounts.{IsHighest}
@@ -14,4 +14,5 @@ returns-clause-accounts c = λ all sorted. record {
   promises = subst (λ (l : List Promise). IsPermutation l c.sort_by_key.new.self.items) sorted.promises c.sort_by_key.ensures.permutation;
   in_order = IsNonDecreasingBy-from_sort_by_key (λ (p : Promise). p.receipt.kept) _ c.in_ok-sort_by_key.ensures.sorted (λ a r q k. search rules);
   come = subst (λ (l : List ℕ). IsPermutation l c.sort.new.self.items) sorted.come c.sort.ensures.permutation;
+  come_in_order = IsNonDecreasingBy-from_sort (λ (number : ℕ). number) _ c.in_ok-sort.ensures.sorted;
 }

@@ -29,7 +29,7 @@ returns-clause-status g c =
     let held : HeldSoFar = (c.args.marker, c.args.keeper, g.S.Store.files c.args.store.now) in
     let holding : HeldSoFar = (c.exchange_all-left.new.marker, c.exchange_all-left.new.keeper, g.S.Store.files c.exchange_all-left.new.store) in
     let exchanges : IfOk c.exchange_all-left.result (λ l. ExchangesTo c.args.patience l c.args.station was c.exchange_all-left.new.station is) =
-    IfOk-weaker c.exchange_all-left.result _ _ (λ l. exchanges_unseen c.args.patience g.W.Watch.saw_sender g.W.Watch.saw_receiver l c.args.station c.exchange_all-left.new.station was is c.args.watch.now c.exchange_all-left.new.watch) c.exchange_all-left.ensures.left in
+    IfOk-weaker c.exchange_all-left.result _ _ (λ l. exchanges_unseen c.args.patience g.W.Observer.saw_sender g.W.Observer.saw_receiver l c.args.station c.exchange_all-left.new.station was is c.args.watch.now c.exchange_all-left.new.watch) c.exchange_all-left.ensures.left in
     let idle : c.is_idle-idle.result ≡ is_idle (length c.args.station.sender.jobs) c.exchange_all-left.new.station.receiver.jobs = search rules in
     let told : MatchResult c.left_after.result (λ l. IsOkAnd c.map-ending.result (λ ending. ending ≡ ending_of_both (outcome_of c.exchange_all-left.new.station.sender)
     (is_idle (length c.args.station.sender.jobs) c.exchange_all-left.new.station.receiver.jobs) l)) (λ e. c.map-ending.result ≡ Err e) =
@@ -48,7 +48,7 @@ returns-clause-exchanged g c =
     let held : HeldSoFar = (c.args.marker, c.args.keeper, g.S.Store.files c.args.store.now) in
     let holding : HeldSoFar = (c.exchange_all-left.new.marker, c.exchange_all-left.new.keeper, g.S.Store.files c.exchange_all-left.new.store) in
     let exchanges : IfOk c.exchange_all-left.result (λ l. ExchangesTo c.args.patience l c.args.station was c.exchange_all-left.new.station is) =
-    IfOk-weaker c.exchange_all-left.result _ _ (λ l. exchanges_unseen c.args.patience g.W.Watch.saw_sender g.W.Watch.saw_receiver l c.args.station c.exchange_all-left.new.station was is c.args.watch.now c.exchange_all-left.new.watch) c.exchange_all-left.ensures.left in
+    IfOk-weaker c.exchange_all-left.result _ _ (λ l. exchanges_unseen c.args.patience g.W.Observer.saw_sender g.W.Observer.saw_receiver l c.args.station c.exchange_all-left.new.station was is c.args.watch.now c.exchange_all-left.new.watch) c.exchange_all-left.ensures.left in
     let idle : c.is_idle-idle.result ≡ is_idle (length c.args.station.sender.jobs) c.exchange_all-left.new.station.receiver.jobs = search rules in
     let told : MatchResult c.left_after.result (λ l. IsOkAnd c.map-ending.result (λ ending. ending ≡ ending_of_both (outcome_of c.exchange_all-left.new.station.sender)
     (is_idle (length c.args.station.sender.jobs) c.exchange_all-left.new.station.receiver.jobs) l)) (λ e. c.map-ending.result ≡ Err e) =
@@ -78,7 +78,7 @@ returns-clause-files g c =
     let held : HeldSoFar = (c.args.marker, c.args.keeper, g.S.Store.files c.args.store.now) in
     let holding : HeldSoFar = (c.exchange_all-left.new.marker, c.exchange_all-left.new.keeper, g.S.Store.files c.exchange_all-left.new.store) in
     let exchanges : IfOk c.exchange_all-left.result (λ l. ExchangesTo c.args.patience l c.args.station was c.exchange_all-left.new.station is) =
-    IfOk-weaker c.exchange_all-left.result _ _ (λ l. exchanges_unseen c.args.patience g.W.Watch.saw_sender g.W.Watch.saw_receiver l c.args.station c.exchange_all-left.new.station was is c.args.watch.now c.exchange_all-left.new.watch) c.exchange_all-left.ensures.left in
+    IfOk-weaker c.exchange_all-left.result _ _ (λ l. exchanges_unseen c.args.patience g.W.Observer.saw_sender g.W.Observer.saw_receiver l c.args.station c.exchange_all-left.new.station was is c.args.watch.now c.exchange_all-left.new.watch) c.exchange_all-left.ensures.left in
     let station = c.exchange_all-left.new.station in
     let marker = c.exchange_all-left.new.marker in
     let mid = g.S.Store.files c.exchange_all-left.new.store in
@@ -96,7 +96,7 @@ returns-clause-names g c =
     let held : HeldSoFar = (c.args.marker, c.args.keeper, g.S.Store.files c.args.store.now) in
     let holding : HeldSoFar = (c.exchange_all-left.new.marker, c.exchange_all-left.new.keeper, g.S.Store.files c.exchange_all-left.new.store) in
     let exchanges : IfOk c.exchange_all-left.result (λ l. ExchangesTo c.args.patience l c.args.station was c.exchange_all-left.new.station is) =
-    IfOk-weaker c.exchange_all-left.result _ _ (λ l. exchanges_unseen c.args.patience g.W.Watch.saw_sender g.W.Watch.saw_receiver l c.args.station c.exchange_all-left.new.station was is c.args.watch.now c.exchange_all-left.new.watch) c.exchange_all-left.ensures.left in
+    IfOk-weaker c.exchange_all-left.result _ _ (λ l. exchanges_unseen c.args.patience g.W.Observer.saw_sender g.W.Observer.saw_receiver l c.args.station c.exchange_all-left.new.station was is c.args.watch.now c.exchange_all-left.new.watch) c.exchange_all-left.ensures.left in
     let idle : c.is_idle-idle.result ≡ is_idle (length c.args.station.sender.jobs) c.exchange_all-left.new.station.receiver.jobs = search rules in
     let told : MatchResult c.left_after.result (λ l. IsOkAnd c.map-ending.result (λ ending. ending ≡ ending_of_both (outcome_of c.exchange_all-left.new.station.sender)
     (is_idle (length c.args.station.sender.jobs) c.exchange_all-left.new.station.receiver.jobs) l)) (λ e. c.map-ending.result ≡ Err e) =

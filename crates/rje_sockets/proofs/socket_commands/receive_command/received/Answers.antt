@@ -36,8 +36,8 @@ returns-clause-received g c front files opened same =
     let P : Ending → Type 0 = λ ending. Receives c.args.patience ending c.args.file.into (was, files, g.O.Write.contents c.args.out.now) (is, made, g.O.Write.contents c.put-printed.new.out) in
     ok_unless_refused c.unless_refused.result c.map-ending.result P c.unless_refused.ensures.ending
     (ends_well c.map-ending.result c.left_after.result left written c.put-printed.result ending_of_left P c.left_after.ensures.left c.map-ending.ensures.cases c.map-ending.ensures.variant
-    (receives c.args.patience g.W.Watch.saw_receiver left written c.put-printed.result was is c.args.watch.now c.receive_all-left.new.watch c.args.file.into files made (g.O.Write.contents c.args.out.now) (g.O.Write.contents c.put-printed.new.out) station
-    (subst (λ (s : Receiving). IfOk left (λ l. Leaves c.args.patience g.W.Watch.saw_receiver l (s, was, c.args.watch.now) (station, is, c.receive_all-left.new.watch))) start c.receive_all-left.ensures.left)
+    (receives c.args.patience g.W.Observer.saw_receiver left written c.put-printed.result was is c.args.watch.now c.receive_all-left.new.watch c.args.file.into files made (g.O.Write.contents c.args.out.now) (g.O.Write.contents c.put-printed.new.out) station
+    (subst (λ (s : Receiving). IfOk left (λ l. Leaves c.args.patience g.W.Observer.saw_receiver l (s, was, c.args.watch.now) (station, is, c.receive_all-left.new.watch))) start c.receive_all-left.ensures.left)
     (subst (λ (x : KeptFile). IfOk left (λ _. OnOk written (MakesJobFile station.jobs x.into files made))) c.new-keeper.ensures.file
     (made_at_end written front keeper c.receive_all-left.new.keeper station files looked
     (g.S.Store.files c.receive_all-left.new.store) made left
@@ -81,9 +81,9 @@ returns-clause-kept g c front files opened same =
     let was : LineTells = (g.L.Line.talk c.args.line.now, g.L.Line.transmissions c.args.line.now) in
     let is : LineTells = (g.L.Line.talk c.receive_all-left.new.line, g.L.Line.transmissions c.receive_all-left.new.line) in
     subst (λ (x : KeptFile). IfSome files (λ _. KeepsAnswered x.into files made was.1 is.1)) c.new-keeper.ensures.file
-    (received_kept c.args.patience g.W.Watch.saw_receiver written front keeper looked station files made was is c.args.watch.now c.receive_all-left.new.watch last kept left
+    (received_kept c.args.patience g.W.Observer.saw_receiver written front keeper looked station files made was is c.args.watch.now c.receive_all-left.new.watch last kept left
     (subst (λ (x : KeptFile). IsOpened front x files) (sym c.new-keeper.ensures.file) opened) c.new-keeper.ensures.none same
-    (subst (λ (s : Receiving). IfOk left (λ l. Leaves c.args.patience g.W.Watch.saw_receiver l (s, was, c.args.watch.now) (station, is, c.receive_all-left.new.watch))) start c.receive_all-left.ensures.left)
+    (subst (λ (s : Receiving). IfOk left (λ l. Leaves c.args.patience g.W.Observer.saw_receiver l (s, was, c.args.watch.now) (station, is, c.receive_all-left.new.watch))) start c.receive_all-left.ensures.left)
     (subst (λ (s : Receiving). OnOk left (GoesOnKeeping keeper last s.jobs station.jobs looked kept)) start c.receive_all-left.ensures.kept)
     (subst (λ (s : Receiving). IfErr left (BreaksOff s station (keeper, was.1, looked) (last, is.1, kept))) start c.receive_all-left.ensures.broken)
     (rw c.take.ensures at c.keep_rest-written.ensures.file) (search rules) (search rules))

@@ -48,7 +48,7 @@ returns-in_err-marked-clause-count g c =
     let new = c.send_all-sent.new.marker in
     let station = c.send_all-sent.new.station in
     counted_alone {Y = ℕ} (Ok c.in_ok-sent.field-0) (Err c.in_err-marked.field-0.0) old new c.args.station.now station f mid made (rw c.in_ok-sent.was at c.send_all-sent.ensures.marked) tt c.send_all-sent.ensures.count
-    (counted_over g.W.Watch.saw_sender (c.args.station.now, (g.L.Line.talk c.args.line.now, g.L.Line.transmissions c.args.line.now), c.args.watch.now) (station, (g.L.Line.talk c.send_all-sent.new.line, g.L.Line.transmissions c.send_all-sent.new.line), c.send_all-sent.new.watch)
+    (counted_over g.W.Observer.saw_sender (c.args.station.now, (g.L.Line.talk c.args.line.now, g.L.Line.transmissions c.args.line.now), c.args.watch.now) (station, (g.L.Line.talk c.send_all-sent.new.line, g.L.Line.transmissions c.send_all-sent.new.line), c.send_all-sent.new.watch)
     (rw c.in_ok-sent.was at c.send_all-sent.ensures.took)) tt tt c.in_err-marked.ensures.same
 
 pub returns-in_err-printed-clause-count : goal.returns-in_err-printed-clause-count
@@ -61,7 +61,7 @@ returns-in_err-printed-clause-count g c =
     let station = c.send_all-sent.new.station in
     let sets : MarksSent new.file.items station.counted new.name.now mid made = rw c.counted-counted.ensures at c.in_ok-marked.ensures.marked in
     counted_alone (Ok c.in_ok-sent.field-0) (Ok c.in_ok-marked.field-0) old new c.args.station.now station f mid made (rw c.in_ok-sent.was at c.send_all-sent.ensures.marked) tt c.send_all-sent.ensures.count
-    (counted_over g.W.Watch.saw_sender (c.args.station.now, (g.L.Line.talk c.args.line.now, g.L.Line.transmissions c.args.line.now), c.args.watch.now) (station, (g.L.Line.talk c.send_all-sent.new.line, g.L.Line.transmissions c.send_all-sent.new.line), c.send_all-sent.new.watch)
+    (counted_over g.W.Observer.saw_sender (c.args.station.now, (g.L.Line.talk c.args.line.now, g.L.Line.transmissions c.args.line.now), c.args.watch.now) (station, (g.L.Line.talk c.send_all-sent.new.line, g.L.Line.transmissions c.send_all-sent.new.line), c.send_all-sent.new.watch)
     (rw c.in_ok-sent.was at c.send_all-sent.ensures.took)) tt sets tt
 
 pub returns-clause-count : goal.returns-clause-count
@@ -74,7 +74,7 @@ returns-clause-count g c =
     let station = c.send_all-sent.new.station in
     let sets : MarksSent new.file.items station.counted new.name.now mid made = rw c.counted-counted.ensures at c.in_ok-marked.ensures.marked in
     counted_alone (Ok c.in_ok-sent.field-0) (Ok c.in_ok-marked.field-0) old new c.args.station.now station f mid made (rw c.in_ok-sent.was at c.send_all-sent.ensures.marked) tt c.send_all-sent.ensures.count
-    (counted_over g.W.Watch.saw_sender (c.args.station.now, (g.L.Line.talk c.args.line.now, g.L.Line.transmissions c.args.line.now), c.args.watch.now) (station, (g.L.Line.talk c.send_all-sent.new.line, g.L.Line.transmissions c.send_all-sent.new.line), c.send_all-sent.new.watch)
+    (counted_over g.W.Observer.saw_sender (c.args.station.now, (g.L.Line.talk c.args.line.now, g.L.Line.transmissions c.args.line.now), c.args.watch.now) (station, (g.L.Line.talk c.send_all-sent.new.line, g.L.Line.transmissions c.send_all-sent.new.line), c.send_all-sent.new.watch)
     (rw c.in_ok-sent.was at c.send_all-sent.ensures.took)) tt sets tt
 
 pub returns-clause-printed : goal.returns-clause-printed

@@ -1,5 +1,5 @@
 use Rattle.std.proofs.Common.{◌≡◌, ◌∙◌, false, sym, string_bytes}
-use Rattle.rje_spool.specs.declared.given_file.Place.{Place}
+use Rattle.rje_spool.specs.declared.given_file.Standing.{Standing}
 use Rattle.rje_spool.specs.GivenFile.{HasSecondName, IsDoubted}
 use Rattle.rje_spool.specs.GivenFiles.{HasBeenCounted, is_last_of}
 use Rattle.rje_spool.proofs.GivenFiles.{of_found_err, of_found_ok}
@@ -13,7 +13,7 @@ returns-in-Some-clause-sent g c told =
 
 pub returns-in-Some-clause-ready : goal.returns-in-Some-clause-ready
 returns-in-Some-clause-ready g c =
-    of_found_ok c.was_counted.result c.args.job (λ file now. is_last_of c.args.job file ≡ false → HasSecondName file.place → now.place ≡ Place.Ready)
+    of_found_ok c.was_counted.result c.args.job (λ file now. is_last_of c.args.job file ≡ false → HasSecondName file.place → now.place ≡ Standing.Ready)
     c.args.self.now.files.items c.in-Some.place c.index_mut.result.now c.was_counted.new.self
     (sym c.place_of.ensures ∙ c.in-Some.is) c.index_mut.ensures.value c.was_counted.ensures.ready
 

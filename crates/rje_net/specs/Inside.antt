@@ -1,0 +1,2 @@
+-- What private functions tell; no promise rests on it.
+pub mod Reading

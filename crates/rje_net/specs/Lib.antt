@@ -1,0 +1,5 @@
+pub mod LineCause
+pub mod Words
+pub mod Hearing
+pub mod Streams
+pub mod Inside
