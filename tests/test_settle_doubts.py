@@ -114,15 +114,15 @@ class Replaced(SettlingCase):
 
     def test_as_it_is_counted(self):
         """The name is taken away when the job is counted."""
-        self.pair_that_stops("rename 1")
+        self.pair_that_stops("rename 2")
         self.far.put("d.deck", ["OLD"])
         self.replaces("d.deck")
         self.goes_on("OLD", "NEW")
 
     def test_by_a_receipt(self):
         """The name is taken away when a receipt says that a job came, which the operator had put back."""
-        # (of first.deck, of d.deck as it is in doubt, of d.deck by the receipt)
-        self.pair_that_stops("rename 3")
+        # (each of two files is renamed as it is promised, and its name taken away so; the fifth is by the receipt)
+        self.pair_that_stops("rename 5")
         self.sends()
         self.doubts("answer")
         os.rename(self.far.at("doubt", "d.deck"), self.far.at("out", "d.deck"))

@@ -101,7 +101,7 @@ class Moments(StationCase):
         third, at = self.at("third"), self.at("twice", "out")
         self.write("third", b"THIRD\n")
         station = self.replaced_at_the_rename("twice", f"exchange {at}/x.deck {third} {at}/.x.deck.taken-0")
-        self.true(waits_for(lambda: station.names("out") == ["x.2.deck", "x.deck"], 15), lambda: f"twice: out/ has {os.listdir(at)}")
+        self.true(waits_for(lambda: station.names("out") == ["x.2.deck", "x.deck"], 40), lambda: f"twice: out/ has {os.listdir(at)}")
         self.equal(file_text(station, "out", "x.2.deck"), "NEW\n", "twice: the second deck")
         self.equal(file_text(station, "out", "x.deck"), "THIRD\n", "twice: the third deck")
         said = "out/.x.deck.taken-0 is out/x.2.deck now: another file has its name"
@@ -113,7 +113,7 @@ class Moments(StationCase):
         """A deck that takes the name of one that was counted, and that can't be given it back at once, has it back within some seconds; nothing is told of
         the one that was counted."""
         station = self.replaced_at_the_rename("hidden", "fail link 4")
-        self.true(waits_for(lambda: station.names("out") == ["x.deck"], 15), lambda: f"hidden: out/ has {os.listdir(station.at('out'))}")
+        self.true(waits_for(lambda: station.names("out") == ["x.deck"], 40), lambda: f"hidden: out/ has {os.listdir(station.at('out'))}")
         self.equal(file_text(station, "out", "x.deck"), "NEW\n", "hidden: the second deck")
         self.tells_nothing_wrong("hidden", station)
         station.kill()
