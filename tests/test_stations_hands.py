@@ -258,13 +258,15 @@ class FullDisk(StationCase):
         peer.says(text_of([b"\xC8\xC9"]))
         self.true(peer.is_hung_up(), "due: a job that can't be kept is acknowledged to an end that is called")
         peer.close()
-        self.true(waits_for(lambda: has_logged(station, "STOPPED RECEIVING")), lambda: f"due: it told {told_by(station)}")
+        self.true(waits_for(lambda: has_logged(station, "in: entity not found")), lambda: f"due: it told {told_by(station)}")
+        # (it notes when it may call again once the connection is over, which no line tells)
+        time.sleep(2)
         self.sets_clock(3700)
         self.check(door.takes_call(2) and "due: with a disk that takes nothing it calls")
         os.rename(station.at("in.away"), station.at("in"))
         self.sets_clock(3720)
         self.true(waits_for(lambda: has_logged(station, "receiving again: a job can be kept")), lambda: f"due: it told {told_by(station)}")
-        self.true(door.takes_call(5), lambda: f"due: it doesn't call, and told {told_by(station)}")
+        self.true(door.takes_call(20), lambda: f"due: it doesn't call, and told {told_by(station)}")
         station.kill()
 
     def test_no_log(self):
