@@ -98,6 +98,14 @@ class Words(Case):
             first = ended.told.split("\n")[0][: len(f"error: {why}")]
             self.equal((ended.status, ended.out, first), (2, b"", f"error: {why}"), f"$ {ended.command}")
 
+    def test_printed(self):
+        """A word that isn't taken is printed without what a terminal would do: each control character is a question mark, except a line's end."""
+        for words in (["x\x1b[31m\u202ey"], ["show", "--job", "\x9b1\x07", "a.job"], ["show", "--\x1b]0;y\x07"]):
+            ended = self.rje(*words)
+            odd = [character for character in ended.told if character != "\n" and not character.isprintable()]
+            self.equal((ended.status, odd), (2, []), f"{ended.told!r}")
+            self.true("?" in ended.told, lambda: f"{ended.told!r}")
+
     def test_help(self):
         """Help for a command, asked for either way."""
         self.prints(self.rje("cards", "--help").out, "help", "cards")

@@ -68,18 +68,18 @@ class CrateCase(Case):
 
 
 class Files(CrateCase):
-    def test_worked_files(self):
-        self.all_pass("worked_files")
+    def test_tests_of_files(self):
+        self.all_pass("tests_files")
 
 
 class Runs(CrateCase):
-    def test_worked_runs(self):
-        self.all_pass("worked_runs")
+    def test_tests_of_runs(self):
+        self.all_pass("tests_runs")
 
 
 class Stations(CrateCase):
-    def test_worked_stations(self):
-        self.all_pass("worked_stations")
+    def test_tests_of_stations(self):
+        self.all_pass("tests_stations")
 
 
 class Crates(Case):
@@ -88,7 +88,7 @@ class Crates(Case):
     def test_none_is_missing(self):
         """Each crate with such tests has a class here."""
         crates = [it for it in os.listdir(os.path.join(ROOT, "crates")) if os.path.exists(os.path.join(ROOT, "crates", it, "src/tests/refusals.rt"))]
-        self.equal(sorted(crates), ["worked_files", "worked_runs", "worked_stations"], "the crates whose tests refuse growths")
+        self.equal(sorted(crates), ["tests_files", "tests_runs", "tests_stations"], "the crates whose tests refuse growths")
 
 
 ENDING = "counted 1 of 1 jobs\nhanded 1 jobs, 1 whole\noutcome done\n"

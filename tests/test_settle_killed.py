@@ -25,8 +25,8 @@ FILES, KILLS, SEED = (int(word) for word in os.environ.get("SETTLE_STORM", "20,1
 IS_WHOLE = os.environ.get("SETTLE") == "all"
 ENDINGS = (".deck", ".printer.deck", ".punch.deck", ".transparent.deck", ".job")
 WORDS = ("--settle", "--patience", "8")
-# How many seconds all may take at most, on a machine that does much else.
-LIMIT = 90
+# For how many seconds nothing may change before all is done, and how many all may take, on a machine that does much else, with a slow disk.
+LIMIT, LONGEST = 90, 900
 
 
 def jobs_of(name, lines):
@@ -72,6 +72,15 @@ class Killed(StationCase):
     def both_done(self, both):
         return all(not station.names(place) for station in both for place in ("out", "doubt"))
 
+    def waits_while_it_goes_on(self, is_done, both):
+        """Waits until this is so, for as long as files go from one folder of theirs to another."""
+        until, last, seen = time.monotonic() + LONGEST, time.monotonic(), None
+        while not is_done() and time.monotonic() < until and time.monotonic() - last < LIMIT:
+            now = [station.names(place) for station in both for place in ("out", "doubt", "sent", "in")]
+            if now != seen:
+                last, seen = time.monotonic(), now
+            time.sleep(0.2)
+
     def has_all_of(self, station, came, of):
         """What was put out at one station came at the other one, each job once and whole, and nothing else; and it is all in sent/."""
         put = sorted(job for name, lines in station.decks.items() for job in jobs_of(name, lines))
@@ -87,7 +96,7 @@ class Killed(StationCase):
         left = [f"{place}/{name}" for place in ("out", "doubt", "refused") for name in station.names(place)]
         if left:
             faults.append(f"left {left[:5]}")
-        return self.check(faults and f"{of}: {os.path.basename(station.folder)}: {'; '.join(faults)}; it told {[line for line in told_in(station) if 'ettle' in line or 'AGREE' in line or 'COUNTED' in line][-5:]}")
+        return self.check(faults and f"{of}: {os.path.basename(station.folder)}: {'; '.join(faults)}; it told {told_in(station)[-12:]}")
 
 
 class Storm(Killed):
@@ -123,7 +132,7 @@ class Storm(Killed):
             for station in killed:
                 station.start()
         line.calm = True
-        waits_for(lambda: self.both_done(both), LIMIT + FILES, 0.2)
+        self.waits_while_it_goes_on(lambda: self.both_done(both), both)
         # (what is done once no job is left: a receipt, and what is made of it)
         waits_for(lambda: all(not [name for name in station.names("settle") if name.startswith("out-")] for station in both), LIMIT, 0.2)
         line.end()

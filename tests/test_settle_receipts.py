@@ -239,6 +239,44 @@ class Taken(PeerCase):
         self.equal(file_text(self.near, "sent", "a.2.deck"), "NEW\n", "the deck that went second")
 
 
+class OutOfStep(PeerCase):
+    """An answer comes after a transmission was given up."""
+
+    seconds = 12
+
+    def given_up(self, *answers):
+        """Of two decks; with these answers to its bid and to its blocks, before it is given up."""
+        self.listens(decks=("a.deck", "b.deck"))
+        peer = self.calls_near()
+        self.true(peer.hears(ENQ), "it doesn't bid")
+        for answer in answers:
+            peer.says(answer)
+            hears_block(peer)
+        self.true(peer.hears(EOT), "it doesn't give up")
+        peer.says(ACK1 if len(answers) == 1 else ACK0)
+        self.tells(self.near, "line failed: answers out of step")
+        peer.close()
+
+    def goes(self, receipt, jobs):
+        """On the next connection, with this receipt, so many jobs go, and then both decks are in sent/."""
+        peer = self.calls_near(receipt)
+        self.takes(peer, jobs)
+        self.true(waits_for(lambda: self.near.names("sent") == ["a.deck", "b.deck"]), lambda: f"sent/ has {self.near.names('sent')}")
+        self.equal(self.near.names("out") + self.near.names("doubt"), [], "what is left")
+
+    def test_bid(self):
+        """Nothing went out: no receipt would tell of what was in doubt then."""
+        self.given_up()
+        self.equal(self.near.names("out"), ["a.deck", "b.deck"], "what lies ready")
+        self.goes(A_RECEIPT, 2)
+
+    def test_first(self):
+        """The first job was out: the next receipt tells that it came."""
+        self.given_up(ACK0)
+        self.equal((self.near.names("out"), self.near.names("doubt")), (["b.deck"], ["a.deck"]), "what lies ready, and what is in doubt")
+        self.goes(self.all_kept(), 1)
+
+
 class Kept(PeerCase):
     """What comes and counts."""
 

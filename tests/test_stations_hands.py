@@ -29,6 +29,30 @@ class HandCase(StationCase):
 class Hands(HandCase):
     seconds = 8
 
+    def test_no_folder(self):
+        """What is no folder and has the name of one is named where the station begins."""
+        for name in ("doubt", "in"):
+            station = self.station(f"no-{name}", "--to", "127.0.0.1:1")
+            open(station.at(name), "w").close()
+            ended = self.rje("station", station.folder, *station.words)
+            self.equal((ended.status, ended.told.split("\n")[0]), (3, f"rje: {station.folder}: {name}: not a directory"), f"{name}: how it ended")
+
+    def test_hidden_name_of_none(self):
+        """What has a hidden name that no file in out/ could have had stays where it is."""
+        door = Door()
+        self.addCleanup(door.socket.close)
+        station = self.station("none", "--to", door.address, "--every", "60")
+        os.makedirs(station.at("out"))
+        names = ["...taken-2", "..taken-1", "....taken-3"]
+        for name in names:
+            open(station.at("out", name), "w").close()
+        station.start()
+        door.takes_call().close()
+        self.true(waits_for(lambda: any("hung up" in line for line in told_by(station))), lambda: f"none: it told {told_by(station)}")
+        self.equal(sorted(os.listdir(station.at("out"))), sorted(names), "none: what is in out/")
+        self.check([line for line in told_by(station) if "taken" in line])
+        station.kill()
+
     def test_replaced_before_it_is_refused(self):
         """A file that takes the name of one that can't be sent, once that was read, isn't put aside in its place: it goes."""
         door = Door()
@@ -153,7 +177,38 @@ class Held(HandCase):
 
 
 class OutOfStep(HandCase):
-    seconds = 3
+    seconds = 12
+
+    def out_of_step(self, name, answers):
+        """A station with two decks, which gives its transmission up; its peer's answers to so many blocks, and one that comes after EOT."""
+        door, station = self.calls(name, "--every", "1", decks=("a.deck", "b.deck"))
+        peer = door.takes_call()
+        self.true(peer and peer.hears(ENQ), f"{name}: it doesn't bid")
+        for answer in answers:
+            peer.says(answer)
+            hears_block(peer)
+        self.true(peer.hears(EOT), f"{name}: it doesn't give up")
+        peer.says(ACK1 if len(answers) == 1 else ACK0)
+        told = waits_for(lambda: "line failed: answers out of step" in told_by(station))
+        self.true(told, lambda: f"{name}: it told {told_by(station)}")
+        peer.close()
+        return door, station
+
+    def test_bid(self):
+        """A late answer to a bid that was given up: nothing went out, so nothing is in doubt, and both decks go on the next connection."""
+        door, station = self.out_of_step("bid", ())
+        self.equal((station.names("out"), station.names("doubt")), (["a.deck", "b.deck"], []), "bid: out/ and doubt/")
+        peer = door.takes_call()
+        self.true(peer and peer.hears(ENQ), "bid: it doesn't bid again")
+        self.equal(peer.takes(), 2, "bid: how many jobs go")
+        peer.close()
+        station.kill()
+
+    def test_first(self):
+        """The same where the first of two jobs was out: it alone is in doubt."""
+        _, station = self.out_of_step("first", (ACK0,))
+        self.equal((station.names("out"), station.names("doubt")), (["b.deck"], ["a.deck"]), "first: out/ and doubt/")
+        station.kill()
 
     def test_not_doubted(self):
         """An answer that comes once a station is drained, where doubt/ is no folder any more: that a job which may be lost isn't there is told."""

@@ -49,8 +49,8 @@ class Moments(StationCase):
 
     def test_replaced_before_its_name_goes(self):
         """A deck that takes the name of one that was counted, just before that name is taken away, stays."""
-        # (.rje-0.part, the name in doubt/, the one in out/)
-        station, peer = self.stops("counted", "stop unlink 3", ["OLD"])
+        # (the name by which it is read, the one by which it is tried, the one in doubt/, the one in out/)
+        station, peer = self.stops("counted", "stop unlink 4", ["OLD"])
         self.true(peer.hears(ENQ), "counted: it doesn't bid")
         peer.says(ACK0)
         hears_block(peer)
@@ -62,7 +62,7 @@ class Moments(StationCase):
 
     def test_replaced_before_it_is_in_doubt(self):
         """The same of one that may have arrived."""
-        station, peer = self.stops("doubt", "stop unlink 2", ["OLD"])
+        station, peer = self.stops("doubt", "stop unlink 3", ["OLD"])
         self.true(peer.hears(ENQ), "doubt: it doesn't bid")
         peer.says(ACK0)
         hears_block(peer)
@@ -74,7 +74,7 @@ class Moments(StationCase):
 
     def test_replaced_before_it_is_put_aside(self):
         """The same of one that can't be sent, just before it is put aside, and just before its name is taken away."""
-        for name, order in (("aside", "stop link 2"), ("gone", "stop unlink 2")):
+        for name, order in (("tried", "stop link 2"), ("aside", "stop link 3"), ("gone", "stop unlink 3")):
             station, _ = self.stops(name, order, ["\t"])
             self.replaces(name, station)
             self.is_ready(name, station)
@@ -112,26 +112,26 @@ class Moments(StationCase):
     def test_left_hidden(self):
         """A deck that takes the name of one that was counted, and that can't be given it back at once, has it back within some seconds; nothing is told of
         the one that was counted."""
-        station = self.replaced_at_the_rename("hidden", "fail link 4")
+        station = self.replaced_at_the_rename("hidden", "fail link 5")
         self.true(waits_for(lambda: station.names("out") == ["x.deck"], 40), lambda: f"hidden: out/ has {os.listdir(station.at('out'))}")
         self.equal(file_text(station, "out", "x.deck"), "NEW\n", "hidden: the second deck")
         self.tells_nothing_wrong("hidden", station)
         station.kill()
 
-    def test_left_in_doubt(self):
-        """Of a deck that gets a name in doubt/ in the place of another one, and loses its own to a third, it is told that it is there."""
-        for name in ("doubt", "refused"):
-            at, third = self.at(name, "out", "x.deck"), self.at(f"third-{name}")
-            order = f"stop link 2;exchange {at} {third} {self.at(name, name)}"
-            station, peer = self.stops(name, order, ["OLD"] if name == "doubt" else ["\t"])
+    def test_killed_as_it_is_tried(self):
+        """A deck that takes the name of one that is to get a name in doubt/ or refused/, just before that, lies ready too where the station is killed then and
+        started again."""
+        for name, line in (("doubt", "OLD"), ("refused", "\t")):
+            station, peer = self.stops(name, "stop link 2;kill unlink 2", [line])
             if name == "doubt":
                 self.true(peer.hears(ENQ), "doubt: it doesn't bid")
                 peer.says(ACK0)
-            self.replaces(name, station, lambda: self.write(f"third-{name}", b"THIRD\n"))
-            said = f"replaced meanwhile, and one of its name is in {name}/ now"
-            self.true(waits_for(lambda: any(said in line for line in told_by(station))), lambda: f"{name}: it told {told_by(station)}")
-            self.equal(file_text(station, name, "x.deck"), "NEW\n", f"{name}: the second deck")
-            self.equal(file_text(station, "out", "x.deck"), "THIRD\n", f"{name}: the third deck")
+            self.replaces(name, station)
+            station.process.wait(20)
+            station.environment = None
+            station.start()
+            self.is_ready(name, station)
+            self.equal(os.listdir(station.at(name)), [], f"{name}: what has a name there")
             station.kill()
 
 

@@ -12,7 +12,7 @@ pub fn form_is_made()
     ensures { FormIsMade }
 {}
 
-/// Of what is said of a frame just that is made which was written, but for the pad.
+/// Of what is said of a frame just that is made which was written, except the pad.
 pub fn said_comes_back()
     ensures { SaidComesBack }
 {}

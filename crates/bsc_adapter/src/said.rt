@@ -14,7 +14,7 @@ pub fn for_adapter(written: &[u8]) -> &[u8]
     middle(written, behind(written))
 }
 
-/// How many bytes of a written transmission stand behind what is said of it: its pad, and the check of a block.
+/// How many bytes of a written transmission come after what is said of it: its pad, and the check of a block.
 fn behind(written: &[u8]) -> usize
     ensures { result ≡ behind_of written.now }
 {

@@ -8,7 +8,7 @@ use arrayvec::ArrayVec;
 use bsc_check::Check;
 use bsc_codes::{DLE, ENQ, ETB, ETX, PAD, STX, SYN};
 
-/// The pad that may stand in front of a transmission, as FF may.
+/// The pad that may come before a transmission, as FF may.
 const LEADING_PAD: u8 = 0x55;
 
 /// Takes one byte, and gives what is made of it.

@@ -39,10 +39,10 @@ pub const BLANK: u8 = 0x40;
 /// The pad that is written after a transmission.
 pub const PAD: u8 = 0xFF;
 
-/// The bytes that control the line, and so can't stand in normal text.
+/// The bytes that control the line, which normal text can't have.
 const CONTROL: [u8; 10] = [SOH, STX, ETX, DLE, ITB, ETB, ENQ, SYN, EOT, NAK];
 
-/// Whether a byte may stand in normal text: every byte may but the ten that control the line.
+/// Whether normal text may have a byte: any but the ten that control the line.
 pub fn is_normal_text(byte: u8) -> bool
     ensures { IsTrue result ↔ (Contains control_bytes byte → ⊥) }
 {

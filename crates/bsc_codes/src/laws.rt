@@ -1,7 +1,7 @@
 //! What the named bytes and the code page promise beyond the calls.
 ghost use Rattle.bsc_codes.specs.Laws.{CodePageIsInverse, PrintableHaveCodes, NamedBytesHaveTheirCodes};
 
-/// A character's code stands for that character and for no other, and the characters that have one are the 95 from the blank to the tilde.
+/// A character's code is of that character and of no other, and the characters that have one are the 95 from the blank to the tilde.
 pub fn code_page_is_inverse()
     ensures inverse { CodePageIsInverse }
     ensures printable { PrintableHaveCodes }

@@ -1,4 +1,4 @@
-//! What a listener did with a piece of bytes, but for a block's text.
+//! What a listener did with a piece of bytes, except a block's text.
 use crate::FrameKind;
 
 /// What a listener did with a piece of bytes, where the text of a block is in its caller's room.

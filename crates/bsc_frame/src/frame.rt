@@ -24,7 +24,7 @@ pub(crate) const ACK1: u8 = 0x61;
 pub(crate) const WACK: u8 = 0x6B;
 /// The second byte of RVI.
 pub(crate) const RVI: u8 = 0x7C;
-/// The pad that may stand in front of a transmission, as FF may.
+/// The pad that may come before a transmission, as FF may.
 pub(crate) const LEADING_PAD: u8 = 0x55;
 
 /// What a transmission says.

@@ -9,10 +9,10 @@ ghost use Rattle.bsc_frame.specs.Inside.Listening.NormalText.{is_normal_text};
 
 use bsc_codes::{BLANK, ESC, IGS, IRS};
 
-/// How many bytes are looked at together.
+/// How many bytes are checked together.
 const PIECE: usize = 32;
 
-/// Whether a byte may stand in normal text.
+/// Whether normal text may have a byte.
 pub(crate) fn is_normal(byte: u8) -> bool
     ensures means { MatchBool result (IsNormalText byte) (Contains control_bytes byte) }
     ensures test { result ≡ is_normal_text byte }

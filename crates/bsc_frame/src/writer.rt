@@ -22,7 +22,7 @@ use bsc_codes::{Block, Closing, DLE, ENQ, EOT, NAK, PAD, STX, SYN};
 pub const MAX_TRANSMISSION: usize = 1033;
 
 /// Writes one transmission of the frame, without pads in front and without fill, and one pad FF; on Ok the buffer holds just that, whatever
-/// it held before. A block of normal text is refused for its first byte that can't stand there, an Abort always; nothing else is.
+/// it held before. A block of normal text is refused for its first byte that normal text can't have, an Abort always; nothing else is.
 pub fn write_frame(
     frame: &Frame,
     out: &mut ArrayVec<u8, MAX_TRANSMISSION>,

@@ -11,7 +11,7 @@ pub struct SoundTurn {
     pub down: SoundFate,
     /// A block that arrives finds no memory at the receiver.
     pub refused: bool,
-    /// What the receiver's operator wants.
+    /// What the receiver's operator asks for.
     pub wish: Wish,
     /// The sender's next block has to wait.
     pub pause: bool,

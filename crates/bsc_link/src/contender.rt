@@ -1,4 +1,4 @@
-//! Contention: two stations that both have jobs, on a line that carries one transmission at a time (own; that a primary doesn't give way
+//! Contention: two stations that both have jobs, on a line that carries one transmission at a time (own; that a primary doesn't yield
 //! and a secondary does is IBM GA27-3004).
 //!
 //! | Call | Place | What follows |

@@ -5,6 +5,6 @@
 pub enum Rank {
     /// Its bid stands.
     Primary,
-    /// It gives way, and its bid begins anew.
+    /// It yields, and its bid begins anew.
     Secondary,
 }

@@ -66,7 +66,7 @@ impl Receiver {
         }
     }
 
-    /// One hearing: what was heard, and what the operator wants.
+    /// One hearing: what was heard, and what the operator asks for.
     pub fn hear(&mut self, sound: Sound, wish: Wish) -> ReceiverNews
         ensures state { self.new ≡ receiver_hears self.old sound wish }
         ensures news { result ≡ receiver_news self.old sound wish }

@@ -1,6 +1,6 @@
-//! What a receiver's operator wants.
+//! What a receiver's operator asks for.
 
-/// What the receiver's operator wants at a hearing.
+/// What the receiver's operator asks for at a hearing.
 #[derive(Clone, Copy, Debug, PartialEq, Eq)]
 pub enum Wish {
     /// Go on.

@@ -8,7 +8,7 @@ use Rattle.bsc_link.specs.Sender.{say_in}
 use Rattle.bsc_history.specs.declared.spoken_turn.SpokenTurn.{SpokenTurn}
 use Rattle.bsc_history.specs.Fate.{MayBeHeardAs}
 use Rattle.bsc_history.specs.History.{History}
-use Rattle.rje_answers.specs.declared.event.Event.{Event}
+use Rattle.rje_answers.specs.declared.link_event.LinkEvent.{LinkEvent}
 use Rattle.rje_answers.specs.Awaiting.{given_at, has_answer, kept_after, said_in}
 use Rattle.rje_answers.specs.Law.{AllHappen, Answer, GivesOwnAnswers, kept_of, things}
 use Rattle.rje_jobs.specs.declared.job.Job.{Job}
@@ -125,7 +125,7 @@ record NotEnded (gives_way : Bool) (past : List AtSender) (s : Sending) : Type 0
   live : s.over ≡ false → AllAnswered past
   awaiting : has_answer (kept_of gives_way (told past)).said ≡ true → AllAnswered past
 
-not_ended_event : (gives_way : Bool) (past : List AtSender) (e : Event Answer) (s s' : Sending) → NotEnded gives_way past s
+not_ended_event : (gives_way : Bool) (past : List AtSender) (e : LinkEvent Answer) (s s' : Sending) → NotEnded gives_way past s
     → Listens (given_at e (kept_of gives_way (told past))) s s' → Settles e (kept_of gives_way (told past)) EndsWith
     → (s'.over ≡ false → AllAnswered past) × (has_answer (kept_after e (kept_of gives_way (told past))).said ≡ true → AllAnswered past)
 not_ended_event gives_way past e s s' p listens (inl (none, same)) = (
@@ -146,10 +146,10 @@ not_ended gives_way jobs (Says f ∷ past) s (near, went, speaks) = elim (ends_o
       record { live = λ live. (asks.0, before); awaiting = λ awaits. (asks.0, before) }
 ]
 not_ended gives_way jobs (Comes a ∷ past) s (near, went, listens) =
-    let both = not_ended_event gives_way past (Event.Answer a) near s (not_ended gives_way jobs past near went) listens (answer_settles a _) in
+    let both = not_ended_event gives_way past (LinkEvent.Answer a) near s (not_ended gives_way jobs past near went) listens (answer_settles a _) in
     record { live = both.0; awaiting = both.1 }
 not_ended gives_way jobs (InVain rest ∷ past) s (near, went, listens) =
-    let both = not_ended_event gives_way past (Event.Vain rest) near s (not_ended gives_way jobs past near went) listens (vain_settles rest _) in
+    let both = not_ended_event gives_way past (LinkEvent.Vain rest) near s (not_ended gives_way jobs past near went) listens (vain_settles rest _) in
     record { live = both.0; awaiting = both.1 }
 
 module _ (own : GivesOwnAnswers) (jobs : List Job) (gives_way : Bool) where
@@ -166,14 +166,14 @@ module _ (own : GivesOwnAnswers) (jobs : List Job) (gives_way : Bool) where
       after_saying AnyFrame (Taken jobs) (taken_grows jobs) f past near s far r speaks tt (all_said gives_way past all.1) ((not_ended gives_way jobs past near went).live speaks.live)
       received up down (λ far r received up down. (stand_far past near far r went received up down all.1).settled all.0)
   stand_far (Comes a ∷ past) s far r (near, went, listens) received up down all =
-      after_event AnyFrame (Taken jobs) (taken_grows jobs) (Event.Answer a) (kept_of gives_way (told past)) (things (told past)) near s far r listens
+      after_event AnyFrame (Taken jobs) (taken_grows jobs) (LinkEvent.Answer a) (kept_of gives_way (told past)) (things (told past)) near s far r listens
       (stand_far past near far r went received (up_before_answer a past far up) down.1 all.1)
-      (λ b is. own gives_way (told past) (Event.Answer a) b all is) (λ b is. answer_came (λ x. IsReplied x far) gives_way (told past) a b is down.0)
+      (λ b is. own gives_way (told past) (LinkEvent.Answer a) b all is) (λ b is. answer_came (λ x. IsReplied x far) gives_way (told past) a b is down.0)
       (answer_settles a (kept_of gives_way (told past)))
   stand_far (InVain rest ∷ past) s far r (near, went, listens) received up down all =
-      after_event AnyFrame (Taken jobs) (taken_grows jobs) (Event.Vain rest) (kept_of gives_way (told past)) (things (told past)) near s far r listens
+      after_event AnyFrame (Taken jobs) (taken_grows jobs) (LinkEvent.Vain rest) (kept_of gives_way (told past)) (things (told past)) near s far r listens
       (stand_far past near far r went received (up_before_vain rest past far up) down all.1)
-      (λ b is. own gives_way (told past) (Event.Vain rest) b all is) (λ b is. vain_came (λ x. IsReplied x far) gives_way (told past) rest b is (all_came past far down))
+      (λ b is. own gives_way (told past) (LinkEvent.Vain rest) b all is) (λ b is. vain_came (λ x. IsReplied x far) gives_way (told past) rest b is (all_came past far down))
       (vain_settles rest (kept_of gives_way (told past)))
 
   pub stand : (near : List AtSender) (s : Sending) (far : List AtReceiver) (r : Receiving) → SenderWent gives_way (first_sending jobs) near s

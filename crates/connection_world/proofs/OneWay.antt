@@ -10,7 +10,7 @@ use Rattle.bsc_link.specs.declared.say.Say.{Say}
 use Rattle.bsc_link.specs.declared.sound.Sound.{Sound}
 use Rattle.bsc_link.specs.Contender.{ContenderState}
 use Rattle.bsc_link.specs.Sender.{sender_yielded}
-use Rattle.rje_answers.specs.declared.event.Event.{Event}
+use Rattle.rje_answers.specs.declared.link_event.LinkEvent.{LinkEvent}
 use Rattle.rje_answers.specs.declared.given.Given.{Given}
 use Rattle.rje_answers.specs.declared.said.Said.{Said}
 use Rattle.rje_answers.specs.Awaiting.{Kept, given_at, has_answer, kept_after, said_in}
@@ -140,20 +140,20 @@ receives rank jobs (Others e ∷ past) s (mid, went, hears) = (mid.receiver, rec
 -- ---- The events at its end.
 
 -- of a hearing of the other station
-reply_counts : (reply : Option Reply) (past : Events) → things (elim reply [ None ↦ past | Some x ↦ Event.Says Said.Reply ∷ past ]) ≡ things past
+reply_counts : (reply : Option Reply) (past : Events) → things (elim reply [ None ↦ past | Some x ↦ LinkEvent.Says Said.Reply ∷ past ]) ≡ things past
 reply_counts None past = refl
 reply_counts (Some x) past = refl
 
-reply_happened : (gives : Bool) (reply : Option Reply) (past : Events) → AllHappen gives (elim reply [ None ↦ past | Some x ↦ Event.Says Said.Reply ∷ past ]) → AllHappen gives past
+reply_happened : (gives : Bool) (reply : Option Reply) (past : Events) → AllHappen gives (elim reply [ None ↦ past | Some x ↦ LinkEvent.Says Said.Reply ∷ past ]) → AllHappen gives past
 reply_happened gives None past all = all
 reply_happened gives (Some x) past all = all.1
 
-reply_came : (P : Answer → Type 0) (reply : Option Reply) (past : Events) → AllCame P past → AllCame P (elim reply [ None ↦ past | Some x ↦ Event.Says Said.Reply ∷ past ])
+reply_came : (P : Answer → Type 0) (reply : Option Reply) (past : Events) → AllCame P past → AllCame P (elim reply [ None ↦ past | Some x ↦ LinkEvent.Says Said.Reply ∷ past ])
 reply_came P None past came = came
 reply_came P (Some x) past came = came
 
 reply_idle : (gives : Bool) (reply : Option Reply) (past : Events) → has_answer (kept_of gives past).said ≡ false
-    → has_answer (kept_of gives (elim reply [ None ↦ past | Some x ↦ Event.Says Said.Reply ∷ past ])).said ≡ false
+    → has_answer (kept_of gives (elim reply [ None ↦ past | Some x ↦ LinkEvent.Says Said.Reply ∷ past ])).said ≡ false
 reply_idle gives None past idle = idle
 reply_idle gives (Some x) past idle = refl
 
@@ -192,18 +192,18 @@ all_said gives (Others e ∷ past) all = all_said gives past (reply_happened giv
 abbrev Awaits : Rank → List AtEnd → Bool
 Awaits rank past = has_answer (kept_by rank past).said
 
-abbrev AnySettles : Event Answer → Kept Answer → Type 0
+abbrev AnySettles : LinkEvent Answer → Kept Answer → Type 0
 AnySettles e k =
     ((given_at e k ≡ Given.Nothing) × (has_answer (kept_after e k).said ≡ has_answer k.said))
     ⊎ ((has_answer k.said ≡ true) × (has_answer (kept_after e k).said ≡ false))
 
-any_settles : (e : Event Answer) (k : Kept Answer) (Ends : Given Answer → Type 0) → Settles e k Ends → AnySettles e k
+any_settles : (e : LinkEvent Answer) (k : Kept Answer) (Ends : Given Answer → Type 0) → Settles e k Ends → AnySettles e k
 any_settles e k Ends (inl none) = inl none
 any_settles e k Ends (inr some) = inr (some.0, some.1)
 
 crossing_settles : (c : Crossing) (k : Kept Answer) → AnySettles (event_of c) k
-crossing_settles Bid k = any_settles Event.Bid k (λ given. given ≡ Given.Bid) (bid_settles k)
-crossing_settles End k = any_settles Event.End k (λ given. given ≡ Given.End) (end_settles k)
+crossing_settles Bid k = any_settles LinkEvent.Bid k (λ given. given ≡ Given.Bid) (bid_settles k)
+crossing_settles End k = any_settles LinkEvent.End k (λ given. given ≡ Given.End) (end_settles k)
 crossing_settles Text k = inl (refl, refl)
 
 -- what it said is still due, and EOT wasn't said
@@ -213,7 +213,7 @@ record Open (rank : Rank) (past : List AtEnd) (s : Contending) : Type 0 where
   awaiting : Awaits rank past ≡ true → AllAnswered (own_of past)
 
 -- after an event
-module _ (rank : Rank) (past : List AtEnd) (e : Event Answer) (s s' : Contending) (p : Open rank past s) (listens : ListensOwn (given_at e (kept_by rank past)) s s') where
+module _ (rank : Rank) (past : List AtEnd) (e : LinkEvent Answer) (s s' : Contending) (p : Open rank past s) (listens : ListensOwn (given_at e (kept_by rank past)) s s') where
   record OpenAfter : Type 0 where
     due : has_answer (kept_after e (kept_by rank past)).said ≡ true → due_at s' ≢ Say.Nothing
     live : s'.sender.over ≡ false → AllAnswered (own_of past)
@@ -266,10 +266,10 @@ stays_open rank jobs (Own (Says f) ∷ past) s (mid, went, speaks) =
     over own ends some live =
         true≢false (sym (ap is_end (says_at mid (due_at mid) refl some ∙ ends)) ∙ sym (ap (λ x. x.over) own.state) ∙ live)
 stays_open rank jobs (Own (Comes a) ∷ past) s (mid, went, listens) =
-    let p = open_event rank past (Event.Answer a) mid s (stays_open rank jobs past mid went) listens (any_settles (Event.Answer a) (kept_by rank past) EndsWith (answer_settles a (kept_by rank past))) in
+    let p = open_event rank past (LinkEvent.Answer a) mid s (stays_open rank jobs past mid went) listens (any_settles (LinkEvent.Answer a) (kept_by rank past) EndsWith (answer_settles a (kept_by rank past))) in
     record { due = p.due; live = p.live; awaiting = p.awaiting }
 stays_open rank jobs (Own (InVain rest) ∷ past) s (mid, went, listens) =
-    let p = open_event rank past (Event.Vain rest) mid s (stays_open rank jobs past mid went) listens (any_settles (Event.Vain rest) (kept_by rank past) EndsWith (vain_settles rest (kept_by rank past))) in
+    let p = open_event rank past (LinkEvent.Vain rest) mid s (stays_open rank jobs past mid went) listens (any_settles (LinkEvent.Vain rest) (kept_by rank past) EndsWith (vain_settles rest (kept_by rank past))) in
     record { due = p.due; live = p.live; awaiting = p.awaiting }
 stays_open rank jobs (Crosses c ∷ past) s (mid, went, listens) =
     let p = open_event rank past (event_of c) mid s (stays_open rank jobs past mid went) listens (crossing_settles c (kept_by rank past)) in
@@ -318,7 +318,7 @@ module _ (own : GivesOwnAnswers) (at_most : GetsAtMostOneMore) (knows : KnowsBef
       }
 
   -- after an event
-  module _ (e : Event Answer) (past : List AtEnd) (s s' : Contending) (far : List AtReceiver) (r : Receiving) (went : EndWent rank jobs past s)
+  module _ (e : LinkEvent Answer) (past : List AtEnd) (s s' : Contending) (far : List AtReceiver) (r : Receiving) (went : EndWent rank jobs past s)
       (listens : ListensOwn (given_at e (kept_by rank past)) s s') (before : Both past s far r) where
     record BothAfter : Type 0 where
       stand : Stand (Stood Spoken jobs) (has_answer (kept_after e (kept_by rank past)).said) (things (told (own_of past))) s'.sender far r
@@ -384,24 +384,24 @@ module _ (own : GivesOwnAnswers) (at_most : GetsAtMostOneMore) (knows : KnowsBef
       (λ far r received up down. (both past mid far r went spoken.1 received up down all.1).stand.settled all.0)
   both (Own (Comes a) ∷ past) s far r (mid, went, listens) spoken received up down all =
       let before = both past mid far r went spoken received (up_before_answer a (own_of past) far up) down.1 all.1 in
-      let after = both_heard (Event.Answer a) past mid s far r went listens before
-      (λ b is. own (yields rank) (told_both past) (Event.Answer a) b all is) (λ b is. answer_came (λ x. IsReplied x far) (yields rank) (told_both past) a b is down.0)
+      let after = both_heard (LinkEvent.Answer a) past mid s far r went listens before
+      (λ b is. own (yields rank) (told_both past) (LinkEvent.Answer a) b all is) (λ b is. answer_came (λ x. IsReplied x far) (yields rank) (told_both past) a b is down.0)
       (answer_settles a (kept_by rank past)) in
       record { stand = after.stand; ended = after.ended }
   both (Own (InVain rest) ∷ past) s far r (mid, went, listens) spoken received up down all =
       let before = both past mid far r went spoken received (up_before_vain rest (own_of past) far up) down all.1 in
-      let after = both_heard (Event.Vain rest) past mid s far r went listens before
-      (λ b is. own (yields rank) (told_both past) (Event.Vain rest) b all is) (λ b is. vain_came (λ x. IsReplied x far) (yields rank) (told_both past) rest b is (all_came past far down))
+      let after = both_heard (LinkEvent.Vain rest) past mid s far r went listens before
+      (λ b is. own (yields rank) (told_both past) (LinkEvent.Vain rest) b all is) (λ b is. vain_came (λ x. IsReplied x far) (yields rank) (told_both past) rest b is (all_came past far down))
       (vain_settles rest (kept_by rank past)) in
       record { stand = after.stand; ended = after.ended }
   both (Crosses Bid ∷ past) s far r (mid, went, listens) spoken received up down all =
       let before = both past mid far r went spoken received up down all.1 in
-      let after = both_crossed Event.Bid past mid s far r went listens before Sound.Quiet Given.Bid (λ e. cc) refl
+      let after = both_crossed LinkEvent.Bid past mid s far r went listens before Sound.Quiet Given.Bid (λ e. cc) refl
       (λ awaited pause. before.stand.awaiting awaited Sound.Quiet pause (inl refl)) (bid_settles (kept_by rank past)) in
       record { stand = after.stand; ended = after.ended }
   both (Crosses End ∷ past) s far r (mid, went, listens) spoken received up down all =
       let before = both past mid far r went spoken received up down all.1 in
-      let after = both_crossed Event.End past mid s far r went listens before Sound.Eot Given.End (λ e. cc) refl before.ended (end_settles (kept_by rank past)) in
+      let after = both_crossed LinkEvent.End past mid s far r went listens before Sound.Eot Given.End (λ e. cc) refl before.ended (end_settles (kept_by rank past)) in
       record { stand = after.stand; ended = after.ended }
   both (Crosses Text ∷ past) s far r (mid, went, listens) spoken received up down all =
       let before = both past mid far r went spoken received up down all.1 in

@@ -22,7 +22,7 @@ use Rattle.bsc_history.specs.SayingRule.{saying}
 use Rattle.bsc_history.proofs.ForRuns.{comes, saying-speaks}
 use Rattle.bsc_history.proofs.Saying.{IsAfterGrant}
 use Rattle.bsc_history.proofs.Within.{more-left}
-use Rattle.rje_answers.specs.declared.event.Event.{Event}
+use Rattle.rje_answers.specs.declared.link_event.LinkEvent.{LinkEvent}
 use Rattle.rje_answers.specs.declared.given.Given.{Given}
 use Rattle.rje_answers.specs.declared.rest.Rest.{Rest}
 use Rattle.rje_answers.specs.declared.said.Said.{Said}
@@ -126,35 +126,35 @@ module _ (said : Said) (asks : has_answer said ≡ true) (k : Kept Answer) where
   spoke = after_saying said k
 
   -- an answer counts at once
-  at_once : (a : Answer) → k.is_late ≡ false → (given_at (Event.Answer a) spoke ≡ Given.Answer a) × (has_answer (kept_after (Event.Answer a) spoke).said ≡ false)
+  at_once : (a : Answer) → k.is_late ≡ false → (given_at (LinkEvent.Answer a) spoke ≡ Given.Answer a) × (has_answer (kept_after (LinkEvent.Answer a) spoke).said ≡ false)
   at_once a on_time = (rw (asks, on_time) refl, rw (asks, on_time) refl)
 
   -- a late one is held, and counts with the fourth hearing that brings no more
   abbrev held : Answer → ℕ → Kept Answer
   held a n = record spoke { vain = n; held = Some a }
 
-  held_first : (a : Answer) → k.is_late ≡ true → (given_at (Event.Answer a) spoke ≡ Given.Nothing) × (kept_after (Event.Answer a) spoke ≡ held a 0)
+  held_first : (a : Answer) → k.is_late ≡ true → (given_at (LinkEvent.Answer a) spoke ≡ Given.Nothing) × (kept_after (LinkEvent.Answer a) spoke ≡ held a 0)
   held_first a late = (rw (asks, late) refl, rw (asks, late) refl)
 
   abbrev HeldOn : Answer → ℕ → Type 0
-  HeldOn a n = (given_at (Event.Vain Rest.Quiet) (held a n) ≡ Given.Nothing) × (kept_after (Event.Vain Rest.Quiet) (held a n) ≡ held a (n + 1))
+  HeldOn a n = (given_at (LinkEvent.Vain Rest.Quiet) (held a n) ≡ Given.Nothing) × (kept_after (LinkEvent.Vain Rest.Quiet) (held a n) ≡ held a (n + 1))
 
   held_on : (a : Answer) → HeldOn a 0 × HeldOn a 1 × HeldOn a 2
   held_on a = ((rw asks refl, rw asks refl), (rw asks refl, rw asks refl), (rw asks refl, rw asks refl))
 
-  held_last : (a : Answer) → (given_at (Event.Vain Rest.Quiet) (held a 3) ≡ Given.Answer a) × (has_answer (kept_after (Event.Vain Rest.Quiet) (held a 3)).said ≡ false)
+  held_last : (a : Answer) → (given_at (LinkEvent.Vain Rest.Quiet) (held a 3) ≡ Given.Answer a) × (has_answer (kept_after (LinkEvent.Vain Rest.Quiet) (held a 3)).said ≡ false)
   held_last a = (rw asks refl, rw asks refl)
 
   -- two hearings are in vain
   abbrev waited : Rest → Kept Answer
   waited rest = record spoke { vain = 1; rest = rest }
 
-  vain_first : (rest : Rest) → (given_at (Event.Vain rest) spoke ≡ Given.Nothing) × (kept_after (Event.Vain rest) spoke ≡ waited rest)
+  vain_first : (rest : Rest) → (given_at (LinkEvent.Vain rest) spoke ≡ Given.Nothing) × (kept_after (LinkEvent.Vain rest) spoke ≡ waited rest)
   vain_first Rest.Quiet = (rw asks refl, rw asks refl)
   vain_first Rest.Noise = (rw asks refl, rw asks refl)
   vain_first Rest.Bad = (rw asks refl, rw asks refl)
 
-  vain_last : (rest : Rest) → (given_at (Event.Vain rest) (waited rest) ≡ Given.InVain rest) × (has_answer (kept_after (Event.Vain rest) (waited rest)).said ≡ false)
+  vain_last : (rest : Rest) → (given_at (LinkEvent.Vain rest) (waited rest) ≡ Given.InVain rest) × (has_answer (kept_after (LinkEvent.Vain rest) (waited rest)).said ≡ false)
   vain_last Rest.Quiet = (rw asks refl, rw asks refl)
   vain_last Rest.Noise = (rw asks refl, rw asks refl)
   vain_last Rest.Bad = (rw asks refl, rw asks refl)
@@ -216,10 +216,10 @@ module _ (jobs : List Job) (gives_way : Bool) (near : List AtSender) (s : Sendin
     abbrev k : Kept Answer
     k = kept_of gives_way (told near)
 
-    abbrev IsGiven : List AtSender → Event Answer → Given Answer → Type 0
+    abbrev IsGiven : List AtSender → LinkEvent Answer → Given Answer → Type 0
     IsGiven past e given = given_at e (kept_of gives_way (told past)) ≡ given
 
-    listens : (past : List AtSender) (e : Event Answer) (given : Given Answer) (s' : Sending) → IsGiven past e given → Listens given (after_speaking s) s'
+    listens : (past : List AtSender) (e : LinkEvent Answer) (given : Given Answer) (s' : Sending) → IsGiven past e given → Listens given (after_speaking s) s'
         → Listens (given_at e (kept_of gives_way (told past))) (after_speaking s) s'
     listens past e given s' is so = subst (λ g. Listens g (after_speaking s) s') (sym is) so
 
@@ -236,7 +236,7 @@ module _ (jobs : List Job) (gives_way : Bool) (near : List AtSender) (s : Sendin
         let step = at_once (said_in f) asks k a on_time in
         record {
           all = Comes a ∷ said_now;
-          went = (after_speaking s, went_now, listens said_now (Event.Answer a) (Given.Answer a) _ step.0 (pause, refl));
+          went = (after_speaking s, went_now, listens said_now (LinkEvent.Answer a) (Given.Answer a) _ step.0 (pause, refl));
           idle = step.1;
           happened = (soon y, (idle, happened));
           in_order = counts;
@@ -250,7 +250,7 @@ module _ (jobs : List Job) (gives_way : Bool) (near : List AtSender) (s : Sendin
     answered_late : (y : Reply) → k.is_late ≡ true → GoesOn jobs gives_way near f (Some y) (after_hearing (after_speaking s) (sound_of_reply (Some y)) pause)
     answered_late y late =
         let a : Answer = record { thing = n; reply = y } in
-        let quiet : Event Answer = Event.Vain Rest.Quiet in
+        let quiet : LinkEvent Answer = LinkEvent.Vain Rest.Quiet in
         let l0 : List AtSender = Comes a ∷ said_now in
         let l1 : List AtSender = InVain Rest.Quiet ∷ l0 in
         let l2 : List AtSender = InVain Rest.Quiet ∷ l1 in
@@ -272,7 +272,7 @@ module _ (jobs : List Job) (gives_way : Bool) (near : List AtSender) (s : Sendin
                 after_speaking s,
                 (
                   after_speaking s,
-                  (after_speaking s, went_now, listens said_now (Event.Answer a) Given.Nothing _ first.0 refl),
+                  (after_speaking s, went_now, listens said_now (LinkEvent.Answer a) Given.Nothing _ first.0 refl),
                   listens l0 quiet Given.Nothing _ (ap (given_at quiet) k0 ∙ on.0.0) refl,
                 ),
                 listens l1 quiet Given.Nothing _ (ap (given_at quiet) k1 ∙ on.1.0) refl,
@@ -304,10 +304,10 @@ module _ (jobs : List Job) (gives_way : Bool) (near : List AtSender) (s : Sendin
           all = InVain rest ∷ l0;
           went = (
             after_speaking s,
-            (after_speaking s, went_now, listens said_now (Event.Vain rest) Given.Nothing _ first.0 refl),
-            listens l0 (Event.Vain rest) (Given.InVain rest) _ (ap (given_at (Event.Vain rest)) k0 ∙ last.0) (pause, refl),
+            (after_speaking s, went_now, listens said_now (LinkEvent.Vain rest) Given.Nothing _ first.0 refl),
+            listens l0 (LinkEvent.Vain rest) (Given.InVain rest) _ (ap (given_at (LinkEvent.Vain rest)) k0 ∙ last.0) (pause, refl),
           );
-          idle = ap (λ x. has_answer (kept_after (Event.Vain rest) x).said) k0 ∙ last.1;
+          idle = ap (λ x. has_answer (kept_after (LinkEvent.Vain rest) x).said) k0 ∙ last.1;
           happened = (tt, (tt, (idle, happened)));
           in_order = let less = counts in omega (arith, less, in_order);
           more = λ _. counts;

@@ -12,7 +12,7 @@ use Rattle.bsc_link.specs.declared.sound.Sound.{Sound}
 use Rattle.bsc_link.specs.declared.wish.Wish.{Wish}
 use Rattle.bsc_link.specs.Sender.{say_in}
 use Rattle.bsc_history.specs.Fate.{MayBeHeardAs, sound_of_reply}
-use Rattle.rje_answers.specs.declared.event.Event.{Event}
+use Rattle.rje_answers.specs.declared.link_event.LinkEvent.{LinkEvent}
 use Rattle.rje_answers.specs.declared.given.Given.{Given}
 use Rattle.rje_answers.specs.declared.rest.Rest.{Rest}
 use Rattle.rje_answers.specs.Awaiting.{Kept, given_at, has_answer, kept_after, said_in}
@@ -173,7 +173,7 @@ pub given_none : (given : Given Answer) (s s' : Sending) → Listens given s s' 
 given_none given s s' listens none = rw none at listens
 
 -- after something came, or a hearing was in vain
-module _ (Spoken : Frame → Sending → Type 0) (T : Sending → Receiving → Type 0) (grows : Grows Spoken T) (e : Event Answer) (k : Kept Answer) (n : ℕ) (s s' : Sending) (far : List AtReceiver) (r : Receiving)
+module _ (Spoken : Frame → Sending → Type 0) (T : Sending → Receiving → Type 0) (grows : Grows Spoken T) (e : LinkEvent Answer) (k : Kept Answer) (n : ℕ) (s s' : Sending) (far : List AtReceiver) (r : Receiving)
     (listens : Listens (given_at e k) s s') (before : Stand T (has_answer k.said) n s far r) where
   pub goes_on : given_at e k ≡ Given.Nothing → (awaits : Bool) → awaits ≡ has_answer k.said → Stand T awaits n s' far r
   goes_on none awaits same =

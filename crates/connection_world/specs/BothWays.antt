@@ -4,7 +4,7 @@ use Rattle.std.specs.Prelude.{◌≡◌, ℕ, Bool, true, false, List, [], ◌�
 use Rattle.std.specs.List.{AllByRecursion}
 use Rattle.bsc_frame.specs.declared.frame.Frame.{Frame}
 use Rattle.bsc_link.specs.declared.rank.Rank.{Rank}
-use Rattle.rje_answers.specs.declared.event.Event.{Event}
+use Rattle.rje_answers.specs.declared.link_event.LinkEvent.{LinkEvent}
 use Rattle.rje_answers.specs.declared.given.Given.{Given}
 use Rattle.rje_answers.specs.declared.said.Said.{Said}
 use Rattle.rje_answers.specs.Awaiting.{Kept, given_at, has_answer}
@@ -43,13 +43,13 @@ others_of (Others e ∷ past) = e ∷ others_of past
 others_of (_ ∷ past) = others_of past
 
 -- the event that this is at the end, which awaits answers: a hearing of the other station is one where it replied
-abbrev pub event_of : Crossing → Event Answer
-event_of Bid = Event.Bid
-event_of End = Event.End
-event_of Text = Event.Text
+abbrev pub event_of : Crossing → LinkEvent Answer
+event_of Bid = LinkEvent.Bid
+event_of End = LinkEvent.End
+event_of Text = LinkEvent.Text
 
 abbrev pub with_reply : OneHearing → Events → Events
-with_reply h past = elim h.reply [ None ↦ past | Some reply ↦ Event.Says Said.Reply ∷ past ]
+with_reply h past = elim h.reply [ None ↦ past | Some reply ↦ LinkEvent.Says Said.Reply ∷ past ]
 
 abbrev pub told_both : List AtEnd → Events
 told_both [] = []
@@ -86,8 +86,8 @@ pub record HearsOther (h : OneHearing) (s s' : Contending) : Type 0 where
 -- what happens next makes this of the station; it hears the other one only where it awaits no answer
 abbrev pub EndGoes : Rank → List AtEnd → AtEnd → Contending → Contending → Type 0
 EndGoes rank past (Own (Says f)) s s' = SpeaksOwn f s s'
-EndGoes rank past (Own (Comes a)) s s' = ListensOwn (given_at (Event.Answer a) (kept_by rank past)) s s'
-EndGoes rank past (Own (InVain rest)) s s' = ListensOwn (given_at (Event.Vain rest) (kept_by rank past)) s s'
+EndGoes rank past (Own (Comes a)) s s' = ListensOwn (given_at (LinkEvent.Answer a) (kept_by rank past)) s s'
+EndGoes rank past (Own (InVain rest)) s s' = ListensOwn (given_at (LinkEvent.Vain rest) (kept_by rank past)) s s'
 EndGoes rank past (Crosses c) s s' = ListensOwn (given_at (event_of c) (kept_by rank past)) s s'
 EndGoes rank past (Others e) s s' = (has_answer (kept_by rank past).said ≡ false) × HearsOther (hearing_of e) s s'
 

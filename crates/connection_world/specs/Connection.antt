@@ -12,7 +12,7 @@ use Rattle.bsc_link.specs.declared.sound.Sound.{Sound}
 use Rattle.bsc_link.specs.declared.wish.Wish.{Wish}
 use Rattle.bsc_link.specs.Sender.{say_in}
 use Rattle.bsc_history.specs.Fate.{MayBeHeardAs, sound_of_reply}
-use Rattle.rje_answers.specs.declared.event.Event.{Event}
+use Rattle.rje_answers.specs.declared.link_event.LinkEvent.{LinkEvent}
 use Rattle.rje_answers.specs.declared.given.Given.{Given}
 use Rattle.rje_answers.specs.declared.rest.Rest.{Rest}
 use Rattle.rje_answers.specs.Awaiting.{given_at, said_in}
@@ -33,10 +33,10 @@ pub data AtSender : Type 0 where
   InVain : Rest → AtSender
 
 -- the event that this is at its end, which awaits the answers
-abbrev pub told_of : AtSender → Event Answer
-told_of (Says f) = Event.Says (said_in f)
-told_of (Comes a) = Event.Answer a
-told_of (InVain rest) = Event.Vain rest
+abbrev pub told_of : AtSender → LinkEvent Answer
+told_of (Says f) = LinkEvent.Says (said_in f)
+told_of (Comes a) = LinkEvent.Answer a
+told_of (InVain rest) = LinkEvent.Vain rest
 
 -- the newest first
 abbrev pub told : List AtSender → Events
@@ -85,8 +85,8 @@ Listens given s s' = (pause : Bool) × (s' ≡ after_hearing s (sound_given give
 -- what happens next makes this of the station: it speaks, or it is given what its end gives after all that happened before
 abbrev pub SenderGoes : Bool → List AtSender → AtSender → Sending → Sending → Type 0
 SenderGoes gives_way past (Says f) s s' = Speaks f s s'
-SenderGoes gives_way past (Comes a) s s' = Listens (given_at (Event.Answer a) (kept_of gives_way (told past))) s s'
-SenderGoes gives_way past (InVain rest) s s' = Listens (given_at (Event.Vain rest) (kept_of gives_way (told past))) s s'
+SenderGoes gives_way past (Comes a) s s' = Listens (given_at (LinkEvent.Answer a) (kept_of gives_way (told past))) s s'
+SenderGoes gives_way past (InVain rest) s s' = Listens (given_at (LinkEvent.Vain rest) (kept_of gives_way (told past))) s s'
 
 -- and so does all of it, the newest first
 abbrev pub SenderWent : Bool → Sending → List AtSender → Sending → Type 0

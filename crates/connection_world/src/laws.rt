@@ -32,8 +32,8 @@ pub fn faithful_turns_may_be_connections()
     stations_keep_history();
 }
 
-/// The headline, over a connection on which each answer that comes does so in time. What the receiving station hands out is a prefix of
-/// the jobs that the sending one was given, and every job that it counts was handed out whole.
+/// The headline, over a connection on which each answer that comes does so in time. What the receiving station delivers is a prefix of
+/// the jobs that the sending one was given, and every job that it counts was delivered whole.
 #[tactic(auto, using(crate::proofs::Headline::headlines))]
 pub fn connections_keep_order()
     ensures in_order { OverConnections (λ counted given handed. AreHandedInOrder given handed) }
@@ -45,7 +45,7 @@ pub fn connections_keep_order()
 }
 
 /// The headline over such a connection, each way of two stations that both have jobs. Whatever comes late, crosses, is lost or damaged:
-/// what each station hands out is a prefix of the jobs that the other one was given, and every job that this one counts was handed out
+/// what each station delivers is a prefix of the jobs that the other one was given, and every job that this one counts was delivered
 /// whole.
 #[tactic(auto, using(crate::proofs::Headline::both_headlines))]
 pub fn exchanges_keep_order()
@@ -60,7 +60,7 @@ pub fn exchanges_keep_order()
     histories_keep_order();
 }
 
-/// More exactly, to the job. Of the jobs of each station the other one hands out whole those that
+/// More exactly, to the job. Of the jobs of each station the other one delivers whole those that
 /// are counted; or one more, the next one, and then the station has said that one's last block, with
 /// as many jobs counted as now.
 pub fn exchanges_hand_out_what_was_said()
@@ -80,7 +80,7 @@ pub fn late_bid_comes_through()
     ensures { LateBidComesThrough }
 {}
 
-/// A worked example of both ways: both ends bid at once, the primary passes over the other's bid, and the secondary gives way; the
+/// A worked example of both ways: both ends bid at once, the primary passes over the other's bid, and the secondary yields; the
 /// primary's job of one block comes, and the secondary is to bid again.
 #[tactic(auto, using(crate::proofs::CrossingBids::crossing_bids_come_through))]
 pub fn crossing_bids_come_through()

@@ -3,8 +3,6 @@ use Rattle.std.proofs.Common.{◌≡◌, refl, sym, ap, ◌∙◌, subst, ℕ, z
 use Rattle.std.proofs.lemmas.Bool.{cases_Bool, eq-eqb, eqb-true, ltb-false, ltb-true, true≢false}
 use Rattle.std.proofs.lemmas.Grind.{common_steps}
 use Rattle.bsc_codes.specs.declared.block.Block.{Block}
-use Rattle.bsc_codes.specs.declared.block.Closing.{Closing}
-use Rattle.bsc_codes.specs.declared.block.Closing.TheVariants.{Etb, Etx}
 use Rattle.bsc_frame.specs.declared.frame.Frame.{Frame}
 use Rattle.bsc_frame.specs.declared.frame.Frame.TheVariants as frame
 use Rattle.bsc_frame.specs.declared.heard.Heard.{Heard}
@@ -28,7 +26,7 @@ use Rattle.rje_jobs.specs.Joined.{ends_job, mode_of_begun, with_records}
 use Rattle.rje_station.specs.Hearing.{sound_heard}
 use Rattle.rje_station.specs.JoinedJobs.{begun_in, with_block, with_read}
 use Rattle.rje_station.specs.Receiving.{Receiving, jobs_after, sound_taken}
-use Rattle.rje_station.specs.Sending.{Sending, after_hearing, counted_after, counted_by}
+use Rattle.rje_station.specs.Sending.{Sending, after_hearing}
 use Rattle.rje_station.specs.Station.{Contending, after_answer, after_other, contender_answered, due_at, lets_in}
 use Rattle.line_world.proofs.Telling.{take_one}
 use Rattle.rje_session.specs.Account.{IsInStep, IsSettled, SettlesRest, ended_of, may_arrive}
@@ -36,7 +34,7 @@ use Rattle.rje_session.specs.Keeping.{AreKept, cutting, keeping, kept_with}
 use Rattle.rje_session.specs.Ledger.{Entry, Kept, KeptCut, MayArrive, Settled}
 use Rattle.rje_session.specs.Outstanding.{ends_with}
 use Rattle.rje_session.specs.Turns.{Carried, announcing, goes_out, is_of_block, settling}
-use Rattle.rje_session.proofs.InStep.{Stays, Steps, first_in_step, none_in_step, others_in_step, own_fault_in_step, settled_none, settled_on, settled_rest}
+use Rattle.rje_session.proofs.LedgerInStep.{Stays, CountsOneAtMost, counts_one, first_in_step, none_in_step, others_in_step, own_fault_in_step, settled_none, settled_on, settled_rest}
 use Rattle.rje_session.proofs.Keeps.{others_kept}
 use Rattle.connection_world.specs.BothWays.{AtEnd, Own, Crosses, Others, EndGoes, EndWent, HearsOther, ListensOwn, SpeaksOwn}
 use Rattle.connection_world.specs.Connection.{AtReceiver, Says, Comes, InVain, OneHearing, hearing_of, sound_given}
@@ -53,32 +51,23 @@ use Rattle.day_world.specs.Passage.{Passage, jobs_of}
 spoken_stays : (f : Frame) (s s' : Contending) → SpeaksOwn f s s' → Stays s.sender s'.sender
 spoken_stays f s s' speaks = let own = speaks_own f s s' speaks in (ap (λ x. x.jobs) own.state, ap (λ x. x.counted) own.state)
 
-by_one : (closing : Closing) (n : ℕ) → (counted_by closing n ≡ n) ⊎ (counted_by closing n ≡ n + 1)
-by_one Etx n = inr refl
-by_one Etb n = inl refl
-
-counts_one : (counts : Bool) (rest : List Block) (n : ℕ) → (counted_after counts rest n ≡ n) ⊎ (counted_after counts rest n ≡ n + 1)
-counts_one false rest n = inl refl
-counts_one true [] n = inl refl
-counts_one true (b ∷ rest) n = by_one b.closing n
-
-own_steps : (say : Say) (s : Contending) (x : Sending) (c : ContenderState) → Steps s.sender x → Steps s.sender (with_own say s x c).sender
+own_steps : (say : Say) (s : Contending) (x : Sending) (c : ContenderState) → CountsOneAtMost s.sender x → CountsOneAtMost s.sender (with_own say s x c).sender
 own_steps Say.Nothing s x c steps = (refl, inl refl)
 own_steps _ s x c steps = steps
 
-answer_steps : (s : Contending) (sound : Sound) (pause : Bool) → Steps s.sender (after_answer s sound pause).sender
+answer_steps : (s : Contending) (sound : Sound) (pause : Bool) → CountsOneAtMost s.sender (after_answer s sound pause).sender
 answer_steps s sound pause =
     own_steps (due_at s) s (after_hearing s.sender sound pause) (contender_answered (due_at s) sound s.contender)
     (refl, counts_one (counts_block (line_for s.sender.core sound pause)) s.sender.rest s.sender.counted)
 
-listened_steps : (given : Given Answer) (s s' : Contending) → ListensOwn given s s' → Steps s.sender s'.sender
-listened_steps Given.Nothing s s' listens = subst (λ (x : Contending). Steps s.sender x.sender) (sym listens) (refl, inl refl)
+listened_steps : (given : Given Answer) (s s' : Contending) → ListensOwn given s s' → CountsOneAtMost s.sender s'.sender
+listened_steps Given.Nothing s s' listens = subst (λ (x : Contending). CountsOneAtMost s.sender x.sender) (sym listens) (refl, inl refl)
 listened_steps (Given.Answer a) s s' listens =
-    subst (λ (x : Contending). Steps s.sender x.sender) (sym listens.1) (answer_steps s (sound_given (Given.Answer a)) listens.0)
-listened_steps Given.Bid s s' listens = subst (λ (x : Contending). Steps s.sender x.sender) (sym listens.1) (answer_steps s (sound_given Given.Bid) listens.0)
-listened_steps Given.End s s' listens = subst (λ (x : Contending). Steps s.sender x.sender) (sym listens.1) (answer_steps s (sound_given Given.End) listens.0)
+    subst (λ (x : Contending). CountsOneAtMost s.sender x.sender) (sym listens.1) (answer_steps s (sound_given (Given.Answer a)) listens.0)
+listened_steps Given.Bid s s' listens = subst (λ (x : Contending). CountsOneAtMost s.sender x.sender) (sym listens.1) (answer_steps s (sound_given Given.Bid) listens.0)
+listened_steps Given.End s s' listens = subst (λ (x : Contending). CountsOneAtMost s.sender x.sender) (sym listens.1) (answer_steps s (sound_given Given.End) listens.0)
 listened_steps (Given.InVain rest) s s' listens =
-    subst (λ (x : Contending). Steps s.sender x.sender) (sym listens.1) (answer_steps s (sound_given (Given.InVain rest)) listens.0)
+    subst (λ (x : Contending). CountsOneAtMost s.sender x.sender) (sym listens.1) (answer_steps s (sound_given (Given.InVain rest)) listens.0)
 
 yield_stays : (s s' : Sending) → MayYield s s' → Stays s s'
 yield_stays s s' (inl is) = (ap (λ x. x.jobs) is, ap (λ x. x.counted) is)
@@ -125,7 +114,7 @@ out_now c ledger goes =
     ap (λ b. may_arrive ((if b then MayArrive c.station.sender.counted ∷ [] else []) ++ ledger) c.station.sender.counted) goes
     ∙ ap (λ b. if b then true else may_arrive ledger c.station.sender.counted) (eq-eqb c.station.sender.counted c.station.sender.counted refl)
 
-answered_in_step : (c c' : Carried) (before after : List Entry) → Steps c.station.sender c'.station.sender
+answered_in_step : (c c' : Carried) (before after : List Entry) → CountsOneAtMost c.station.sender c'.station.sender
     → after ≡ settling c.station.sender.counted c'.station.sender.counted ++ before
     → c'.may_have_come ≡ (c.may_have_come && (c.station.sender.counted == c'.station.sender.counted)) → IsInStep c before → IsInStep c' after
 answered_in_step c c' before after steps is may in_step = record {
@@ -327,7 +316,7 @@ module _ (rank : Rank) (jobs : List Job) (begun : List Entry) where
       kept : AreKept b.kept s'.receiver.jobs
       kept_are : kept_by (answered s s' b).entered ≡ take b.kept s'.receiver.jobs
 
-    steps : Steps s.sender s'.sender
+    steps : CountsOneAtMost s.sender s'.sender
     steps = listened_steps given s s' listens
 
     settled : ledger (answered s s' b) ≡ settling s.sender.counted s'.sender.counted ++ ledger b

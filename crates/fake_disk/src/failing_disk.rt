@@ -2,8 +2,8 @@
 ghost use Rattle.std.specs.Prelude.{[]};
 
 use crate::locking::Locking;
-use rje_folders::{FileIdentity, FolderDisk};
-use rje_stores::{ChangeTime, Disk, FileAccess, FileKind, FileStatus, NewAccess};
+use rje_folder::{FileIdentity, FolderDisk};
+use rje_store::{ChangeTime, Disk, FileAccess, FileKind, FileStatus, NewAccess};
 use std::alloc::Global;
 use std::fs::TryLockError;
 use std::io::{self, Cursor, ErrorKind, Read};

@@ -1,4 +1,4 @@
-//! A disk in memory for the tests of whatever stands on one: it fails at a call that a test names, and can be looked at while it is in use.
+//! A disk in memory for the tests of whatever uses one: it fails at a call that a test names, and can be read while it is in use.
 #![tactic(auto)]
 
 mod failing_disk;

@@ -1,9 +1,9 @@
-//! A disk that is in use, and is looked at meanwhile.
+//! A disk that is in use, and is read meanwhile.
 ghost use Rattle.std.specs.Prelude.{[]};
 
 use crate::failing_disk::{FailingDisk, OpenFile};
-use rje_folders::{FileIdentity, FolderDisk};
-use rje_stores::{Disk, FileStatus, NewAccess};
+use rje_folder::{FileIdentity, FolderDisk};
+use rje_store::{Disk, FileStatus, NewAccess};
 use std::alloc::Global;
 use std::cell::{Ref, RefCell, RefMut};
 use std::fs::TryLockError;
@@ -21,7 +21,7 @@ impl<'a> SharedDisk<'a> {
         SharedDisk { disk }
     }
 
-    /// The disk, to be looked at. One that is in use at the very moment is busy.
+    /// The disk, to be read. One that is in use at the very moment is busy.
     pub fn seen(&self) -> io::Result<Ref<'a, FailingDisk>> {
         self.disk
             .try_borrow()

@@ -33,7 +33,7 @@ pub fn broken_schedules_have_no_conversation()
 }
 
 /// On a clean line, a schedule of good turns alone that has one more than there are blocks, a run without a refusal counts every job and
-/// hands out just the jobs.
+/// delivers just the jobs.
 pub fn clean_line_is_enough()
     ensures enough { CleanLineIsEnough }
 {
@@ -41,7 +41,7 @@ pub fn clean_line_is_enough()
 }
 
 /// On a fair line seven turns for the bid and seven for each block are enough: where each eight neighbouring turns hold two neighbouring
-/// good ones, the receiver wishes nothing and the sender never waits, a run without a refusal counts every job and hands out just the
+/// good ones, the receiver wishes nothing and the sender never waits, a run without a refusal counts every job and delivers just the
 /// jobs.
 pub fn fair_line_is_enough()
     ensures enough { FairLineIsEnough }
@@ -58,8 +58,8 @@ pub fn histories_keep_order()
     cut_reads_back();
 }
 
-/// The headline. Whatever the line loses or damages, the records that a run of jobs hands out are a prefix of those given, in order and
-/// each once, and every job that counts as sent was handed out whole. More exactly: the first jobs are handed out as they were given, as
+/// The headline. Whatever the line loses or damages, the records that a run of jobs delivers are a prefix of those given, in order and
+/// each once, and every job that counts as sent was delivered whole. More exactly: the first jobs are delivered as they were given, as
 /// many as are counted or one more, and after them nothing, or a beginning of the next one that isn't whole.
 pub fn runs_keep_order()
     ensures in_order { OfRuns (λ counted given handed. AreHandedInOrder given handed) }
@@ -70,8 +70,8 @@ pub fn runs_keep_order()
 }
 
 /// The headline, over lines of any kind. Where two new stations take the same turns, and in each of them the line brings what was said and
-/// replied, or nothing, or damage that passes for no block, no EOT and no control sequence, what the receiving station hands out is a
-/// prefix of the jobs that the sending one was given, and every job that it counts was handed out whole.
+/// replied, or nothing, or damage that passes for no block, no EOT and no control sequence, what the receiving station delivers is a
+/// prefix of the jobs that the sending one was given, and every job that it counts was delivered whole.
 pub fn faithful_lines_keep_order()
     ensures in_order { OverFaithfulLines (λ counted given handed. AreHandedInOrder given handed) }
     ensures counted_whole { OverFaithfulLines AreHandedWhole }

@@ -8,7 +8,7 @@ use rje_jobs::Jobs;
 pub struct Report {
     /// The turns, the oldest first.
     pub turns: Vec<Spoken>,
-    /// The jobs that the receiving station hands out. One of which blocks came and no last one stands last, and isn't whole.
+    /// The jobs that the receiving station delivers. One of which blocks came and no last one stands last, and isn't whole.
     pub handed: Jobs,
     /// How many of the jobs given are counted as sent.
     pub counted: usize,

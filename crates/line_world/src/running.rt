@@ -27,10 +27,10 @@ pub fn run(alloc: Global, jobs: &[Job], turns: &[Turn]) -> Result<Report, WorldF
         IsRun jobs.now turns.now report.turns.items report.handed report.counted report.outcome) }
     ensures fit { OnOk result (AllByRecursion JobFits jobs.now) }
 
-    // The headline. Whatever the line loses or damages, the records handed out are a prefix of those given, in order and each once, ..
+    // The headline. Whatever the line loses or damages, the records delivered are a prefix of those given, in order and each once, ..
     ensures in_order { IfOk result (λ report. AreHandedInOrder jobs.now report.handed) }
 
-    // .. and every job that counts as sent was handed out whole.
+    // .. and every job that counts as sent was delivered whole.
     ensures counted_whole { IfOk result
         (λ report. AreHandedWhole report.counted jobs.now report.handed) }
 
@@ -38,7 +38,7 @@ pub fn run(alloc: Global, jobs: &[Job], turns: &[Turn]) -> Result<Report, WorldF
     ensures first_jobs { IfOk result (λ report.
         HandsFirstJobs report.counted jobs.now report.handed) }
 
-    // On a fair line of seven turns for the bid and seven for each block, where no turn is refused, every job is counted and handed out.
+    // On a fair line of seven turns for the bid and seven for each block, where no turn is refused, every job is counted and delivered.
     ensures fair { IfOk result (λ report. IsFair turns.now → turns_for jobs.now ≤ length turns.now
         → AllByRecursion (λ t. t.refused ≡ false) report.turns.items
         → (report.counted ≡ length jobs.now) × (report.handed ≡ jobs.now)) }
@@ -97,7 +97,7 @@ pub fn drive<'a>(
     ensures first_jobs { IfOk result (λ driven.
         HandsFirstJobs driven.sender.counted sender.entry.jobs driven.receiver.jobs) }
 
-    // On a fair line of seven turns for the bid and seven for each block, where no turn is refused, every job is counted and handed out; ..
+    // On a fair line of seven turns for the bid and seven for each block, where no turn is refused, every job is counted and delivered; ..
     ensures fair { IfOk result (λ driven. IsFair turns.now → turns_for sender.entry.jobs
         ≤ length turns.now → AllByRecursion (λ t. t.refused ≡ false) driven.turns.items
         → (driven.sender.counted ≡ length sender.entry.jobs)

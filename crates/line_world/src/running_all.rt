@@ -10,14 +10,14 @@ use rje_station::first_unfit;
 use std::alloc::Global;
 
 /// One transmission of these jobs over each of these schedules: each has new stations, and begins at the first job that none before it
-/// counted. A job that was handed out and not counted is so given again; `handed` tells it each time.
+/// counted. A job that was delivered and not counted is so given again; `handed` tells it each time.
 pub fn run_all(alloc: Global, jobs: &[Job], schedules: &[Vec<Turn>]) -> Result<Series, WorldFault>
     ensures runs { IfOk result (λ series.
         AreRuns jobs.now (map (λ turns. turns.items) schedules.now) series.reports.items) }
     ensures handed { IfOk result (λ series. series.handed ≡ handed_in series.reports.items) }
     ensures counted { IfOk result (λ series. series.counted ≡ counted_in series.reports.items) }
 
-    // The jobs that count as sent are the first of those given. Each was handed out whole, in order and at a place of its own.
+    // The jobs that count as sent are the first of those given. Each was delivered whole, in order and at a place of its own.
     ensures within { IfOk result (λ series. series.counted ≤ length jobs.now) }
     ensures counted_handed { IfOk result
         (λ series. IsSubsequenceOf (take series.counted jobs.now)

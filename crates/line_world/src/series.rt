@@ -10,7 +10,7 @@ use std::alloc::{AllocError, Global};
 pub struct Series {
     /// What each run was, the first one first.
     pub reports: Vec<Report>,
-    /// The jobs that they hand out, one report after another. A job that was handed out and not counted is given again by the next run, and
+    /// The jobs that they deliver, one report after another. A job that was delivered and not counted is given again by the next run, and
     /// so stands here twice.
     pub handed: Jobs,
     /// How many of the jobs given are counted as sent.

@@ -9,7 +9,7 @@ pub struct Turn {
     pub up: Fate,
     /// What the line does to the receiver's reply.
     pub down: Fate,
-    /// What the receiver's operator wants.
+    /// What the receiver's operator asks for.
     pub wish: Wish,
     /// The sender's next block has to wait.
     pub pause: bool,

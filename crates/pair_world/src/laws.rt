@@ -17,7 +17,7 @@ pub fn broken_schedules_have_no_pair_conversation()
 }
 
 /// The headline, each way of two stations that both have jobs. Whatever the line loses or damages, the records of each station's jobs
-/// that a run of the pair hands out are a prefix of those given, in order and each once, and every job that counts as sent was handed out
+/// that a run of the pair delivers are a prefix of those given, in order and each once, and every job that counts as sent was delivered
 /// whole.
 pub fn pair_runs_keep_order()
     ensures in_order { OfPairRuns (λ counted given handed. AreHandedInOrder given handed) }
@@ -27,7 +27,7 @@ pub fn pair_runs_keep_order()
     histories_keep_order();
 }
 
-/// Where the secondary has no jobs, what a run of a pair tells of the primary's is what a run of them over the same turns tells, and of
+/// Where the secondary has no jobs, what a run of a pair reports of the primary's is what a run of them over the same turns reports, and of
 /// the secondary nothing is told.
 pub fn one_way_is_a_run()
     ensures { WithoutDownJobs }

@@ -3,7 +3,7 @@ use bsc_history::Bids;
 use line_world::Turn;
 
 /// One turn of a schedule of two stations that both have jobs: who speaks where both could, and what the line will do. `up` of the turn
-/// is the fate of what is said, `down` that of the reply; where both speak they aren't looked at.
+/// is the fate of what is said, `down` that of the reply; where both speak they aren't used.
 #[derive(Debug, Drop)]
 pub struct PairTurn {
     /// Who speaks where something is due at both.

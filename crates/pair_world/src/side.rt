@@ -5,7 +5,7 @@ use rje_jobs::Jobs;
 /// What became of the jobs of one of two stations.
 #[derive(Drop)]
 pub struct Side {
-    /// Those that the other station hands out. One of which blocks came and no last one stands last, and isn't whole.
+    /// Those that the other station delivers. One of which blocks came and no last one stands last, and isn't whole.
     pub handed: Jobs,
     /// How many of the jobs given are counted as sent.
     pub counted: usize,

@@ -2,9 +2,9 @@
 #![tactic(auto)]
 
 use rje_commands::CommandFault;
+use rje_daemon::station_command;
 use rje_program::{command, is_for_sockets, is_for_station, socket_command};
-use rje_stores::FileStore;
-use rje_workstation::station_command;
+use rje_store::FileStore;
 use std::fs::{File, OpenOptions};
 use std::io::IsTerminal;
 use std::os::fd::AsRawFd;

@@ -1,8 +1,8 @@
 -- Calls, one after another.
 use Rattle.std.proofs.Common.{◌≡◌, ℕ, List, [], ◌∷◌, ◌++◌, Result, Ok, Err, OnOk, refl, sym, ap, subst}
-use Rattle.rje_stores.specs.Disk.{Asked, Call, SyncFolder, call_of}
-use Rattle.rje_stores.specs.Replacing.{Adds, Each}
-use Rattle.rje_stores.specs.Inside.Filling.{AddsSync}
+use Rattle.rje_store.specs.Disk.{Asked, Call, SyncFolder, call_of}
+use Rattle.rje_store.specs.Replacing.{Adds, Each}
+use Rattle.rje_store.specs.Inside.Filling.{AddsSync}
 
 -- to put names on disk is one call more
 pub sync_added : (P : Call → List Asked → Type 0) (path : List ℕ) (a b : List Asked) → P (SyncFolder path) a → AddsSync path a b → Adds P a b

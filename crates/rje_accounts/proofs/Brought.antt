@@ -2,11 +2,11 @@
 use Rattle.std.proofs.Common.{◌≡◌, ◌≢◌, inl, inr, ℕ, List, ◌∷◌, ◌++◌, get_or, true, refl, ◌∙◌, ap, arith}
 use Rattle.std.specs.Prelude.{codes}
 use Rattle.std.proofs.lemmas.List.{append_cancel_left}
-use Rattle.rje_stores.specs.Disk.{Asked, Done, Rename, standing, has_synced_name}
-use Rattle.rje_stores.specs.Inside.Filling.{AddsSync}
-use Rattle.rje_stores.proofs.Replacing.{same_name}
-use Rattle.rje_folders.specs.Moving.{IsMoved}
-use Rattle.rje_folders.proofs.Taken.{other_name, sync_keeps_names, sync_keeps_standing}
+use Rattle.rje_store.specs.Disk.{Asked, Done, Rename, standing, has_synced_name}
+use Rattle.rje_store.specs.Inside.Filling.{AddsSync}
+use Rattle.rje_store.proofs.Replacing.{same_name}
+use Rattle.rje_folder.specs.Moving.{IsMoved}
+use Rattle.rje_folder.proofs.Taken.{other_name, sync_keeps_names, sync_keeps_standing}
 use Rattle.rje_settle.specs.declared.settle_name.SettleName.{SettleName}
 use Rattle.rje_accounts.specs.Paths.{in_path, settle_path}
 

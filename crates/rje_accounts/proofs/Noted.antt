@@ -2,12 +2,12 @@
 use Rattle.std.proofs.Common.{◌≡◌, ◌≢◌, inl, inr, ℕ, List, [], ◌∷◌, length, Some, Result, true, false, refl, sym, ◌∙◌, ap, subst}
 use Rattle.std.specs.Prelude.{bytes_eq}
 use Rattle.std.specs.declared.io.Error.{Error}
-use Rattle.rje_stores.specs.declared.new_access.NewAccess.{NewAccess}
-use Rattle.rje_stores.specs.Disk.{Asked, Call, Done, Refused, Failed, Create, Open, call_of, standing, has_synced_name, seen_as, IsOpened}
-use Rattle.rje_stores.specs.Replacing.{Adds}
-use Rattle.rje_stores.specs.Inside.Filling.{AddsSync}
-use Rattle.rje_stores.proofs.Replacing.{added_call, added_none, new_name, same_name, whatever_came}
-use Rattle.rje_folders.proofs.Taken.{other_name, sync_keeps_standing}
+use Rattle.rje_store.specs.declared.new_access.NewAccess.{NewAccess}
+use Rattle.rje_store.specs.Disk.{Asked, Call, Done, Refused, Failed, Create, Open, call_of, standing, has_synced_name, seen_as, IsOpened}
+use Rattle.rje_store.specs.Replacing.{Adds}
+use Rattle.rje_store.specs.Inside.Filling.{AddsSync}
+use Rattle.rje_store.proofs.Replacing.{added_call, added_none, new_name, same_name, whatever_came}
+use Rattle.rje_folder.proofs.Taken.{other_name, sync_keeps_standing}
 use Rattle.rje_settle.specs.declared.settle_name.SettleName.{SettleName}
 use Rattle.rje_accounts.specs.Inside.Calls.{IsRemovalBeside}
 use Rattle.rje_accounts.specs.Noting.{IsNoted, MayDropOlder, MayMakeAgain, is_older}

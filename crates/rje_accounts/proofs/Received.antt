@@ -3,12 +3,12 @@ use Rattle.std.proofs.Common.{◌≡◌, ◌≢◌, ◌⊎◌, inl, inr, ℕ, �
 use Rattle.std.specs.Prelude.{bytes_eq, nat_eq, codes, decimal}
 use Rattle.std.proofs.lemmas.Bool.Decides.{nat_tests}
 use Rattle.std.proofs.lemmas.List.{append_cancel_left}
-use Rattle.rje_stores.specs.declared.new_access.NewAccess.{NewAccess}
-use Rattle.rje_stores.specs.Disk.{Asked, Call, Opened, Done, Refused, Failed, Create, Fill, Sync, SyncFolder, Remove, call_of, standing, bytes_of, is_synced, has_synced_name}
-use Rattle.rje_stores.specs.Replacing.{Adds, IsOnDisk, IsWhole}
-use Rattle.rje_stores.specs.Inside.Filling.{AddsSync}
-use Rattle.rje_stores.proofs.Replacing.{added_weaker, same_name, same_number, standing_below, whatever_came, whole_synced}
-use Rattle.rje_folders.proofs.Taken.{other_name, sync_keeps_names}
+use Rattle.rje_store.specs.declared.new_access.NewAccess.{NewAccess}
+use Rattle.rje_store.specs.Disk.{Asked, Call, Opened, Done, Refused, Failed, Create, Fill, Sync, SyncFolder, Remove, call_of, standing, bytes_of, is_synced, has_synced_name}
+use Rattle.rje_store.specs.Replacing.{Adds, IsOnDisk, IsWhole}
+use Rattle.rje_store.specs.Inside.Filling.{AddsSync}
+use Rattle.rje_store.proofs.Replacing.{added_weaker, same_name, same_number, standing_below, whatever_came, whole_synced}
+use Rattle.rje_folder.proofs.Taken.{other_name, sync_keeps_names}
 use Rattle.rje_settle.specs.declared.receipt.Receipt.{Receipt}
 use Rattle.rje_settle.specs.declared.settle_name.SettleName.{SettleName}
 use Rattle.rje_settle.specs.Names.{name_text}

@@ -2,13 +2,13 @@
 use Rattle.std.proofs.Common.{◌≡◌, ◌≢◌, ℕ, List, ◌∷◌, None, Result, true, get_or, arith, refl, sym, ◌∙◌, ap, subst}
 use Rattle.std.proofs.lemmas.List.{append_cancel_left}
 use Rattle.std.specs.declared.io.Error.{Error}
-use Rattle.rje_stores.specs.Disk.{Asked, Call, Done, Refused, Failed, Link, Remove, Rename, call_of, came_to, standing, has_synced_name}
-use Rattle.rje_stores.specs.Inside.Filling.{AddsSync}
-use Rattle.rje_stores.proofs.Replacing.{call_came, same_name, whatever_came}
-use Rattle.rje_folders.specs.Moving.{IsGone, IsSecond}
-use Rattle.rje_folders.specs.declared.folder.Folder.{Folder}
-use Rattle.rje_folders.specs.Folder.{path_in}
-use Rattle.rje_folders.proofs.Taken.{other_name, sync_keeps_standing}
+use Rattle.rje_store.specs.Disk.{Asked, Call, Done, Refused, Failed, Link, Remove, Rename, call_of, came_to, standing, has_synced_name}
+use Rattle.rje_store.specs.Inside.Filling.{AddsSync}
+use Rattle.rje_store.proofs.Replacing.{call_came, same_name, whatever_came}
+use Rattle.rje_folder.specs.Moving.{IsGone, IsSecond}
+use Rattle.rje_folder.specs.declared.folder.Folder.{Folder}
+use Rattle.rje_folder.specs.Folder.{path_in}
+use Rattle.rje_folder.proofs.Taken.{other_name, sync_keeps_standing}
 use Rattle.rje_settle.specs.declared.settle_name.SettleName.{SettleName}
 use Rattle.rje_accounts.specs.Inside.Calls.{IsNamed}
 use Rattle.rje_accounts.specs.Paths.{settle_path, tried_path}

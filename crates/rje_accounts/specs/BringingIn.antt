@@ -1,9 +1,9 @@
 -- How a job that was kept gets its name in in/ (own profile).
 use Rattle.std.specs.Prelude.{◌≡◌, ◌⊎◌, ℕ, List, true}
-use Rattle.rje_stores.specs.Disk.{Asked, Call, Rename, SyncFolder, has_synced_name}
-use Rattle.rje_folders.specs.declared.folder.Folder.{Folder}
-use Rattle.rje_folders.specs.Folder.{path_in}
-use Rattle.rje_folders.specs.Moving.{MayDrop}
+use Rattle.rje_store.specs.Disk.{Asked, Call, Rename, SyncFolder, has_synced_name}
+use Rattle.rje_folder.specs.declared.folder.Folder.{Folder}
+use Rattle.rje_folder.specs.Folder.{path_in}
+use Rattle.rje_folder.specs.Moving.{MayDrop}
 use Rattle.rje_settle.specs.declared.settle_name.SettleName.{SettleName}
 use Rattle.rje_accounts.specs.Paths.{in_path, settle_path}
 

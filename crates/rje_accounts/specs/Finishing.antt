@@ -1,6 +1,6 @@
 -- What becomes of a job that came, when a station begins (own profile).
 use Rattle.std.specs.Prelude.{◌⊎◌, ◌<◌, ◌≤◌, ℕ, List}
-use Rattle.rje_stores.specs.Disk.{Asked, Call}
+use Rattle.rje_store.specs.Disk.{Asked, Call}
 use Rattle.rje_settle.specs.declared.receipt.Receipt.{Receipt}
 use Rattle.rje_settle.specs.declared.settle_name.SettleName.{SettleName}
 use Rattle.rje_accounts.specs.BringingIn.{MayBringIn}

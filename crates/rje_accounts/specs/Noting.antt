@@ -1,7 +1,7 @@
 -- How a count is noted: by an empty file, whose name says it (own profile).
 use Rattle.std.specs.Prelude.{◌≡◌, ◌⊎◌, ℕ, List, Some, Bool, true, false, nat_lt}
-use Rattle.rje_stores.specs.declared.new_access.NewAccess.{NewAccess}
-use Rattle.rje_stores.specs.Disk.{Asked, Call, Create, Open, Remove, SyncFolder, standing, has_synced_name}
+use Rattle.rje_store.specs.declared.new_access.NewAccess.{NewAccess}
+use Rattle.rje_store.specs.Disk.{Asked, Call, Create, Open, Remove, SyncFolder, standing, has_synced_name}
 use Rattle.rje_settle.specs.declared.settle_name.SettleName.{SettleName}
 use Rattle.rje_accounts.specs.Paths.{settle_path}
 

@@ -1,9 +1,9 @@
 -- How a job is promised: by a second name of its file (own profile).
 use Rattle.std.specs.Prelude.{◌≡◌, ◌⊎◌, ℕ, List}
-use Rattle.rje_stores.specs.Disk.{Asked, Call, Link, Remove, Rename, SyncFolder}
-use Rattle.rje_folders.specs.declared.file_identity.FileIdentity.{FileIdentity}
-use Rattle.rje_folders.specs.declared.folder.Folder.{Folder}
-use Rattle.rje_folders.specs.Folder.{path_in}
+use Rattle.rje_store.specs.Disk.{Asked, Call, Link, Remove, Rename, SyncFolder}
+use Rattle.rje_folder.specs.declared.file_identity.FileIdentity.{FileIdentity}
+use Rattle.rje_folder.specs.declared.folder.Folder.{Folder}
+use Rattle.rje_folder.specs.Folder.{path_in}
 use Rattle.rje_settle.specs.declared.promise.Promise.{Promise}
 use Rattle.rje_settle.specs.declared.settle_name.SettleName.{SettleName}
 use Rattle.rje_accounts.specs.Paths.{settle_path, tried_path}

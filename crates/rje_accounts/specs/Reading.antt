@@ -1,6 +1,6 @@
 -- How the accounts are read: their names are on disk before that (own profile).
 use Rattle.std.specs.Prelude.{◌≡◌, ◌⊎◌, ℕ, List, ◌∷◌}
-use Rattle.rje_stores.specs.Disk.{Asked, Call, Done, Refused, SyncFolder}
+use Rattle.rje_store.specs.Disk.{Asked, Call, Done, Refused, SyncFolder}
 use Rattle.rje_settle.specs.declared.settle_name.SettleName.{SettleName}
 use Rattle.rje_accounts.specs.Paths.{settle_folder, settle_path}
 

@@ -1,8 +1,8 @@
 -- How a job that came is kept: first it is on disk, and then it is counted (own profile).
 use Rattle.std.specs.Prelude.{◌≡◌, ◌⊎◌, ℕ, List, [], Some}
-use Rattle.rje_stores.specs.declared.new_access.NewAccess.{NewAccess}
-use Rattle.rje_stores.specs.Disk.{Asked, Call, Opened, Create, Fill, Sync, SyncFolder, bytes_of}
-use Rattle.rje_stores.specs.Replacing.{IsOnDisk}
+use Rattle.rje_store.specs.declared.new_access.NewAccess.{NewAccess}
+use Rattle.rje_store.specs.Disk.{Asked, Call, Opened, Create, Fill, Sync, SyncFolder, bytes_of}
+use Rattle.rje_store.specs.Replacing.{IsOnDisk}
 use Rattle.rje_settle.specs.declared.receipt.Receipt.{Receipt}
 use Rattle.rje_settle.specs.declared.settle_name.SettleName.{SettleName}
 use Rattle.rje_accounts.specs.Noting.{MayDropOlder, MayMake}

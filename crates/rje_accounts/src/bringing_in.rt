@@ -1,7 +1,7 @@
 //! How a job that was kept gets its name in in/.
 ghost use Rattle.std.specs.Prelude.{◌≡◌, ◌≢◌, true, false, IfOk, IfSome, OnOk, string_bytes};
-ghost use Rattle.rje_stores.specs.Replacing.{Adds};
-ghost use Rattle.rje_folders.specs.Moving.{IsGone, IsMoved, MayDrop};
+ghost use Rattle.rje_store.specs.Replacing.{Adds};
+ghost use Rattle.rje_folder.specs.Moving.{IsGone, IsMoved, MayDrop};
 ghost use Rattle.rje_settle.specs.declared.settle_name.SettleName.{SettleName as Named};
 ghost use Rattle.rje_accounts.specs.BringingIn.{MayBringIn, MayRename};
 ghost use Rattle.rje_accounts.specs.Inside.Calls.{IsInIn};
@@ -10,9 +10,9 @@ ghost use Rattle.rje_accounts.specs.Paths.{in_path, settle_path};
 use crate::accounts_fault::AccountsFault;
 use crate::naming::{in_path, path_in, path_of, settle_path};
 use crate::syncing::sync_names;
-use rje_folders::{Folder, FolderDisk, drop_name};
+use rje_folder::{Folder, FolderDisk, drop_name};
 use rje_settle::SettleName;
-use rje_stores::Disk;
+use rje_store::Disk;
 use std::alloc::Global;
 use std::io::{self, ErrorKind};
 

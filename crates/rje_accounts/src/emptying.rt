@@ -1,11 +1,11 @@
 //! How a name is taken away, whatever it names.
 ghost use Rattle.std.specs.Prelude.{OnOk};
-ghost use Rattle.rje_stores.specs.Replacing.{Adds};
-ghost use Rattle.rje_folders.specs.Moving.{IsGone};
+ghost use Rattle.rje_store.specs.Replacing.{Adds};
+ghost use Rattle.rje_folder.specs.Moving.{IsGone};
 ghost use Rattle.rje_accounts.specs.Promising.{MayTakeAway};
 
 use crate::syncing::sync_names;
-use rje_stores::Disk;
+use rje_store::Disk;
 use std::io::{self, ErrorKind};
 
 /// Takes a name away, which may not be there; that is on disk then.

@@ -1,12 +1,12 @@
 //! What becomes of a job that came, when a station begins or after a fault.
-ghost use Rattle.rje_stores.specs.Replacing.{Adds};
+ghost use Rattle.rje_store.specs.Replacing.{Adds};
 ghost use Rattle.rje_accounts.specs.Finishing.{MayFinish};
 
 use crate::accounts_fault::AccountsFault;
 use crate::bringing_in::{BroughtIn, bring_in};
 use crate::emptying::take_away;
 use crate::naming::settle_path;
-use rje_folders::FolderDisk;
+use rje_folder::FolderDisk;
 use rje_settle::{Receipt, SettleName};
 use std::alloc::Global;
 

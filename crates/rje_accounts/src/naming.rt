@@ -1,9 +1,9 @@
 //! Where the names of a station's accounts are.
 ghost use Rattle.std.specs.Prelude.{◌≡◌, IfOk, string_bytes};
-ghost use Rattle.rje_folders.specs.Folder.{path_in};
+ghost use Rattle.rje_folder.specs.Folder.{path_in};
 ghost use Rattle.rje_accounts.specs.Paths.{in_path, settle_folder, settle_path, tried_path as path_of_tried};
 
-use rje_folders::Folder;
+use rje_folder::Folder;
 use rje_settle::SettleName;
 use std::alloc::Global;
 use std::io::{self, ErrorKind};

@@ -1,7 +1,7 @@
 //! How a count is noted: an empty file, whose name says it.
 ghost use Rattle.std.specs.Prelude.{◌≡◌, IsTrue, OnOk, true};
-ghost use Rattle.rje_stores.specs.Disk.{has_synced_name};
-ghost use Rattle.rje_stores.specs.Replacing.{Adds};
+ghost use Rattle.rje_store.specs.Disk.{has_synced_name};
+ghost use Rattle.rje_store.specs.Replacing.{Adds};
 ghost use Rattle.rje_settle.specs.declared.settle_name.SettleName.{SettleName as Named};
 ghost use Rattle.rje_accounts.specs.Inside.Calls.{IsRemovalBeside};
 ghost use Rattle.rje_accounts.specs.Noting.{IsNoted, MayDropOlder, MayMake, MayNote, MayMakeAgain, is_older};
@@ -10,9 +10,9 @@ ghost use Rattle.rje_accounts.specs.Paths.{settle_path};
 use crate::accounts_fault::AccountsFault;
 use crate::naming::{settle_folder, settle_path};
 use crate::syncing::sync_names;
-use rje_folders::FolderDisk;
+use rje_folder::FolderDisk;
 use rje_settle::{Receipt, SettleName};
-use rje_stores::{Disk, NewAccess};
+use rje_store::{Disk, NewAccess};
 use std::alloc::Global;
 use std::io::{self, ErrorKind};
 

@@ -1,9 +1,9 @@
 //! How a job is promised, and a promise taken away.
 ghost use Rattle.std.specs.Prelude.{◌≡◌, ◌≢◌, ◌∷◌, ℕ, List, true, OnOk, IfOk};
-ghost use Rattle.rje_stores.specs.Disk.{Done, Link, Remove, standing};
-ghost use Rattle.rje_stores.specs.Replacing.{Adds};
-ghost use Rattle.rje_folders.specs.Folder.{path_in};
-ghost use Rattle.rje_folders.specs.Moving.{IsGone, IsSecond};
+ghost use Rattle.rje_store.specs.Disk.{Done, Link, Remove, standing};
+ghost use Rattle.rje_store.specs.Replacing.{Adds};
+ghost use Rattle.rje_folder.specs.Folder.{path_in};
+ghost use Rattle.rje_folder.specs.Moving.{IsGone, IsSecond};
 ghost use Rattle.rje_settle.specs.declared.settle_name.SettleName.{SettleName as Named};
 ghost use Rattle.rje_accounts.specs.Inside.Calls.{IsNamed};
 ghost use Rattle.rje_accounts.specs.Promising.{MayName, MayPromise, MayTakeAway, MayTry};
@@ -14,9 +14,9 @@ use crate::bringing_in::is_free;
 use crate::emptying::take_away;
 use crate::naming::{path_in, settle_path, tried_path};
 use crate::syncing::sync_names;
-use rje_folders::{FileIdentity, Folder, FolderDisk};
+use rje_folder::{FileIdentity, Folder, FolderDisk};
 use rje_settle::{Promise, SettleName};
-use rje_stores::Disk;
+use rje_store::Disk;
 use std::alloc::Global;
 use std::io::{self, ErrorKind};
 

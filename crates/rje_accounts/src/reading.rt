@@ -1,7 +1,7 @@
 //! How the accounts are read.
 ghost use Rattle.std.specs.Prelude.{◌≡◌, ℕ, IfOk, OnOk, List, true};
-ghost use Rattle.rje_stores.specs.Disk.{has_synced_name};
-ghost use Rattle.rje_stores.specs.Replacing.{Adds};
+ghost use Rattle.rje_store.specs.Disk.{has_synced_name};
+ghost use Rattle.rje_store.specs.Replacing.{Adds};
 ghost use Rattle.rje_settle.specs.declared.settle_name.SettleName.{SettleName as Named};
 ghost use Rattle.rje_accounts.specs.Accounts.{AreAccounts};
 ghost use Rattle.rje_accounts.specs.Names.{AreSorted};
@@ -13,9 +13,9 @@ use crate::accounts_fault::AccountsFault;
 use crate::naming::{settle_folder, settle_path};
 use crate::settle_names::SettleNames;
 use crate::syncing::sync_names;
-use rje_folders::FolderDisk;
+use rje_folder::FolderDisk;
 use rje_settle::SettleName;
-use rje_stores::Disk;
+use rje_store::Disk;
 use std::alloc::Global;
 use std::io;
 

@@ -1,7 +1,7 @@
 //! How a job that came is kept.
 ghost use Rattle.std.specs.Prelude.{◌≡◌, ◌+◌, Err, IfOk, OnOk};
 ghost use Rattle.sha2.specs.Sha256.{sha256};
-ghost use Rattle.rje_stores.specs.Replacing.{Adds, IsOnDisk};
+ghost use Rattle.rje_store.specs.Replacing.{Adds, IsOnDisk};
 ghost use Rattle.rje_settle.specs.declared.settle_name.SettleName.{SettleName as Named};
 ghost use Rattle.rje_settle.specs.Receipt.{counted_with};
 ghost use Rattle.rje_accounts.specs.Noting.{IsNoted};
@@ -12,9 +12,9 @@ use crate::accounts_fault::AccountsFault;
 use crate::naming::settle_path;
 use crate::noting::{drop_older, note_new};
 use crate::syncing::sync_names;
-use rje_folders::FolderDisk;
+use rje_folder::FolderDisk;
 use rje_settle::{JobDigest, Receipt, SettleName};
-use rje_stores::{Disk, NewAccess};
+use rje_store::{Disk, NewAccess};
 use std::alloc::Global;
 use std::io;
 

@@ -1,10 +1,10 @@
 //! How the names of a folder are put on disk.
 ghost use Rattle.std.specs.Prelude.{◌≡◌, true, OnOk};
-ghost use Rattle.rje_stores.specs.Disk.{has_synced_name};
-ghost use Rattle.rje_stores.specs.Inside.Filling.{AddsSync};
+ghost use Rattle.rje_store.specs.Disk.{has_synced_name};
+ghost use Rattle.rje_store.specs.Inside.Filling.{AddsSync};
 ghost use Rattle.rje_accounts.specs.Reading.{IsSynced};
 
-use rje_stores::Disk;
+use rje_store::Disk;
 use std::io::{self, ErrorKind};
 
 /// Puts the names in a folder on disk.

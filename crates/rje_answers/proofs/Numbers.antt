@@ -1,7 +1,7 @@
 -- No end knows the numbers of its answers.
 use Rattle.std.proofs.Common.{◌≡◌, refl, true, false, ◌&&◌, not, Option, Some, None, inl, inr, ap, ◌+◌, nat_lt}
 use Rattle.std.proofs.lemmas.Bool.{cases_Bool}
-use Rattle.rje_answers.specs.declared.event.Event.{Event}
+use Rattle.rje_answers.specs.declared.link_event.LinkEvent.{LinkEvent}
 use Rattle.rje_answers.specs.declared.given.Given.{Given}
 use Rattle.rje_answers.specs.declared.rest.Rest.{Rest}
 use Rattle.rje_answers.specs.Awaiting.{Kept, kept_after, given_at, has_answer, takes_bid, hearings, is_over, settled, louder}
@@ -26,27 +26,27 @@ given_two_same : (heard : Rest) (k : Kept Answer) (h : Option Answer)
 given_two_same heard k None = refl
 given_two_same heard k (Some a) = refl
 
-kept_same : (e : Event Answer) (k : Kept Answer) → kept_after (without_number e) (kept_without k) ≡ kept_without (kept_after e k)
-kept_same (Event.Says said) k = refl
-kept_same (Event.Answer a) k = elim (cases_Bool (has_answer k.said)) [
+kept_same : (e : LinkEvent Answer) (k : Kept Answer) → kept_after (without_number e) (kept_without k) ≡ kept_without (kept_after e k)
+kept_same (LinkEvent.Says said) k = refl
+kept_same (LinkEvent.Answer a) k = elim (cases_Bool (has_answer k.said)) [
   | inl e ↦ elim (cases_Bool k.is_late) [ inl l ↦ rw (e, l) refl | inr l ↦ rw (e, l) refl ]
   | inr e ↦ rw e refl
 ]
-kept_same Event.Bid k = elim (cases_Bool (takes_bid k)) [ inl e ↦ rw e refl | inr e ↦ rw e refl ]
-kept_same Event.End k = elim (cases_Bool (has_answer k.said)) [ inl e ↦ rw e refl | inr e ↦ rw e refl ]
-kept_same Event.Text k = refl
-kept_same (Event.Vain heard) k = elim (cases_Bool (has_answer k.said)) [
+kept_same LinkEvent.Bid k = elim (cases_Bool (takes_bid k)) [ inl e ↦ rw e refl | inr e ↦ rw e refl ]
+kept_same LinkEvent.End k = elim (cases_Bool (has_answer k.said)) [ inl e ↦ rw e refl | inr e ↦ rw e refl ]
+kept_same LinkEvent.Text k = refl
+kept_same (LinkEvent.Vain heard) k = elim (cases_Bool (has_answer k.said)) [
   | inl e ↦ elim (cases_Bool (is_over k)) [ inl o ↦ rw (e, over_same k, o) (two_same k k.held) | inr o ↦ rw (e, over_same k, o) refl ]
   | inr e ↦ rw e refl
 ]
 
-given_same : (e : Event Answer) (k : Kept Answer) → given_at (without_number e) (kept_without k) ≡ given_without (given_at e k)
-given_same (Event.Says said) k = refl
-given_same (Event.Answer a) k = elim (cases_Bool (has_answer k.said && not k.is_late)) [ inl e ↦ rw e refl | inr e ↦ rw e refl ]
-given_same Event.Bid k = elim (cases_Bool (takes_bid k)) [ inl e ↦ rw e refl | inr e ↦ rw e refl ]
-given_same Event.End k = elim (cases_Bool (has_answer k.said)) [ inl e ↦ rw e refl | inr e ↦ rw e refl ]
-given_same Event.Text k = refl
-given_same (Event.Vain heard) k = elim (cases_Bool (has_answer k.said)) [
+given_same : (e : LinkEvent Answer) (k : Kept Answer) → given_at (without_number e) (kept_without k) ≡ given_without (given_at e k)
+given_same (LinkEvent.Says said) k = refl
+given_same (LinkEvent.Answer a) k = elim (cases_Bool (has_answer k.said && not k.is_late)) [ inl e ↦ rw e refl | inr e ↦ rw e refl ]
+given_same LinkEvent.Bid k = elim (cases_Bool (takes_bid k)) [ inl e ↦ rw e refl | inr e ↦ rw e refl ]
+given_same LinkEvent.End k = elim (cases_Bool (has_answer k.said)) [ inl e ↦ rw e refl | inr e ↦ rw e refl ]
+given_same LinkEvent.Text k = refl
+given_same (LinkEvent.Vain heard) k = elim (cases_Bool (has_answer k.said)) [
   | inl e ↦ elim (cases_Bool (is_over k)) [ inl o ↦ rw (e, over_same k, o) (given_two_same heard k k.held) | inr o ↦ rw (e, over_same k, o) refl ]
   | inr e ↦ rw e refl
 ]

@@ -2,7 +2,7 @@
 use Rattle.std.proofs.Common.{◌≡◌, ◌≢◌, refl, sym, ◌∙◌, ap, ℕ, Bool, true, false, ◌+◌, ◌-◌, ◌<◌, ◌≤◌, ◌==◌, ◌&&◌, not, if◌then◌else◌, Option, Some, None, [], ◌∷◌, inl, inr, arith}
 use Rattle.std.proofs.lemmas.Bool.{cases_Bool, cases_eq, cases_lt, ne_eqb, lt-ltb, le-ltb, true≢false}
 use Rattle.std.proofs.lemmas.Option.{none-some}
-use Rattle.rje_answers.specs.declared.event.Event.{Event}
+use Rattle.rje_answers.specs.declared.link_event.LinkEvent.{LinkEvent}
 use Rattle.rje_answers.specs.declared.given.Given.{Given}
 use Rattle.rje_answers.specs.declared.rest.Rest.{Rest}
 use Rattle.rje_answers.specs.declared.said.Said.{Said}
@@ -135,13 +135,13 @@ fits_all gives_way [] all = record {
   vain = λ awaited held. omega arith;
   held = λ a is. absurd (none-some a is);
 }
-fits_all gives_way (Event.Says said ∷ past) all = fits_saying said _ _ _ _ (fits_all gives_way past all.1) all.0
-fits_all gives_way (Event.Answer a ∷ past) all =
+fits_all gives_way (LinkEvent.Says said ∷ past) all = fits_saying said _ _ _ _ (fits_all gives_way past all.1) all.0
+fits_all gives_way (LinkEvent.Answer a ∷ past) all =
     fits_answer a _ _ _ _ (fits_all gives_way past all.1) all.0.0 all.0.1 all.0.2
-fits_all gives_way (Event.Bid ∷ past) all = fits_passed (takes_bid (kept_of gives_way past)) _ _ _ _ (fits_all gives_way past all.1)
-fits_all gives_way (Event.End ∷ past) all = fits_end _ _ _ _ (fits_all gives_way past all.1)
-fits_all gives_way (Event.Text ∷ past) all = fits_all gives_way past all.1
-fits_all gives_way (Event.Vain heard ∷ past) all = fits_vain heard _ _ _ _ (fits_all gives_way past all.1)
+fits_all gives_way (LinkEvent.Bid ∷ past) all = fits_passed (takes_bid (kept_of gives_way past)) _ _ _ _ (fits_all gives_way past all.1)
+fits_all gives_way (LinkEvent.End ∷ past) all = fits_end _ _ _ _ (fits_all gives_way past all.1)
+fits_all gives_way (LinkEvent.Text ∷ past) all = fits_all gives_way past all.1
+fits_all gives_way (LinkEvent.Vain heard ∷ past) all = fits_vain heard _ _ _ _ (fits_all gives_way past all.1)
 
 pub comes_where_awaited : ComesWhereAwaited
 comes_where_awaited gives_way past a all may =
@@ -153,8 +153,8 @@ abbrev answer_in : Given Answer → Option Answer
 answer_in (Given.Answer a) = Some a
 answer_in _ = None
 
-abbrev came_in : Event Answer → Option Answer
-came_in (Event.Answer a) = Some a
+abbrev came_in : LinkEvent Answer → Option Answer
+came_in (LinkEvent.Answer a) = Some a
 came_in _ = None
 
 given_held : (h : Option Answer) (n : ℕ) (a : Answer) (rest : Rest) → ((b : Answer) → h ≡ Some b → b.thing + 1 ≡ n)
@@ -162,26 +162,26 @@ given_held : (h : Option Answer) (n : ℕ) (a : Answer) (rest : Rest) → ((b : 
 given_held None n a rest held is = absurd (none-some a (ap answer_in is))
 given_held (Some b) n a rest held is = held a (ap answer_in is)
 
-given_own : (e : Event Answer) (s : Kept Answer) (n m : ℕ) (vains : ℕ → ℕ) (a : Answer) → Fits s n m vains
-    → ((b : Answer) → e ≡ Event.Answer b → b.thing + 1 ≡ n) → given_at e s ≡ Given.Answer a → a.thing + 1 ≡ n
-given_own (Event.Says said) s n m vains a fits came is = absurd (none-some a (ap answer_in is))
-given_own (Event.Answer b) s n m vains a fits came is = elim (cases_Bool (has_answer s.said && not s.is_late)) [
+given_own : (e : LinkEvent Answer) (s : Kept Answer) (n m : ℕ) (vains : ℕ → ℕ) (a : Answer) → Fits s n m vains
+    → ((b : Answer) → e ≡ LinkEvent.Answer b → b.thing + 1 ≡ n) → given_at e s ≡ Given.Answer a → a.thing + 1 ≡ n
+given_own (LinkEvent.Says said) s n m vains a fits came is = absurd (none-some a (ap answer_in is))
+given_own (LinkEvent.Answer b) s n m vains a fits came is = elim (cases_Bool (has_answer s.said && not s.is_late)) [
   | inl e ↦
       let same : Some b ≡ Some a = ap answer_in (rw e at is) in
       let one : b ≡ a = ap (λ o. elim o [ None ↦ a | Some x ↦ x ]) same in
       rw (sym one) (came b refl)
   | inr e ↦ absurd (none-some a (ap answer_in (rw e at is)))
 ]
-given_own Event.Bid s n m vains a fits came is = elim (cases_Bool (takes_bid s)) [
+given_own LinkEvent.Bid s n m vains a fits came is = elim (cases_Bool (takes_bid s)) [
   | inl e ↦ absurd (none-some a (ap answer_in (rw e at is)))
   | inr e ↦ absurd (none-some a (ap answer_in (rw e at is)))
 ]
-given_own Event.End s n m vains a fits came is = elim (cases_Bool (has_answer s.said)) [
+given_own LinkEvent.End s n m vains a fits came is = elim (cases_Bool (has_answer s.said)) [
   | inl e ↦ absurd (none-some a (ap answer_in (rw e at is)))
   | inr e ↦ absurd (none-some a (ap answer_in (rw e at is)))
 ]
-given_own Event.Text s n m vains a fits came is = absurd (none-some a (ap answer_in is))
-given_own (Event.Vain heard) s n m vains a fits came is = elim (cases_Bool (has_answer s.said)) [
+given_own LinkEvent.Text s n m vains a fits came is = absurd (none-some a (ap answer_in is))
+given_own (LinkEvent.Vain heard) s n m vains a fits came is = elim (cases_Bool (has_answer s.said)) [
   | inl e ↦ elim (cases_Bool (is_over s)) [
     | inl two ↦ given_held s.held n a _ fits.held (rw (e, two) at is)
     | inr one ↦ absurd (none-some a (ap answer_in (rw (e, one) at is)))
@@ -189,15 +189,15 @@ given_own (Event.Vain heard) s n m vains a fits came is = elim (cases_Bool (has_
   | inr e ↦ absurd (none-some a (ap answer_in (rw e at is)))
 ]
 
-came_own : (gives_way : Bool) (past : Events) (e : Event Answer) → AllHappen gives_way (e ∷ past) → (b : Answer) → e ≡ Event.Answer b → b.thing + 1 ≡ things past
-came_own gives_way past (Event.Says said) all b is = absurd (none-some b (ap came_in is))
-came_own gives_way past (Event.Answer a) all b is =
+came_own : (gives_way : Bool) (past : Events) (e : LinkEvent Answer) → AllHappen gives_way (e ∷ past) → (b : Answer) → e ≡ LinkEvent.Answer b → b.thing + 1 ≡ things past
+came_own gives_way past (LinkEvent.Says said) all b is = absurd (none-some b (ap came_in is))
+came_own gives_way past (LinkEvent.Answer a) all b is =
     let one : a ≡ b = ap (λ o. elim o [ None ↦ a | Some x ↦ x ]) (ap came_in is) in
     rw (sym one) (comes_where_awaited gives_way past a all.1 all.0).1
-came_own gives_way past Event.Bid all b is = absurd (none-some b (ap came_in is))
-came_own gives_way past Event.End all b is = absurd (none-some b (ap came_in is))
-came_own gives_way past Event.Text all b is = absurd (none-some b (ap came_in is))
-came_own gives_way past (Event.Vain heard) all b is = absurd (none-some b (ap came_in is))
+came_own gives_way past LinkEvent.Bid all b is = absurd (none-some b (ap came_in is))
+came_own gives_way past LinkEvent.End all b is = absurd (none-some b (ap came_in is))
+came_own gives_way past LinkEvent.Text all b is = absurd (none-some b (ap came_in is))
+came_own gives_way past (LinkEvent.Vain heard) all b is = absurd (none-some b (ap came_in is))
 
 pub gives_own : GivesOwnAnswers
 gives_own gives_way past e a all is =

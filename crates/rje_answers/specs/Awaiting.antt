@@ -3,7 +3,7 @@
 use Rattle.std.specs.Prelude.{ℕ, ◌+◌, Bool, true, false, ◌&&◌, ◌||◌, not, nat_lt, if◌then◌else◌, Option, Some, None}
 use Rattle.bsc_frame.specs.declared.frame.Frame.{Frame}
 use Rattle.bsc_frame.specs.declared.frame.Frame.TheVariants as frame
-use Rattle.rje_answers.specs.declared.event.Event.{Event}
+use Rattle.rje_answers.specs.declared.link_event.LinkEvent.{LinkEvent}
 use Rattle.rje_answers.specs.declared.given.Given.{Given}
 use Rattle.rje_answers.specs.declared.rest.Rest.{Rest}
 use Rattle.rje_answers.specs.declared.said.Said.{Said}
@@ -119,18 +119,18 @@ given_last heard k = elim k.held [ None ↦ Given.InVain (louder heard k.rest) |
 abbrev pub given_vain : {A : Type 0} → Rest → Kept A → Given A
 given_vain heard k = if has_answer k.said then (if is_over k then given_last heard k else Given.Nothing) else Given.Nothing
 
-abbrev pub kept_after : {A : Type 0} → Event A → Kept A → Kept A
-kept_after (Event.Says said) k = after_saying said k
-kept_after (Event.Answer a) k = after_answer a k
-kept_after Event.Bid k = after_bid k
-kept_after Event.End k = after_end k
-kept_after Event.Text k = k
-kept_after (Event.Vain heard) k = after_vain heard k
+abbrev pub kept_after : {A : Type 0} → LinkEvent A → Kept A → Kept A
+kept_after (LinkEvent.Says said) k = after_saying said k
+kept_after (LinkEvent.Answer a) k = after_answer a k
+kept_after LinkEvent.Bid k = after_bid k
+kept_after LinkEvent.End k = after_end k
+kept_after LinkEvent.Text k = k
+kept_after (LinkEvent.Vain heard) k = after_vain heard k
 
-abbrev pub given_at : {A : Type 0} → Event A → Kept A → Given A
-given_at (Event.Says said) k = Given.Nothing
-given_at (Event.Answer a) k = given_answer a k
-given_at Event.Bid k = given_bid k
-given_at Event.End k = given_end k
-given_at Event.Text k = Given.Nothing
-given_at (Event.Vain heard) k = given_vain heard k
+abbrev pub given_at : {A : Type 0} → LinkEvent A → Kept A → Given A
+given_at (LinkEvent.Says said) k = Given.Nothing
+given_at (LinkEvent.Answer a) k = given_answer a k
+given_at LinkEvent.Bid k = given_bid k
+given_at LinkEvent.End k = given_end k
+given_at LinkEvent.Text k = Given.Nothing
+given_at (LinkEvent.Vain heard) k = given_vain heard k

@@ -9,7 +9,7 @@ use Rattle.bsc_frame.specs.Listener.{HasTaken}
 use Rattle.bsc_frame.specs.Transmission.{HasNoFrame, Transmission}
 use Rattle.bsc_frame.specs.Inside.Listening.HeardSoFar.{HeardSoFar}
 use Rattle.bsc_link.specs.declared.reply.Reply.{Reply}
-use Rattle.rje_answers.specs.declared.event.Event.{Event}
+use Rattle.rje_answers.specs.declared.link_event.LinkEvent.{LinkEvent}
 use Rattle.rje_answers.specs.declared.given.Given.{Given}
 use Rattle.rje_answers.specs.declared.rest.Rest.{Rest}
 use Rattle.rje_answers.specs.declared.taken.Taken.{Taken}
@@ -21,15 +21,15 @@ pub record HeardAndKept : Type 0 where
   pub kept : Kept Reply
 
 -- what happens where a frame comes
-abbrev pub event_in : Frame → Event Reply
-event_in frame.Enq = Event.Bid
-event_in frame.Ack0 = Event.Answer Reply.Ack0
-event_in frame.Ack1 = Event.Answer Reply.Ack1
-event_in frame.Nak = Event.Answer Reply.Nak
-event_in frame.Wack = Event.Answer Reply.Wack
-event_in frame.Rvi = Event.Answer Reply.Rvi
-event_in frame.Eot = Event.End
-event_in _ = Event.Text
+abbrev pub event_in : Frame → LinkEvent Reply
+event_in frame.Enq = LinkEvent.Bid
+event_in frame.Ack0 = LinkEvent.Answer Reply.Ack0
+event_in frame.Ack1 = LinkEvent.Answer Reply.Ack1
+event_in frame.Nak = LinkEvent.Answer Reply.Nak
+event_in frame.Wack = LinkEvent.Answer Reply.Wack
+event_in frame.Rvi = LinkEvent.Answer Reply.Rvi
+event_in frame.Eot = LinkEvent.End
+event_in _ = LinkEvent.Text
 
 -- what was heard where no frame came
 abbrev pub rest_in : Heard → Rest
@@ -59,8 +59,8 @@ Takes a piece taken b = (before : List ℕ) → HasTaken a.listener before → T
 -- a hearing is over: the station is given what belongs to a hearing in vain, in which the bytes after the last frame were heard as this
 abbrev pub GoesQuiet : HeardAndKept → Given Reply → HeardAndKept → Type 0
 GoesQuiet a given b = (before : List ℕ) → HasTaken a.listener before
-    → ((what : Heard) × IsHeard before what × (given ≡ given_at (Event.Vain (rest_in what)) a.kept)
-    × (b.kept ≡ kept_after (Event.Vain (rest_in what)) a.kept) × HasTaken b.listener [])
+    → ((what : Heard) × IsHeard before what × (given ≡ given_at (LinkEvent.Vain (rest_in what)) a.kept)
+    × (b.kept ≡ kept_after (LinkEvent.Vain (rest_in what)) a.kept) × HasTaken b.listener [])
 
 -- of these bytes just these frames came, the newest first, and the bytes after the last of them are left
 abbrev pub ComeIn : List ℕ → List Frame → (left : List ℕ) → Type 0
@@ -68,7 +68,7 @@ ComeIn bytes [] left = left ≡ bytes
 ComeIn bytes (f ∷ past) left = (front : List ℕ) × ComeIn bytes past (front ++ left) × Transmission f front
 
 -- this happened, the newest first; nothing was given before the newest
-abbrev pub Happened : Kept Reply → List (Event Reply) → Kept Reply → Given Reply → Type 0
+abbrev pub Happened : Kept Reply → List (LinkEvent Reply) → Kept Reply → Given Reply → Type 0
 Happened k [] k' given = (k' ≡ k) × (given ≡ Given.Nothing)
 Happened k (e ∷ past) k' given = (mid : Kept Reply) × Happened k past mid Given.Nothing × (k' ≡ kept_after e mid) × (given ≡ given_at e mid)
 

@@ -2,7 +2,7 @@
 -- awaited, each thing is answered at most once, in order, and with fewer than two hearings in vain since it was said.
 use Rattle.std.specs.Prelude.{◌≡◌, ◌<◌, ◌≤◌, ◌+◌, ◌==◌, ℕ, Bool, true, false, if◌then◌else◌, List, [], ◌∷◌, Option, Some, None}
 use Rattle.bsc_link.specs.declared.reply.Reply.{Reply}
-use Rattle.rje_answers.specs.declared.event.Event.{Event}
+use Rattle.rje_answers.specs.declared.link_event.LinkEvent.{LinkEvent}
 use Rattle.rje_answers.specs.declared.given.Given.{Given}
 use Rattle.rje_answers.specs.Awaiting.{Kept, first_kept, kept_after, given_at, has_answer, takes_bid}
 
@@ -13,7 +13,7 @@ pub record Answer : Type 0 where
 
 -- what happened, the newest first
 abbrev pub Events : Type 0
-Events = List (Event Answer)
+Events = List (LinkEvent Answer)
 
 -- what an end keeps after these
 abbrev pub kept_of : Bool → Events → Kept Answer
@@ -23,29 +23,29 @@ kept_of gives_way (e ∷ past) = kept_after e (kept_of gives_way past)
 -- how many things were said that are answered
 abbrev pub things : Events → ℕ
 things [] = 0
-things (Event.Says said ∷ past) = if has_answer said then things past + 1 else things past
+things (LinkEvent.Says said ∷ past) = if has_answer said then things past + 1 else things past
 things (_ ∷ past) = things past
 
 -- how many hearings were in vain since the thing of this number was said
 abbrev pub vain_since : ℕ → Events → ℕ
 vain_since k [] = 0
-vain_since k (Event.Says said ∷ past) = if things past == k then 0 else vain_since k past
-vain_since k (Event.Vain heard ∷ past) = vain_since k past + 1
+vain_since k (LinkEvent.Says said ∷ past) = if things past == k then 0 else vain_since k past
+vain_since k (LinkEvent.Vain heard ∷ past) = vain_since k past + 1
 vain_since k (_ ∷ past) = vain_since k past
 
 -- How many things can't be answered any more: they or later ones were answered; or the other end said EOT; or this one gave way to a bid that
 -- crossed its own, which an end whose own bid is out passes over.
 abbrev pub answered : Bool → Events → ℕ
 answered gives_way [] = 0
-answered gives_way (Event.Answer a ∷ past) = a.thing + 1
-answered gives_way (Event.Bid ∷ past) = if takes_bid (kept_of gives_way past) then things past else answered gives_way past
-answered gives_way (Event.End ∷ past) = things past
+answered gives_way (LinkEvent.Answer a ∷ past) = a.thing + 1
+answered gives_way (LinkEvent.Bid ∷ past) = if takes_bid (kept_of gives_way past) then things past else answered gives_way past
+answered gives_way (LinkEvent.End ∷ past) = things past
 answered gives_way (_ ∷ past) = answered gives_way past
 
 -- what may happen next
-abbrev pub MayHappen : Bool → Event Answer → Events → Type 0
-MayHappen gives_way (Event.Says said) past = has_answer (kept_of gives_way past).said ≡ false
-MayHappen gives_way (Event.Answer a) past = (answered gives_way past ≤ a.thing) × (a.thing < things past) × (vain_since a.thing past < 2)
+abbrev pub MayHappen : Bool → LinkEvent Answer → Events → Type 0
+MayHappen gives_way (LinkEvent.Says said) past = has_answer (kept_of gives_way past).said ≡ false
+MayHappen gives_way (LinkEvent.Answer a) past = (answered gives_way past ≤ a.thing) × (a.thing < things past) × (vain_since a.thing past < 2)
 MayHappen gives_way _ past = Unit {0}
 
 -- each of these could happen where it did
@@ -55,23 +55,23 @@ AllHappen gives_way (e ∷ past) = MayHappen gives_way e past × AllHappen gives
 
 -- an answer that the station is given is that to the thing said last
 abbrev pub GivesOwnAnswers : Type 0
-GivesOwnAnswers = (gives_way : Bool) (past : Events) (e : Event Answer) (a : Answer) → AllHappen gives_way (e ∷ past)
+GivesOwnAnswers = (gives_way : Bool) (past : Events) (e : LinkEvent Answer) (a : Answer) → AllHappen gives_way (e ∷ past)
     → given_at e (kept_of gives_way past) ≡ Given.Answer a → a.thing + 1 ≡ things past
 
 -- and one comes only where one is awaited
 abbrev pub ComesWhereAwaited : Type 0
-ComesWhereAwaited = (gives_way : Bool) (past : Events) (a : Answer) → AllHappen gives_way past → MayHappen gives_way (Event.Answer a) past
+ComesWhereAwaited = (gives_way : Bool) (past : Events) (a : Answer) → AllHappen gives_way past → MayHappen gives_way (LinkEvent.Answer a) past
     → (has_answer (kept_of gives_way past).said ≡ true) × (a.thing + 1 ≡ things past)
 
 -- WITHOUT THE NUMBERS, which no end knows
 
-abbrev pub without_number : Event Answer → Event Reply
-without_number (Event.Says said) = Event.Says said
-without_number (Event.Answer a) = Event.Answer a.reply
-without_number Event.Bid = Event.Bid
-without_number Event.End = Event.End
-without_number Event.Text = Event.Text
-without_number (Event.Vain heard) = Event.Vain heard
+abbrev pub without_number : LinkEvent Answer → LinkEvent Reply
+without_number (LinkEvent.Says said) = LinkEvent.Says said
+without_number (LinkEvent.Answer a) = LinkEvent.Answer a.reply
+without_number LinkEvent.Bid = LinkEvent.Bid
+without_number LinkEvent.End = LinkEvent.End
+without_number LinkEvent.Text = LinkEvent.Text
+without_number (LinkEvent.Vain heard) = LinkEvent.Vain heard
 
 abbrev pub given_without : Given Answer → Given Reply
 given_without Given.Nothing = Given.Nothing
@@ -98,5 +98,5 @@ kept_without k = record {
 
 -- an end that doesn't know the numbers keeps the same, and gives its station the same
 abbrev pub TellsNoNumbers : Type 0
-TellsNoNumbers = (e : Event Answer) (k : Kept Answer)
+TellsNoNumbers = (e : LinkEvent Answer) (k : Kept Answer)
     → (kept_after (without_number e) (kept_without k) ≡ kept_without (kept_after e k)) × (given_at (without_number e) (kept_without k) ≡ given_without (given_at e k))

@@ -2,12 +2,12 @@
 ghost use Rattle.std.specs.Prelude.{◌≡◌, ◌≤◌, [], length, take};
 ghost use Rattle.bsc_frame.specs.Listener.{HasTaken};
 ghost use Rattle.rje_answers.specs.Awaiting.{first_kept, given_at, has_answer, kept_after};
-ghost use Rattle.rje_answers.specs.declared.event.Event.TheVariants.{Says};
+ghost use Rattle.rje_answers.specs.declared.link_event.LinkEvent.TheVariants.{Says};
 ghost use Rattle.rje_answers.specs.Hearing.{GoesQuiet, Hears, Takes, event_in, rest_in};
 
 use crate::awaiting::Awaiting;
 use crate::taken::Taken;
-use crate::{Event, Given, Rest, Said};
+use crate::{Given, LinkEvent, Rest, Said};
 use bsc_frame::{Fed, Frame, Heard, Listener};
 use bsc_link::Reply;
 use std::marker::Model;
@@ -31,7 +31,7 @@ impl Model for Answers {
 }
 
 impl Answers {
-    /// Nothing was said and nothing has come. A secondary gives way to a bid that crosses its own; a primary doesn't.
+    /// Nothing was said and nothing has come. A secondary yields to a bid that crosses its own; a primary doesn't.
     pub fn new(gives_way: bool) -> Self
         ensures kept { result.kept ≡ first_kept gives_way }
         ensures listens { HasTaken result.listener [] }
@@ -48,7 +48,7 @@ impl Answers {
         ensures listens { HasTaken self.new.listener [] }
     {
         self.listener.reset();
-        self.awaiting.meet(Event::Says(said));
+        self.awaiting.meet(LinkEvent::Says(said));
     }
 
     /// Whether an answer is awaited.
@@ -110,23 +110,23 @@ impl Answers {
         ensures quiet { GoesQuiet self.old result self.new }
     {
         let heard = rest_of(&self.listener.quiet());
-        self.awaiting.meet(Event::Vain(heard))
+        self.awaiting.meet(LinkEvent::Vain(heard))
     }
 }
 
 /// What happens where this frame comes.
-fn event_of(frame: &Frame) -> Event<Reply>
+fn event_of(frame: &Frame) -> LinkEvent<Reply>
     ensures { result ≡ event_in frame.now }
 {
     match frame {
-        Frame::Enq => Event::Bid,
-        Frame::Ack0 => Event::Answer(Reply::Ack0),
-        Frame::Ack1 => Event::Answer(Reply::Ack1),
-        Frame::Nak => Event::Answer(Reply::Nak),
-        Frame::Wack => Event::Answer(Reply::Wack),
-        Frame::Rvi => Event::Answer(Reply::Rvi),
-        Frame::Eot => Event::End,
-        Frame::Ttd | Frame::Abort | Frame::Block(_) => Event::Text,
+        Frame::Enq => LinkEvent::Bid,
+        Frame::Ack0 => LinkEvent::Answer(Reply::Ack0),
+        Frame::Ack1 => LinkEvent::Answer(Reply::Ack1),
+        Frame::Nak => LinkEvent::Answer(Reply::Nak),
+        Frame::Wack => LinkEvent::Answer(Reply::Wack),
+        Frame::Rvi => LinkEvent::Answer(Reply::Rvi),
+        Frame::Eot => LinkEvent::End,
+        Frame::Ttd | Frame::Abort | Frame::Block(_) => LinkEvent::Text,
     }
 }
 

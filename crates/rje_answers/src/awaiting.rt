@@ -4,18 +4,18 @@ ghost use Rattle.rje_answers.specs.Awaiting.{first_kept, given_at, has_answer, k
 ghost use Rattle.rje_answers.specs.Awaiting.{after_saying, after_answer, given_answer, after_bid, given_bid, after_end, given_end};
 ghost use Rattle.rje_answers.specs.Awaiting.{after_last, after_vain, given_last, given_vain, hearings, louder, settled, takes_bid};
 
-use crate::{Event, Given, Rest, Said};
+use crate::{Given, LinkEvent, Rest, Said};
 use bsc_link::Reply;
 use std::marker::Model;
 
-/// How many hearings in vain an answer is awaited for.
+/// How many hearings without one an answer is awaited for.
 const MAX_VAIN: u8 = 2;
 
-/// After a wait in vain, how many hearings have to be quiet after an answer that counts: things are said two hearings apart, or three where a
+/// After a wait that brought nothing, how many hearings have to be quiet after an answer that counts: things are said two hearings apart, or three where a
 /// secondary listens before it bids again, and their answers may come as far apart.
 const MAX_QUIET: u8 = 4;
 
-/// Awaits the answer to what was said last. The event table stands in `specs/Awaiting.antt`.
+/// Awaits the answer to what was said last. The event table is in `specs/Awaiting.antt`.
 #[derive(Drop)]
 pub(crate) struct Awaiting {
     gives_way: bool,
@@ -50,7 +50,7 @@ impl Model for Awaiting {
 }
 
 impl Awaiting {
-    /// Nothing was said. A secondary gives way to a bid that crosses its own; a primary doesn't.
+    /// Nothing was said. A secondary yields to a bid that crosses its own; a primary doesn't.
     pub(crate) fn new(gives_way: bool) -> Self
         ensures { result ≡ first_kept gives_way }
     {
@@ -88,17 +88,17 @@ impl Awaiting {
     }
 
     /// Something happens, and the station is given this.
-    pub(crate) fn meet(&mut self, event: Event<Reply>) -> Given<Reply>
+    pub(crate) fn meet(&mut self, event: LinkEvent<Reply>) -> Given<Reply>
         ensures kept { self.new ≡ kept_after event self.old }
         ensures given { result ≡ given_at event self.old }
     {
         match event {
-            Event::Says(said) => self.say(said),
-            Event::Answer(answer) => self.hear_answer(answer),
-            Event::Bid => self.hear_bid(),
-            Event::End => self.hear_end(),
-            Event::Text => Given::Nothing,
-            Event::Vain(heard) => self.hear_nothing(heard),
+            LinkEvent::Says(said) => self.say(said),
+            LinkEvent::Answer(answer) => self.hear_answer(answer),
+            LinkEvent::Bid => self.hear_bid(),
+            LinkEvent::End => self.hear_end(),
+            LinkEvent::Text => Given::Nothing,
+            LinkEvent::Vain(heard) => self.hear_nothing(heard),
         }
     }
 
@@ -188,7 +188,7 @@ impl Awaiting {
         }
     }
 
-    /// How many hearings in vain something more is awaited for.
+    /// How many hearings without anything something more is awaited for.
     fn hearings(&self) -> u8
         ensures { result ≡ hearings self.now.held }
     {

@@ -2,7 +2,7 @@
 ghost use Rattle.rje_answers.specs.Law.{ComesWhereAwaited, GivesOwnAnswers, TellsNoNumbers};
 
 /// Whatever is said, comes and crosses, in whatever order: where each thing is answered at most once, in order, and with fewer than two
-/// hearings in vain since it was said, an answer that the station is given is that to the thing said last, and one comes only where one
+/// hearings that brought nothing since it was said, an answer that the station is given is that to the thing said last, and one comes only where one
 /// is awaited.
 pub fn answers_are_own()
     ensures own { GivesOwnAnswers }

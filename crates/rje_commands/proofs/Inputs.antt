@@ -13,22 +13,22 @@ use Rattle.line_world.specs.declared.turn.Turn.{Turn}
 use Rattle.line_world.specs.declared.world_fault.WorldFault.{WorldFault}
 use Rattle.line_world.specs.Run.{IsRunFault}
 use Rattle.rje_print.specs.Script.{IsScript}
-use Rattle.rje_stores.proofs.Changes.{same_twice, set_after}
+use Rattle.rje_store.proofs.Changes.{same_twice, set_after}
 use Rattle.rje_commands.specs.CommandFault.{of_world}
-use Rattle.rje_orders.specs.Device.{writing}
-use Rattle.rje_orders.specs.declared.order.CardsOrder.{CardsOrder}
+use Rattle.rje_requests.specs.Device.{writing}
+use Rattle.rje_requests.specs.declared.order.CardsOrder.{CardsOrder}
 use Rattle.rje_monitor.specs.Turns.{IsFirstBadLine}
-use Rattle.rje_orders.specs.declared.order.MonitorOrder.{MonitorOrder}
-use Rattle.rje_orders.specs.declared.order.PrintOrder.{PrintOrder}
-use Rattle.rje_orders.specs.declared.order.ShowOrder.{ShowOrder}
-use Rattle.rje_orders.specs.declared.order.TryOrder.{TryOrder}
-use Rattle.rje_orders.specs.declared.order.FileOrder.{FileOrder}
+use Rattle.rje_requests.specs.declared.order.MonitorOrder.{MonitorOrder}
+use Rattle.rje_requests.specs.declared.order.PrintOrder.{PrintOrder}
+use Rattle.rje_requests.specs.declared.order.ShowOrder.{ShowOrder}
+use Rattle.rje_requests.specs.declared.order.TryOrder.{TryOrder}
+use Rattle.rje_requests.specs.declared.order.FileOrder.{FileOrder}
 use Rattle.rje_commands.specs.declared.command_fault.CommandFault.{CommandFault}
 use Rattle.rje_commands.specs.declared.command_fault.CommandFault.TheVariants as told
 use Rattle.rje_commands.specs.Commands.{AreEntriesOf, AreInFront, IsThere, OfFile, OfFiles, OfDeck, HasFewer, IsFault, MakesFile}
 use Rattle.rje_commands.specs.NamedFile.{IsWriteFault}
 use Rattle.rje_commands.specs.Inside.Commands.{cards_entry, IsMadeFault, IsHeld, IsHeldFault, IsMade, IsTryFault, IsTextFault, IsCaptureFault, IsCheckFault, IsChoiceFault}
-use Rattle.rje_stores.specs.Store.{FileMap, Discloses, IsSame, Sets}
+use Rattle.rje_store.specs.Store.{FileMap, Discloses, IsSame, Sets}
 
 module _ (P Q : List ℕ → Type 0) (more : (file : List ℕ) → P file → Q file) where
   known_more : (known : Option (List ℕ)) → IsSomeAnd known P → IsSomeAnd known Q

@@ -16,10 +16,10 @@ use Rattle.line_world.specs.declared.turn.Turn.{Turn}
 use Rattle.line_world.specs.declared.world_fault.WorldFault.TheVariants as world
 use Rattle.line_world.specs.declared.world_fault.WorldFault.{WorldFault}
 use Rattle.line_world.specs.Run.{IsRun, IsRunFault}
-use Rattle.rje_orders.specs.declared.device.Device.{Device}
-use Rattle.rje_orders.specs.Device.{select_of, writing}
-use Rattle.rje_orders.specs.declared.order.CardsOrder.{CardsOrder}
-use Rattle.rje_orders.specs.declared.order.FileOrder.{FileOrder}
+use Rattle.rje_requests.specs.declared.device.Device.{Device}
+use Rattle.rje_requests.specs.Device.{select_of, writing}
+use Rattle.rje_requests.specs.declared.order.CardsOrder.{CardsOrder}
+use Rattle.rje_requests.specs.declared.order.FileOrder.{FileOrder}
 use Rattle.rje_monitor.specs.Stream.{IsStreamText}
 use Rattle.rje_monitor.specs.Turns.{IsTurnsText}
 use Rattle.rje_monitor.specs.Turns.{IsFirstBadLine as IsFirstBadTurn}
@@ -28,7 +28,7 @@ use Rattle.rje_print.specs.JobTexts.{cards_line, IsShown, IsChecked, IsPaper}
 use Rattle.rje_print.specs.ReportTexts.{run_text}
 use Rattle.rje_print.specs.Script.{IsScript, IsFirstBadLine}
 use Rattle.rje_commands.specs.declared.command_fault.CommandFault.{CommandFault}
-use Rattle.rje_stores.specs.Store.{FileMap, Discloses, IsSame, Sets}
+use Rattle.rje_store.specs.Store.{FileMap, Discloses, IsSame, Sets}
 
 -- WHAT A COMMAND READS
 

@@ -5,8 +5,8 @@ use Rattle.rje_files.specs.JobFile.{IsEntryFile}
 use Rattle.rje_commands.specs.declared.command_fault.CommandFault.{CommandFault}
 use Rattle.rje_commands.specs.declared.write_cause.WriteCause.{WriteCause}
 use Rattle.rje_commands.specs.Commands.{OfFile}
-use Rattle.rje_stores.specs.declared.store.StoreFault.{StoreFault}
-use Rattle.rje_stores.specs.Store.{FileMap}
+use Rattle.rje_store.specs.declared.store.StoreFault.{StoreFault}
+use Rattle.rje_store.specs.Store.{FileMap}
 
 -- there is no memory for what has this name, or it can't be read
 abbrev pub IsReadFault : List ℕ → CommandFault → Type 0

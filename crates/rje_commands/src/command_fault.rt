@@ -10,7 +10,7 @@ use rje_monitor::HexFault;
 use rje_names::PrintedName;
 use rje_print::ScriptFault;
 use rje_station::StationFault;
-use rje_stores::StoreFault;
+use rje_store::StoreFault;
 use rje_text::TextFault;
 use std::alloc::AllocError;
 use std::io::{self, ErrorKind};

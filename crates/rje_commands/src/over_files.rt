@@ -2,12 +2,12 @@
 ghost use Rattle.std.specs.Prelude.{◌≡◌, IfErr, OnErr, OnOk, false};
 ghost use Rattle.rje_commands.specs.Commands.{Does, IsFault, Leaves};
 ghost use Rattle.rje_commands.specs.CommandFault.{is_of_output};
-ghost use Rattle.rje_stores.specs.Store.{Discloses, IsSame};
+ghost use Rattle.rje_store.specs.Store.{Discloses, IsSame};
 
 use crate::command_fault::CommandFault;
 use crate::commands::{blocks, cards, check, monitor, print, show, trial};
-use rje_orders::FileOrder;
-use rje_stores::Store;
+use rje_requests::FileOrder;
+use rje_store::Store;
 use std::alloc::Global;
 use std::io::{Read, Write};
 

@@ -1,5 +1,5 @@
 //! Why a file can't be written.
-use rje_stores::StoreFault;
+use rje_store::StoreFault;
 use thiserror::Error;
 
 /// Why a file can't be written.

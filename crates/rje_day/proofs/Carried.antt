@@ -2,8 +2,8 @@
 use Rattle.std.proofs.Common.{◌≡◌, refl, ℕ, ◌+◌, ◌≤◌, true, cond, arith, [], ◌∷◌}
 use Rattle.std.proofs.lemmas.Grind.{common_steps}
 use Rattle.rje_day.specs.declared.day_place.DayPlace.{DayPlace}
-use Rattle.rje_day.specs.declared.event.Event.{Event}
-use Rattle.rje_day.specs.declared.seen.Seen.{Seen}
+use Rattle.rje_day.specs.declared.day_event.DayEvent.{DayEvent}
+use Rattle.rje_day.specs.declared.inputs.Inputs.{Inputs}
 use Rattle.rje_day.specs.declared.settings.Settings.{Settings}
 use Rattle.rje_day.specs.Day.{DayState, after, can_come, duty_of}
 use Rattle.rje_day.specs.Duties.{makes_stations}
@@ -16,7 +16,7 @@ record IsCarried (d : DayState) (own other : ℕ) : Type 0 where
   other_one : other ≤ 1
   other_none : d.place ≡ DayPlace.Sending → other ≡ 0
 
-carried-step : (d : DayState) (seen : Seen) (event : Event) (own other : ℕ) → can_come event d.place ≡ true → can_follow (duty_of d seen) event ≡ true → IsCarried d own other
+carried-step : (d : DayState) (seen : Inputs) (event : DayEvent) (own other : ℕ) → can_come event d.place ≡ true → can_follow (duty_of d seen) event ≡ true → IsCarried d own other
     → IsCarried (after event d) (cond (makes_stations (duty_of d seen)) 0 own + own_begun event) (cond (makes_stations (duty_of d seen)) 0 other + other_begun event)
 carried-step d seen event own other here follows before = record {
   own_one = grind (arith, common_steps);

@@ -1,8 +1,8 @@
 -- What a station keeps of its day is what looking back over the day tells: so whom it hangs up, when it calls again, and when it ends.
 use Rattle.std.proofs.Common.{◌≡◌, refl, sym, ◌∙◌, ◌-◌, true, arith, nat_lt, [], ◌∷◌}
 use Rattle.std.proofs.lemmas.Grind.{common_steps}
-use Rattle.rje_day.specs.declared.duty.Duty.{Duty}
-use Rattle.rje_day.specs.declared.seen.Seen.{Seen}
+use Rattle.rje_day.specs.declared.next_action.NextAction.{NextAction}
+use Rattle.rje_day.specs.declared.inputs.Inputs.{Inputs}
 use Rattle.rje_day.specs.declared.settings.Settings.{Settings}
 use Rattle.rje_day.specs.Day.{DayState, after, can_come, duty_of}
 use Rattle.rje_day.specs.Duties.{MustEnd, MustHangUp}
@@ -25,13 +25,13 @@ kept-told : (settings : Settings) (h : History) → IsDay settings h → IsTold 
 kept-told settings [] day = record { settings_are = refl; place_is = refl; word_is = refl; patience_is = omega arith; served_is = refl; broke_is = refl }
 kept-told settings (m ∷ past) day = after-told settings m past (kept_after settings past) day.0.here (kept-told settings past day.1)
 
-must_hang_up : (d : DayState) (seen : Seen) → duty_of d seen ≡ Duty.HangUp → MustHangUp d seen
+must_hang_up : (d : DayState) (seen : Inputs) → duty_of d seen ≡ NextAction.HangUp → MustHangUp d seen
 must_hang_up d seen e = grind (arith, common_steps)
 
-hangs_up : (d : DayState) (seen : Seen) → MustHangUp d seen → duty_of d seen ≡ Duty.HangUp
+hangs_up : (d : DayState) (seen : Inputs) → MustHangUp d seen → duty_of d seen ≡ NextAction.HangUp
 hangs_up d seen must = grind (arith, common_steps)
 
-must_end : (d : DayState) (seen : Seen) → duty_of d seen ≡ Duty.End → MustEnd d seen
+must_end : (d : DayState) (seen : Inputs) → duty_of d seen ≡ NextAction.End → MustEnd d seen
 must_end d seen e = grind (arith, common_steps)
 
 pub hangs_up_the_idle_alone : HangsUpTheIdleAlone

@@ -1,8 +1,8 @@
 -- When a station that stays on the line does what (own profile).
 use Rattle.std.specs.Prelude.{◌≡◌, ◌⊎◌, ◌<◌, Bool, true, false}
 use Rattle.rje_day.specs.declared.day_place.DayPlace.{DayPlace}
-use Rattle.rje_day.specs.declared.duty.Duty.{Duty}
-use Rattle.rje_day.specs.declared.seen.Seen.{Seen}
+use Rattle.rje_day.specs.declared.next_action.NextAction.{NextAction}
+use Rattle.rje_day.specs.declared.inputs.Inputs.{Inputs}
 use Rattle.rje_day.specs.Day.{DayState}
 
 -- its own transmission is in hand, or the other end's
@@ -11,7 +11,7 @@ IsInHand place = (place ≡ DayPlace.Sending) ⊎ (place ≡ DayPlace.Receiving)
 
 -- it bids where there is a connection, no transmission is in hand, and something lies ready that isn't held back: but not once it is drained,
 -- not while it is the other end's turn, not where the line is wanted, and not once patience with an end that says no word is over
-pub record MustBid (d : DayState) (seen : Seen) : Type 0 where
+pub record MustBid (d : DayState) (seen : Inputs) : Type 0 where
   pub free : d.place ≡ DayPlace.Free
   pub ready : seen.ready ≡ true
   pub not_held : seen.held ≡ false
@@ -23,7 +23,7 @@ pub record MustBid (d : DayState) (seen : Seen) : Type 0 where
 -- it calls, if it is one that calls, where there is no connection: when the time to call again has come, once at once after a connection that
 -- broke, or at once for what lies ready and isn't held back, unless its last attempt failed; but not once it is drained, or its one connection
 -- is over
-pub record MustCall (d : DayState) (seen : Seen) : Type 0 where
+pub record MustCall (d : DayState) (seen : Inputs) : Type 0 where
   pub apart : d.place ≡ DayPlace.Apart
   pub calls : d.settings.calls ≡ true
   pub not_drained : seen.drained ≡ false
@@ -31,23 +31,23 @@ pub record MustCall (d : DayState) (seen : Seen) : Type 0 where
   pub now : (seen.call_due ≡ true) ⊎ (d.redials ≡ true) ⊎ ((seen.ready ≡ true) × (seen.held ≡ false) × (d.failed ≡ false))
 
 -- it makes new stations where it bids or hears: only where no transmission is in hand
-abbrev pub makes_stations : Duty → Bool
-makes_stations Duty.Bid = true
-makes_stations Duty.Hear = true
+abbrev pub makes_stations : NextAction → Bool
+makes_stations NextAction.Bid = true
+makes_stations NextAction.Hear = true
 makes_stations _ = false
 
 -- it seeks a connection where it listens or calls
-abbrev pub seeks_connection : Duty → Bool
-seeks_connection Duty.Listen = true
-seeks_connection Duty.Call = true
+abbrev pub seeks_connection : NextAction → Bool
+seeks_connection NextAction.Listen = true
+seeks_connection NextAction.Call = true
 seeks_connection _ = false
 
 -- it hangs up where no transmission is in hand: once it is drained, where the line is wanted, or where patience with the other end is over
-pub record MustHangUp (d : DayState) (seen : Seen) : Type 0 where
+pub record MustHangUp (d : DayState) (seen : Inputs) : Type 0 where
   pub free : d.place ≡ DayPlace.Free
   pub why : (seen.drained ≡ true) ⊎ (seen.line_wanted ≡ true) ⊎ (d.patience ≡ 0)
 
 -- it ends where there is no connection: once it is drained, or after its one connection on which the other end said something
-pub record MustEnd (d : DayState) (seen : Seen) : Type 0 where
+pub record MustEnd (d : DayState) (seen : Inputs) : Type 0 where
   pub apart : d.place ≡ DayPlace.Apart
   pub why : (seen.drained ≡ true) ⊎ ((d.settings.once ≡ true) × (d.served ≡ true))

@@ -1,9 +1,9 @@
 -- A day, looked back over (own profile). Histories have the newest moment first.
 use Rattle.std.specs.Prelude.{◌≡◌, ℕ, ◌+◌, Bool, true, false, ◌||◌, List, [], ◌∷◌, if◌then◌else◌}
 use Rattle.rje_day.specs.declared.day_place.DayPlace.{DayPlace}
-use Rattle.rje_day.specs.declared.duty.Duty.{Duty}
-use Rattle.rje_day.specs.declared.event.Event.{Event}
-use Rattle.rje_day.specs.declared.seen.Seen.{Seen}
+use Rattle.rje_day.specs.declared.next_action.NextAction.{NextAction}
+use Rattle.rje_day.specs.declared.day_event.DayEvent.{DayEvent}
+use Rattle.rje_day.specs.declared.inputs.Inputs.{Inputs}
 use Rattle.rje_day.specs.declared.settings.Settings.{Settings}
 use Rattle.rje_day.specs.Day.{DayState, after, can_come, duty_of, first_day_state, is_in_hand}
 use Rattle.rje_day.specs.Duties.{makes_stations}
@@ -11,8 +11,8 @@ use Rattle.rje_day.specs.Ended.{all_counted, was_answered}
 
 -- one moment of a day: what was seen as the station asked what is next, and what happened when it did that
 pub record Moment : Type 0 where
-  pub seen : Seen
-  pub event : Event
+  pub seen : Inputs
+  pub event : DayEvent
 
 abbrev pub History : Type 0
 History = List Moment
@@ -23,28 +23,28 @@ kept_after settings [] = first_day_state settings
 kept_after settings (m ∷ past) = after m.event (kept_after settings past)
 
 -- what it did in a moment after these
-abbrev pub done_in : Settings → Moment → History → Duty
+abbrev pub done_in : Settings → Moment → History → NextAction
 done_in settings m past = duty_of (kept_after settings past) m.seen
 
 -- what can come of what it does
-abbrev pub can_follow : Duty → Event → Bool
-can_follow Duty.Listen Event.Connected = true
-can_follow Duty.Listen Event.NoConnection = true
-can_follow Duty.Call Event.Connected = true
-can_follow Duty.Call Event.NoConnection = true
-can_follow Duty.Bid Event.OwnBegan = true
-can_follow Duty.Bid Event.Disconnected = true
-can_follow Duty.Hear Event.Quiet = true
-can_follow Duty.Hear Event.Heard = true
-can_follow Duty.Hear Event.OtherBegan = true
-can_follow Duty.Hear Event.Disconnected = true
-can_follow Duty.GoOn Event.Quiet = true
-can_follow Duty.GoOn Event.Heard = true
-can_follow Duty.GoOn Event.OtherBegan = true
-can_follow Duty.GoOn (Event.OwnEnded how) = true
-can_follow Duty.GoOn Event.OtherEnded = true
-can_follow Duty.GoOn Event.Disconnected = true
-can_follow Duty.HangUp Event.Disconnected = true
+abbrev pub can_follow : NextAction → DayEvent → Bool
+can_follow NextAction.Listen DayEvent.Connected = true
+can_follow NextAction.Listen DayEvent.NoConnection = true
+can_follow NextAction.Call DayEvent.Connected = true
+can_follow NextAction.Call DayEvent.NoConnection = true
+can_follow NextAction.Bid DayEvent.OwnBegan = true
+can_follow NextAction.Bid DayEvent.Disconnected = true
+can_follow NextAction.Hear DayEvent.Quiet = true
+can_follow NextAction.Hear DayEvent.Heard = true
+can_follow NextAction.Hear DayEvent.OtherBegan = true
+can_follow NextAction.Hear DayEvent.Disconnected = true
+can_follow NextAction.GoOn DayEvent.Quiet = true
+can_follow NextAction.GoOn DayEvent.Heard = true
+can_follow NextAction.GoOn DayEvent.OtherBegan = true
+can_follow NextAction.GoOn (DayEvent.OwnEnded how) = true
+can_follow NextAction.GoOn DayEvent.OtherEnded = true
+can_follow NextAction.GoOn DayEvent.Disconnected = true
+can_follow NextAction.HangUp DayEvent.Disconnected = true
 can_follow _ _ = false
 
 -- the moment may come after these: its event can come where the station stands, and of what it does
@@ -63,12 +63,12 @@ IsDay settings (m ∷ past) = MayCome settings m past × IsDay settings past
 abbrev pub stands_after : History → DayPlace
 stands_after [] = DayPlace.Apart
 stands_after (m ∷ past) = elim m.event [
-  | Event.Connected ↦ DayPlace.Free
-  | Event.OwnBegan ↦ DayPlace.Sending
-  | Event.OtherBegan ↦ DayPlace.Receiving
-  | Event.OwnEnded how ↦ DayPlace.Free
-  | Event.OtherEnded ↦ DayPlace.Free
-  | Event.Disconnected ↦ DayPlace.Apart
+  | DayEvent.Connected ↦ DayPlace.Free
+  | DayEvent.OwnBegan ↦ DayPlace.Sending
+  | DayEvent.OtherBegan ↦ DayPlace.Receiving
+  | DayEvent.OwnEnded how ↦ DayPlace.Free
+  | DayEvent.OtherEnded ↦ DayPlace.Free
+  | DayEvent.Disconnected ↦ DayPlace.Apart
   | _ ↦ stands_after past
 ]
 
@@ -77,11 +77,11 @@ stands_after (m ∷ past) = elim m.event [
 abbrev pub has_word : History → Bool
 has_word [] = false
 has_word (m ∷ past) = elim m.event [
-  | Event.Heard ↦ true
-  | Event.OtherBegan ↦ true
-  | Event.OtherEnded ↦ true
-  | Event.OwnEnded how ↦ has_word past || was_answered how
-  | Event.Disconnected ↦ false
+  | DayEvent.Heard ↦ true
+  | DayEvent.OtherBegan ↦ true
+  | DayEvent.OtherEnded ↦ true
+  | DayEvent.OwnEnded how ↦ has_word past || was_answered how
+  | DayEvent.Disconnected ↦ false
   | _ ↦ has_word past
 ]
 
@@ -89,12 +89,12 @@ has_word (m ∷ past) = elim m.event [
 abbrev pub quiet_hearings : History → ℕ
 quiet_hearings [] = 0
 quiet_hearings (m ∷ past) = elim m.event [
-  | Event.Quiet ↦ quiet_hearings past + 1
-  | Event.Heard ↦ 0
-  | Event.OtherBegan ↦ 0
-  | Event.OwnEnded how ↦ if was_answered how then 0 else quiet_hearings past
-  | Event.OtherEnded ↦ 0
-  | Event.Disconnected ↦ 0
+  | DayEvent.Quiet ↦ quiet_hearings past + 1
+  | DayEvent.Heard ↦ 0
+  | DayEvent.OtherBegan ↦ 0
+  | DayEvent.OwnEnded how ↦ if was_answered how then 0 else quiet_hearings past
+  | DayEvent.OtherEnded ↦ 0
+  | DayEvent.Disconnected ↦ 0
   | _ ↦ quiet_hearings past
 ]
 
@@ -103,25 +103,25 @@ quiet_hearings (m ∷ past) = elim m.event [
 abbrev pub breaks : History → ℕ
 breaks [] = 0
 breaks (m ∷ past) = elim m.event [
-  | Event.OwnEnded how ↦ if all_counted how then 0 else breaks past
-  | Event.OtherEnded ↦ 0
-  | Event.Disconnected ↦ breaks past + (if is_in_hand (stands_after past) then 1 else 0)
+  | DayEvent.OwnEnded how ↦ if all_counted how then 0 else breaks past
+  | DayEvent.OtherEnded ↦ 0
+  | DayEvent.Disconnected ↦ breaks past + (if is_in_hand (stands_after past) then 1 else 0)
   | _ ↦ breaks past
 ]
 
 -- a connection is over on which the other end said a word
 abbrev pub was_served : History → Bool
 was_served [] = false
-was_served (m ∷ past) = elim m.event [ Event.Disconnected ↦ was_served past || has_word past | _ ↦ was_served past ]
+was_served (m ∷ past) = elim m.event [ DayEvent.Disconnected ↦ was_served past || has_word past | _ ↦ was_served past ]
 
 -- HOW MANY TRANSMISSIONS THE STATIONS IN USE HAVE CARRIED
 
-abbrev pub own_begun : Event → ℕ
-own_begun Event.OwnBegan = 1
+abbrev pub own_begun : DayEvent → ℕ
+own_begun DayEvent.OwnBegan = 1
 own_begun _ = 0
 
-abbrev pub other_begun : Event → ℕ
-other_begun Event.OtherBegan = 1
+abbrev pub other_begun : DayEvent → ℕ
+other_begun DayEvent.OtherBegan = 1
 other_begun _ = 0
 
 -- of the station's own, since new stations were made

@@ -2,9 +2,9 @@
 use Rattle.std.specs.Prelude.{◌≡◌, ◌≢◌, ◌⊎◌, ◌<◌, ◌≤◌, true, false, List, ◌∷◌, ◌++◌}
 use Rattle.rje_day.specs.declared.day_place.DayPlace.{DayPlace}
 use Rattle.rje_day.specs.declared.disposition.Disposition.{Disposition}
-use Rattle.rje_day.specs.declared.duty.Duty.{Duty}
-use Rattle.rje_day.specs.declared.event.Event.{Event}
-use Rattle.rje_day.specs.declared.seen.Seen.{Seen}
+use Rattle.rje_day.specs.declared.next_action.NextAction.{NextAction}
+use Rattle.rje_day.specs.declared.day_event.DayEvent.{DayEvent}
+use Rattle.rje_day.specs.declared.inputs.Inputs.{Inputs}
 use Rattle.rje_day.specs.declared.settings.Settings.{Settings}
 use Rattle.rje_day.specs.Day.{duty_of, is_in_hand}
 use Rattle.rje_day.specs.Giving.{AllMayOccur, Becomes, Name, Occurrence, Transmission, Transmitted, WasGiven}
@@ -12,7 +12,7 @@ use Rattle.rje_day.specs.History.{History, IsDay, Moment, breaks, kept_after, ot
 
 -- in this moment a connection broke, a transmission in hand
 abbrev pub HasBroken : Moment → History → Type 0
-HasBroken m past = (m.event ≡ Event.Disconnected) × (is_in_hand (stands_after past) ≡ true)
+HasBroken m past = (m.event ≡ DayEvent.Disconnected) × (is_in_hand (stands_after past) ≡ true)
 
 -- each transmission begins with new stations: those in use carry at most one each way
 abbrev pub CarryOneEachWay : Type 0
@@ -24,39 +24,39 @@ CarryOneEachWay =
 abbrev pub BeginWhereNoneIsInHand : Type 0
 BeginWhereNoneIsInHand =
     (settings : Settings) (m : Moment) (past : History) → IsDay settings (m ∷ past)
-    → (m.event ≡ Event.OwnBegan → stands_after past ≡ DayPlace.Free)
-    × (m.event ≡ Event.OtherBegan → (stands_after past ≡ DayPlace.Free) ⊎ (stands_after past ≡ DayPlace.Sending))
+    → (m.event ≡ DayEvent.OwnBegan → stands_after past ≡ DayPlace.Free)
+    × (m.event ≡ DayEvent.OtherBegan → (stands_after past ≡ DayPlace.Free) ⊎ (stands_after past ≡ DayPlace.Sending))
 
 -- a station that isn't drained, and whose line isn't wanted, hangs up only where no transmission is in hand, and not before so many hearings in a
 -- row without a word as there is patience for
 abbrev pub HangsUpTheIdleAlone : Type 0
 HangsUpTheIdleAlone =
-    (settings : Settings) (h : History) (seen : Seen) → IsDay settings h → duty_of (kept_after settings h) seen ≡ Duty.HangUp
+    (settings : Settings) (h : History) (seen : Inputs) → IsDay settings h → duty_of (kept_after settings h) seen ≡ NextAction.HangUp
     → (stands_after h ≡ DayPlace.Free) × ((seen.drained ≡ true) ⊎ (seen.line_wanted ≡ true) ⊎ (settings.patience ≤ quiet_hearings h))
 
 -- and it does hang up then
 abbrev pub HangsUpTheIdle : Type 0
 HangsUpTheIdle =
-    (settings : Settings) (h : History) (seen : Seen) → IsDay settings h → stands_after h ≡ DayPlace.Free
-    → settings.patience ≤ quiet_hearings h → duty_of (kept_after settings h) seen ≡ Duty.HangUp
+    (settings : Settings) (h : History) (seen : Inputs) → IsDay settings h → stands_after h ≡ DayPlace.Free
+    → settings.patience ≤ quiet_hearings h → duty_of (kept_after settings h) seen ≡ NextAction.HangUp
 
 -- A station that calls, isn't drained and isn't to end calls at once after a connection that broke, where it is the first since a transmission
 -- ended well.
 abbrev pub CallsAgainAtOnce : Type 0
 CallsAgainAtOnce =
-    (settings : Settings) (m : Moment) (past : History) (seen : Seen) → IsDay settings (m ∷ past) → HasBroken m past → breaks past ≡ 0
-    → settings.calls ≡ true → settings.once ≡ false → seen.drained ≡ false → duty_of (kept_after settings (m ∷ past)) seen ≡ Duty.Call
+    (settings : Settings) (m : Moment) (past : History) (seen : Inputs) → IsDay settings (m ∷ past) → HasBroken m past → breaks past ≡ 0
+    → settings.calls ≡ true → settings.once ≡ false → seen.drained ≡ false → duty_of (kept_after settings (m ∷ past)) seen ≡ NextAction.Call
 
 -- after each further one it waits until the time to call again has come, whatever lies ready
 abbrev pub CallsAgainInTime : Type 0
 CallsAgainInTime =
-    (settings : Settings) (m : Moment) (past : History) (seen : Seen) → IsDay settings (m ∷ past) → HasBroken m past → 0 < breaks past
-    → duty_of (kept_after settings (m ∷ past)) seen ≡ Duty.Call → seen.call_due ≡ true
+    (settings : Settings) (m : Moment) (past : History) (seen : Inputs) → IsDay settings (m ∷ past) → HasBroken m past → 0 < breaks past
+    → duty_of (kept_after settings (m ∷ past)) seen ≡ NextAction.Call → seen.call_due ≡ true
 
 -- a station that isn't drained ends only after one connection on which the other end said a word, and only if it was told so
 abbrev pub EndsAfterOne : Type 0
 EndsAfterOne =
-    (settings : Settings) (h : History) (seen : Seen) → IsDay settings h → duty_of (kept_after settings h) seen ≡ Duty.End
+    (settings : Settings) (h : History) (seen : Inputs) → IsDay settings h → duty_of (kept_after settings h) seen ≡ NextAction.End
     → (seen.drained ≡ true) ⊎ ((settings.once ≡ true) × (was_served h ≡ true))
 
 -- a job that one transmission sent or left in doubt is given to no later one

@@ -32,7 +32,7 @@
 //! own transmission was in hand, it is the other end's turn first on the next connection.
 ghost use Rattle.std.specs.Prelude.{◌≡◌, ◌↔◌, true, false};
 
-use crate::{DayPlace, Duty, Ended, Event, Seen, Settings};
+use crate::{DayEvent, DayPlace, Ended, Inputs, NextAction, Settings};
 use std::marker::Model;
 
 /// The day of a station that stays on the line.
@@ -89,80 +89,80 @@ impl Day {
     }
 
     /// What is next, as things stand and by what is seen.
-    pub fn next(&self, seen: Seen) -> Duty
+    pub fn next(&self, seen: Inputs) -> NextAction
         ensures exact { result ≡ duty_of self.now seen }
-        ensures bids { (result ≡ Duty.Bid) ↔ MustBid self.now seen }
-        ensures calls { (result ≡ Duty.Call) ↔ MustCall self.now seen }
+        ensures bids { (result ≡ NextAction.Bid) ↔ MustBid self.now seen }
+        ensures calls { (result ≡ NextAction.Call) ↔ MustCall self.now seen }
         ensures one_connection { seeks_connection result ≡ true → self.now.place ≡ DayPlace.Apart }
-        ensures goes_on { (result ≡ Duty.GoOn) ↔ IsInHand self.now.place }
-        ensures hangs_up { (result ≡ Duty.HangUp) ↔ MustHangUp self.now seen }
-        ensures ends { (result ≡ Duty.End) ↔ MustEnd self.now seen }
+        ensures goes_on { (result ≡ NextAction.GoOn) ↔ IsInHand self.now.place }
+        ensures hangs_up { (result ≡ NextAction.HangUp) ↔ MustHangUp self.now seen }
+        ensures ends { (result ≡ NextAction.End) ↔ MustEnd self.now seen }
     {
         match self.place {
             DayPlace::Apart => self.next_apart(seen),
             DayPlace::Free => self.next_free(seen),
-            DayPlace::Sending | DayPlace::Receiving => Duty::GoOn,
+            DayPlace::Sending | DayPlace::Receiving => NextAction::GoOn,
         }
     }
 
     /// Something happened. What can't happen where the station stands changes nothing.
-    pub fn note(&mut self, event: Event)
+    pub fn note(&mut self, event: DayEvent)
         ensures exact { self.new ≡ after event self.old }
         ensures stays { can_come event self.old.place ≡ false → self.new ≡ self.old }
     {
         match (event, self.place) {
-            (Event::Connected, DayPlace::Apart) => self.connected(),
-            (Event::NoConnection, DayPlace::Apart) => self.not_connected(),
-            (Event::OwnBegan, DayPlace::Free) => self.place = DayPlace::Sending,
-            (Event::OtherBegan, DayPlace::Free | DayPlace::Sending) => self.other_began(),
-            (Event::OwnEnded(how), DayPlace::Sending) => self.own_ended(how),
-            (Event::OtherEnded, DayPlace::Receiving) => self.other_ended(),
+            (DayEvent::Connected, DayPlace::Apart) => self.connected(),
+            (DayEvent::NoConnection, DayPlace::Apart) => self.not_connected(),
+            (DayEvent::OwnBegan, DayPlace::Free) => self.place = DayPlace::Sending,
+            (DayEvent::OtherBegan, DayPlace::Free | DayPlace::Sending) => self.other_began(),
+            (DayEvent::OwnEnded(how), DayPlace::Sending) => self.own_ended(how),
+            (DayEvent::OtherEnded, DayPlace::Receiving) => self.other_ended(),
             (_, DayPlace::Apart) => {}
-            (Event::Quiet, _) => {
+            (DayEvent::Quiet, _) => {
                 self.others_turn = false;
                 self.patience = self.patience.saturating_sub(1);
             }
-            (Event::Heard, _) => {
+            (DayEvent::Heard, _) => {
                 self.others_turn = false;
                 self.spoke();
             }
-            (Event::Disconnected, _) => self.disconnected(),
+            (DayEvent::Disconnected, _) => self.disconnected(),
             _ => {}
         }
     }
 
     /// There is no connection.
-    fn next_apart(&self, seen: Seen) -> Duty
+    fn next_apart(&self, seen: Inputs) -> NextAction
         ensures { result ≡ duty_apart self.now seen }
     {
         let may_send = seen.ready && !seen.held;
         if seen.drained || (self.settings.once && self.served) {
-            Duty::End
+            NextAction::End
         } else if !self.settings.calls {
-            Duty::Listen
+            NextAction::Listen
         } else if seen.call_due || self.redials || (may_send && !self.failed) {
-            Duty::Call
+            NextAction::Call
         } else {
-            Duty::Wait
+            NextAction::Wait
         }
     }
 
     /// There is a connection, and nothing is in hand.
-    fn next_free(&self, seen: Seen) -> Duty
+    fn next_free(&self, seen: Inputs) -> NextAction
         ensures { result ≡ duty_free self.now seen }
     {
         let may_send = seen.ready && !seen.held;
         if seen.drained || seen.line_wanted || self.patience == 0 {
-            Duty::HangUp
+            NextAction::HangUp
         } else if may_send && !self.others_turn {
-            Duty::Bid
+            NextAction::Bid
         } else {
-            Duty::Hear
+            NextAction::Hear
         }
     }
 
     fn connected(&mut self)
-        ensures { self.new ≡ coming_of Event.Connected self.old }
+        ensures { self.new ≡ coming_of DayEvent.Connected self.old }
     {
         self.place = DayPlace::Free;
         self.failed = false;
@@ -170,7 +170,7 @@ impl Day {
     }
 
     fn not_connected(&mut self)
-        ensures { self.new ≡ coming_of Event.NoConnection self.old }
+        ensures { self.new ≡ coming_of DayEvent.NoConnection self.old }
     {
         self.failed = true;
         self.redials = false;
@@ -185,7 +185,7 @@ impl Day {
     }
 
     fn other_began(&mut self)
-        ensures { self.new ≡ coming_of Event.OtherBegan self.old }
+        ensures { self.new ≡ coming_of DayEvent.OtherBegan self.old }
     {
         self.place = DayPlace::Receiving;
         self.others_turn = false;
@@ -193,7 +193,7 @@ impl Day {
     }
 
     fn own_ended(&mut self, how: Ended)
-        ensures { self.new ≡ coming_of (Event.OwnEnded how) self.old }
+        ensures { self.new ≡ coming_of (DayEvent.OwnEnded how) self.old }
     {
         self.place = DayPlace::Free;
         self.others_turn = true;
@@ -205,7 +205,7 @@ impl Day {
     }
 
     fn other_ended(&mut self)
-        ensures { self.new ≡ coming_of Event.OtherEnded self.old }
+        ensures { self.new ≡ coming_of DayEvent.OtherEnded self.old }
     {
         self.place = DayPlace::Free;
         self.broke = false;
@@ -213,7 +213,7 @@ impl Day {
     }
 
     fn disconnected(&mut self)
-        ensures { self.new ≡ coming_of Event.Disconnected self.old }
+        ensures { self.new ≡ coming_of DayEvent.Disconnected self.old }
     {
         let broke = self.place.is_in_hand();
         *self = Day {

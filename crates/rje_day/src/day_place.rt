@@ -1,7 +1,7 @@
-//! Where a station stands in its day.
+//! Where a station is in its day.
 ghost use Rattle.std.specs.Prelude.{◌≡◌};
 
-/// Where a station stands in its day.
+/// Where a station is in its day.
 #[derive(Clone, Copy, Debug, PartialEq, Eq)]
 pub enum DayPlace {
     /// There is no connection.

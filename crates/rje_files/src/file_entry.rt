@@ -1,4 +1,4 @@
-//! A job as it stands in a job file.
+//! A job as it is in a job file.
 ghost use Rattle.std.specs.Prelude.{◌≡◌, ◌↔◌, length, IfOk, IsTrue};
 ghost use Rattle.rje_jobs.specs.Fitting.{AreSent, JobFits};
 ghost use Rattle.rje_files.specs.declared.job_file.version.FileVersion.{FileVersion};
@@ -12,7 +12,7 @@ use rje_text::{Mode, Select};
 use std::alloc::{AllocError, Global};
 use std::marker::Model;
 
-/// A job as it stands in a job file, with its name and its state: its records stay where they are. Contracts see the entry.
+/// A job as it is in a job file, with its name and its state: its records stay where they are. Contracts see the entry.
 #[derive(Drop)]
 pub struct FileEntry<'a> {
     name: JobName,

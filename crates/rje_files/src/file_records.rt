@@ -1,4 +1,4 @@
-//! The records of a job as they stand in a job file.
+//! The records of a job as they are in a job file.
 ghost use Rattle.std.specs.Prelude.{◌≡◌, ◌≤◌, ◌<◌, ◌^◌, length, take, drop, slice_index, IfOk};
 ghost use Rattle.std.specs.List.{flat_map};
 ghost use Rattle.rje_files.specs.JobFile.{record_bytes};
@@ -9,7 +9,7 @@ use rje_text::{Action, MAX_RECORD, Record, Records};
 use std::alloc::{AllocError, Global};
 use std::marker::Model;
 
-/// The records of a job as they stand in a job file, one after another. Contracts see the list of those that are left.
+/// The records of a job as they are in a job file, one after another. Contracts see the list of those that are left.
 #[derive(Drop)]
 pub struct FileRecords<'a> {
     rest: &'a [u8],

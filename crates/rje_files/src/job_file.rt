@@ -49,7 +49,7 @@ pub fn write_jobs(alloc: Global, jobs: &[Job]) -> Result<Vec<u8>, FileFault>
     Ok(out)
 }
 
-/// The version 2 file of these entries. Each is looked at before any memory is taken.
+/// The version 2 file of these entries. Each is checked before any memory is taken.
 pub fn write_entries(alloc: Global, entries: &[Entry]) -> Result<Vec<u8>, FileFault>
     ensures file { IfOk result (λ bytes. IsEntryFileOf FileVersion.Second entries.now bytes.items) }
     ensures told { IfErr result (λ fault. IsEntryFault entries.now fault) }
@@ -67,7 +67,7 @@ pub fn write_entries(alloc: Global, entries: &[Entry]) -> Result<Vec<u8>, FileFa
 }
 
 /// The version 2 file of one job that waits to be sent: of these cards of a deck, which were made in this mode, with this name. Each card is
-/// written as it is made. The name is looked at before any memory is taken.
+/// written as it is made. The name is checked before any memory is taken.
 pub fn write_deck(
     alloc: Global,
     name: &JobName,

@@ -1,4 +1,4 @@
-//! Job files, and what stands in them.
+//! Job files, and what is in them.
 #![tactic(auto)]
 
 mod entry;

@@ -13,7 +13,7 @@ use rje_jobs::FileFault;
 use std::alloc::Global;
 
 /// The version 2 file of the same entries as this one's, in which the first `count` of those that were not Sent are Sent: its own bytes, with
-/// a mark for each. The entries are looked at before any memory is taken.
+/// a mark for each. The entries are checked before any memory is taken.
 pub(crate) fn marked_copy(
     alloc: Global,
     file: &[u8],

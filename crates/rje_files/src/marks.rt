@@ -13,16 +13,16 @@ use std::alloc::{AllocError, Global};
 /// The byte of a mark: the state Sent.
 pub const MARK: u8 = 1;
 
-/// What stands in a file before its first entry: the head, the version and the number of entries.
+/// What a file has before its first entry: the head, the version and the number of entries.
 pub(crate) const FRONT: usize = 14;
 
-/// What stands in an entry before its state: its name.
+/// What an entry has before its state: its name.
 pub(crate) const NAME: usize = 8;
 
-/// What stands in an entry before its records: its name, its state, its selection and its mode, each of a byte, and the number of records.
+/// What an entry has before its records: its name, its state, its selection and its mode, each of a byte, and the number of records.
 pub(crate) const FIELDS: usize = 19;
 
-/// What stands in a record before its data: its action and their length.
+/// What a record has before its data: its action and their length.
 const RECORD: usize = 2;
 
 /// The places of the marks of entries in their version 2 file: the state bytes of those that were not sent, in order. A file that is longer

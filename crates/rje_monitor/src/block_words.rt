@@ -35,7 +35,7 @@ fn push_head(text: &mut Vec<u8>, block: &Block) -> Result<(), AllocError>
     push_number(text, block.text.len())
 }
 
-/// Puts what a block's text stands for after a text, or why it isn't read.
+/// Puts what a block's text represents after a text, or why it isn't read.
 fn push_reading(
     alloc: Global,
     text: &mut Vec<u8>,

@@ -55,7 +55,7 @@ fn after_blanks(text: &[u8]) -> &[u8]
     rest
 }
 
-/// How many blanks stand in front.
+/// How many blanks come first.
 fn blanks_before(text: &[u8]) -> usize
     ensures blanks { result ≡ prefix_len is_blank text.now }
     ensures within { result ≤ length text.now }

@@ -16,7 +16,7 @@ pub(crate) enum Item {
     Other,
 }
 
-/// The first item of a line of transparent or normal text, and what is behind it; `None` where the line ends before it is whole.
+/// The first item of a line of transparent or normal text, and what comes after it; `None` where the line ends before it is whole.
 pub(crate) fn first_item(transparent: bool, line: &[u8]) -> Option<(Item, &[u8])>
     ensures item { MatchOption result (IsLineEnd transparent line.now)
         (λ p. IsItem transparent p.0 line.now p.1.now) }

@@ -4,7 +4,7 @@ ghost use Rattle.rje_monitor.specs.Hearing.{is_pad as is_pad_of, pads_before as 
 
 use bsc_codes::PAD;
 
-/// The pad that may stand in front of a transmission, as FF may.
+/// The pad that may come before a transmission, as FF may.
 const LEADING_PAD: u8 = 0x55;
 
 pub(crate) fn is_pad(byte: u8) -> bool
@@ -13,7 +13,7 @@ pub(crate) fn is_pad(byte: u8) -> bool
     byte == PAD || byte == LEADING_PAD
 }
 
-/// How many pads stand in front of these bytes.
+/// How many pads come before these bytes.
 pub(crate) fn pads_before(bytes: &[u8]) -> usize
     ensures pads { result ≡ pads_of bytes.now }
     ensures within { result ≤ length bytes.now }

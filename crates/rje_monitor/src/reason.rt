@@ -23,7 +23,7 @@ pub enum Reason {
     Cut,
     /// With two other bytes for its check a prefix would be one of a block.
     Check,
-    /// It would be a text but for holding more than 512 data bytes.
+    /// It would be a text if it held no more than 512 data bytes.
     TooLong,
     /// None of these.
     Spoiled,

@@ -31,7 +31,7 @@ pub fn stream_text(alloc: Global, capture: &[u8]) -> Result<Vec<u8>, AllocError>
     Ok(text)
 }
 
-/// Puts the line for what was heard of these bytes, which stand at this place, after a text.
+/// Puts the line for what was heard of these bytes, which are at this place, after a text.
 fn push_line(
     alloc: Global,
     text: &mut Vec<u8>,

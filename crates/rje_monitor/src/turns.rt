@@ -86,7 +86,7 @@ fn push_turn(
     Ok(mode_after(so_far, &heard))
 }
 
-/// How many of the bytes after a frame there are, but for one pad.
+/// How many of the bytes after a frame there are, except one pad.
 fn bytes_after(rest: &[u8]) -> usize
     ensures { result ≡ bytes_behind rest.now }
 {

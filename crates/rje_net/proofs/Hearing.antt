@@ -3,7 +3,8 @@
 use Rattle.std.proofs.Common.{◌≡◌, ℕ, ◌+◌, ◌-◌, ◌<◌, ◌≤◌, List, [], ◌∷◌, ◌++◌, length, refl, sym, ap, subst, ◌∙◌, arith}
 use Rattle.std.specs.Prelude.{Option, None, Some, Result, Ok, Err, IfOk, take, drop}
 use Rattle.std.specs.Io.KnownBytes.{Appends, Consumes}
-use Rattle.std.proofs.lemmas.List.{append-nil, append_assoc, drop-take, length-drop, take-append-drop, take-take, take_all}
+use Rattle.std.proofs.lemmas.List.{append-nil, append_assoc, length-drop, take_all}
+use Rattle.rje_text.proofs.Fronts.{take_split}
 use Rattle.rje_station.specs.declared.came.Came.{Came}
 use Rattle.rje_station.specs.declared.line_fault.LineFault.{LineFault}
 use Rattle.rje_net.specs.Hearing.{Brought, HandsOn, LineKeeps, Listens, MayAwait, bytes_of}
@@ -38,12 +39,6 @@ pub brings_all : (a m c : Option (List ℕ)) (first second : List Brought)
     → Consumes a m (bytes_of first) → Consumes m c (bytes_of second) → Consumes a c (bytes_of (second ++ first))
 brings_all a m c first second p q =
     subst (Consumes a c) (sym (bytes_of-append second first)) (consumes_more a m c (bytes_of first) (bytes_of second) p q)
-
-take_split : (place n : ℕ) (bytes : List ℕ) → take (place + n) bytes ≡ take place bytes ++ take n (drop place bytes)
-take_split place n bytes =
-    sym (take-append-drop place (take (place + n) bytes))
-    ∙ ap (λ l. l ++ drop place (take (place + n) bytes)) (take-take place (place + n) bytes (omega arith))
-    ∙ ap (λ l. take place bytes ++ l) (drop-take place n bytes)
 
 -- a front of the bytes was written, and then a front of the others
 pub writes_more : (a m c : Option (List ℕ)) (place n : ℕ) (bytes : List ℕ)

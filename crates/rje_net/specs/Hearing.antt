@@ -6,7 +6,7 @@ use Rattle.bsc_frame.specs.Listener.{HasTaken}
 use Rattle.bsc_frame.specs.Written.{Written}
 use Rattle.bsc_link.specs.declared.reply.Reply.{Reply}
 use Rattle.rje_answers.specs.Awaiting.{has_answer, kept_after, said_in}
-use Rattle.rje_answers.specs.declared.event.Event.{Event}
+use Rattle.rje_answers.specs.declared.link_event.LinkEvent.{LinkEvent}
 use Rattle.rje_answers.specs.declared.given.Given.{Given}
 use Rattle.rje_answers.specs.declared.handover.Handed.{Handed}
 use Rattle.rje_answers.specs.Handover.{Hands, IsHandedOn, Waiting, nothing_waits}
@@ -111,7 +111,7 @@ WritesThrough before after result bytes = MatchResult result (λ _. Appends befo
 
 -- a frame is said: its answer is awaited, if it has one, and nothing that came before is of any account
 pub record Says (a : LineKeeps) (bytes : List ℕ) (b : LineKeeps) : Type 0 where
-  pub kept : (f : Frame) → Written f bytes → b.answers.kept ≡ kept_after (Event.Says (said_in f)) a.answers.kept
+  pub kept : (f : Frame) → Written f bytes → b.answers.kept ≡ kept_after (LinkEvent.Says (said_in f)) a.answers.kept
   pub listens : HasTaken b.answers.listener []
   pub waiting : b.waiting ≡ nothing_waits
   pub calm : b.babbles ≡ false

@@ -12,8 +12,8 @@ use Rattle.rje_jobs.specs.Listing.{listing}
 use Rattle.rje_jobs.specs.Punch.{card, punched}
 use Rattle.rje_files.specs.declared.entry.Entry.{Entry}
 use Rattle.rje_files.specs.declared.entry.State.{State}
-use Rattle.rje_orders.specs.declared.choice.Choice.{Choice}
-use Rattle.rje_orders.specs.Choice.{takes}
+use Rattle.rje_requests.specs.declared.choice.Choice.{Choice}
+use Rattle.rje_requests.specs.Choice.{takes}
 
 -- how a selection is printed
 abbrev pub select_name : Select → List ℕ

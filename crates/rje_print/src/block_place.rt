@@ -1,6 +1,6 @@
-//! Where a block stands in a transmission.
+//! The place of a block in a transmission.
 
-/// Where a block stands that a turn's line tells of.
+/// The place of a block that a turn's line reports.
 #[derive(Clone, Copy, Debug, PartialEq, Eq)]
 pub struct BlockPlace {
     /// The number of its job among those of the transmission, from 1.

@@ -9,7 +9,7 @@ use crate::job_lines::{push_cut, push_entry};
 use crate::printed_line::{PrintedLine, push_number};
 use rje_files::{FileEntry, State};
 use rje_jobs::{Form, push_card, push_line};
-use rje_orders::Choice;
+use rje_requests::Choice;
 use rje_text::{Record, Select};
 use std::alloc::{AllocError, Global};
 
@@ -134,7 +134,7 @@ fn push_indent(digits: usize, text: &mut Vec<u8>) -> Result<(), AllocError>
     Ok(())
 }
 
-/// Appends the paper of an entry's job.
+/// Appends the printout of an entry's job.
 fn push_paper(entry: &FileEntry, form: Form, text: &mut Vec<u8>) -> Result<(), AllocError>
     ensures paper { OnOk result (text.new.items ≡ text.old.items ++ paper form entry.now.job) }
 {

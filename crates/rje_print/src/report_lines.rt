@@ -38,7 +38,7 @@ pub fn counted_text(counted: usize, given: usize) -> PrintedLine
     line
 }
 
-/// The line that says how many jobs were handed out, and how many of them whole.
+/// The line that says how many jobs were delivered, and how many of them whole.
 pub fn handed_text(jobs: &[Job]) -> PrintedLine
     ensures { result.items ≡ handed_line (length jobs.now) (whole_jobs jobs.now) }
 {

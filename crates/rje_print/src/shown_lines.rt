@@ -1,4 +1,4 @@
-//! The line on a terminal that tells how far a transmission is: each takes the place of the one before.
+//! The line on a terminal that says how far a transmission is: each takes the place of the one before.
 ghost use Rattle.std.specs.Prelude.{◌≡◌, ◌<◌, ◌≤◌, ◌+◌, ◌++◌, Option, length, IfOk};
 ghost use Rattle.rje_print.specs.ProgressTexts.{two_digits, doing_name, jobs_text, amount_text, left_text, shown, shown_listening, shown_peer, shown_progress};
 

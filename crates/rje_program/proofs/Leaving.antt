@@ -1,11 +1,11 @@
 -- What an order leaves of the files is what the words that ask for it do.
 use Rattle.std.proofs.Common.{ℕ, List, Option, inl, inr}
-use Rattle.rje_orders.specs.declared.order.FileOrder.{FileOrder}
-use Rattle.rje_orders.specs.declared.order.Order.TheVariants.{Files}
-use Rattle.rje_words.specs.Asking.{AsksFor}
+use Rattle.rje_requests.specs.declared.order.FileOrder.{FileOrder}
+use Rattle.rje_requests.specs.declared.order.Order.TheVariants.{Files}
+use Rattle.rje_cli.specs.Asking.{AsksFor}
 use Rattle.rje_commands.specs.Commands.{Leaves}
 use Rattle.rje_program.specs.Command.{LeavesAsAsked}
-use Rattle.rje_stores.specs.Store.{FileMap}
+use Rattle.rje_store.specs.Store.{FileMap}
 
 pub leaves : (words : List (List ℕ)) (order : FileOrder) (f g : Option FileMap) (input : Option (List ℕ))
     → AsksFor words (Files order) → Leaves order f g input → LeavesAsAsked words f g input

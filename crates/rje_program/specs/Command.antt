@@ -4,17 +4,17 @@ use Rattle.clap.specs.Words.{kind_of}
 use Rattle.clap.specs.declared.error.Error.{Error}
 use Rattle.clap.specs.declared.error.kind.ErrorKind.{ErrorKind}
 use Rattle.clap.specs.declared.error.kind.ErrorKind.TheVariants.{DisplayHelp, DisplayVersion, OutOfMemory}
-use Rattle.rje_orders.specs.declared.order.CardsOrder.{CardsOrder}
-use Rattle.rje_orders.specs.declared.order.FileOrder.{FileOrder}
-use Rattle.rje_orders.specs.declared.order.Order.TheVariants.{Files, Sockets, Station}
-use Rattle.rje_orders.specs.declared.order.SocketOrder.{SocketOrder}
-use Rattle.rje_orders.specs.declared.station.StationOrder.{StationOrder}
-use Rattle.rje_words.specs.declared.words_fault.WordsFault.{WordsFault}
-use Rattle.rje_words.specs.Asking.{AsksFor, IsWordsFault}
+use Rattle.rje_requests.specs.declared.order.CardsOrder.{CardsOrder}
+use Rattle.rje_requests.specs.declared.order.FileOrder.{FileOrder}
+use Rattle.rje_requests.specs.declared.order.Order.TheVariants.{Files, Sockets, Station}
+use Rattle.rje_requests.specs.declared.order.SocketOrder.{SocketOrder}
+use Rattle.rje_requests.specs.declared.station.StationOrder.{StationOrder}
+use Rattle.rje_cli.specs.declared.words_fault.WordsFault.{WordsFault}
+use Rattle.rje_cli.specs.Asking.{AsksFor, IsWordsFault}
 use Rattle.rje_commands.specs.declared.command_fault.CommandFault.{CommandFault}
 use Rattle.rje_commands.specs.CommandFault.{status_of}
 use Rattle.rje_commands.specs.Commands.{Does, IsFault, MakesFile, OfDeck}
-use Rattle.rje_stores.specs.Store.{FileMap, Discloses, IsSame}
+use Rattle.rje_store.specs.Store.{FileMap, Discloses, IsSame}
 
 -- clap's error gives help, or the version
 abbrev pub IsHelpError : Error → Type 0

@@ -1,16 +1,16 @@
 -- What one run of the program over sockets does, by the words that it was given (own profile).
 use Rattle.std.specs.Prelude.{◌≡◌, ◌⊎◌, ℕ, List, [], ◌∷◌, Option, codes}
-use Rattle.rje_orders.specs.declared.order.FileOrder.{FileOrder}
-use Rattle.rje_orders.specs.declared.order.Order.TheVariants.{Files, Sockets}
-use Rattle.rje_orders.specs.declared.order.SocketOrder.{SocketOrder}
-use Rattle.rje_words.specs.Asking.{AsksFor}
+use Rattle.rje_requests.specs.declared.order.FileOrder.{FileOrder}
+use Rattle.rje_requests.specs.declared.order.Order.TheVariants.{Files, Sockets}
+use Rattle.rje_requests.specs.declared.order.SocketOrder.{SocketOrder}
+use Rattle.rje_cli.specs.Asking.{AsksFor}
 use Rattle.rje_commands.specs.declared.command_fault.CommandFault.{CommandFault}
 use Rattle.rje_commands.specs.CommandFault.{IsFailing, status_of}
 use Rattle.rje_sockets.specs.declared.socket_commands.ending.Ending.{Ending}
 use Rattle.rje_sockets.specs.Ending.{ending_status}
 use Rattle.rje_sockets.specs.SocketCommand.{LeavesFiles, Refuses, Transmits}
 use Rattle.rje_program.specs.Command.{AreMistaken, AsksForHelp, AsksForStation}
-use Rattle.rje_stores.specs.Store.{FileMap, Discloses, IsSame}
+use Rattle.rje_store.specs.Store.{FileMap, Discloses, IsSame}
 
 -- the first word names a command over sockets
 abbrev pub NamesSockets : List (List ℕ) → Type 0

@@ -3,6 +3,7 @@
 
 mod over_files;
 mod over_sockets;
+mod printed_error;
 mod telling;
 
 pub use over_files::command;

@@ -1,16 +1,16 @@
 //! One run of the program over files, a reader and two writers.
 ghost use Rattle.std.specs.Prelude.{◌≡◌, ◌≢◌, ◌⊎◌, map};
-ghost use Rattle.rje_orders.specs.declared.order.FileOrder.{FileOrder as Asked};
-ghost use Rattle.rje_words.specs.Asking.{AsksFor, IsWordsFault};
+ghost use Rattle.rje_requests.specs.declared.order.FileOrder.{FileOrder as Asked};
+ghost use Rattle.rje_cli.specs.Asking.{AsksFor, IsWordsFault};
 ghost use Rattle.rje_commands.specs.Commands.{Does, IsFault, Leaves};
 ghost use Rattle.rje_program.specs.Command.{DoesAsAsked, IsRefused, LeavesAsAsked, AsksForNoFiles, IsStatus};
-ghost use Rattle.rje_stores.specs.Store.{Discloses, IsSame};
+ghost use Rattle.rje_store.specs.Store.{Discloses, IsSame};
 
 use crate::telling::{tell_of, tell_words};
+use rje_cli::parse;
 use rje_commands::{CommandFault, carry_out, tell};
-use rje_orders::{FileOrder, Order};
-use rje_stores::Store;
-use rje_words::parse;
+use rje_requests::{FileOrder, Order};
+use rje_store::Store;
 use std::alloc::Global;
 use std::io::{Read, Write};
 

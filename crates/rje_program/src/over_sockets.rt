@@ -1,19 +1,19 @@
 //! One run of the program over sockets, files and two writers.
 ghost use Rattle.std.specs.Prelude.{◌≡◌, ◌⊎◌, map, true, false};
-ghost use Rattle.rje_orders.specs.declared.order.SocketOrder.{SocketOrder as Asked};
-ghost use Rattle.rje_words.specs.Asking.{AsksFor, IsWordsFault};
+ghost use Rattle.rje_requests.specs.declared.order.SocketOrder.{SocketOrder as Asked};
+ghost use Rattle.rje_cli.specs.Asking.{AsksFor, IsWordsFault};
 ghost use Rattle.rje_commands.specs.CommandFault.{status_of};
 ghost use Rattle.rje_sockets.specs.SocketCommand.{IsSocketFault, LeavesFiles, Transmits};
 ghost use Rattle.rje_program.specs.SocketCommand.{AsksForNoSockets, IsSocketStatus, LeavesFilesAsAsked, NamesSockets, RefusesAsAsked};
 ghost use Rattle.rje_program.specs.SocketCommand.{NamesStation, TransmitsAsAsked};
-ghost use Rattle.rje_stores.specs.Store.{Discloses, IsSame};
+ghost use Rattle.rje_store.specs.Store.{Discloses, IsSame};
 
 use crate::telling::{tell_of, tell_words};
+use rje_cli::parse;
 use rje_commands::{CommandFault, tell};
-use rje_orders::{Order, SocketOrder};
+use rje_requests::{Order, SocketOrder};
 use rje_sockets::carry_out;
-use rje_stores::Store;
-use rje_words::parse;
+use rje_store::Store;
 use std::alloc::Global;
 use std::io::Write;
 use std::net::Net;

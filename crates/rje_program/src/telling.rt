@@ -4,12 +4,13 @@ ghost use Rattle.clap.specs.Words.{kind_of};
 ghost use Rattle.rje_commands.specs.CommandFault.{status_of};
 ghost use Rattle.rje_program.specs.Command.{IsHelp, IsHelpError, error_status, words_status};
 
+use crate::printed_error::PrintedError;
 use clap::Error;
 use clap::error::ErrorKind;
+use rje_cli::WordsFault;
 use rje_commands::{CommandFault, tell};
 use rje_jobs::FileFault;
 use rje_names::PrintedName;
-use rje_words::WordsFault;
 use std::io::Write;
 
 /// Gives the help or the version that was asked for, or reports why the words ask for nothing that can be done. Returns the exit status.
@@ -66,7 +67,7 @@ fn tell_error<O: Write, E: Write>(error: &Error, out: &mut O, err: &mut E) -> u8
         return tell(&CommandFault::OutOfMemory, err);
     }
     if error.use_stderr() {
-        let _ = write!(err, "{error}");
+        let _ = write!(err, "{}", PrintedError(error));
         return 2;
     }
     match write!(out, "{error}") {

@@ -13,7 +13,7 @@ use rje_settle::Receipt;
 use rje_text::{Action, MAX_RECORD, Mode, Record, Records, Select};
 use std::alloc::{AllocError, Global};
 
-/// What stands for a byte that is no character's code.
+/// What takes the place of a byte that is no character's code.
 const UNKNOWN: u8 = b'?';
 
 /// The job that says a receipt: its card alone, for no device, in normal text.

@@ -104,7 +104,7 @@ pub answered_kept : (n : ℕ) (mid s : Contending) → s ≡ after_answering_oth
 answered_kept n mid s is kept = subst (λ (l : List Job). AreKept n l) (sym (ap (λ (x : Contending). x.receiver.jobs) is ∙ answering_jobs mid mid.receiver.over refl)) kept
 
 -- and where the line fails
-refused_jobs : (fault : StationFault) (s : Contending) → (after_other_refusal fault s).receiver.jobs ≡ s.receiver.jobs
+pub refused_jobs : (fault : StationFault) (s : Contending) → (after_other_refusal fault s).receiver.jobs ≡ s.receiver.jobs
 refused_jobs fault.Over s = refl
 refused_jobs _ s = refl
 

@@ -2,5 +2,5 @@ pub mod OwnTurn
 pub mod Places
 pub mod Passed
 pub mod Keeps
-pub mod InStep
+pub mod LedgerInStep
 pub mod DayOn

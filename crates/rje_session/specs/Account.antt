@@ -2,7 +2,7 @@
 use Rattle.std.specs.Prelude.{◌≡◌, ℕ, ◌≤◌, ◌<◌, ◌==◌, Bool, true, false, ◌&&◌, List, [], ◌∷◌, ◌++◌, length, Option, Some, None, nat_lt, nat_le, slice_get, if◌then◌else◌}
 use Rattle.rje_day.specs.declared.disposition.Disposition.{Disposition}
 use Rattle.rje_day.specs.declared.ended.Ended.{Ended}
-use Rattle.rje_day.specs.declared.event.Event.{Event}
+use Rattle.rje_day.specs.declared.day_event.DayEvent.{DayEvent}
 use Rattle.rje_day.specs.Ended.{disposition_of}
 use Rattle.rje_station.specs.Station.{is_receiving}
 use Rattle.rje_session.specs.declared.leaving.Leaving.{Leaving}
@@ -54,18 +54,18 @@ pub record SettlesRest (ended : Ended) (first last : ℕ) (before after : List E
   pub out : (job : ℕ) → may_arrive after job ≡ may_arrive before job
 
 -- where the other end's transmission begins, its own is in hand still; each other event ends both
-abbrev pub IsAccounted : Event → Carried → List Entry → Type 0
-IsAccounted Event.OtherBegan c ledger = IsInStep c ledger
+abbrev pub IsAccounted : DayEvent → Carried → List Entry → Type 0
+IsAccounted DayEvent.OtherBegan c ledger = IsInStep c ledger
 IsAccounted _ c ledger = IsSettled c ledger
 
 -- An event that comes of a transmission in hand. Its own ends as is told, and the other end's begins, only where the other end's isn't in hand;
 -- the other end's ends only where it is, and by its EOT. Neither ends so where it broke: then the connection is over.
-abbrev pub ComesOf : (before after : Carried) → Event → Type 0
-ComesOf c c' (Event.OwnEnded ended) = (is_receiving c.station.contender.place ≡ false) × (ended ≡ ended_of c') × (c'.broken ≡ false)
-ComesOf c c' Event.OtherBegan = (is_receiving c.station.contender.place ≡ false) × (is_receiving c'.station.contender.place ≡ true)
-ComesOf c c' Event.OtherEnded =
+abbrev pub ComesOf : (before after : Carried) → DayEvent → Type 0
+ComesOf c c' (DayEvent.OwnEnded ended) = (is_receiving c.station.contender.place ≡ false) × (ended ≡ ended_of c') × (c'.broken ≡ false)
+ComesOf c c' DayEvent.OtherBegan = (is_receiving c.station.contender.place ≡ false) × (is_receiving c'.station.contender.place ≡ true)
+ComesOf c c' DayEvent.OtherEnded =
     (is_receiving c.station.contender.place ≡ true) × (heard_end c'.station.receiver.arrival ≡ true) × (c'.broken ≡ false)
-ComesOf c c' Event.Disconnected = Unit {0}
+ComesOf c c' DayEvent.Disconnected = Unit {0}
 ComesOf c c' _ = ⊥
 
 -- Where a line failed, or what came can't be held, the ledger is in step still; where the spool failed, nothing is known of the entry it was
@@ -76,6 +76,6 @@ UnlessSpoolFailed Leaving.TooMuch P = P
 UnlessSpoolFailed (Leaving.Spool fault) P = Unit {0}
 
 -- what was cut is kept so, as the last entry of a transmission that is over
-abbrev pub KeepsCut : Event → Carried → List Entry → Type 0
-KeepsCut Event.OtherBegan c ledger = Unit {0}
+abbrev pub KeepsCut : DayEvent → Carried → List Entry → Type 0
+KeepsCut DayEvent.OtherBegan c ledger = Unit {0}
 KeepsCut _ c ledger = (past : List Entry) × (ledger ≡ cutting (slice_get c.station.receiver.jobs c.kept) ++ past)

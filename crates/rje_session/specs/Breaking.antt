@@ -56,6 +56,17 @@ gives_up said outcome = is_granted said && is_given_up outcome
 abbrev pub breaks : (host : Bool) → Say → Sound → Option Outcome → Bool
 breaks host said heard outcome = (not host && is_unanswered said heard) || gives_up said outcome
 
+-- a block is transmitted once more
+abbrev pub is_again : Say → Bool
+is_again Say.Again = true
+is_again _ = false
+
+-- What is due may be said: anything while all was answered in time, and after that anything but a block once more. A block is due once more because
+-- of an answer: NAK, or the acknowledgement of the other parity to ENQ (GA27-3004). After something wasn't answered in time, such an answer may be a
+-- late one, to what was said before the block. The other end has the block then, and would take it for a new one (own profile).
+abbrev pub may_be_said : (broken : Bool) → Say → Bool
+may_be_said broken due = not (broken && is_again due)
+
 -- EOT came
 abbrev pub heard_end : Option Arrival → Bool
 heard_end None = false

@@ -1,5 +1,5 @@
 -- What a turn of a transmission in hand enters, and how one is left (own profile). What a station says, hears and replies in its turns is said in
--- rje_sockets, specs/BothWays.antt.
+-- specs/Stations.antt.
 use Rattle.std.specs.Prelude.{◌≡◌, ◌≢◌, ◌⊎◌, ℕ, ◌==◌, Bool, true, false, not, ◌&&◌, ◌||◌, List, [], ◌∷◌, ◌++◌, Option, Some, MatchBool, if◌then◌else◌}
 use Rattle.bsc_frame.specs.declared.heard.Heard.{Heard}
 use Rattle.bsc_link.specs.declared.say.Say.{Say}

@@ -1,7 +1,7 @@
 //! When a transmission breaks.
 ghost use Rattle.std.specs.Prelude.{◌≡◌};
 ghost use Rattle.bsc_link.specs.declared.say.Say.{Say as Word};
-ghost use Rattle.rje_session.specs.Breaking.{breaks as broken_by, gives_up as has_given_up, heard_end as is_ended, is_answer as has_answered, is_unanswered as lacks_answer, is_word as says_word};
+ghost use Rattle.rje_session.specs.Breaking.{breaks as broken_by, gives_up as has_given_up, heard_end as is_ended, is_answer as has_answered, may_be_said as allows, is_unanswered as lacks_answer, is_word as says_word};
 
 use bsc_link::{Outcome, Say, Sound};
 use rje_station::Arrival;
@@ -32,7 +32,7 @@ pub(crate) fn breaks(host: bool, said: Say, heard: Sound, outcome: Option<Outcom
     (!host && is_unanswered(said, heard)) || gives_up(said, outcome)
 }
 
-/// Whether what was said, but for EOT, wasn't answered.
+/// Whether what was said, except EOT, wasn't answered.
 fn is_unanswered(said: Say, heard: Sound) -> bool
     ensures { result ≡ lacks_answer said heard }
 {
@@ -47,6 +47,14 @@ fn gives_up(said: Say, outcome: Option<Outcome>) -> bool
         Say::Block | Say::Again | Say::Ask | Say::Delay => outcome == Some(Outcome::GaveUp),
         Say::Bid | Say::End | Say::Nothing => false,
     }
+}
+
+/// Whether what is due may be said: after something wasn't answered in time, no block is transmitted once more. It is due because of an answer, which
+/// may be a late one to what was said before the block.
+pub(crate) fn may_be_said(broken: bool, due: Say) -> bool
+    ensures { result ≡ allows broken due }
+{
+    !broken || due != Say::Again
 }
 
 /// Whether EOT came.

@@ -9,20 +9,20 @@ ghost use Rattle.rje_station.specs.StationFault.{IsNewCause};
 ghost use Rattle.rje_session.specs.Stations.{FailsInOwn, TakesOwn, TakesOthers};
 ghost use Rattle.rje_session.specs.Stations.{HeardAndReplied, SpokeAndHeard};
 ghost use Rattle.rje_session.specs.Account.{ended_of, ComesOf, UnlessSpoolFailed, IsAccounted, IsInStep, IsSettled, KeepsCut};
-ghost use Rattle.rje_session.specs.Breaking.{breaks as broken_by, heard_end as is_ended, is_answer as has_answered, is_word as says_word};
+ghost use Rattle.rje_session.specs.Breaking.{breaks as broken_by, heard_end as is_ended, is_answer as has_answered, may_be_said as allows, is_word as says_word};
 ghost use Rattle.rje_session.specs.Keeping.{AreKept, cutting, keeping, kept_with};
 ghost use Rattle.rje_session.specs.Ledger.{Entry as Record, MayArrive, MayBeEntered};
 ghost use Rattle.rje_session.specs.Turns.{Carried as Held, Notes, announcing, goes_out, is_of_block as speaks_of_block, settling, may_come_after, LeavesOwn, EntersLeavingOwn, LeavesOthers, EntersLeavingOthers};
-ghost use Rattle.rje_session.specs.declared.parting.Parting.TheVariants.{HungUp};
+ghost use Rattle.rje_session.specs.declared.connection_end.ConnectionEnd.TheVariants.{HungUp};
 
-use crate::breaking::{breaks, heard_end, is_answer, is_word};
+use crate::breaking::{breaks, heard_end, is_answer, is_word, may_be_said};
 use crate::keeping::{keep_cut, keep_next};
 use crate::leaving::Leaving;
 use crate::outstanding::{counts_last, is_last};
 use crate::settling::settle_rest;
-use crate::{Parting, Spool, Terms, turns};
+use crate::{ConnectionEnd, Spool, Terms, turns};
 use bsc_link::{Rank, Say, Sound};
-use rje_day::{Disposition, Ended, Event};
+use rje_day::{DayEvent, Disposition, Ended};
 use rje_jobs::Job;
 use rje_station::{Arrival, Line, Station, StationFault};
 use std::alloc::Global;
@@ -46,7 +46,7 @@ pub struct InHand<'a> {
     /// It broke: something that it said wasn't answered, or it gave up after its bid was granted.
     broken: bool,
     /// How the connection came to its end, where it did.
-    parting: Parting,
+    parting: ConnectionEnd,
 }
 
 impl<'a> Model for InHand<'a> {
@@ -81,7 +81,7 @@ impl<'a> InHand<'a> {
             kept: 0,
             answered: false,
             broken: false,
-            parting: Parting::HungUp,
+            parting: ConnectionEnd::HungUp,
         })
     }
 
@@ -107,17 +107,17 @@ impl<'a> InHand<'a> {
     }
 
     /// How the connection came to its end, where it did: never as if nothing had been in hand where it broke.
-    pub fn parting(&self) -> Parting
+    pub fn parting(&self) -> ConnectionEnd
         ensures broken { result ≡ HungUp → self.now.broken ≡ false }
     {
         match self.parting {
-            Parting::HungUp if self.broken => Parting::Unanswered,
+            ConnectionEnd::HungUp if self.broken => ConnectionEnd::Unanswered,
             parting => parting,
         }
     }
 
-    /// Its own turn: it says what is due, and but for EOT it listens. Before the last block of a job goes out it is entered that the job may
-    /// arrive, and once that is counted, that it was sent. What was heard; quiet after EOT.
+    /// Its own turn: it says what is due, and listens unless that is EOT. Before the last block of a job goes out it is entered that the job may
+    /// arrive, and once that is counted, that it was sent. No block is transmitted once more in a transmission that broke. What was heard; quiet after EOT.
     pub(crate) fn take_own_turn<L: Line, S: Spool>(
         &mut self,
         line: &mut L,
@@ -125,6 +125,7 @@ impl<'a> InHand<'a> {
         spool: &mut S,
     ) -> Result<Sound, Leaving<S::Fault>>
         requires due { due_at self.old.station ≢ say.Nothing }
+        requires allowed { allows self.old.broken (due_at self.old.station) ≡ true }
         ensures takes { IfOk result (λ heard. (said : Word)
             × TakesOwn self.old.station self.new.station said heard
             × SpokeAndHeard self.old.station.sender.rest (L.talk line.old, L.transmissions line.old)
@@ -205,14 +206,15 @@ impl<'a> InHand<'a> {
 
     /// Goes on with the transmission in hand until something comes of it that the day is told: the other end's transmission begins, which leaves
     /// its own in hand, or either ends, or the connection is over. Then what is left of its jobs is settled, and a job that was cut is kept.
-    /// The other end's ends so by its EOT alone. The connection is over where the line failed, where the transmission broke, after as many
-    /// hearings in a row that brought no word as there is patience for, where the spool says so or can't hold what came, and after a billion turns.
+    /// The other end's ends so by its EOT alone. The connection is over where the line failed, where the transmission broke (once it is over, or a
+    /// block would be said again), after as many hearings in a row that brought no word as there is patience for, where the spool says so or can't
+    /// hold what came, and after a billion turns.
     pub fn go_on<L: Line, S: Spool>(
         &mut self,
         line: &mut L,
         terms: Terms,
         spool: &mut S,
-    ) -> Result<Event, S::Fault>
+    ) -> Result<DayEvent, S::Fault>
         ensures accounted { S.discloses → IsInStep self.old (S.ledger spool.old)
             → IfOk result (λ event. IsAccounted event self.new (S.ledger spool.new)) }
         ensures comes { IfOk result (ComesOf self.old self.new) }
@@ -224,13 +226,13 @@ impl<'a> InHand<'a> {
         let event = match self.take_turns(line, terms, spool) {
             Ok(event) => event,
             Err(Leaving::Line(fault)) => {
-                self.parting = Parting::Failed(fault);
-                Event::Disconnected
+                self.parting = ConnectionEnd::Failed(fault);
+                DayEvent::Disconnected
             }
-            Err(Leaving::TooMuch) => Event::Disconnected,
+            Err(Leaving::TooMuch) => DayEvent::Disconnected,
             Err(Leaving::Spool(fault)) => return Err(fault),
         };
-        if event != Event::OtherBegan {
+        if event != DayEvent::OtherBegan {
             self.finish(spool)?;
         }
         Ok(event)
@@ -242,7 +244,7 @@ impl<'a> InHand<'a> {
         line: &mut L,
         terms: Terms,
         spool: &mut S,
-    ) -> Result<Event, Leaving<S::Fault>>
+    ) -> Result<DayEvent, Leaving<S::Fault>>
         ensures in_step { S.discloses → IsInStep self.old (S.ledger spool.old)
             → OnOk result (IsInStep self.new (S.ledger spool.new)) }
         ensures comes { IfOk result (ComesOf self.old self.new) }
@@ -260,7 +262,7 @@ impl<'a> InHand<'a> {
         let mut quiet: u32 = 0;
         for _ in 0..MAX_TURNS {
             if !self.show(spool) {
-                return Ok(Event::Disconnected);
+                return Ok(DayEvent::Disconnected);
             }
             if let Some(event) = self.came_of_it(was_receiving) {
                 return Ok(event);
@@ -275,11 +277,11 @@ impl<'a> InHand<'a> {
             quiet = turns::quiet_after(quiet, !is_word(arrival.sound));
             if was_receiving && quiet > 0 && quiet >= terms.patience {
                 self.station.other_ended();
-                self.parting = Parting::Silent;
-                return Ok(Event::Disconnected);
+                self.parting = ConnectionEnd::Silent;
+                return Ok(DayEvent::Disconnected);
             }
         }
-        Ok(Event::Disconnected)
+        Ok(DayEvent::Disconnected)
     }
 
     /// Lets the spool look on. Whether the transmission goes on.
@@ -290,19 +292,24 @@ impl<'a> InHand<'a> {
     }
 
     /// What came of the turns so far, if anything.
-    fn came_of_it(&self, was_receiving: bool) -> Option<Event>
+    fn came_of_it(&self, was_receiving: bool) -> Option<DayEvent>
         ensures comes { (before : Held)
             → was_receiving ≡ is_receiving before.station.contender.place
             → IfSome result (ComesOf before self.now) }
+        ensures allowed { result ≡ None → allows self.now.broken (due_at self.now.station)
+            ≡ true }
     {
+        if !may_be_said(self.broken, self.station.due()) {
+            return Some(DayEvent::Disconnected);
+        }
         match (was_receiving, self.station.is_receiving()) {
             (true, true) => None,
-            (true, false) if self.broken || !self.heard_end() => Some(Event::Disconnected),
-            (true, false) => Some(Event::OtherEnded),
-            (false, true) => Some(Event::OtherBegan),
+            (true, false) if self.broken || !self.heard_end() => Some(DayEvent::Disconnected),
+            (true, false) => Some(DayEvent::OtherEnded),
+            (false, true) => Some(DayEvent::OtherBegan),
             (false, false) if self.station.due() != Say::Nothing => None,
-            (false, false) if self.broken => Some(Event::Disconnected),
-            (false, false) => Some(Event::OwnEnded(self.ended())),
+            (false, false) if self.broken => Some(DayEvent::Disconnected),
+            (false, false) => Some(DayEvent::OwnEnded(self.ended())),
         }
     }
 
@@ -327,7 +334,7 @@ impl<'a> InHand<'a> {
     }
 
     /// How its own transmission ended.
-    fn ended(&self) -> Ended
+    pub(crate) fn ended(&self) -> Ended
         ensures { result ≡ ended_of self.now }
     {
         let sender = self.station.sender();

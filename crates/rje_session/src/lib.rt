@@ -3,24 +3,24 @@
 
 mod breaking;
 mod connection;
+mod connection_end;
 mod in_hand;
+mod in_step;
 mod keeping;
 mod leaving;
 mod outstanding;
-mod parting;
 mod settling;
 mod spool;
 mod stay_fault;
-mod steps;
-mod tally;
 mod terms;
+mod totals;
 pub mod turns;
 
 pub use connection::{MAX_TRANSMISSIONS, stay};
+pub use connection_end::ConnectionEnd;
 pub use in_hand::{InHand, MAX_TURNS};
-pub use parting::Parting;
+pub use in_step::InStep;
 pub use spool::Spool;
 pub use stay_fault::StayFault;
-pub use steps::Steps;
-pub use tally::Tally;
 pub use terms::Terms;
+pub use totals::Totals;

@@ -3,7 +3,7 @@ ghost use Rattle.std.specs.Prelude.{◌≡◌, List, ◌∷◌, IfOk, OnErr};
 ghost use Rattle.rje_jobs.specs.declared.job.Job.{Job as Item};
 ghost use Rattle.rje_session.specs.Ledger.{Entry, Given, MayArrive, Settled, Kept, KeptCut, IsEntered, MayBeEntered};
 
-use rje_day::{Disposition, Seen};
+use rje_day::{Disposition, Inputs};
 use rje_jobs::Job;
 use rje_station::Station;
 use std::alloc::Global;
@@ -20,8 +20,8 @@ pub trait Spool {
     /// What was entered so far, the newest first.
     ghost ledger: { Self → List Entry };
 
-    /// What lies ready, and what the operator wants. Whether it is time to call isn't asked here.
-    fn seen(&mut self) -> Seen
+    /// What lies ready, and what the operator asks for. Whether it is time to call isn't asked here.
+    fn seen(&mut self) -> Inputs
         ensures none { discloses → ledger self.new ≡ ledger self.old };
 
     /// The jobs of the next transmission: those of the first files that lie ready.

@@ -5,7 +5,7 @@ use bsc_link::Rank;
 /// How a station takes part in the transmissions of a connection.
 #[derive(Clone, Copy, Debug)]
 pub struct Terms {
-    /// Its rank: a secondary gives way where both bid at once.
+    /// Its rank: a secondary yields where both bid at once.
     pub rank: Rank,
     /// After so many hearings in a row that brought no word it leaves a transmission of the other end's, and the connection with it; with 0 after
     /// the first.

@@ -22,7 +22,7 @@ pub fn is_own_turn<'a>(station: &Station<'a>, has_listened: bool) -> bool
     }
 }
 
-/// A station's own turn: it says what is due, and but for EOT it listens. What was said, and what was heard; quiet after EOT.
+/// A station's own turn: it says what is due, and listens unless that is EOT. What was said, and what was heard; quiet after EOT.
 pub fn take_own_turn<'a, L: Line>(
     station: &mut Station<'a>,
     line: &mut L,

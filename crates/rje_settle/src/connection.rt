@@ -63,7 +63,7 @@ impl Connection {
         self.came == Came::Receipt
     }
 
-    /// Whether the first job of a transmission is looked at as a receipt.
+    /// Whether the first job of a transmission is read as a receipt.
     pub fn looks(&self) -> bool
         ensures { IsTrue result ↔ MayLook self.now }
     {

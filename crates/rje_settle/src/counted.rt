@@ -1,4 +1,4 @@
-//! A number and a digest, as they stand on cards and in names.
+//! A number and a digest, as they are on cards and in names.
 ghost use Rattle.std.specs.Prelude.{◌≡◌, ◌≢◌, ◌<◌, ◌≤◌, ◌+◌, ◌++◌, ℕ, List, length, MatchOption};
 ghost use Rattle.rje_settle.specs.declared.receipt.Receipt.{Receipt as Said};
 ghost use Rattle.rje_settle.specs.Receipt.{CanBeSaid, counted_text};
@@ -9,7 +9,7 @@ use crate::{Digest, Receipt};
 use arrayvec::ArrayVec;
 
 /// The number and the digest at the front of a text, with this byte between them, and what stands
-/// behind; `None` if they don't stand there.
+/// behind; `None` if they aren't there.
 #[tactic(auto, unfolding(crate::specs::Receipt::counted_text))]
 pub(crate) fn read_counted<'a>(text: &'a [u8], between: u8) -> Option<(Receipt, &'a [u8])>
     requires { between < 48 }

@@ -2,7 +2,7 @@
 
 use crate::{JobPlace, Receipt};
 
-/// One job that was promised: from before its last block is said until a receipt tells what became
+/// One job that was promised: from before its last block is said until a receipt reports what became
 /// of it.
 #[derive(Clone, Copy, Debug, PartialEq, Eq)]
 pub struct Promise {

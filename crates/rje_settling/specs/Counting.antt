@@ -3,9 +3,9 @@ use Rattle.std.specs.Prelude.{◌≡◌, ℕ, ◌+◌, List, Option, Some, strin
 use Rattle.sha2.specs.Sha256.{sha256}
 use Rattle.rje_accounts.specs.Noting.{IsNoted}
 use Rattle.rje_accounts.specs.Paths.{settle_path}
-use Rattle.rje_folders.specs.declared.folder.Folder.{Folder}
-use Rattle.rje_folders.specs.Folder.{path_in}
-use Rattle.rje_folders.specs.Moving.{IsSecond}
+use Rattle.rje_folder.specs.declared.folder.Folder.{Folder}
+use Rattle.rje_folder.specs.Folder.{path_in}
+use Rattle.rje_folder.specs.Moving.{IsSecond}
 use Rattle.rje_settle.specs.declared.job_digest.JobDigest.{JobDigest}
 use Rattle.rje_settle.specs.declared.job_place.JobPlace.{JobPlace}
 use Rattle.rje_settle.specs.declared.promise.Promise.{Promise}
@@ -16,8 +16,8 @@ use Rattle.rje_settle.specs.Sending.{Sending, all_said_of, promised_with}
 use Rattle.rje_spool.specs.Backed.{GoesOn}
 use Rattle.rje_spool.specs.GivenFiles.{file_of, is_last_of, mark_of}
 use Rattle.rje_spool.specs.declared.given_file.GivenFile.{GivenFile}
-use Rattle.rje_stores.specs.Disk.{Asked}
-use Rattle.rje_stores.specs.Replacing.{IsOnDisk}
+use Rattle.rje_store.specs.Disk.{Asked}
+use Rattle.rje_store.specs.Replacing.{IsOnDisk}
 
 -- a job that goes out: the name of its file in out/, the digest of the job, and which job of the file it is
 pub record OutJob : Type 0 where

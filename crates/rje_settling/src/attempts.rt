@@ -1,7 +1,7 @@
 //! How often a job was sent that the other end didn't keep.
 ghost use Rattle.std.specs.Prelude.{◌≡◌, ◌≢◌, ◌≤◌, ◌+◌, ◌-◌, ◌^◌, ◌↔◌, IsTrue, None, Some, min};
 
-use rje_folders::FileIdentity;
+use rje_folder::FileIdentity;
 use rje_settle::JobPlace;
 
 /// So often in a row a job is sent that the other end doesn't keep.

@@ -3,7 +3,7 @@
 use crate::finding::{Standing, path_in, path_of};
 use rje_accounts::settle_path;
 use rje_files::MARK;
-use rje_folders::{
+use rje_folder::{
     FileIdentity, FileNames, Folder, FolderDisk, add_name, drop_name, move_file, set_mark,
 };
 use rje_settle::{Promise, SettleName};

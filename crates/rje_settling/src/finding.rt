@@ -1,6 +1,6 @@
 //! Where the file of a promised job stands.
 
-use rje_folders::{Folder, FolderDisk};
+use rje_folder::{Folder, FolderDisk};
 use std::alloc::Global;
 use std::io::{self, ErrorKind};
 

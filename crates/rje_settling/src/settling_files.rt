@@ -12,8 +12,8 @@ use crate::attempts::Attempts;
 use crate::settling_fault::SettlingFault;
 use crate::station_accounts::StationAccounts;
 use rje_accounts::AccountsFault;
-use rje_day::{Disposition, Seen};
-use rje_folders::{FolderDisk, FolderFault};
+use rje_day::{Disposition, Inputs};
+use rje_folder::{FolderDisk, FolderFault};
 use rje_jobs::Job;
 use rje_receipts::{receipt_job, receipt_of_job};
 use rje_session::Spool;
@@ -41,8 +41,8 @@ pub(crate) struct SettlingFiles<D: FolderDisk + Drop, C, W, L> {
     has_told: bool,
     // The transmission that was begun last is that of its own receipt.
     is_receipt: bool,
-    // How many jobs of files that transmission was given.
-    given: usize,
+    // The job of a file of that transmission whose last block went out last, if one did.
+    out: Option<usize>,
     // The next job that comes whole is the first of its transmission.
     is_first: bool,
     // The digest of the job that is next, and which one it is in its transmission.
@@ -74,7 +74,7 @@ impl<D: FolderDisk + Drop, C: Clock, W: Write, L: Write> SettlingFiles<D, C, W, 
             waits: patience,
             has_told: false,
             is_receipt: false,
-            given: 0,
+            out: None,
             is_first: false,
             digest: None,
             promised: None,
@@ -131,7 +131,7 @@ impl<D: FolderDisk + Drop, C: Clock, W: Write, L: Write> SettlingFiles<D, C, W, 
         self.waits = self.patience;
         self.has_told = false;
         self.is_receipt = false;
-        self.given = 0;
+        self.out = None;
         self.is_first = true;
         self.digest = None;
         self.promised = None;
@@ -153,27 +153,27 @@ impl<D: FolderDisk + Drop, C: Clock, W: Write, L: Write> SettlingFiles<D, C, W, 
     }
 
     /// What lies ready, and what the operator asks for. Its own receipt is said even if the operator holds what lies ready.
-    pub(crate) fn seen(&mut self) -> Seen {
+    pub(crate) fn seen(&mut self) -> Inputs {
         let seen = self.spool.seen();
         if !self.is_connected {
             return seen;
         }
         if !self.accounts.is_read() {
-            return Seen {
+            return Inputs {
                 ready: false,
                 line_wanted: true,
                 ..seen
             };
         }
         if self.connection.must_say() {
-            return Seen {
+            return Inputs {
                 ready: true,
                 held: false,
                 ..seen
             };
         }
         self.await_receipt();
-        Seen {
+        Inputs {
             ready: seen.ready && self.may_send(),
             ..seen
         }
@@ -203,7 +203,7 @@ impl<D: FolderDisk + Drop, C: Clock, W: Write, L: Write> SettlingFiles<D, C, W, 
         ensures given { IfOk result (λ jobs.
             IsGivenBy self.old.connection self.old.accounts.receiving jobs.items) }
     {
-        self.given = 0;
+        self.out = None;
         self.digest = None;
         self.promised = None;
         let must_say = self.connection.must_say();
@@ -238,7 +238,6 @@ impl<D: FolderDisk + Drop, C: Clock, W: Write, L: Write> SettlingFiles<D, C, W, 
             self.spool.look_anew();
             return Ok(Vec::new(alloc));
         }
-        self.given = jobs.len();
         Ok(jobs)
     }
 
@@ -314,6 +313,7 @@ impl<D: FolderDisk + Drop, C: Clock, W: Write, L: Write> SettlingFiles<D, C, W, 
         self.put_out(job)?;
         self.unsaid = None;
         self.promised = Some(job);
+        self.out = Some(job);
         Ok(())
     }
 
@@ -423,9 +423,9 @@ impl<D: FolderDisk + Drop, C: Clock, W: Write, L: Write> SettlingFiles<D, C, W, 
         Ok(())
     }
 
-    /// How many jobs of files the last transmission was given.
-    pub(crate) fn jobs(&self) -> usize {
-        self.given
+    /// The job of a file of the last transmission whose last block went out last, if one did.
+    pub(crate) fn last_out(&self) -> Option<usize> {
+        self.out
     }
 
     /// Keeps a job that was cut.

@@ -4,11 +4,11 @@ ghost use Rattle.std.specs.Prelude.{◌≡◌};
 use crate::settling_fault::SettlingFault;
 use crate::settling_files::SettlingFiles;
 use crate::station_accounts::StationAccounts;
-use rje_day::{Disposition, Seen};
-use rje_folders::FolderDisk;
+use rje_day::{Disposition, Inputs};
+use rje_folder::FolderDisk;
 use rje_jobs::Job;
 use rje_session::Spool;
-use rje_spool::{Book, FolderSpool, NoBook, Notice};
+use rje_spool::{FolderSpool, Ledger, NoBook, Notice};
 use rje_station::Station;
 use std::alloc::Global;
 use std::io::Write;
@@ -17,7 +17,7 @@ use std::time::Clock;
 /// The spool of a station's folder whose partner settles doubt by receipts too. On each connection each end first says how many of the other's jobs it has
 /// kept, ever, and their digest; so what may have arrived is told by the other end. What is done is entered in a book.
 #[derive(Drop)]
-pub struct SettlingSpool<D: FolderDisk + Drop, C, W, L, B: Book + Drop = NoBook> {
+pub struct SettlingSpool<D: FolderDisk + Drop, C, W, L, B: Ledger + Drop = NoBook> {
     files: SettlingFiles<D, C, W, L>,
     book: B,
 }
@@ -27,7 +27,7 @@ impl<
     C: Clock + Drop,
     W: Write + Drop,
     L: Write + Drop,
-    B: Book + Drop,
+    B: Ledger + Drop,
 > SettlingSpool<D, C, W, L, B> {
     /// That of this spool of the station's folder of this path, whose accounts are read on this disk. It reports if no receipt came within so many
     /// hearings. Nothing is entered yet.
@@ -68,20 +68,25 @@ impl<
         self.files.disconnect();
     }
 
-    /// All jobs of the last transmission are in doubt, those that were counted too: answers came out of step. The next receipt tells which came.
+    /// Answers came out of step: all jobs of the last transmission whose last block went out are in doubt, those that were counted too. The next receipt tells
+    /// which came.
     pub fn doubt_all(&mut self) -> Result<(), SettlingFault> {
+        let Some(last) = self.files.last_out() else {
+            return Ok(());
+        };
         let mut doubted = Ok(());
-        for job in 0..self.files.jobs() {
+        for job in 0..last {
             let settled = self.settle(job, Disposition::InDoubt);
             if doubted.is_ok() {
                 doubted = settled;
             }
         }
-        doubted
+        let settled = self.settle(last, Disposition::InDoubt);
+        if doubted.is_ok() { settled } else { doubted }
     }
 }
 
-impl<D: FolderDisk + Drop, C: Clock, W: Write, L: Write, B: Book + Drop> Spool
+impl<D: FolderDisk + Drop, C: Clock, W: Write, L: Write, B: Ledger + Drop> Spool
     for SettlingSpool<D, C, W, L, B> {
     type Fault = SettlingFault;
 
@@ -89,7 +94,7 @@ impl<D: FolderDisk + Drop, C: Clock, W: Write, L: Write, B: Book + Drop> Spool
 
     ghost ledger = { λ s. B.entries s.book };
 
-    fn seen(&mut self) -> Seen {
+    fn seen(&mut self) -> Inputs {
         self.files.seen()
     }
 

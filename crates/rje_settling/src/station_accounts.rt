@@ -8,7 +8,7 @@ use rje_accounts::{
     Accounts, BroughtIn, bring_in, drop_promise, finish_job, keep_job, note_sent, promise,
     read_accounts,
 };
-use rje_folders::{FileIdentity, FolderDisk};
+use rje_folder::{FileIdentity, FolderDisk};
 use rje_settle::{
     JobDigest, JobPlace, Promise, PromiseFault, Receipt, ReceivingAccount, SendingAccount, Verdict,
 };

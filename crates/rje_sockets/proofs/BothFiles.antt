@@ -19,6 +19,7 @@ use Rattle.rje_station.specs.Receiving.{Receiving, sound_taken}
 use Rattle.rje_station.specs.Sending.{Sending}
 use Rattle.rje_station.specs.Station.{Contending, after_other, after_other_ended, after_other_refusal, after_own_reply, gives_way, lets_in}
 use Rattle.rje_session.specs.Stations.{FailsInOwn, TakesOthers, TakesOwn, after_answering_other}
+use Rattle.rje_session.proofs.Keeps.{refused_jobs}
 use Rattle.rje_session.proofs.Places.{fault_receiver, own_receiver}
 use Rattle.rje_sockets.specs.declared.transfer_error.TransferError.{TransferError}
 use Rattle.rje_files.specs.declared.entry.Entry.{Entry}
@@ -35,8 +36,8 @@ use Rattle.rje_sockets.specs.Inside.Opening.{HasFront, IsOpened}
 use Rattle.rje_sockets.proofs.BothWays.{others_fail}
 use Rattle.rje_sockets.proofs.Keeping.{Comes, goes_on, heard_comes, nothing}
 use Rattle.rje_sockets.proofs.Marked.{stays, written_over}
-use Rattle.rje_stores.proofs.Changes.{same_itself}
-use Rattle.rje_stores.specs.Store.{FileMap, Sets}
+use Rattle.rje_store.proofs.Changes.{same_itself}
+use Rattle.rje_store.specs.Store.{FileMap, Sets}
 
 -- TWO NAMES
 
@@ -251,13 +252,9 @@ other_kept s mid what refused old new jobs later f g state is stay same next kep
     let comes : Comes s.receiver.jobs jobs = subst (λ (js : List Job). Comes s.receiver.jobs js) (sym (is ∙ ap (λ (x : Contending). x.receiver.jobs) state)) (comes_in s what refused _ refl) in
     subst (λ (js : List Job). GoesOnKeeping old new s.receiver.jobs js f g) (is ∙ sym stay) (goes_on old new s.receiver.jobs jobs f g comes same next kept)
 
-refusal_keeps_jobs : (f : StationFault) (s : Contending) → (after_other_refusal f s).receiver.jobs ≡ s.receiver.jobs
-refusal_keeps_jobs fault.Over s = refl
-refusal_keeps_jobs _ s = refl
-
 -- a fault of the line leaves the jobs
 pub refusal_leaves : (f : StationFault) (s s' : Contending) → s' ≡ after_other_refusal f s → s'.receiver.jobs ≡ s.receiver.jobs
-refusal_leaves f s s' is = ap (λ (x : Contending). x.receiver.jobs) is ∙ refusal_keeps_jobs f s
+refusal_leaves f s s' is = ap (λ (x : Contending). x.receiver.jobs) is ∙ refused_jobs f s
 
 answering_jobs : (mid : Contending) (over : Bool) → (if over then after_other_ended mid else after_own_reply mid).receiver.jobs ≡ mid.receiver.jobs
 answering_jobs mid true = ended mid mid.receiver.over refl where

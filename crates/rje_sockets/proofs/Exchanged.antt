@@ -21,7 +21,7 @@ use Rattle.rje_commands.proofs.Inputs.{of_file}
 use Rattle.rje_session.specs.Stations.{LineTells}
 use Rattle.rje_sockets.specs.declared.transfer_error.TransferError.{TransferError}
 use Rattle.rje_sockets.specs.declared.receive_end.ReceiveEnd.{ReceiveEnd}
-use Rattle.rje_orders.specs.declared.order.Destination.{Destination}
+use Rattle.rje_requests.specs.declared.order.Destination.{Destination}
 use Rattle.rje_sockets.specs.declared.job_writer.JobWriter.{JobWriter}
 use Rattle.rje_sockets.specs.declared.kept_file.KeptFile.{KeptFile}
 use Rattle.rje_sockets.specs.declared.sent_marker.SentMarker.{SentMarker}
@@ -41,9 +41,9 @@ use Rattle.rje_sockets.proofs.Growing.{none_kept}
 use Rattle.rje_sockets.proofs.InFront.{left_alone, opened_as}
 use Rattle.rje_sockets.proofs.Marked.{nothing_marked}
 use Rattle.rje_sockets.proofs.NamedFiles.{names_more}
-use Rattle.rje_stores.proofs.Changes.{same_itself}
-use Rattle.rje_stores.specs.declared.store.Place.TheVariants.{Growing}
-use Rattle.rje_stores.specs.Store.{FileMap, Discloses, IsSame}
+use Rattle.rje_store.proofs.Changes.{same_itself}
+use Rattle.rje_store.specs.declared.store.WriteMode.TheVariants.{Growing}
+use Rattle.rje_store.specs.Store.{FileMap, Discloses, IsSame}
 
 -- what is marked at the end, and what is kept then
 pub makes_both : (was is : HeldSoFar) (had : Progress) (s : Contending) (g h : Option FileMap) → GoesOnHolding was is had (progress_of s)

@@ -23,10 +23,10 @@ use Rattle.rje_commands.specs.declared.command_fault.CommandFault.TheVariants as
 use Rattle.rje_commands.specs.CommandFault.{IsFailing, of_station, of_text, status_of}
 use Rattle.rje_commands.specs.Commands.{OfFile}
 use Rattle.rje_commands.specs.NamedFile.{IsReadFault, IsWriteFault}
-use Rattle.rje_orders.specs.declared.order.Destination.{Destination}
-use Rattle.rje_orders.specs.declared.order.ExchangeOrder.{ExchangeOrder}
-use Rattle.rje_orders.specs.declared.order.SocketOrder.{SocketOrder}
-use Rattle.rje_orders.specs.declared.order.Existing.TheVariants.{Replace}
+use Rattle.rje_requests.specs.declared.order.Destination.{Destination}
+use Rattle.rje_requests.specs.declared.order.ExchangeOrder.{ExchangeOrder}
+use Rattle.rje_requests.specs.declared.order.SocketOrder.{SocketOrder}
+use Rattle.rje_requests.specs.declared.order.Existing.TheVariants.{Replace}
 use Rattle.rje_sockets.specs.Ending.{IsRefusedFile, IsUnsentFault}
 use Rattle.rje_sockets.specs.InFront.{IsRefusedDestination, IsStandingFault, LooksInto}
 use Rattle.rje_sockets.specs.Inside.Opening.{IsDestinationFault}
@@ -34,7 +34,7 @@ use Rattle.rje_sockets.specs.Inside.Sending.{IsExchangeFault, IsSendFault}
 use Rattle.rje_sockets.specs.NamedFiles.{NamesOne, NamesWritten}
 use Rattle.rje_sockets.specs.SocketCommand.{IsSocketFault}
 use Rattle.rje_sockets.proofs.NamedFiles.{names_more}
-use Rattle.rje_stores.specs.Store.{FileMap}
+use Rattle.rje_store.specs.Store.{FileMap}
 use Rattle.rje_commands.proofs.Inputs.{of_file}
 
 -- a line that fails, or a station that was over

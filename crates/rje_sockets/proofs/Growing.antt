@@ -7,17 +7,17 @@ use Rattle.rje_files.specs.declared.job_file.version.FileVersion.TheVariants.{Se
 use Rattle.rje_files.specs.Entry.{entry_of}
 use Rattle.rje_files.specs.Growth.{GrowsBy, grown}
 use Rattle.rje_files.specs.JobFile.{IsEntryFileOf}
-use Rattle.rje_stores.specs.declared.store.Place.{Place}
-use Rattle.rje_stores.specs.declared.store.Place.TheVariants.{Growing, Once}
-use Rattle.rje_stores.proofs.Changes.{same_after, same_twice, set_after, set_longer, set_over}
+use Rattle.rje_store.specs.declared.store.WriteMode.{WriteMode}
+use Rattle.rje_store.specs.declared.store.WriteMode.TheVariants.{Growing, Once}
+use Rattle.rje_store.proofs.Changes.{same_after, same_twice, set_after, set_longer, set_over}
 use Rattle.rje_sockets.specs.Ending.{MakesJobFile}
-use Rattle.rje_orders.specs.declared.order.Destination.{Destination}
+use Rattle.rje_requests.specs.declared.order.Destination.{Destination}
 use Rattle.rje_sockets.specs.declared.job_writer.JobWriter.{JobWriter}
 use Rattle.rje_sockets.specs.declared.kept_file.KeptFile.{KeptFile}
 use Rattle.rje_sockets.specs.InFront.{StandInFront}
 use Rattle.rje_sockets.specs.Inside.Keeping.{AreKept, GoesOnKeeping, KeepsJobs}
 use Rattle.rje_sockets.specs.Inside.Opening.{IsOpened}
-use Rattle.rje_stores.specs.Store.{FileMap, Discloses, Extends, IsSame, Sets}
+use Rattle.rje_store.specs.Store.{FileMap, Discloses, Extends, IsSame, Sets}
 
 -- a file has its front
 has_front : (es : List _) (bytes : List ℕ) → IsEntryFileOf Second es bytes → 14 ≤ length bytes
@@ -106,7 +106,7 @@ one_left jobs kept job less most there =
 pub none_left : (jobs : List Job) (kept : ℕ) → (kept < length jobs → ⊥) → take kept jobs ≡ jobs
 none_left jobs kept all = take_all kept jobs (omega (arith, all))
 
-pub grows_not_once : (place : Place) → (place ≡ Once → ⊥) → place ≡ Growing
+pub grows_not_once : (place : WriteMode) → (place ≡ Once → ⊥) → place ≡ Growing
 grows_not_once Growing other = refl
 grows_not_once Once other = absurd (other refl)
 

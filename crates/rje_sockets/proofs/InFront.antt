@@ -3,13 +3,13 @@ use Rattle.std.proofs.Common.{◌≡◌, ℕ, List, [], Option, Some, None, true
 use Rattle.std.proofs.lemmas.Slice.Eq.{bytes_eq-Decides}
 use Rattle.std.specs.Prelude.{◌≢◌, bytes_eq}
 use Rattle.rje_files.specs.declared.entry.Entry.{Entry}
-use Rattle.rje_orders.specs.declared.order.Existing.{Existing}
-use Rattle.rje_orders.specs.declared.order.Existing.TheVariants.{Replace, Refuse, Append}
+use Rattle.rje_requests.specs.declared.order.Existing.{Existing}
+use Rattle.rje_requests.specs.declared.order.Existing.TheVariants.{Replace, Refuse, Append}
 use Rattle.rje_commands.specs.Commands.{AreEntriesOf}
 use Rattle.rje_sockets.specs.declared.kept_file.KeptFile.{KeptFile}
 use Rattle.rje_sockets.specs.InFront.{StandInFront}
 use Rattle.rje_sockets.specs.Inside.Opening.{IsOpened}
-use Rattle.rje_stores.specs.Store.{FileMap, Discloses, IsSame, Sets}
+use Rattle.rje_store.specs.Store.{FileMap, Discloses, IsSame, Sets}
 
 stand_as : (existing : Existing) (name : List ℕ) (front : List Entry) (f g : FileMap) → g name ≡ f name → StandInFront existing name (Some f) front → StandInFront existing name (Some g) front
 stand_as Replace name front f g same stand = stand

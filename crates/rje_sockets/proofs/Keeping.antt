@@ -17,12 +17,12 @@ use Rattle.rje_station.specs.Receiving.{Receiving, after_receiving, jobs_after, 
 use Rattle.rje_files.specs.declared.entry.Entry.{Entry}
 use Rattle.rje_sockets.specs.declared.job_writer.JobWriter.{JobWriter}
 use Rattle.rje_sockets.specs.declared.kept_file.KeptFile.{KeptFile}
-use Rattle.rje_stores.specs.declared.store.Place.{Place}
-use Rattle.rje_stores.specs.declared.store.Place.TheVariants.{Growing, Once}
+use Rattle.rje_store.specs.declared.store.WriteMode.{WriteMode}
+use Rattle.rje_store.specs.declared.store.WriteMode.TheVariants.{Growing, Once}
 use Rattle.rje_sockets.specs.Answering.{whole_in_front}
 use Rattle.rje_sockets.specs.Inside.Keeping.{AreKept, GoesOnKeeping, kept_after}
 use Rattle.rje_sockets.specs.Inside.Opening.{HasFront, IsOpened}
-use Rattle.rje_stores.specs.Store.{FileMap}
+use Rattle.rje_store.specs.Store.{FileMap}
 
 -- JOBS THAT COME
 
@@ -143,12 +143,12 @@ heard_comes _ _ js = nothing js
 
 -- A KEEPER
 
-kept_few : (place : Place) (kept : ℕ) (js more : List Job) → Comes js more → (place ≡ Growing → kept ≡ whole_in_front js) → kept ≤ whole_in_front js → kept_after place kept more ≤ whole_in_front more
+kept_few : (place : WriteMode) (kept : ℕ) (js more : List Job) → Comes js more → (place ≡ Growing → kept ≡ whole_in_front js) → kept ≤ whole_in_front js → kept_after place kept more ≤ whole_in_front more
 kept_few Growing kept js more c all few = omega (arith, ap (λ (n : ℕ). kept_after Growing n more) (all refl) ∙ c.next)
 kept_few Once kept js more c all few = omega (arith, few, c.least)
 
-kept_all : (place : Place) (kept : ℕ) (js more : List Job) → Comes js more → (place ≡ Growing → kept ≡ whole_in_front js) → place ≡ Growing → kept_after place kept more ≡ whole_in_front more
-kept_all place kept js more c all grows = ap (λ (p : Place). kept_after p kept more) grows ∙ ap (λ (n : ℕ). kept_after Growing n more) (all grows) ∙ c.next
+kept_all : (place : WriteMode) (kept : ℕ) (js more : List Job) → Comes js more → (place ≡ Growing → kept ≡ whole_in_front js) → place ≡ Growing → kept_after place kept more ≡ whole_in_front more
+kept_all place kept js more c all grows = ap (λ (p : WriteMode). kept_after p kept more) grows ∙ ap (λ (n : ℕ). kept_after Growing n more) (all grows) ∙ c.next
 
 -- something came, and what has come whole was kept
 pub goes_on : (old new : JobWriter) (js more : List Job) (f g : Option FileMap) → Comes js more → new.file ≡ old.file

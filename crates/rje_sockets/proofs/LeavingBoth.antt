@@ -13,7 +13,7 @@ use Rattle.rje_sockets.specs.declared.receive_end.ReceiveEnd.{ReceiveEnd}
 use Rattle.rje_sockets.specs.declared.job_writer.JobWriter.{JobWriter}
 use Rattle.rje_sockets.specs.declared.kept_file.KeptFile.{KeptFile}
 use Rattle.rje_sockets.specs.declared.sent_marker.SentMarker.{SentMarker}
-use Rattle.rje_stores.specs.declared.store.Place.TheVariants.{Growing}
+use Rattle.rje_store.specs.declared.store.WriteMode.TheVariants.{Growing}
 use Rattle.rje_sockets.specs.Answering.{HasWhole}
 use Rattle.rje_sockets.specs.BothWays.{AreOver, ExchangesTo, LeavesFrom, StationTurn, Took, Waits, quiet_in_a_row}
 use Rattle.rje_sockets.specs.Ending.{MakesJobFile, MarksSent}
@@ -25,7 +25,7 @@ use Rattle.rje_sockets.proofs.BothFiles.{holds_written}
 use Rattle.rje_sockets.proofs.BothWays.{took_turns}
 use Rattle.rje_sockets.proofs.Growing.{still_keeps}
 use Rattle.rje_sockets.proofs.Received.{has_kept, has_rest}
-use Rattle.rje_stores.specs.Store.{FileMap, Discloses, IsSame}
+use Rattle.rje_store.specs.Store.{FileMap, Discloses, IsSame}
 
 -- WHILE IT TAKES ITS TURNS
 

@@ -11,7 +11,7 @@ use Rattle.rje_sockets.proofs.Watched.{took_both_out}
 use Rattle.rje_commands.specs.declared.command_fault.CommandFault.{CommandFault}
 use Rattle.rje_commands.specs.Commands.{OfFile}
 use Rattle.rje_commands.proofs.Inputs.{of_file_more}
-use Rattle.rje_stores.specs.Store.{FileMap}
+use Rattle.rje_store.specs.Store.{FileMap}
 use Rattle.rje_sockets.specs.declared.socket_commands.ending.Ending.{Ending}
 use Rattle.rje_sockets.specs.Ending.{ending_of, loop_text}
 use Rattle.rje_sockets.specs.Looping.{Loops}

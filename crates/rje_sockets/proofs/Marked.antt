@@ -10,7 +10,7 @@ use Rattle.rje_station.specs.declared.station_fault.StationFault.{StationFault}
 use Rattle.rje_station.specs.declared.station_fault.StationFault.TheVariants as fault
 use Rattle.rje_station.specs.Sending.{Sending, after_refusal, after_speaking, first_sending}
 use Rattle.line_world.specs.AnyLines.{SenderFails, SenderTook, SendsToFault}
-use Rattle.rje_stores.proofs.Changes.{byte_set, same_after, set_over}
+use Rattle.rje_store.proofs.Changes.{byte_set, same_after, set_over}
 use Rattle.rje_session.specs.Stations.{LineTells}
 use Rattle.rje_sockets.specs.declared.sent_marker.SentMarker.{SentMarker}
 use Rattle.rje_commands.specs.declared.command_fault.CommandFault.{CommandFault}
@@ -21,7 +21,7 @@ use Rattle.rje_sockets.specs.Marking.{MarksItsCount, MarksNoMore}
 use Rattle.rje_sockets.specs.Inside.Marking.{GoesOnMarking, Marks, MarksCounted, WereCounted}
 use Rattle.rje_sockets.specs.OverLine.{Sends}
 use Rattle.rje_sockets.specs.Watching.{SawSender}
-use Rattle.rje_stores.specs.Store.{FileMap, Discloses, IsSame, SetsByte}
+use Rattle.rje_store.specs.Store.{FileMap, Discloses, IsSame, SetsByte}
 use Rattle.rje_commands.proofs.Inputs.{of_file}
 use Rattle.rje_sockets.proofs.Watched.{sender_took}
 

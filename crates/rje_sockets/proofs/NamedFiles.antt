@@ -12,7 +12,7 @@ use Rattle.rje_commands.specs.CommandFault.{is_of_output, of_station, of_text}
 use Rattle.rje_sockets.specs.declared.transfer_error.TransferError.{TransferError}
 use Rattle.rje_sockets.specs.declared.receive_end.ReceiveEnd.{ReceiveEnd}
 use Rattle.rje_sockets.specs.declared.socket_commands.ending.Ending.{Ending}
-use Rattle.rje_orders.specs.declared.order.Destination.{Destination}
+use Rattle.rje_requests.specs.declared.order.Destination.{Destination}
 use Rattle.rje_sockets.specs.InFront.{LooksInto}
 use Rattle.rje_sockets.specs.Inside.BreakingOff.{of_broken_off}
 use Rattle.rje_sockets.specs.NamedFiles.{NamesOne, NamesWritten}

@@ -16,7 +16,7 @@ use Rattle.rje_sockets.proofs.Watched.{out_unseen}
 use Rattle.std.proofs.lemmas.Result.{on_ok_weaker}
 use Rattle.rje_sockets.proofs.Marked.{begun}
 use Rattle.rje_sockets.proofs.Sending.{sends_left}
-use Rattle.rje_stores.specs.Store.{FileMap}
+use Rattle.rje_store.specs.Store.{FileMap}
 
 pub sends_outgoing : {W : Type 0} (Saw : SawSender W) (End : SawEnd W) (r : Result Ending CommandFault) (t u : LineTells) (w w' : W) (name : List ℕ) (jobs : List Job) (marker : SentMarker) (s s' : Sending)
     (f g h : Option FileMap) (before after : Option (List ℕ)) → IsOutgoing name f jobs marker → MarksSent marker.file.items 0 marker.name.now f g → s ≡ first_sending jobs

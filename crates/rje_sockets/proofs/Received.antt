@@ -15,18 +15,18 @@ use Rattle.rje_commands.specs.CommandFault.{of_text}
 use Rattle.rje_text.specs.declared.text_fault.TextFault.{TextFault}
 use Rattle.rje_sockets.specs.declared.receive_end.ReceiveEnd.{ReceiveEnd}
 use Rattle.rje_files.specs.declared.entry.Entry.{Entry}
-use Rattle.rje_orders.specs.declared.order.Destination.{Destination}
+use Rattle.rje_requests.specs.declared.order.Destination.{Destination}
 use Rattle.rje_sockets.specs.declared.job_writer.JobWriter.{JobWriter}
 use Rattle.rje_sockets.specs.declared.kept_file.KeptFile.{KeptFile}
 use Rattle.rje_sockets.specs.declared.socket_commands.ending.Ending.{Ending}
-use Rattle.rje_stores.specs.declared.store.Place.TheVariants.{Growing}
+use Rattle.rje_store.specs.declared.store.WriteMode.TheVariants.{Growing}
 use Rattle.rje_sockets.specs.Answering.{HasWhole, KeepsAnswered, whole_in_front}
 use Rattle.rje_sockets.specs.Ending.{MakesJobFile, Receives, ending_of_left, received_text}
 use Rattle.rje_sockets.specs.Inside.Keeping.{AreKept, GoesOnKeeping, IsOfFile, KeepsJobs}
 use Rattle.rje_sockets.specs.Inside.BreakingOff.{BreaksOff, BreaksOffNow, KeptSoFar}
 use Rattle.rje_sockets.specs.Inside.Opening.{IsOpened}
 use Rattle.rje_sockets.specs.Patience.{Leaves}
-use Rattle.rje_stores.specs.Store.{FileMap, Discloses, IsSame}
+use Rattle.rje_store.specs.Store.{FileMap, Discloses, IsSame}
 use Rattle.rje_sockets.specs.Watching.{SawReceiver}
 use Rattle.rje_sockets.proofs.Answering.{breaks_same_file, left_answered, none_answered, refusal_jobs}
 use Rattle.rje_sockets.proofs.Watched.{leaves_unseen}

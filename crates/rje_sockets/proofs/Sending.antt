@@ -5,14 +5,14 @@ use Rattle.std.proofs.lemmas.List.{length-map}
 use Rattle.rje_jobs.specs.declared.job.Job.{Job}
 use Rattle.rje_files.specs.Unsent.{IsLeft, unsent}
 use Rattle.rje_station.specs.Sending.{Sending, first_sending, outcome_of}
-use Rattle.rje_stores.proofs.Changes.{set_after}
+use Rattle.rje_store.proofs.Changes.{set_after}
 use Rattle.rje_commands.specs.declared.command_fault.CommandFault.{CommandFault}
 use Rattle.rje_session.specs.Stations.{LineTells}
 use Rattle.rje_sockets.specs.declared.socket_commands.ending.Ending.{Ending}
 use Rattle.rje_commands.specs.Commands.{OfFile}
 use Rattle.rje_sockets.specs.Ending.{MarksSent, SendsLeft, ending_of, sent_text}
 use Rattle.rje_sockets.specs.OverLine.{SendsOver}
-use Rattle.rje_stores.specs.Store.{FileMap, IsSame, Discloses}
+use Rattle.rje_store.specs.Store.{FileMap, IsSame, Discloses}
 
 -- what is marked after a read that left the files as they were
 pub marked_after : (file name : List ℕ) (counted : ℕ) (f g h : Option FileMap) → Discloses f g IsSame → MarksSent file counted name g h → MarksSent file counted name f h

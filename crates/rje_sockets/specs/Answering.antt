@@ -8,9 +8,9 @@ use Rattle.rje_station.specs.JoinedJobs.{begun_in}
 use Rattle.rje_station.specs.Line.{one_more}
 use Rattle.rje_station.specs.Receiving.{Receiving, MayRefuse, after_receiving, first_receiving, with_reply}
 use Rattle.line_world.specs.AnyLines.{ReceiverTook}
-use Rattle.rje_orders.specs.declared.order.Destination.{Destination}
+use Rattle.rje_requests.specs.declared.order.Destination.{Destination}
 use Rattle.rje_sockets.specs.Ending.{MakesJobFile}
-use Rattle.rje_stores.specs.Store.{FileMap, Discloses, IsSame}
+use Rattle.rje_store.specs.Store.{FileMap, Discloses, IsSame}
 use Rattle.std.specs.List.{prefix_len}
 
 -- how many jobs, from the first on, have come to their ends

@@ -2,9 +2,9 @@
 use Rattle.std.specs.Prelude.{◌≡◌, ℕ, List, Option, Some, None, ⊤}
 use Rattle.std.specs.declared.io.ErrorKind.{ErrorKind}
 use Rattle.std.specs.declared.net.socket_addr.SocketAddr.{SocketAddr}
-use Rattle.rje_orders.specs.declared.connection.Meeting.{Meeting}
-use Rattle.rje_orders.specs.declared.connection.Meeting.TheVariants.{Calls, Listens}
-use Rattle.rje_orders.specs.Callers.{IsLetIn}
+use Rattle.rje_requests.specs.declared.connection.Meeting.{Meeting}
+use Rattle.rje_requests.specs.declared.connection.Meeting.TheVariants.{Calls, Listens}
+use Rattle.rje_requests.specs.Callers.{IsLetIn}
 use Rattle.rje_net.specs.declared.line_cause.LineCause.{LineCause}
 use Rattle.rje_net.specs.Words.{HasWord}
 

@@ -17,11 +17,11 @@ use Rattle.rje_sockets.specs.declared.receive_end.ReceiveEnd.{ReceiveEnd}
 use Rattle.rje_commands.specs.declared.command_fault.CommandFault.{CommandFault}
 use Rattle.rje_commands.specs.CommandFault.{status_of}
 use Rattle.rje_commands.specs.Commands.{OfFile}
-use Rattle.rje_orders.specs.declared.order.Destination.{Destination}
+use Rattle.rje_requests.specs.declared.order.Destination.{Destination}
 use Rattle.rje_sockets.specs.InFront.{StandInFront}
 use Rattle.rje_sockets.specs.OverLine.{Outside, SendsOver}
 use Rattle.rje_sockets.specs.Patience.{LeavesSo}
-use Rattle.rje_stores.specs.Store.{FileMap, Discloses, Sets}
+use Rattle.rje_store.specs.Store.{FileMap, Discloses, Sets}
 
 -- the exit status
 abbrev pub ending_status : Ending → ℕ

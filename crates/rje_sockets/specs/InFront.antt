@@ -3,13 +3,13 @@ use Rattle.std.specs.Prelude.{◌≡◌, ◌≢◌, ℕ, List, [], Option, IfSom
 use Rattle.rje_files.specs.declared.entry.Entry.{Entry}
 use Rattle.rje_files.specs.FileFault.{IsFileFault}
 use Rattle.rje_files.specs.JobFile.{HasEntries, IsEntryFile}
-use Rattle.rje_orders.specs.declared.order.Destination.{Destination}
-use Rattle.rje_orders.specs.declared.order.Existing.{Existing}
-use Rattle.rje_orders.specs.declared.order.Existing.TheVariants.{Replace, Refuse, Append}
+use Rattle.rje_requests.specs.declared.order.Destination.{Destination}
+use Rattle.rje_requests.specs.declared.order.Existing.{Existing}
+use Rattle.rje_requests.specs.declared.order.Existing.TheVariants.{Replace, Refuse, Append}
 use Rattle.rje_commands.specs.declared.command_fault.CommandFault.{CommandFault}
 use Rattle.rje_commands.specs.CommandFault.{status_of}
 use Rattle.rje_commands.specs.Commands.{AreEntriesOf, OfFile}
-use Rattle.rje_stores.specs.Store.{FileMap}
+use Rattle.rje_store.specs.Store.{FileMap}
 
 -- the entries in front of the jobs that come into the file of this name: none where they replace what it holds; where a file that holds jobs is
 -- refused, none too, and the file has none; else those of the file, where there is one

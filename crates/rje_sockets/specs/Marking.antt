@@ -9,7 +9,7 @@ use Rattle.rje_station.specs.Sending.{Sending, first_sending}
 use Rattle.line_world.specs.AnyLines.{SenderTook}
 use Rattle.rje_commands.specs.Commands.{OfFile}
 use Rattle.rje_sockets.specs.Ending.{MarksSent}
-use Rattle.rje_stores.specs.Store.{FileMap, Discloses, IsSame}
+use Rattle.rje_store.specs.Store.{FileMap, Discloses, IsSame}
 
 -- a new station for what was left of this file took some turns, and the jobs that it counted by then are Sent in the file of this name
 pub record MarksItsCount (name file : List ℕ) (files made : Option FileMap) : Type 0 where

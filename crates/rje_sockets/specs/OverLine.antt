@@ -9,7 +9,7 @@ use Rattle.line_world.specs.declared.spoken.Spoken.{Spoken}
 use Rattle.rje_station.specs.Receiving.{Receiving}
 use Rattle.rje_station.specs.Sending.{Sending}
 use Rattle.rje_session.specs.Stations.{HeardAndReplied, LineTells, SpokeAndHeard}
-use Rattle.rje_stores.specs.Store.{FileMap}
+use Rattle.rje_store.specs.Store.{FileMap}
 use Rattle.rje_sockets.specs.Watching.{NobodySawSender, SawBoth, SawEnd, SawReceiver, SawSender}
 
 -- what a command over a line changes: what the line tells, the files, and what is printed

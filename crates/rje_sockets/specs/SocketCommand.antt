@@ -1,6 +1,6 @@
 -- What a command over sockets does, by its order (own profile).
 use Rattle.std.specs.Prelude.{◌≡◌, ◌⊎◌, ℕ, List, Option, IfSome, ⊤}
-use Rattle.rje_orders.specs.declared.order.SocketOrder.{SocketOrder}
+use Rattle.rje_requests.specs.declared.order.SocketOrder.{SocketOrder}
 use Rattle.rje_commands.specs.declared.command_fault.CommandFault.{CommandFault}
 use Rattle.rje_commands.specs.CommandFault.{IsFailing, status_of}
 use Rattle.rje_commands.specs.Commands.{OfFile}
@@ -15,7 +15,7 @@ use Rattle.rje_sockets.specs.Marking.{MarksNoMore}
 use Rattle.rje_sockets.specs.NamedFiles.{NamesOne}
 use Rattle.rje_sockets.specs.OverLine.{OverConnection}
 use Rattle.rje_sockets.specs.Patience.{most_quiet}
-use Rattle.rje_stores.specs.Store.{FileMap, Discloses, IsSame}
+use Rattle.rje_store.specs.Store.{FileMap, Discloses, IsSame}
 
 -- WHAT A COMMAND DOES
 

@@ -26,7 +26,7 @@ use crate::transfer_error::TransferError;
 use bsc_link::{Rank, Say};
 use rje_session::turns;
 use rje_station::{Line, LineFault, Station, StationFault};
-use rje_stores::Store;
+use rje_store::Store;
 
 /// Sends what the station has and receives what the other one has, until both transmissions are over, the other has hung up or has been
 /// quiet for so many of its turns in a row. Each job that it sends is marked as soon as it is counted, and each that comes is kept before

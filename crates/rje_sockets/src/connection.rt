@@ -1,14 +1,14 @@
 //! Connections, and whether the time-out is longer than they take.
 ghost use Rattle.std.specs.Prelude.{◌≡◌, true, IfErr, IfOk, IsSome};
-ghost use Rattle.rje_orders.specs.Callers.{IsLetIn};
+ghost use Rattle.rje_requests.specs.Callers.{IsLetIn};
 ghost use Rattle.rje_net.specs.Words.{HasWord};
 ghost use Rattle.rje_sockets.specs.Connecting.{HasSpokenWhereAwaited, IsPeerAt, IsUnmet};
 
 use crate::verbosity::Verbosity;
 use bsc_link::Rank;
 use rje_net::{AdapterStream, LineCause, ObservedStream, SocketLine};
-use rje_orders::{Callers, Connection, Meeting};
 use rje_print::{listening_text, shown_listening};
+use rje_requests::{Callers, Connection, Meeting};
 use std::io::{self, ErrorKind, Write};
 use std::net::{Net, OpenListener, SocketAddr, TcpListener, TcpStream};
 use std::time::{Clock, Duration, Instant};

@@ -6,13 +6,13 @@ ghost use Rattle.rje_files.specs.FileFault.{IsFileFault};
 ghost use Rattle.rje_files.specs.JobFile.{HasEntries, IsEntryFile, IsEntryFileOf};
 ghost use Rattle.rje_sockets.specs.InFront.{StandInFront};
 ghost use Rattle.rje_sockets.specs.Inside.Opening.{HasFront, IsDestinationFault};
-ghost use Rattle.rje_stores.specs.Store.{Discloses, IsSame};
+ghost use Rattle.rje_store.specs.Store.{Discloses, IsSame};
 
 use rje_commands::{CommandFault, read_if_there};
 use rje_files::{entries_in, read_entries, write_entries};
 use rje_jobs::FileFault;
-use rje_orders::{Destination, Existing};
-use rje_stores::Store;
+use rje_requests::{Destination, Existing};
+use rje_store::Store;
 use std::alloc::{AllocError, Global};
 
 /// Where a job file has the last byte of its version, and what it is in version 2.

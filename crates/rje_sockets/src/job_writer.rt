@@ -11,14 +11,14 @@ ghost use Rattle.rje_sockets.specs.Ending.{MakesJobFile};
 ghost use Rattle.rje_sockets.specs.Inside.Keeping.{AreKept, KeepsJobs, kept_after};
 ghost use Rattle.rje_sockets.specs.Inside.Opening.{HasFront};
 ghost use Rattle.rje_sockets.specs.NamedFiles.{NamesWritten};
-ghost use Rattle.rje_stores.specs.Store.{FileMap, Discloses, IsSame, Sets};
+ghost use Rattle.rje_store.specs.Store.{FileMap, Discloses, IsSame, Sets};
 
 use crate::kept_file::KeptFile;
 use rje_commands::{CommandFault, WriteCause, extend_file, write_file, write_grown};
 use rje_files::{entries_of, growth_of, write_entries};
 use rje_jobs::{Job, Jobs};
-use rje_session::Tally;
-use rje_stores::{MAX_INPUT, Place, Store};
+use rje_session::Totals;
+use rje_store::{MAX_INPUT, Store, WriteMode};
 use rje_text::TextFault;
 use std::alloc::Global;
 
@@ -33,7 +33,7 @@ pub struct JobWriter<'a> {
     /// It has so many bytes, where there are some.
     long: usize,
     /// How much has come.
-    tally: Tally,
+    tally: Totals,
     /// Why a block was refused that hasn't come again so that it could be taken.
     refusal: Option<TextFault>,
 }
@@ -44,7 +44,7 @@ impl<'a> JobWriter<'a> {
         ensures file { result.file ≡ file.entry }
         ensures none { result.kept ≡ 0 }
     {
-        let tally = Tally::after_file(file.front.bytes.len());
+        let tally = Totals::after_file(file.front.bytes.len());
         JobWriter {
             alloc,
             file,
@@ -88,7 +88,10 @@ impl<'a> JobWriter<'a> {
         if tally.is_too_much_for_one(MAX_INPUT) {
             return Err(CommandFault::CannotWrite(self.file.into.jobs, WriteCause::TooMuch));
         }
-        if self.file.place == Place::Growing && self.kept < jobs.len() && jobs[self.kept].whole {
+        if self.file.place == WriteMode::Growing
+            && self.kept < jobs.len()
+            && jobs[self.kept].whole
+        {
             self.add(&jobs[self.kept], store)?;
         }
         self.refusal = refusal_after(self.refusal, refusal, tally == self.tally);
@@ -113,7 +116,7 @@ impl<'a> JobWriter<'a> {
         if jobs.is_empty() {
             return write_file(name, self.file.front.bytes.as_slice(), store);
         }
-        if self.file.place == Place::Once {
+        if self.file.place == WriteMode::Once {
             return write_job_file(self.alloc, Jobs::from(jobs), name, store);
         }
         if self.kept < jobs.len() {

@@ -2,12 +2,12 @@
 ghost use Rattle.std.specs.Prelude.{◌≡◌, List, IfOk, IfErr, OnOk};
 ghost use Rattle.rje_files.specs.declared.entry.Entry.{Entry};
 ghost use Rattle.rje_sockets.specs.Inside.Opening.{IsDestinationFault, IsOpened};
-ghost use Rattle.rje_stores.specs.Store.{Discloses, IsSame};
+ghost use Rattle.rje_store.specs.Store.{Discloses, IsSame};
 
 use crate::existing_entries::ExistingEntries;
 use rje_commands::{CommandFault, lock_file, look_at_file};
-use rje_orders::Destination;
-use rje_stores::{Place, Store};
+use rje_requests::Destination;
+use rje_store::{Store, WriteMode};
 use std::alloc::Global;
 
 /// The file that the jobs of a transmission are kept in, which the command has for itself.
@@ -16,7 +16,7 @@ pub struct KeptFile<'a> {
     /// Its name, and what becomes of the jobs that it holds already.
     pub(crate) into: Destination<'a>,
     /// How it can be written.
-    pub(crate) place: Place,
+    pub(crate) place: WriteMode,
     /// What is before the jobs that come.
     pub(crate) front: ExistingEntries,
 }
@@ -39,8 +39,8 @@ impl<'a> KeptFile<'a> {
         let place = look_at_file(into.jobs, store)?;
         lock_file(alloc, into.jobs, store)?;
         let front = match place {
-            Place::Growing => ExistingEntries::read(alloc, into, store)?,
-            Place::Once => ExistingEntries::none(alloc)?,
+            WriteMode::Growing => ExistingEntries::read(alloc, into, store)?,
+            WriteMode::Once => ExistingEntries::none(alloc)?,
         };
         Ok(KeptFile { into, place, front })
     }

@@ -4,6 +4,7 @@
 
 mod amount;
 mod both_ways;
+mod close;
 mod connection;
 mod display;
 mod existing_entries;
@@ -12,7 +13,6 @@ mod kept_file;
 mod observer;
 mod one_way;
 mod over_sockets;
-mod parting;
 mod receive_end;
 mod received_amount;
 mod received_blocks;

@@ -19,7 +19,7 @@ use bsc_link::{Say, Sound, Wish};
 use line_world::Spoken;
 use rje_session::turns;
 use rje_station::{Arrival, Line, ReceivingStation, SendingStation, StationFault};
-use rje_stores::Store;
+use rje_store::Store;
 
 /// After so many quiet hearings in a row a receiving station leaves that was told nothing else.
 pub const USUAL_PATIENCE: u32 = 40;

@@ -2,12 +2,12 @@
 ghost use Rattle.std.specs.Prelude.{◌≡◌, IfErr, IfOk};
 ghost use Rattle.rje_commands.specs.CommandFault.{status_of};
 ghost use Rattle.rje_sockets.specs.SocketCommand.{IsSocketFault, LeavesFiles, Transmits};
-ghost use Rattle.rje_stores.specs.Store.{Discloses, IsSame};
+ghost use Rattle.rje_store.specs.Store.{Discloses, IsSame};
 
 use crate::socket_commands::{Ending, exchange, loopback, receive, send};
 use rje_commands::CommandFault;
-use rje_orders::SocketOrder;
-use rje_stores::Store;
+use rje_requests::SocketOrder;
+use rje_store::Store;
 use std::alloc::Global;
 use std::io::Write;
 use std::net::Net;

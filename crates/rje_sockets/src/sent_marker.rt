@@ -9,13 +9,13 @@ ghost use Rattle.rje_commands.specs.declared.command_fault.CommandFault.TheVaria
 ghost use Rattle.rje_sockets.specs.Ending.{MarksSent};
 ghost use Rattle.rje_sockets.specs.Inside.Marking.{GoesOnMarking};
 ghost use Rattle.rje_sockets.specs.NamedFiles.{NamesWritten};
-ghost use Rattle.rje_stores.specs.Store.{FileMap, Discloses, IsSame};
+ghost use Rattle.rje_store.specs.Store.{FileMap, Discloses, IsSame};
 
 use rje_commands::{
     CommandFault, HeldFile, WriteCause, look_at_file, set_byte_of_file, write_file,
 };
 use rje_files::{MARK, sent_file};
-use rje_stores::{Place, Store};
+use rje_store::{Store, WriteMode};
 use std::alloc::Global;
 
 /// Marks the jobs of a job file as they are counted: each by a byte in a copy of its own, which it puts in the file's place before anything
@@ -64,8 +64,8 @@ impl<'a> SentMarker<'a> {
         ensures same { OnErr result (Discloses (S.files store.old) (S.files store.new) IsSame) }
     {
         match look_at_file(self.name, store)? {
-            Place::Growing => self.write(0, store),
-            Place::Once => Err(CommandFault::CannotWrite(self.name, WriteCause::NoMarks)),
+            WriteMode::Growing => self.write(0, store),
+            WriteMode::Once => Err(CommandFault::CannotWrite(self.name, WriteCause::NoMarks)),
         }
     }
 

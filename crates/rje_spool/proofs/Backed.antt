@@ -1,10 +1,10 @@
 -- What was put on disk at one moment was so whatever is asked after it.
 use Rattle.std.proofs.Common.{ℕ, List, [], ◌∷◌, ◌++◌, ap, sym, ◌∙◌}
 use Rattle.std.proofs.lemmas.List.{append_assoc}
-use Rattle.rje_folders.specs.declared.folder.Folder.{Folder}
+use Rattle.rje_folder.specs.declared.folder.Folder.{Folder}
 use Rattle.rje_jobs.specs.declared.job.Job.{Job}
 use Rattle.rje_session.specs.Ledger.{Entry, Given, MayArrive, Settled, Kept, KeptCut}
-use Rattle.rje_stores.specs.Disk.{Asked}
+use Rattle.rje_store.specs.Disk.{Asked}
 use Rattle.rje_spool.specs.Backed.{GoesOn, WasPut, AreBacked}
 
 pub goes_on_twice : (a b c : List Asked) → GoesOn a b → GoesOn b c → GoesOn a c

@@ -1,10 +1,10 @@
 -- What was put into its folder is the paper of its job.
 use Rattle.std.proofs.Common.{ℕ, List}
-use Rattle.rje_folders.specs.FileNames.{IsBetweenFrom}
-use Rattle.rje_folders.specs.Folder.{path_in}
+use Rattle.rje_folder.specs.FileNames.{IsBetweenFrom}
+use Rattle.rje_folder.specs.Folder.{path_in}
 use Rattle.rje_jobs.specs.declared.job.Job.{Job}
-use Rattle.rje_stores.specs.Disk.{Asked}
-use Rattle.rje_stores.specs.Replacing.{IsOnDisk}
+use Rattle.rje_store.specs.Disk.{Asked}
+use Rattle.rje_store.specs.Replacing.{IsOnDisk}
 use Rattle.rje_spool.specs.declared.due_paper.DuePaper.{DuePaper}
 use Rattle.rje_spool.specs.Paper.{HasPaper, IsPaperOf}
 

@@ -1,9 +1,9 @@
 -- What is asked of a file with a name in doubt/.
 use Rattle.std.proofs.Common.{◌≡◌, ℕ, List, Global, String, string_bytes, subst, sym}
 use Rattle.rje_day.specs.declared.disposition.Disposition.{Disposition}
-use Rattle.rje_stores.specs.Disk.{Asked}
-use Rattle.rje_stores.specs.Replacing.{Adds}
-use Rattle.rje_folders.specs.Promising.{MaySettle}
+use Rattle.rje_store.specs.Disk.{Asked}
+use Rattle.rje_store.specs.Replacing.{Adds}
+use Rattle.rje_folder.specs.Promising.{MaySettle}
 use Rattle.rje_spool.specs.declared.given_file.Standing.{Standing}
 use Rattle.rje_spool.specs.GivenFile.{OfPromised}
 

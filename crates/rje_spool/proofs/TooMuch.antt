@@ -1,6 +1,6 @@
 -- A file whose jobs can't all be held.
 use Rattle.std.proofs.Common.{ℕ, List, Some}
-use Rattle.rje_folders.specs.declared.ready_file.ReadyFile.{ReadyFile}
+use Rattle.rje_folder.specs.declared.ready_file.ReadyFile.{ReadyFile}
 use Rattle.rje_spool.specs.declared.refused_file.RefusedFile.{RefusedFile}
 use Rattle.rje_spool.specs.Outgoing.{HasTooMuch, IsRefusal}
 

@@ -1,11 +1,11 @@
 -- What stands behind the ledger of a station's spool: what is entered as kept was put on disk (own profile).
-use Rattle.std.specs.Prelude.{◌≡◌, ℕ, zero, suc, List, [], ◌∷◌, ◌++◌, ⊤}
+use Rattle.std.specs.Prelude.{◌≡◌, ℕ, zero, suc, Option, Some, None, List, [], ◌∷◌, ◌++◌, ⊤}
 use Rattle.rje_day.specs.declared.disposition.Disposition.TheVariants.{InDoubt}
-use Rattle.rje_folders.specs.declared.folder.Folder.{Folder}
-use Rattle.rje_folders.specs.Keeping.{WasMade, WasNamed}
+use Rattle.rje_folder.specs.declared.folder.Folder.{Folder}
+use Rattle.rje_folder.specs.Keeping.{WasMade, WasNamed}
 use Rattle.rje_jobs.specs.declared.job.Job.{Job}
 use Rattle.rje_session.specs.Ledger.{Entry, Settled, Kept, KeptCut}
-use Rattle.rje_stores.specs.Disk.{Asked}
+use Rattle.rje_store.specs.Disk.{Asked}
 use Rattle.rje_spool.specs.declared.given_file.GivenFile.{GivenFile}
 use Rattle.rje_spool.specs.Keeping.{IsKeptIn}
 
@@ -19,6 +19,8 @@ pub record Spooled : Type 0 where
   pub files : List GivenFile
   -- how many jobs they have
   pub given : ℕ
+  -- the job of that transmission whose last block went out last, if one did: those before it went out too
+  pub out : Option ℕ
   -- what its disk was asked, the newest first
   pub asked : List Asked
 
@@ -39,7 +41,12 @@ AreBacked station (Kept job ∷ past) asked = (before : List Asked) × WasPut st
 AreBacked station (KeptCut job ∷ past) asked = (before : List Asked) × WasPut station Folder.Cut job before asked × AreBacked station past before
 AreBacked station (_ ∷ past) asked = AreBacked station past asked
 
--- each of so many jobs is entered as in doubt, one after another
-abbrev pub with_doubted : ℕ → List Entry → List Entry
-with_doubted zero entries = entries
-with_doubted (suc n) entries = Settled n InDoubt ∷ with_doubted n entries
+-- each of the first so many jobs is entered as in doubt, one after another
+abbrev pub with_first_doubted : ℕ → List Entry → List Entry
+with_first_doubted zero entries = entries
+with_first_doubted (suc n) entries = Settled n InDoubt ∷ with_first_doubted n entries
+
+-- each job up to the one that went out last is entered as in doubt; none where none went out
+abbrev pub with_doubted : (out : Option ℕ) → List Entry → List Entry
+with_doubted None entries = entries
+with_doubted (Some last) entries = with_first_doubted (suc last) entries

@@ -1,12 +1,12 @@
 -- What becomes of a file of out/ whose jobs are in a transmission (own profile).
 use Rattle.std.specs.Prelude.{◌≡◌, ℕ, List, string_bytes, true}
-use Rattle.rje_stores.specs.Disk.{Asked, Call, has_synced_name}
-use Rattle.rje_folders.specs.declared.file_identity.FileIdentity.{FileIdentity}
-use Rattle.rje_folders.specs.declared.folder.Folder.{Folder}
-use Rattle.rje_folders.specs.FileNames.{IsNumbered}
-use Rattle.rje_folders.specs.Folder.{path_in}
-use Rattle.rje_folders.specs.Moving.{IsSecond}
-use Rattle.rje_folders.specs.Promising.{IsSent}
+use Rattle.rje_store.specs.Disk.{Asked, Call, has_synced_name}
+use Rattle.rje_folder.specs.declared.file_identity.FileIdentity.{FileIdentity}
+use Rattle.rje_folder.specs.declared.folder.Folder.{Folder}
+use Rattle.rje_folder.specs.FileNames.{IsNumbered}
+use Rattle.rje_folder.specs.Folder.{path_in}
+use Rattle.rje_folder.specs.Moving.{IsSecond}
+use Rattle.rje_folder.specs.Promising.{IsSent}
 use Rattle.rje_spool.specs.declared.given_file.Standing.{Standing}
 
 -- it has a name in doubt/, on disk, beside the one in out/

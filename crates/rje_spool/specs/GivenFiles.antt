@@ -3,9 +3,9 @@ use Rattle.std.specs.Prelude.{◌≡◌, ◌≢◌, ℕ, ◌+◌, ◌-◌, ◌==
 use Rattle.std.specs.Option.{option_map_or}
 use Rattle.rje_day.specs.declared.disposition.Disposition.{Disposition}
 use Rattle.rje_day.specs.declared.disposition.Disposition.TheVariants as disposition
-use Rattle.rje_folders.specs.declared.file_identity.FileIdentity.{FileIdentity}
-use Rattle.rje_folders.specs.Marking.{IsMarked, IsSaid}
-use Rattle.rje_stores.specs.Disk.{Asked, Opened}
+use Rattle.rje_folder.specs.declared.file_identity.FileIdentity.{FileIdentity}
+use Rattle.rje_folder.specs.Marking.{IsMarked, IsSaid}
+use Rattle.rje_store.specs.Disk.{Asked, Opened}
 use Rattle.rje_spool.specs.declared.given_file.GivenFile.{GivenFile}
 use Rattle.rje_spool.specs.declared.given_file.Standing.{Standing}
 use Rattle.rje_spool.specs.declared.given_file.Standing.TheVariants.{Promised}

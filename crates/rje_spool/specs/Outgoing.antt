@@ -7,7 +7,7 @@ use Rattle.rje_files.specs.FileFault.{IsFileFault}
 use Rattle.rje_files.specs.JobFile.{HasEntries, IsEntryFile}
 use Rattle.rje_files.specs.Marks.{AreMarks}
 use Rattle.rje_files.specs.Unsent.{IsLeft, IsFirstUnsendable}
-use Rattle.rje_folders.specs.declared.ready_file.ReadyFile.{ReadyFile}
+use Rattle.rje_folder.specs.declared.ready_file.ReadyFile.{ReadyFile}
 use Rattle.rje_spool.specs.Holding.{CanBeHeld}
 use Rattle.rje_spool.specs.declared.outgoing.Outgoing.{Outgoing}
 use Rattle.rje_spool.specs.declared.refused_file.RefusedFile.{RefusedFile}

@@ -2,15 +2,15 @@
 use Rattle.std.specs.Prelude.{◌≡◌, ℕ, List, codes}
 use Rattle.rje_text.specs.declared.mode.Mode.{Mode}
 use Rattle.rje_text.specs.declared.select.Select.{Select}
-use Rattle.rje_folders.specs.declared.folder.Folder.{Folder}
-use Rattle.rje_folders.specs.FileNames.{IsBetweenFrom}
-use Rattle.rje_folders.specs.Folder.{path_in}
+use Rattle.rje_folder.specs.declared.folder.Folder.{Folder}
+use Rattle.rje_folder.specs.FileNames.{IsBetweenFrom}
+use Rattle.rje_folder.specs.Folder.{path_in}
 use Rattle.rje_jobs.specs.declared.job.Job.{Job}
 use Rattle.rje_jobs.specs.declared.punch.Form.{Form}
 use Rattle.rje_jobs.specs.Listing.{listing}
 use Rattle.rje_jobs.specs.Punch.{punched}
-use Rattle.rje_stores.specs.Disk.{Asked}
-use Rattle.rje_stores.specs.Replacing.{IsOnDisk}
+use Rattle.rje_store.specs.Disk.{Asked}
+use Rattle.rje_store.specs.Replacing.{IsOnDisk}
 use Rattle.rje_spool.specs.declared.due_paper.DuePaper.{DuePaper}
 
 -- of a job for the punch its cards, as they are where it is transparent; of any other its listing

@@ -1,7 +1,7 @@
 -- Why a file of out/ is passed over, and for how long (own profile).
 use Rattle.std.specs.Prelude.{◌≡◌, ◌⊎◌, Bool, true, false}
 use Rattle.std.specs.declared.io.ErrorKind.{ErrorKind}
-use Rattle.rje_folders.specs.declared.settled.OutName.{OutName}
+use Rattle.rje_folder.specs.declared.settled.OutName.{OutName}
 
 -- there is no room for it now: the disk is full, or what its user may have of it is used up
 abbrev pub IsNoRoom : ErrorKind → Type 0

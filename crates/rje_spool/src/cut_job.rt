@@ -1,6 +1,6 @@
 //! The job that was cut last.
 
-use rje_folders::FileIdentity;
+use rje_folder::FileIdentity;
 
 /// Where the records of a job are in the job file of it alone.
 const RECORDS: usize = 33;

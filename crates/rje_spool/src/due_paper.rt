@@ -6,7 +6,7 @@ ghost use Rattle.rje_spool.specs.Paper.{HasPaper, IsPaperOf};
 
 use crate::paper::{paper_of, place_of_paper};
 use crate::spool_fault::SpoolFault;
-use rje_folders::{Folder, FolderDisk, FolderFault, StationFolder};
+use rje_folder::{Folder, FolderDisk, FolderFault, StationFolder};
 use rje_jobs::Job;
 use std::alloc::Global;
 

@@ -1,5 +1,5 @@
 //! The spool of a station's folder.
-ghost use Rattle.std.specs.Prelude.{◌≡◌, List, [], ◌∷◌, length, IfOk, OnErr, OnOk, string_bytes};
+ghost use Rattle.std.specs.Prelude.{◌≡◌, List, [], ◌∷◌, None, Some, length, IfOk, OnErr, OnOk, string_bytes};
 ghost use Rattle.rje_jobs.specs.declared.job.Job.{Job as Item};
 ghost use Rattle.rje_spool.specs.Backed.{AreBacked, with_doubted};
 ghost use Rattle.rje_spool.specs.GivenFile.{HasSecondName, IsDoubted};
@@ -8,13 +8,13 @@ ghost use Rattle.rje_session.specs.Ledger.{Given, IsEntered, MayArrive, MayBeEnt
 
 mod settling;
 
-use crate::book::{Book, NoBook};
 use crate::console::Console;
+use crate::ledger::{Ledger, NoBook};
 use crate::notice::Notice;
 use crate::spool_fault::SpoolFault;
 use crate::spool_files::SpoolFiles;
-use rje_day::{Disposition, Seen};
-use rje_folders::{FolderDisk, StationFolder};
+use rje_day::{Disposition, Inputs};
+use rje_folder::{FolderDisk, StationFolder};
 use rje_jobs::Job;
 use rje_session::Spool;
 use rje_station::Station;
@@ -26,24 +26,26 @@ use std::time::Clock;
 /// The spool of a station's folder: what lies in out/ goes to sent/, doubt/ or refused/, and what comes goes to in/, print/, punch/ and cut/. The
 /// operator is told on a console, and what is done is entered in a book.
 #[derive(Drop)]
-pub struct FolderSpool<D: FolderDisk + Drop, C, W, L, B: Book + Drop = NoBook> {
+pub struct FolderSpool<D: FolderDisk + Drop, C, W, L, B: Ledger + Drop = NoBook> {
     files: SpoolFiles<D, C, W, L>,
     book: B,
+    // The job of the transmission that was begun last whose last block went out last, if one did.
+    out: Option<usize>,
 }
 
-impl<D: FolderDisk + Drop, C, W, L, B: Book + Drop> Model for FolderSpool<D, C, W, L, B> {
+impl<D: FolderDisk + Drop, C, W, L, B: Ledger + Drop> Model for FolderSpool<D, C, W, L, B> {
     ghost use Rattle.std.specs.Prelude.{string_bytes};
     ghost use Rattle.rje_spool.specs.Backed.{AreBacked, Spooled};
     ghost use Rattle.rje_spool.specs.GivenFiles.{jobs_of};
 
     ghost Value = { Spooled };
 
-    ghost view = { λ s. record { station = string_bytes s.files.folder.path; entries = B.entries s.book; files = s.files.given.files.items; given = jobs_of s.files.given.files.items; asked = D.asked s.files.folder.disk } };
+    ghost view = { λ s. record { station = string_bytes s.files.folder.path; entries = B.entries s.book; files = s.files.given.files.items; given = jobs_of s.files.given.files.items; out = s.out; asked = D.asked s.files.folder.disk } };
 
     ghost invariant = { λ s. D.discloses → B.discloses → AreBacked (string_bytes s.files.folder.path) (B.entries s.book) (D.asked s.files.folder.disk) };
 }
 
-impl<D: FolderDisk + Drop, C: Clock, W: Write, L: Write, B: Book + Drop> FolderSpool<
+impl<D: FolderDisk + Drop, C: Clock, W: Write, L: Write, B: Ledger + Drop> FolderSpool<
     D,
     C,
     W,
@@ -62,6 +64,7 @@ impl<D: FolderDisk + Drop, C: Clock, W: Write, L: Write, B: Book + Drop> FolderS
         FolderSpool {
             files: SpoolFiles::new(alloc, folder, console),
             book: B::new(),
+            out: None,
         }
     }
 
@@ -85,33 +88,37 @@ impl<D: FolderDisk + Drop, C: Clock, W: Write, L: Write, B: Book + Drop> FolderS
         self.files.can_receive()
     }
 
-    /// All jobs of the last transmission are in doubt, those that were counted too: answers came out of step. Where one can't be put there, the others
-    /// are all the same.
+    /// Answers came out of step: all jobs of the last transmission whose last block went out are in doubt, those that were counted too. Where one can't be
+    /// put there, the others are all the same.
     pub fn doubt_all(&mut self) -> Result<(), SpoolFault>
         ensures doubted { B.discloses → OnOk result
-            (self.new.entries ≡ with_doubted self.old.given self.old.entries) }
+            (self.new.entries ≡ with_doubted self.old.out self.old.entries) }
     {
-        for job in 0..self.files.jobs() {
+        let Some(last) = self.out else {
+            return Ok(());
+        };
+        for job in 0..last {
             match self.settle(job, Disposition::InDoubt) {
                 Ok(()) => {}
                 Err(fault) => {
-                    self.doubt_from(job);
+                    self.doubt_from(job, last);
                     return Err(fault);
                 }
             }
         }
-        Ok(())
+        self.settle(last, Disposition::InDoubt)
     }
 
-    /// The jobs of the last transmission from this one on are in doubt, those of them that can be put there.
-    fn doubt_from(&mut self, first: usize) {
-        for job in first..self.files.jobs() {
+    /// The jobs of the last transmission from this one to that one are in doubt, those of them that can be put there.
+    fn doubt_from(&mut self, first: usize, last: usize) {
+        for job in first..last {
             let _ = self.settle(job, Disposition::InDoubt);
         }
+        let _ = self.settle(last, Disposition::InDoubt);
     }
 }
 
-impl<D: FolderDisk + Drop, C: Clock, W: Write, L: Write, B: Book + Drop> Spool
+impl<D: FolderDisk + Drop, C: Clock, W: Write, L: Write, B: Ledger + Drop> Spool
     for FolderSpool<D, C, W, L, B> {
     type Fault = SpoolFault;
 
@@ -119,7 +126,7 @@ impl<D: FolderDisk + Drop, C: Clock, W: Write, L: Write, B: Book + Drop> Spool
 
     ghost ledger = { λ s. s.entries };
 
-    fn seen(&mut self) -> Seen {
+    fn seen(&mut self) -> Inputs {
         self.files.make_paper();
         self.files.finish_hidden();
         self.files.seen()
@@ -132,10 +139,12 @@ impl<D: FolderDisk + Drop, C: Clock, W: Write, L: Write, B: Book + Drop> Spool
             × MayBeEntered (Given jobs) self.old.entries self.new.entries) }
         // The files have as many jobs as are given.
         ensures numbered { IfOk result (λ jobs. self.new.given ≡ length jobs.items) }
+        ensures none_out { OnOk result (self.new.out ≡ None) }
     {
         self.files.make_paper();
         let jobs = self.files.next()?;
         self.book.enter_given(jobs.as_slice());
+        self.out = None;
         Ok(jobs)
     }
 
@@ -155,9 +164,11 @@ impl<D: FolderDisk + Drop, C: Clock, W: Write, L: Write, B: Book + Drop> Spool
         ensures out { D.discloses → OnOk result (OfFile job
             (λ file now. HasGoneOut D.is_file self.old.station file now
             self.old.asked self.new.asked) self.old.files self.new.files) }
+        ensures last_out { OnOk result (self.new.out ≡ Some job) }
     {
         self.files.goes_out(job)?;
         self.book.enter_out(job);
+        self.out = Some(job);
         Ok(())
     }
 
@@ -172,6 +183,7 @@ impl<D: FolderDisk + Drop, C: Clock, W: Write, L: Write, B: Book + Drop> Spool
         ensures left { OnErr result (OfFile job
             (λ file now. HasSecondName file.place → IsDoubted now.place)
             self.old.files self.new.files) }
+        ensures same { self.new.out ≡ self.old.out }
     {
         self.files.settle(job, what)?;
         self.book.enter_settled(job, what);

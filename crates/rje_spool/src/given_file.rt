@@ -1,12 +1,12 @@
 //! A file whose jobs are in a transmission.
 ghost use Rattle.std.specs.Prelude.{◌≡◌, IfNone, IfOk, IfSome, OnErr, OnOk, false, true, string_bytes};
-ghost use Rattle.rje_stores.specs.Disk.{has_synced_name};
-ghost use Rattle.rje_stores.specs.Replacing.{Adds};
-ghost use Rattle.rje_folders.specs.declared.folder.Folder.{Folder};
-ghost use Rattle.rje_folders.specs.declared.settled.OutName.TheVariants.{TakenAway};
-ghost use Rattle.rje_folders.specs.Folder.{path_in};
-ghost use Rattle.rje_folders.specs.Moving.{IsGone};
-ghost use Rattle.rje_folders.specs.Promising.{MayPromise, MaySettle};
+ghost use Rattle.rje_store.specs.Disk.{has_synced_name};
+ghost use Rattle.rje_store.specs.Replacing.{Adds};
+ghost use Rattle.rje_folder.specs.declared.folder.Folder.{Folder};
+ghost use Rattle.rje_folder.specs.declared.settled.OutName.TheVariants.{TakenAway};
+ghost use Rattle.rje_folder.specs.Folder.{path_in};
+ghost use Rattle.rje_folder.specs.Moving.{IsGone};
+ghost use Rattle.rje_folder.specs.Promising.{MayPromise, MaySettle};
 ghost use Rattle.rje_spool.specs.declared.given_file.Standing.TheVariants.{Promised, Ready};
 ghost use Rattle.rje_spool.specs.Backed.{GoesOn};
 ghost use Rattle.rje_spool.specs.GivenFile.{HasSecondName, HasSent, IsDoubted, IsDoubtedUnder, IsInSent, IsOfRead, IsUnsettled, OfPromised, StaysInDoubt};
@@ -16,7 +16,7 @@ ghost use Rattle.rje_spool.specs.GivenJob.{IsGivenJob};
 use crate::given_job::GivenJob;
 use rje_day::Disposition;
 use rje_files::MARK;
-use rje_folders::{FileIdentity, FolderDisk, FolderFault, OutName, StationFolder};
+use rje_folder::{FileIdentity, FolderDisk, FolderFault, OutName, StationFolder};
 use std::io::ErrorKind;
 use std::mem;
 
@@ -95,7 +95,8 @@ impl GivenFile {
         folder: &mut StationFolder<D>,
     ) -> Result<(), FolderFault>
         ensures asks { D.discloses → Adds
-            (MayPromise D.are_one (string_bytes folder.old.path) (string_bytes self.old.name))
+            (MayPromise D.is_file D.are_one (string_bytes folder.old.path)
+            (record { name = string_bytes self.old.name; file = self.old.file }))
             (D.asked folder.old.disk) (D.asked folder.new.disk) }
         ensures gone { D.discloses → OnOk result (HasGoneOut D.is_file
             (string_bytes folder.old.path) self.old self.new

@@ -7,7 +7,7 @@ ghost use Rattle.rje_spool.specs.GivenFile.{HasSecondName, IsDoubted};
 ghost use Rattle.rje_spool.specs.GivenFiles.{HasBeenCounted, HasGoneOut, IsNext, OfFile, file_of, is_last_of, is_of, jobs_of};
 
 use crate::given_file::{GivenFile, Standing};
-use rje_folders::{FileIdentity, FolderDisk, FolderFault, OutName, StationFolder};
+use rje_folder::{FileIdentity, FolderDisk, FolderFault, OutName, StationFolder};
 use std::alloc::{AllocError, Global};
 
 /// The files of the transmission that was begun last, in the order of their jobs. A job goes by its number in the transmission, from 0.

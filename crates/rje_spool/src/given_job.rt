@@ -1,6 +1,6 @@
 //! Which job of which file a job of a transmission is.
 
-use rje_folders::FileIdentity;
+use rje_folder::FileIdentity;
 
 /// Which job of which file of out/ a job of a transmission is.
 #[derive(Clone, Copy, Debug, PartialEq, Eq)]

@@ -1,7 +1,6 @@
 //! The spool of a station that stays on the line: the jobs of its folder, and what its operator is told.
 #![tactic(auto)]
 
-mod book;
 mod brake;
 mod console;
 mod cut_job;
@@ -12,6 +11,7 @@ mod given_files;
 mod given_job;
 mod hidden_files;
 mod holding;
+mod ledger;
 mod notice;
 mod outgoing;
 mod pace;
@@ -27,10 +27,10 @@ mod told_names;
 mod unkept;
 mod watching;
 
-pub use book::{Book, NoBook};
 pub use console::Console;
 pub use folder_spool::FolderSpool;
 pub use given_job::GivenJob;
+pub use ledger::{Ledger, NoBook};
 pub use notice::{JobLabel, Notice};
 pub use outgoing::{Outgoing, outgoing_of};
 pub use paper::{paper_of, received_file};

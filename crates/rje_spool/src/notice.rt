@@ -3,7 +3,7 @@ ghost use Rattle.std.specs.Prelude.{◌≡◌, length};
 
 use crate::refused_file::RefusedFile;
 use crate::settling_notice::SettlingNotice;
-use rje_folders::FolderFault;
+use rje_folder::FolderFault;
 use rje_jobs::Job;
 use rje_text::Select;
 use std::fmt::{self, Display, Formatter, Write};

@@ -1,15 +1,15 @@
 //! A file of out/, read as jobs.
 ghost use Rattle.std.specs.Prelude.{◌≡◌, ◌↔◌, Some, IfErr, IfOk, IsTrue};
 ghost use Rattle.std.specs.List.{All};
-ghost use Rattle.rje_folders.specs.declared.ready_file.ReadyFile.TheVariants as ready;
-ghost use Rattle.rje_folders.specs.ReadyFile.{file_of_name};
+ghost use Rattle.rje_folder.specs.declared.ready_file.ReadyFile.TheVariants as ready;
+ghost use Rattle.rje_folder.specs.ReadyFile.{file_of_name};
 ghost use Rattle.rje_spool.specs.Holding.{CanBeHeld};
 ghost use Rattle.rje_spool.specs.Outgoing.{IsOfFile, IsOutgoing, IsRefusal};
 
 use crate::holding::can_be_held;
 use crate::refused_file::RefusedFile;
 use rje_files::{first_unsendable, mark_places, read_entries, unsent_jobs};
-use rje_folders::ReadyFile;
+use rje_folder::ReadyFile;
 use rje_jobs::{Job, Jobs, job_of_deck};
 use rje_text::{Mode, Select};
 use std::alloc::Global;

@@ -6,7 +6,7 @@ ghost use Rattle.rje_files.specs.JobFile.{IsEntryFileOf};
 ghost use Rattle.rje_spool.specs.Paper.{paper, paper_ending, paper_folder};
 
 use rje_files::growth_of;
-use rje_folders::Folder;
+use rje_folder::Folder;
 use rje_jobs::{FileFault, Form, Job, list_job, punch_job};
 use rje_text::{Mode, Select};
 use std::alloc::{AllocError, Global};

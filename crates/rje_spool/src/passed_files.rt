@@ -1,12 +1,12 @@
 //! The files of out/ that are passed over.
 ghost use Rattle.std.specs.Prelude.{◌≡◌, is_some, IfSome, None, OnOk, Some, string_bytes};
 ghost use Rattle.std.specs.BTreeMap.{get_by_text};
-ghost use Rattle.rje_folders.specs.declared.folder.Folder.{Folder};
-ghost use Rattle.rje_folders.specs.Folder.{path_in};
+ghost use Rattle.rje_folder.specs.declared.folder.Folder.{Folder};
+ghost use Rattle.rje_folder.specs.Folder.{path_in};
 ghost use Rattle.rje_spool.specs.Passing.{is_lasting as lasts};
 ghost use Rattle.rje_spool.specs.declared.passed_files.Until.TheVariants.{NextLook, Replaced, ThisLook};
 
-use rje_folders::{FileIdentity, FolderDisk, StationFolder};
+use rje_folder::{FileIdentity, FolderDisk, StationFolder};
 use std::alloc::{AllocError, Global};
 use std::collections::BTreeMap;
 use std::io::ErrorKind;

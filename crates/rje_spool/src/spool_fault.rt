@@ -1,6 +1,6 @@
 //! Why a spool fails.
 
-use rje_folders::FolderFault;
+use rje_folder::FolderFault;
 use std::alloc::AllocError;
 use thiserror::Error;
 

@@ -21,10 +21,10 @@ use crate::spool_fault::SpoolFault;
 use crate::told_names::ToldNames;
 use crate::unkept::Unkept;
 use crate::watching::Watching;
-use rje_day::Seen;
-use rje_folders::{FolderDisk, FolderFault, StationFolder};
+use rje_day::Inputs;
+use rje_folder::{FolderDisk, FolderFault, StationFolder};
 use rje_jobs::Job;
-use rje_session::Tally;
+use rje_session::Totals;
 use rje_station::Station;
 use std::alloc::Global;
 use std::io::Write;
@@ -58,7 +58,7 @@ pub(crate) struct SpoolFiles<D: FolderDisk + Drop, C, W, L> {
     due: Option<(String, DuePaper)>,
     watching: Watching,
     // How much has come of the transmission in hand.
-    tally: Tally,
+    tally: Totals,
     // The job that was cut last.
     cut: Option<CutJob>,
     // What couldn't be kept.
@@ -97,7 +97,7 @@ impl<D: FolderDisk + Drop, C: Clock, W: Write, L: Write> SpoolFiles<D, C, W, L> 
             number: 1,
             due: None,
             watching: Watching::new(),
-            tally: Tally::after_file(0),
+            tally: Totals::after_file(0),
             cut: None,
             unkept: Unkept::new(),
             look: None,
@@ -114,22 +114,15 @@ impl<D: FolderDisk + Drop, C: Clock, W: Write, L: Write> SpoolFiles<D, C, W, L> 
         self.console.tell(notice);
     }
 
-    /// How many jobs the last transmission was given.
-    pub(crate) fn jobs(&self) -> usize
-        ensures { result ≡ jobs_of self.now.given.files.items }
-    {
-        self.given.jobs()
-    }
-
     /// What lies ready, and what the operator asks for.
-    pub(crate) fn seen(&mut self) -> Seen
+    pub(crate) fn seen(&mut self) -> Inputs
         ensures held { result.held ≡ true → result.ready ≡ false }
         ensures call { result.call_due ≡ false }
         ensures line { result.line_wanted ≡ false }
         ensures folder { self.new.folder ≡ self.old.folder }
     {
         let held = self.is_held();
-        Seen {
+        Inputs {
             ready: !held && self.may_send() && self.has_ready(),
             held,
             drained: self.folder.is_drained().unwrap_or(false),

@@ -1,4 +1,4 @@
-//! What was heard, but for a block's text.
+//! What was heard, except a block's text.
 ghost use Rattle.std.specs.Prelude.{◌≡◌, ◌≢◌, ℕ, List};
 ghost use Rattle.bsc_frame.specs.FrameKind.{frame_of};
 ghost use Rattle.rje_station.specs.Hearing.{sound_heard, sound_of_frame};
@@ -9,7 +9,7 @@ use bsc_codes::MAX_TEXT;
 use bsc_frame::{Frame, FrameKind, Heard};
 use bsc_link::Sound;
 
-/// What was heard between two turnarounds of the line, but for a block's text.
+/// What was heard between two turnarounds of the line, except a block's text.
 #[derive(Clone, Copy)]
 pub(crate) enum HeardKind {
     Frame(FrameKind),

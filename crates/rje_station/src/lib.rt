@@ -3,8 +3,8 @@
 
 mod arrival;
 mod came;
-mod ear;
 mod event;
+mod frame_reader;
 mod hear_fault;
 mod heard_kind;
 mod laws;
@@ -20,8 +20,8 @@ mod writing;
 
 pub use arrival::Arrival;
 pub use came::Came;
-pub use ear::MAX_HEARD;
 pub use event::Event;
+pub use frame_reader::MAX_HEARD;
 pub use laws::{blocks_are_joined, counted_blocks_end_counted_jobs, trace_goes_on};
 pub use line::Line;
 pub use line_fault::LineFault;

@@ -11,7 +11,7 @@ ghost use Rattle.rje_station.specs.declared.event.Event.TheVariants as event;
 
 mod joined_jobs;
 
-use crate::ear::Ear;
+use crate::frame_reader::FrameReader;
 use crate::hear_fault::HearFault;
 use crate::sound_heard::sound_of;
 use crate::writing::{Transmission, write};
@@ -29,7 +29,7 @@ use std::marker::Model;
 pub struct ReceivingStation {
     jobs: JoinedJobs,
     core: Receiver,
-    ear: Ear,
+    ear: FrameReader,
     due: Option<Reply>,
     over: bool,
     arrival: Option<Arrival>,
@@ -70,7 +70,7 @@ impl ReceivingStation {
         Ok(ReceivingStation {
             jobs: JoinedJobs::new(alloc),
             core: Receiver::new(),
-            ear: Ear::new(),
+            ear: FrameReader::new(),
             due: None,
             over: false,
             arrival: None,

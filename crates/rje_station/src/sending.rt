@@ -14,7 +14,7 @@ ghost use Rattle.rje_station.specs.declared.event.Event.TheVariants as event;
 pub(crate) mod first_unfit;
 mod uncounted;
 
-use crate::ear::Ear;
+use crate::frame_reader::FrameReader;
 use crate::hear_fault::HearFault;
 use crate::writing::{Transmission, write};
 use crate::{Event, Line, StationFault, Trace};
@@ -31,7 +31,7 @@ use uncounted::Uncounted;
 pub struct SendingStation<'a> {
     blocks: Uncounted<'a>,
     core: Sender,
-    ear: Ear,
+    ear: FrameReader,
     over: bool,
     trace: Trace,
     // Where what is sent is written.
@@ -66,7 +66,7 @@ impl<'a> SendingStation<'a> {
         Ok(SendingStation {
             blocks: Uncounted::new(jobs),
             core: Sender::new(),
-            ear: Ear::new(),
+            ear: FrameReader::new(),
             over: jobs.is_empty(),
             trace,
             out: Transmission::new(),

@@ -60,7 +60,7 @@ impl<'a> Station<'a> {
         })
     }
 
-    /// Its rank: a secondary gives way where both bid at once.
+    /// Its rank: a secondary yields where both bid at once.
     pub fn rank(&self) -> Rank
         ensures { result ≡ self.now.contender.rank }
     {
@@ -184,7 +184,7 @@ impl<'a> Station<'a> {
     }
 
     /// Listens to the other station, and makes the reply due, or none, in place of an older one. An ENQ that the station doesn't take,
-    /// since its own bid is out, is passed over. A secondary that takes one gives way.
+    /// since its own bid is out, is passed over. A secondary that takes one yields.
     pub fn hear_other<L: Line>(
         &mut self,
         line: &mut L,

@@ -86,7 +86,7 @@ front_reads : (front : List ℕ) (rs : List Record) (part : List ℕ) → IsFron
 front_reads front rs [] f h = ap is_some (ap records_in (append-nil front) ∙ front_all front rs f) ∙ sym record_of-nil
 front_reads front rs (x ∷ xs) f h = ap is_some (f (x ∷ xs) ∙ ap (option_map (λ zs. rs ++ zs)) (records_in-last x xs h)) ∙ is_some-last rs (record_of (x ∷ xs))
 
-take_split : (n m : ℕ) (xs : List ℕ) → take (n + m) xs ≡ take n xs ++ take m (drop n xs)
+pub take_split : (n m : ℕ) (xs : List ℕ) → take (n + m) xs ≡ take n xs ++ take m (drop n xs)
 take_split n m xs =
     sym (take-append-drop n (take (n + m) xs)) ∙ ap (λ ys. ys ++ drop n (take (n + m) xs)) (take-take n (n + m) xs (omega arith)) ∙ ap (λ ys. take n xs ++ ys) (drop-take n m xs)
 

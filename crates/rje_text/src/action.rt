@@ -60,7 +60,7 @@ impl Action {
         with_code(&CODED, code)
     }
 
-    /// The byte that stands for this action after an ESC; Plain has none.
+    /// The byte of this action after an ESC; Plain has none.
     pub fn code(self) -> Option<u8>
         ensures { result ≡ code_of self }
     {

@@ -60,7 +60,7 @@ pub(crate) fn put_next_block(
     place
 }
 
-/// Appends the record at a place to a text as it stands there, if there is room for it; else the text stays as it was.
+/// Appends the record at a place to a text as it is there, if there is room for it; else the text stays as it was.
 fn take_at(text: &mut TextInHand, mode: Mode, records: &Records, place: usize) -> bool
     requires room { length text.old.items ≤ 510 }
     requires place { place < length records.now }

@@ -13,7 +13,7 @@ use std::alloc::{AllocError, Global};
 /// The bytes of a card.
 const CARD: usize = 80;
 
-/// What a transparent text stands for.
+/// What a transparent text represents.
 pub(crate) fn unpack_cards(
     alloc: Global,
     text: &[u8],
@@ -37,7 +37,7 @@ pub(crate) fn unpack_cards(
     }
 }
 
-/// What a transparent text stands for, its cards only counted.
+/// What a transparent text represents, its cards only counted.
 pub(crate) fn count_cards(text: &[u8], so_far: Option<Mode>) -> Result<Counted, TextFault>
     requires { length text.now ≤ MAX_TEXT }
     ensures counted { IfOk result (λ counted. IsCountOf (card_reading text.now) counted

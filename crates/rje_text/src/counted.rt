@@ -1,7 +1,7 @@
-//! What a block's text stands for, its records counted.
+//! What a block's text represents, its records counted.
 use crate::{Mode, Select};
 
-/// What a block's text stands for: the selection that it makes, its mode and how many records it has.
+/// What a block's text represents: the selection that it makes, its mode and how many records it has.
 #[derive(Clone, Copy, Debug, PartialEq, Eq)]
 pub struct Counted {
     pub select: Select,

@@ -6,7 +6,7 @@ use crate::spelling::append;
 use crate::{Action, Record};
 use arrayvec::ArrayVec;
 
-/// Where the data of one of several records stand in the bytes that hold them all, and its action.
+/// The place of the data of one of several records in the bytes that hold them all, and its action.
 #[derive(Clone, Copy)]
 pub(crate) struct Extent {
     pub(crate) start: usize,

@@ -1,8 +1,8 @@
-//! What records stand in.
+//! What holds records.
 use crate::packed_records::PackedRecords;
 use crate::short_record::ShortRecord;
 
-/// What records stand in: one of few bytes in the value itself, others in memory.
+/// What holds records: one of few bytes in the value itself, others in memory.
 #[derive(Drop)]
 pub(crate) enum Held {
     Short(ShortRecord),

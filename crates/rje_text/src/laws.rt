@@ -1,7 +1,7 @@
 //! What the texts promise beyond the calls: laws of the definitions that the calls cite.
 ghost use Rattle.rje_text.specs.Laws.{ActionCodesAreInverse, SpellingIsShort, CutReadsBack, CutIsCut, CutIsTheOnlyOne, OneFault, PackingIsTheCut, BlocksAreOfTheCut};
 
-/// An action's code stands for that action and for no other.
+/// An action's code is of that action and of no other.
 pub fn action_codes_are_inverse()
     ensures { ActionCodesAreInverse }
 {}

@@ -106,7 +106,7 @@ ghost use Rattle.rje_text.specs.Spelling.{selection, spelling};
 ghost use Rattle.rje_text.specs.Records.{record_of_data};
 ghost use Rattle.rje_text.specs.Cut.{is_transparent as transparent};
 
-/// Appends a record of this action and these data to a text as it stands there, if there is room for it; else the text stays as it was.
+/// Appends a record of this action and these data to a text as it is there, if there is room for it; else the text stays as it was.
 pub(crate) fn take(text: &mut TextInHand, mode: Mode, action: Action, items: &[u8]) -> bool
     requires room { length text.old.items ≤ 510 }
     requires limit { length items.now ≤ 144 }
@@ -137,7 +137,7 @@ pub(crate) fn take_record(text: &mut TextInHand, mode: Mode, item: &Record) -> b
     take(text, mode, item.action, item.bytes.as_slice())
 }
 
-/// Puts into an empty text what stands in front of a job's first one: the byte that selects the device.
+/// Puts into an empty text what comes before a job's first one: the byte that selects the device.
 pub(crate) fn select_device(select: Select, mode: Mode, text: &mut TextInHand)
     requires { text.old.items ≡ [] }
     ensures text { text.new.items ≡ selection select mode }

@@ -1,4 +1,4 @@
-//! A record that stands in the value itself.
+//! A record that is in the value itself.
 ghost use Rattle.std.specs.Prelude.{◌≡◌, ◌≤◌, ◌∷◌, [], length, drop, IfOk};
 ghost use Rattle.rje_text.specs.Records.{record_of_data};
 
@@ -11,7 +11,7 @@ use std::alloc::{AllocError, Global};
 use std::marker::Model;
 use std::slice;
 
-/// The most data bytes of a record that stands in the value itself.
+/// The most data bytes of a record that is in the value itself.
 pub(crate) const MAX_SHORT: usize = 24;
 
 /// One record of few data bytes, which takes no memory beside this value.

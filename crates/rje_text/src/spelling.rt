@@ -21,7 +21,7 @@ pub(crate) type TextInHand = ArrayVec<u8, MAX_IN_HAND>;
 
 const MAX_IN_HAND: usize = MAX_TEXT_SENT + MAX_SPELLING;
 
-/// Appends a record of this action and these data to the text as it stands in a text of this mode.
+/// Appends a record of this action and these data to the text as it is in a text of this mode.
 pub(crate) fn spell(action: Action, items: &[u8], mode: Mode, text: &mut TextInHand)
     requires room { array_vec_len text.old ≤ MAX_TEXT_SENT }
     requires limit { length items.now ≤ 144 }
@@ -98,7 +98,7 @@ fn words_in_front(bytes: &[u8]) -> usize
     place
 }
 
-/// Whether two blanks stand at a place, or a last one.
+/// Whether two blanks are at a place, or a last one.
 fn ends_words(bytes: &[u8], place: usize) -> bool
     requires { place < length bytes.now }
     ensures ends { IsTrue result → slice_index bytes.now place ≡ BLANK }

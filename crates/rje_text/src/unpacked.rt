@@ -1,7 +1,7 @@
-//! What a block's text stands for.
+//! What a block's text represents.
 use crate::{Mode, Records, Select};
 
-/// What a block's text stands for: the selection that it makes, its mode and its records.
+/// What a block's text represents: the selection that it makes, its mode and its records.
 #[derive(Debug, Drop)]
 pub struct Unpacked {
     pub select: Select,

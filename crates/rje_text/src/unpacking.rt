@@ -10,7 +10,7 @@ use crate::{Counted, Mode, Records, Select, TextFault, Unpacked};
 use bsc_codes::{Block, DC1, DC2, DC3, MAX_TEXT};
 use std::alloc::{AllocError, Global};
 
-/// What a block's text stands for. `so_far` is the mode of the job's earlier blocks; None: the block is the job's first.
+/// What a block's text represents. `so_far` is the mode of the job's earlier blocks; None: the block is the job's first.
 /// The whole text is checked before any memory is taken.
 pub fn unpack(alloc: Global, block: &Block, so_far: Option<Mode>) -> Result<Unpacked, TextFault>
     ensures read { IfOk result (λ u. IsRead block.now so_far u) }
@@ -24,7 +24,7 @@ pub fn unpack(alloc: Global, block: &Block, so_far: Option<Mode>) -> Result<Unpa
     }
 }
 
-/// What a block's text stands for, its records only counted. It reports the same faults as `unpack` but out of memory, for it takes none.
+/// What a block's text represents, its records only counted. It reports the same faults as `unpack` but out of memory, for it takes none.
 pub fn count_records(block: &Block, so_far: Option<Mode>) -> Result<Counted, TextFault>
     ensures counted { IfOk result (λ counted. IsCounted block.now so_far counted) }
     ensures told { IfErr result (λ fault. IsTextFault block.now so_far fault) }
@@ -123,7 +123,7 @@ pub(crate) fn agrees(mode: Mode, so_far: Option<Mode>) -> bool
     }
 }
 
-/// How many records a text has that stands at `base` in its block's text, or its first fault.
+/// How many records a text has that is at `base` in its block's text, or its first fault.
 fn check(text: &[u8], base: usize) -> Result<usize, TextFault>
     requires { base + length text.now < 2 ^ 63 }
     ensures read { IfOk result (λ count. HasRecords count text.now) }

@@ -6,7 +6,7 @@ ghost use Rattle.bsc_frame.specs.Inside.Listening.Stage.{so_far_of};
 use crate::{Frame, Heard};
 use bsc_codes::Closing;
 
-/// What has come of a transmission, but for the data bytes.
+/// What has come of a transmission, except the data bytes.
 #[derive(Clone, Copy)]
 pub(crate) enum Stage {
     /// Pads, if anything.
@@ -21,9 +21,9 @@ pub(crate) enum Stage {
     Text(bool),
     /// A DLE in transparent text.
     TextDle,
-    /// A block but for its check: whether it is transparent, and what closed it.
+    /// A block except its check: whether it is transparent, and what closed it.
     AwaitsCheck(bool, Closing),
-    /// A block but for the second byte of its check: as above, and the first byte.
+    /// A block except the second byte of its check: as above, and the first byte.
     AwaitsSecondCheck(bool, Closing, u8),
     /// A text that can't become a frame.
     BadText,

@@ -1,10 +1,10 @@
 -- What is asked step by step.
 use Rattle.std.specs.Prelude.{◌≡◌, ◌≢◌, ◌⊎◌, ℕ, List, ◌∷◌, string_bytes, String, true}
 use Rattle.std.specs.declared.alloc.Global.{Global}
-use Rattle.rje_stores.specs.Disk.{Asked, Done, Remove, Rename, call_of, has_synced_name}
-use Rattle.rje_stores.specs.Inside.Filling.{AddsSync}
-use Rattle.rje_folders.specs.declared.folder.Folder.{Folder}
-use Rattle.rje_folders.specs.Folder.{path_in}
+use Rattle.rje_store.specs.Disk.{Asked, Done, Remove, Rename, call_of, has_synced_name}
+use Rattle.rje_store.specs.Inside.Filling.{AddsSync}
+use Rattle.rje_folder.specs.declared.folder.Folder.{Folder}
+use Rattle.rje_folder.specs.Folder.{path_in}
 
 -- nothing was asked, or a name was to be taken away that isn't the one that is kept, whatever came of it
 abbrev pub IsRemovalBeside : (name kept : List ℕ) → List Asked → List Asked → Type 0

@@ -12,12 +12,12 @@ use Rattle.line_world.specs.declared.world_fault.WorldFault.TheVariants as world
 use Rattle.rje_monitor.specs.Turns.{IsFirstBadLine as IsFirstBadTurn}
 use Rattle.rje_print.specs.Script.{IsFirstBadLine}
 use Rattle.rje_commands.specs.declared.command_fault.CommandFault.{CommandFault}
-use Rattle.rje_orders.specs.declared.choice.Choice.{Choice}
-use Rattle.rje_orders.specs.Device.{select_of, writing}
-use Rattle.rje_orders.specs.declared.order.CardsOrder.{CardsOrder}
+use Rattle.rje_requests.specs.declared.choice.Choice.{Choice}
+use Rattle.rje_requests.specs.Device.{select_of, writing}
+use Rattle.rje_requests.specs.declared.order.CardsOrder.{CardsOrder}
 use Rattle.rje_commands.specs.Commands.{AreEntriesOf, HasBadJob, HasFewer, IsFaultOfRun, IsThere}
 use Rattle.rje_commands.specs.NamedFile.{IsReadFault}
-use Rattle.rje_stores.specs.Store.{FileMap}
+use Rattle.rje_store.specs.Store.{FileMap}
 
 -- this is the job file to which the job is added, where there is one
 abbrev pub IsHeld : CardsOrder → Option FileMap → Option (List ℕ) → Type 0

@@ -1,14 +1,14 @@
 //! `blocks`: the blocks of a deck's job, and how many records come back.
 ghost use Rattle.std.specs.Prelude.{◌≡◌, IfErr, OnOk, false};
-ghost use Rattle.rje_orders.specs.declared.order.FileOrder.{FileOrder};
+ghost use Rattle.rje_requests.specs.declared.order.FileOrder.{FileOrder};
 ghost use Rattle.rje_commands.specs.Commands.{Does, IsFault};
 ghost use Rattle.rje_commands.specs.CommandFault.{is_of_output};
-ghost use Rattle.rje_stores.specs.Store.{Discloses, IsSame};
+ghost use Rattle.rje_store.specs.Store.{Discloses, IsSame};
 
 use crate::command_fault::CommandFault;
 use crate::commands::inputs::read_deck;
 use rje_print::{ListingFault, print_blocks};
-use rje_stores::Store;
+use rje_store::Store;
 use std::alloc::Global;
 use std::io::{Read, Write};
 

@@ -1,10 +1,10 @@
 //! `cards`: a job file of a deck's job, or one to which the job is added.
 ghost use Rattle.std.specs.Prelude.{◌≡◌, option_map, Some, IfErr, IfOk, OnOk, true, false};
-ghost use Rattle.rje_orders.specs.declared.order.FileOrder.{FileOrder};
+ghost use Rattle.rje_requests.specs.declared.order.FileOrder.{FileOrder};
 ghost use Rattle.rje_commands.specs.Commands.{Does, IsFault, Leaves, OfDeck, MakesFile};
 ghost use Rattle.rje_commands.specs.Inside.Commands.{cards_entry, IsHeld, IsHeldFault, IsMade, IsMadeFault};
 ghost use Rattle.rje_commands.specs.CommandFault.{is_of_output};
-ghost use Rattle.rje_stores.specs.Store.{Discloses, IsSame};
+ghost use Rattle.rje_store.specs.Store.{Discloses, IsSame};
 
 use crate::command_fault::CommandFault;
 use crate::commands::holding::{lock_file, read_if_there};
@@ -12,9 +12,9 @@ use crate::commands::inputs::read_deck;
 use crate::commands::output::{put, write_file};
 use rje_files::{Entry, State, read_entries, write_deck, write_entries};
 use rje_jobs::{Cards, cards_of_deck, job_of_cards};
-use rje_orders::CardsOrder;
 use rje_print::cards_text;
-use rje_stores::Store;
+use rje_requests::CardsOrder;
+use rje_store::Store;
 use std::alloc::Global;
 use std::io::{Read, Write};
 

@@ -1,6 +1,6 @@
 //! `check`: whether the jobs of a job file can be sent.
 ghost use Rattle.std.specs.Prelude.{◌≡◌, IfErr, IfOk, MatchOption, OnOk, None, false};
-ghost use Rattle.rje_orders.specs.declared.order.FileOrder.{FileOrder};
+ghost use Rattle.rje_requests.specs.declared.order.FileOrder.{FileOrder};
 ghost use Rattle.rje_commands.specs.Commands.{Does, IsFault};
 ghost use Rattle.rje_commands.specs.CommandFault.{is_of_output};
 ghost use Rattle.rje_commands.specs.Inside.Commands.{IsJobsText, IsCheckFault};
@@ -9,14 +9,14 @@ ghost use Rattle.rje_files.specs.Entry.{jobs_in};
 ghost use Rattle.rje_jobs.specs.Fitting.{JobFits};
 ghost use Rattle.rje_print.specs.JobTexts.{IsChecked};
 ghost use Rattle.rje_station.specs.StationFault.{IsFirstUnfit};
-ghost use Rattle.rje_stores.specs.Store.{Discloses, IsSame};
+ghost use Rattle.rje_store.specs.Store.{Discloses, IsSame};
 
 use crate::command_fault::CommandFault;
 use crate::commands::inputs::read_file;
 use crate::commands::output::put;
 use rje_files::{FileEntry, entries_in};
 use rje_print::{PrintedLine, good_text};
-use rje_stores::Store;
+use rje_store::Store;
 use std::alloc::Global;
 use std::io::Write;
 

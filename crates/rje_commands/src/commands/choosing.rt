@@ -5,7 +5,7 @@ ghost use Rattle.rje_commands.specs.Inside.Commands.{IsChoiceFault};
 
 use crate::command_fault::CommandFault;
 use rje_files::{FileEntry, entries_in};
-use rje_orders::Choice;
+use rje_requests::Choice;
 use std::alloc::Global;
 
 /// The entries of a job file, where the one that is chosen, if one is, is among them.

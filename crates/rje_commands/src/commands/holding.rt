@@ -2,12 +2,12 @@
 ghost use Rattle.std.specs.Prelude.{◌≡◌, IfOk, IfErr, OnOk, option_map};
 ghost use Rattle.rje_commands.specs.Commands.{OfFile, IsThere};
 ghost use Rattle.rje_commands.specs.NamedFile.{IsHoldFault, IsReadFault, IsWriteFault};
-ghost use Rattle.rje_stores.specs.Store.{Discloses, IsSame};
+ghost use Rattle.rje_store.specs.Store.{Discloses, IsSame};
 
 use crate::command_fault::CommandFault;
 use crate::commands::inputs::not_read;
 use crate::commands::output::not_written;
-use rje_stores::{Store, StoreFault};
+use rje_store::{Store, StoreFault};
 use std::alloc::Global;
 
 /// A file that the command has for itself, with its bytes as they were read then. Nobody else changes it, as long as the store lives.

@@ -3,13 +3,13 @@ ghost use Rattle.std.specs.Prelude.{◌≡◌, IfOk, IfErr};
 ghost use Rattle.rje_files.specs.JobFile.{HasEntries, HasJobs};
 ghost use Rattle.rje_commands.specs.Commands.{OfDeck, OfFile};
 ghost use Rattle.rje_commands.specs.NamedFile.{IsReadFault, IsReadFaultOf, IsInputFault};
-ghost use Rattle.rje_stores.specs.Store.{Discloses, IsSame};
+ghost use Rattle.rje_store.specs.Store.{Discloses, IsSame};
 
 use crate::command_fault::CommandFault;
 use rje_files::{Entry, read_entries, read_entry_jobs};
 use rje_jobs::Jobs;
-use rje_orders::STANDARD_INPUT;
-use rje_stores::{Store, StoreFault, read_all};
+use rje_requests::STANDARD_INPUT;
+use rje_store::{Store, StoreFault, read_all};
 use std::alloc::Global;
 use std::io::Read;
 

@@ -1,17 +1,17 @@
 //! `monitor`: what is heard of bytes as they stood on a line.
 ghost use Rattle.std.specs.Prelude.{◌≡◌, IfErr, IfOk, OnOk, false};
-ghost use Rattle.rje_orders.specs.declared.order.FileOrder.{FileOrder};
+ghost use Rattle.rje_requests.specs.declared.order.FileOrder.{FileOrder};
 ghost use Rattle.rje_commands.specs.Commands.{Does, IsCaptureText, IsFault};
 ghost use Rattle.rje_commands.specs.CommandFault.{is_of_output};
 ghost use Rattle.rje_commands.specs.Inside.Commands.{IsCaptureFault};
-ghost use Rattle.rje_stores.specs.Store.{Discloses, IsSame};
+ghost use Rattle.rje_store.specs.Store.{Discloses, IsSame};
 
 use crate::command_fault::CommandFault;
 use crate::commands::inputs::read_deck;
 use crate::commands::output::put;
 use rje_monitor::{stream_text, turns_text};
-use rje_orders::MonitorOrder;
-use rje_stores::Store;
+use rje_requests::MonitorOrder;
+use rje_store::Store;
 use std::alloc::Global;
 use std::io::{Read, Write};
 

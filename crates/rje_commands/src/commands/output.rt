@@ -4,14 +4,14 @@ ghost use Rattle.std.specs.List.{flat_map};
 ghost use Rattle.rje_files.specs.Growth.{grown};
 ghost use Rattle.rje_commands.specs.NamedFile.{IsWriteFault, IsWriteFaultOf};
 ghost use Rattle.rje_commands.specs.CommandFault.{is_of_output};
-ghost use Rattle.rje_stores.specs.Store.{Discloses, Extends, IsSame, Sets, SetsByte};
+ghost use Rattle.rje_store.specs.Store.{Discloses, Extends, IsSame, Sets, SetsByte};
 ghost use Rattle.std.specs.Io.KnownBytes.{Appends};
 
 use crate::command_fault::CommandFault;
 use crate::write_cause::WriteCause;
 use rje_files::Growth;
 use rje_print::PrintedLine;
-use rje_stores::{MAX_INPUT, Place, Store, StoreFault, grown_bytes};
+use rje_store::{MAX_INPUT, Store, StoreFault, WriteMode, grown_bytes};
 use std::alloc::Global;
 use std::io::Write;
 
@@ -89,9 +89,12 @@ pub fn write_grown<'a, S: Store>(
 }
 
 /// Looks how a file of this name can be written, before there is anything to write.
-pub fn look_at_file<'a, S: Store>(name: &'a str, store: &mut S) -> Result<Place, CommandFault<'a>>
+pub fn look_at_file<'a, S: Store>(
+    name: &'a str,
+    store: &mut S,
+) -> Result<WriteMode, CommandFault<'a>>
     ensures grows { IfSome (S.files store.old) (λ _. IfOk result (λ place.
-        place ≡ Place.Growing)) }
+        place ≡ WriteMode.Growing)) }
     ensures fault { IfErr result (IsWriteFault name.entry.now) }
     ensures same { Discloses (S.files store.old) (S.files store.new) IsSame }
 {

@@ -1,19 +1,19 @@
 //! `print`: the listings and the punched cards of a job file.
 ghost use Rattle.std.specs.Prelude.{◌≡◌, IfErr, IfOk, OnErr, OnOk, None, false};
-ghost use Rattle.rje_orders.specs.declared.order.FileOrder.{FileOrder};
+ghost use Rattle.rje_requests.specs.declared.order.FileOrder.{FileOrder};
 ghost use Rattle.rje_commands.specs.Commands.{Does, IsFault};
 ghost use Rattle.rje_commands.specs.CommandFault.{is_of_output};
 ghost use Rattle.rje_commands.specs.Inside.Commands.{IsChoiceFault, IsEntriesText};
 ghost use Rattle.rje_print.specs.JobTexts.{AreCut, IsPaper};
-ghost use Rattle.rje_stores.specs.Store.{Discloses, IsSame};
+ghost use Rattle.rje_store.specs.Store.{Discloses, IsSame};
 
 use crate::command_fault::CommandFault;
 use crate::commands::choosing::entries_beside;
 use crate::commands::inputs::read_file;
 use crate::commands::output::put;
-use rje_orders::PrintOrder;
 use rje_print::{cut_text, papers_text};
-use rje_stores::Store;
+use rje_requests::PrintOrder;
+use rje_store::Store;
 use std::alloc::Global;
 use std::io::Write;
 

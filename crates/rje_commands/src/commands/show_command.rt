@@ -1,19 +1,19 @@
 //! `show`: a line for each job of a job file.
 ghost use Rattle.std.specs.Prelude.{◌≡◌, IfErr, IfOk, OnOk, None, false};
-ghost use Rattle.rje_orders.specs.declared.order.FileOrder.{FileOrder};
+ghost use Rattle.rje_requests.specs.declared.order.FileOrder.{FileOrder};
 ghost use Rattle.rje_commands.specs.Commands.{Does, IsFault};
 ghost use Rattle.rje_commands.specs.CommandFault.{is_of_output};
 ghost use Rattle.rje_commands.specs.Inside.Commands.{IsChoiceFault, IsEntriesText};
 ghost use Rattle.rje_print.specs.JobTexts.{IsShown};
-ghost use Rattle.rje_stores.specs.Store.{Discloses, IsSame};
+ghost use Rattle.rje_store.specs.Store.{Discloses, IsSame};
 
 use crate::command_fault::CommandFault;
 use crate::commands::choosing::entries_beside;
 use crate::commands::inputs::read_file;
 use crate::commands::output::put;
-use rje_orders::ShowOrder;
 use rje_print::entries_text;
-use rje_stores::Store;
+use rje_requests::ShowOrder;
+use rje_store::Store;
 use std::alloc::{AllocError, Global};
 use std::io::Write;
 

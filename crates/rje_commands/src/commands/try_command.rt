@@ -1,19 +1,19 @@
 //! `try`: the run of a job file's jobs over a script of losses and damage.
 ghost use Rattle.std.specs.Prelude.{◌≡◌, IfErr, IfOk, OnOk, None, false};
-ghost use Rattle.rje_orders.specs.declared.order.FileOrder.{FileOrder};
+ghost use Rattle.rje_requests.specs.declared.order.FileOrder.{FileOrder};
 ghost use Rattle.rje_commands.specs.Commands.{Does, IsFault, IsRunText};
 ghost use Rattle.rje_commands.specs.Inside.Commands.{IsTryFault};
 ghost use Rattle.rje_commands.specs.CommandFault.{is_of_output};
-ghost use Rattle.rje_stores.specs.Store.{Discloses, IsSame};
+ghost use Rattle.rje_store.specs.Store.{Discloses, IsSame};
 
 use crate::command_fault::CommandFault;
 use crate::commands::inputs::read_file;
 use crate::commands::output::put;
 use line_world::run;
 use rje_files::read_entry_jobs;
-use rje_orders::TryOrder;
 use rje_print::{read_script, run_text};
-use rje_stores::Store;
+use rje_requests::TryOrder;
+use rje_store::Store;
 use std::alloc::{AllocError, Global};
 use std::io::Write;
 

@@ -52,7 +52,7 @@ pub(super) fn collect_entries(alloc: Global, bytes: &[u8]) -> Result<Vec<Entry>,
     Ok(entries)
 }
 
-/// The entries of a file of either version, as they stand there.
+/// The entries of a file of either version, as they are there.
 pub(super) fn collect_file_entries(
     alloc: Global,
     bytes: &[u8],

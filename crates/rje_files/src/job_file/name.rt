@@ -39,7 +39,7 @@ pub(super) fn has_name(name: &JobName) -> bool
     true
 }
 
-/// Whether this may stand in a name that has ended or not: a blank anywhere, and a character where it has not ended.
+/// Whether this may be in a name that has ended or not: a blank anywhere, and a character where it has not ended.
 pub(super) fn may_stand(ended: bool, byte: u8) -> bool
     ensures { result ≡ MayStand ended byte }
 {

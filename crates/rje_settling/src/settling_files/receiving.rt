@@ -2,7 +2,7 @@
 
 use super::SettlingFiles;
 use crate::settling_fault::SettlingFault;
-use rje_folders::FolderDisk;
+use rje_folder::FolderDisk;
 use rje_jobs::Job;
 use rje_receipts::receipt_of_job;
 use rje_session::Spool;

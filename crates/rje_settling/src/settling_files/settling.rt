@@ -3,7 +3,7 @@
 use super::SettlingFiles;
 use crate::filing::FiledJob;
 use crate::settling_fault::SettlingFault;
-use rje_folders::FolderDisk;
+use rje_folder::FolderDisk;
 use rje_settle::{Receipt, Verdict};
 use rje_spool::{RefusedFile, SettlingNotice};
 use std::io::Write;

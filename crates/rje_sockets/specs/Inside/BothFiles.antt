@@ -1,5 +1,5 @@
 -- What a station that sends and receives holds in its two files while it takes its turns (own profile); no promise rests on it.
-use Rattle.rje_stores.specs.Store.{FileMap}
+use Rattle.rje_store.specs.Store.{FileMap}
 use Rattle.rje_jobs.specs.declared.job.Job.{Job}
 use Rattle.rje_sockets.specs.declared.job_writer.JobWriter.{JobWriter}
 use Rattle.std.specs.Prelude.{List, Option, ℕ, length, ◌≡◌, ◌≢◌}

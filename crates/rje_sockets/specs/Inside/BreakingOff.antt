@@ -1,5 +1,5 @@
 -- How a receiving station broke off, and what is reported of it (own profile); no promise rests on it.
-use Rattle.rje_stores.specs.Store.{FileMap}
+use Rattle.rje_store.specs.Store.{FileMap}
 use Rattle.rje_sockets.specs.declared.job_writer.JobWriter.{JobWriter}
 use Rattle.std.specs.Prelude.{Option, ℕ, Bool, ◌≡◌, ◌⊎◌}
 use Rattle.rje_sockets.specs.declared.transfer_error.TransferError.{TransferError}

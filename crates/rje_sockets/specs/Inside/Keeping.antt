@@ -1,17 +1,17 @@
 -- What a receiver has in its file of the jobs of a transmission while they come (own profile); no promise rests on it.
-use Rattle.rje_stores.specs.Store.{Discloses, FileMap, IsSame, Sets}
+use Rattle.rje_store.specs.Store.{Discloses, FileMap, IsSame, Sets}
 use Rattle.rje_files.specs.declared.entry.Entry.{Entry}
 use Rattle.rje_files.specs.JobFile.{IsEntryFileOf}
 use Rattle.rje_jobs.specs.declared.job.Job.{Job}
 use Rattle.std.specs.Prelude.{List, Option, length, map, ℕ, take, ⊤, None, Some, ◌≡◌, ◌+◌, ◌≤◌, ◌++◌, ◌∷◌, [], if◌then◌else◌}
 use Rattle.rje_files.specs.declared.job_file.version.FileVersion.TheVariants.{Second}
 use Rattle.rje_files.specs.Entry.{entry_of}
-use Rattle.rje_stores.specs.declared.store.Place.TheVariants.{Growing, Once}
+use Rattle.rje_store.specs.declared.store.WriteMode.TheVariants.{Growing, Once}
 use Rattle.rje_sockets.specs.declared.job_writer.JobWriter.{JobWriter}
 use Rattle.rje_sockets.specs.Answering.{whole_in_front}
 use Rattle.rje_sockets.specs.Inside.Opening.{IsOpened}
 use Rattle.rje_sockets.specs.declared.transfer_error.TransferError.{TransferError}
-use Rattle.rje_stores.specs.declared.store.Place.{Place}
+use Rattle.rje_store.specs.declared.store.WriteMode.{WriteMode}
 use Rattle.std.specs.List.{slice_get}
 
 -- where there are some, the file of this name became the version 2 file of the entries in front and these jobs, which has so many bytes, and no
@@ -42,6 +42,6 @@ IsOfFile (TransferError.Line fault) = ⊥
 IsOfFile (TransferError.File fault) = ⊤
 
 -- how many jobs are kept after a hearing: in a file that grows one more, where the next has come to its end
-abbrev pub kept_after : Place → ℕ → List Job → ℕ
+abbrev pub kept_after : WriteMode → ℕ → List Job → ℕ
 kept_after Growing kept jobs = elim (slice_get jobs kept) [ Some job ↦ (if job.whole then kept + 1 else kept) | None ↦ kept ]
 kept_after Once kept jobs = kept

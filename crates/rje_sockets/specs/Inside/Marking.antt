@@ -1,6 +1,6 @@
 -- What a sender has marked in its file while its jobs are counted (own profile); no promise rests on it.
 use Rattle.rje_files.specs.Marks.{AreMarks}
-use Rattle.rje_stores.specs.Store.{FileMap}
+use Rattle.rje_store.specs.Store.{FileMap}
 use Rattle.rje_sockets.specs.declared.sent_marker.SentMarker.{SentMarker}
 use Rattle.rje_sockets.specs.Ending.{MarksSent}
 use Rattle.std.specs.Prelude.{Option, false, ℕ, List, ◌≡◌}

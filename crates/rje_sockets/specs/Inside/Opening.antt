@@ -4,12 +4,12 @@ use Rattle.rje_sockets.specs.declared.existing_entries.ExistingEntries.{Existing
 use Rattle.rje_files.specs.JobFile.{IsEntryFileOf}
 use Rattle.std.specs.Prelude.{List, length, IfSome, Option, ◌≡◌, ◌⊎◌, []}
 use Rattle.rje_files.specs.declared.job_file.version.FileVersion.TheVariants.{Second}
-use Rattle.rje_stores.specs.Store.{FileMap}
-use Rattle.rje_stores.specs.declared.store.Place.TheVariants.{Growing, Once}
+use Rattle.rje_store.specs.Store.{FileMap}
+use Rattle.rje_store.specs.declared.store.WriteMode.TheVariants.{Growing, Once}
 use Rattle.rje_sockets.specs.declared.kept_file.KeptFile.{KeptFile}
 use Rattle.rje_sockets.specs.InFront.{StandInFront, HasStandingFault, LooksInto}
 use Rattle.rje_commands.specs.declared.command_fault.CommandFault.{CommandFault}
-use Rattle.rje_orders.specs.declared.order.Destination.{Destination}
+use Rattle.rje_requests.specs.declared.order.Destination.{Destination}
 use Rattle.rje_commands.specs.CommandFault.{IsFailing, status_of}
 use Rattle.rje_sockets.specs.NamedFiles.{NamesOne}
 

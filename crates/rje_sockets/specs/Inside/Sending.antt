@@ -8,10 +8,10 @@ use Rattle.rje_commands.specs.CommandFault.{IsFailing, status_of}
 use Rattle.rje_commands.specs.Commands.{OfFile}
 use Rattle.rje_sockets.specs.declared.sent_marker.SentMarker.{SentMarker}
 use Rattle.rje_sockets.specs.Ending.{IsUnsentFault}
-use Rattle.rje_orders.specs.declared.order.Destination.{Destination}
+use Rattle.rje_requests.specs.declared.order.Destination.{Destination}
 use Rattle.rje_sockets.specs.InFront.{HasStandingFault, LooksInto}
 use Rattle.rje_sockets.specs.NamedFiles.{NamesOne}
-use Rattle.rje_stores.specs.Store.{FileMap}
+use Rattle.rje_store.specs.Store.{FileMap}
 
 -- these jobs are left to send of the file of this name, and the marker marks them in it; none is marked yet
 pub record IsOutgoing (name : List ℕ) (files : Option FileMap) (jobs : List Job) (marker : SentMarker) : Type 0 where

@@ -16,16 +16,16 @@ ghost use Rattle.rje_sockets.specs.Inside.BothFiles.{HoldsBoth, Exchanges};
 ghost use Rattle.rje_sockets.specs.NamedFiles.{NamesOne};
 ghost use Rattle.rje_sockets.specs.OverLine.{OverConnection};
 ghost use Rattle.rje_sockets.specs.Patience.{most_quiet};
-ghost use Rattle.rje_stores.specs.Store.{FileMap, Discloses, IsSame};
-ghost use Rattle.rje_stores.specs.declared.store.Place.TheVariants.{Growing};
+ghost use Rattle.rje_store.specs.Store.{FileMap, Discloses, IsSame};
+ghost use Rattle.rje_store.specs.declared.store.WriteMode.TheVariants.{Growing};
 
 use crate::both_ways::exchange_all;
+use crate::close::{Close, Drain, Leave, parts_in_step};
 use crate::connection::{met, tell_if_late};
 use crate::job_writer::JobWriter;
 use crate::kept_file::KeptFile;
 use crate::observer::{Observer, Unwatched};
 use crate::one_way::{USUAL_PATIENCE, most_quiet};
-use crate::parting::{HearsOut, Leaves, Parting, parts_in_step};
 use crate::receive_end::ReceiveEnd;
 use crate::reported_cause::{report_cause, report_failure};
 use crate::reporter::Reporter;
@@ -38,10 +38,10 @@ use bsc_link::{Outcome, Rank};
 use rje_commands::{CommandFault, lock_file, look_beside, put_lines, tell};
 use rje_jobs::{FileFault, Job};
 use rje_names::PrintedName;
-use rje_orders::{Destination, ExchangeOrder, Meeting};
 use rje_print::{PrintedLine, counted_text, handed_text, outcome_text};
+use rje_requests::{Destination, ExchangeOrder, Meeting};
 use rje_station::{Line, Station};
-use rje_stores::Store;
+use rje_store::Store;
 use std::alloc::Global;
 use std::io::Write;
 use std::net::Net;
@@ -94,7 +94,7 @@ pub fn exchange<'a, R: Net + Clock, S: Store, O: Write, E: Write>(
         keeper,
         &mut line,
         most_quiet(order.patience),
-        &HearsOut,
+        &Drain,
         store,
         &mut reporter,
         out,
@@ -173,7 +173,7 @@ fn exchanged<'a, L: Line, S: Store, O: Write, E: Write>(
         keeper,
         line,
         USUAL_PATIENCE,
-        &Leaves,
+        &Leave,
         store,
         &mut Unwatched,
         out,
@@ -234,7 +234,7 @@ fn keeper_beside<'a, S: Store, E: Write>(
 /// Exchanges over a line what the station has for what comes. At the end it marks what was counted in the whole file, keeps what is left of
 /// what came, and prints the lines of both. Where an answer came after the end of its own transmission, it is in doubt what was received, and
 /// nothing more is marked.
-fn exchange_files<'a, 'b, L: Line, P: Parting<L>, S: Store, W: Observer, O: Write>(
+fn exchange_files<'a, 'b, L: Line, P: Close<L>, S: Store, W: Observer, O: Write>(
     mut station: Station<'b>,
     mut marker: SentMarker<'a>,
     mut keeper: JobWriter<'a>,

@@ -11,14 +11,14 @@ ghost use Rattle.rje_sockets.specs.Ending.{ending_of, sent_text, IsRefusedFile, 
 ghost use Rattle.rje_sockets.specs.Inside.Sending.{IsOutgoing, IsSendFault};
 ghost use Rattle.rje_sockets.specs.Marking.{MarksNoMore};
 ghost use Rattle.rje_sockets.specs.Inside.Marking.{Marks, MarksCounted};
-ghost use Rattle.rje_stores.specs.Store.{FileMap, Discloses, IsSame};
+ghost use Rattle.rje_store.specs.Store.{FileMap, Discloses, IsSame};
 ghost use Rattle.rje_sockets.specs.NamedFiles.{NamesOne, NamesWritten};
 ghost use Rattle.rje_sockets.specs.OverLine.{OverConnection, SendsOut};
 
+use crate::close::{Close, Drain, Leave, parts_in_step};
 use crate::connection::{met, tell_if_late};
 use crate::observer::{Observer, Unwatched};
 use crate::one_way::send_all;
-use crate::parting::{HearsOut, Leaves, Parting, parts_in_step};
 use crate::reported_cause::{report_cause, report_failure};
 use crate::reporter::Reporter;
 use crate::sent_marker::SentMarker;
@@ -28,10 +28,10 @@ use bsc_link::{Outcome, Rank};
 use rje_commands::{CommandFault, HeldFile, put_lines, read_file, tell};
 use rje_files::{Entry, JobName, State, first_unsendable, mark_places, read_entries, unsent_jobs};
 use rje_jobs::Jobs;
-use rje_orders::SendOrder;
 use rje_print::{counted_text, outcome_text};
+use rje_requests::SendOrder;
 use rje_station::{Line, SendingStation};
-use rje_stores::Store;
+use rje_store::Store;
 use std::alloc::{AllocError, Global};
 use std::io::Write;
 use std::net::Net;
@@ -81,7 +81,7 @@ pub fn send<'a, R: Net + Clock, S: Store, O: Write, E: Write>(
         &mut station,
         &mut marker,
         &mut line,
-        &HearsOut,
+        &Drain,
         store,
         &mut reporter,
         out,
@@ -148,7 +148,7 @@ fn sent<'a, L: Line, S: Store, O: Write>(
         &mut station,
         &mut marker,
         line,
-        &Leaves,
+        &Leave,
         store,
         &mut Unwatched,
         out,
@@ -247,7 +247,7 @@ fn unsent_names(alloc: Global, entries: &[Entry]) -> Result<Vec<JobName>, AllocE
 
 /// Sends what the station has over a line, marks what is counted, at the end in the whole file, and prints the lines of it. Where an answer
 /// came after the end, it is in doubt what was received, and nothing more is marked.
-fn transmit<'a, L: Line, P: Parting<L>, S: Store, W: Observer, O: Write>(
+fn transmit<'a, L: Line, P: Close<L>, S: Store, W: Observer, O: Write>(
     station: &mut SendingStation,
     marker: &mut SentMarker<'a>,
     line: &mut L,

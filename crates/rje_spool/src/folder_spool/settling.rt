@@ -4,17 +4,17 @@ ghost use Rattle.rje_spool.specs.GivenFiles.{file_of};
 ghost use Rattle.rje_spool.specs.GivenJob.{IsGivenJob};
 
 use super::FolderSpool;
-use crate::book::Book;
 use crate::given_job::GivenJob;
+use crate::ledger::Ledger;
 use crate::refused_file::RefusedFile;
 use crate::spool_fault::SpoolFault;
-use rje_folders::{FileIdentity, FolderDisk};
+use rje_folder::{FileIdentity, FolderDisk};
 use rje_jobs::Job;
 use std::alloc::AllocError;
 use std::io::Write;
 use std::time::Clock;
 
-impl<D: FolderDisk + Drop, C: Clock, W: Write, L: Write, B: Book + Drop> FolderSpool<
+impl<D: FolderDisk + Drop, C: Clock, W: Write, L: Write, B: Ledger + Drop> FolderSpool<
     D,
     C,
     W,

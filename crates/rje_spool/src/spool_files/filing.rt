@@ -11,7 +11,7 @@ use crate::notice::Notice;
 use crate::passed_files::Until;
 use crate::spool_fault::SpoolFault;
 use rje_day::Disposition;
-use rje_folders::{FolderDisk, FolderFault, OutName};
+use rje_folder::{FolderDisk, FolderFault, OutName};
 use std::io::Write;
 use std::time::Clock;
 

@@ -1,7 +1,7 @@
 //! What a transmission is given of the files in out/.
 ghost use Rattle.std.specs.Prelude.{◌≡◌, ◌≢◌, ◌↔◌, ◌||◌, ◌&&◌, [], length, nat_le, nat_lt, true, false, IfOk, IsTrue, OnOk, Some, string_bytes};
 ghost use Rattle.std.specs.BTreeMap.{get_by_text};
-ghost use Rattle.rje_folders.specs.declared.folder_fault.FolderFault.TheVariants.{BeingWritten, Failed, NoSecondName};
+ghost use Rattle.rje_folder.specs.declared.folder_fault.FolderFault.TheVariants.{BeingWritten, Failed, NoSecondName};
 ghost use Rattle.rje_spool.specs.Backed.{GoesOn};
 ghost use Rattle.rje_spool.specs.declared.passed_files.Until.TheVariants.{NextLook, Replaced};
 ghost use Rattle.rje_spool.specs.GivenFiles.{jobs_of};
@@ -18,9 +18,9 @@ use crate::passed_files::{Until, is_lasting};
 use crate::refused_file::RefusedFile;
 use crate::spool_fault::SpoolFault;
 use crate::told_names::Told;
-use rje_folders::{FileIdentity, FolderDisk, FolderFault, OtherName};
+use rje_folder::{FileIdentity, FolderDisk, FolderFault, OtherName};
 use rje_jobs::{DeckFault, FileFault, Job};
-use rje_stores::MAX_INPUT;
+use rje_store::MAX_INPUT;
 use std::io::{ErrorKind, Write};
 use std::time::Clock;
 

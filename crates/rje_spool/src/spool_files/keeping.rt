@@ -1,7 +1,7 @@
 //! What becomes of the jobs that come.
 ghost use Rattle.std.specs.Prelude.{◌≡◌, ◌<◌, true, false, IfOk, IfSome, None, OnOk, string_bytes};
-ghost use Rattle.rje_folders.specs.Folder.{path_of};
-ghost use Rattle.rje_folders.specs.Keeping.{HasTriedToKeep, WasMade, WasNamed};
+ghost use Rattle.rje_folder.specs.Folder.{path_of};
+ghost use Rattle.rje_folder.specs.Keeping.{HasTriedToKeep, WasMade, WasNamed};
 ghost use Rattle.rje_spool.specs.Backed.{GoesOn, WasPut};
 ghost use Rattle.rje_spool.specs.declared.spool_fault.SpoolFault.TheVariants.{OutOfMemory};
 ghost use Rattle.rje_spool.specs.Keeping.{IsKeptIn};
@@ -13,10 +13,10 @@ use crate::notice::{JobLabel, Notice};
 use crate::paper::received_file;
 use crate::spool_fault::SpoolFault;
 use crate::unkept::Unkept;
-use rje_folders::{Folder, FolderDisk};
+use rje_folder::{Folder, FolderDisk};
 use rje_jobs::Job;
-use rje_session::Tally;
-use rje_stores::MAX_INPUT;
+use rje_session::Totals;
+use rje_store::MAX_INPUT;
 use std::io::Write;
 use std::time::Clock;
 
@@ -161,7 +161,7 @@ impl<D: FolderDisk + Drop, C: Clock, W: Write, L: Write> SpoolFiles<D, C, W, L> 
         ensures folder { self.new.folder ≡ self.old.folder }
     {
         self.tally = if jobs.is_empty() {
-            Tally::after_file(0)
+            Totals::after_file(0)
         } else {
             self.tally.after(jobs)
         };

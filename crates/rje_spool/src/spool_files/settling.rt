@@ -16,7 +16,7 @@ use crate::refused_file::RefusedFile;
 use crate::spool_fault::SpoolFault;
 use crate::watching::Watching;
 use rje_day::Disposition;
-use rje_folders::{FileIdentity, Folder, FolderDisk, FolderFault, OutName};
+use rje_folder::{FileIdentity, Folder, FolderDisk, FolderFault, OutName};
 use rje_jobs::Job;
 use std::alloc::AllocError;
 use std::io::Write;

@@ -1,10 +1,10 @@
 use Rattle.std.proofs.Common.{◌∙◌, inl, inr}
-use Rattle.rje_stores.proofs.Replacing.{added_weaker}
-use Rattle.rje_folders.specs.declared.folder.Folder.{Folder}
-use Rattle.rje_folders.specs.Folder.{path_in}
-use Rattle.rje_folders.specs.Moving.{MayDrop}
+use Rattle.rje_store.proofs.Replacing.{added_weaker}
+use Rattle.rje_folder.specs.declared.folder.Folder.{Folder}
+use Rattle.rje_folder.specs.Folder.{path_in}
+use Rattle.rje_folder.specs.Moving.{MayDrop}
 use Rattle.rje_settle.specs.declared.settle_name.SettleName.{SettleName}
-use Rattle.rje_stores.specs.Replacing.{Adds}
+use Rattle.rje_store.specs.Replacing.{Adds}
 use Rattle.rje_accounts.specs.Inside.Calls.{IsInIn}
 use Rattle.rje_accounts.specs.BringingIn.{MayBringIn, MayRename}
 use Rattle.rje_accounts.specs.Paths.{in_path, settle_path}

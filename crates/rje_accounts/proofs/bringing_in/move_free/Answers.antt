@@ -1,6 +1,6 @@
 use Rattle.std.proofs.Common.{inl, inr, refl}
-use Rattle.rje_stores.proofs.Replacing.{added_call, added_none, added_twice}
-use Rattle.rje_stores.specs.Disk.{Rename}
+use Rattle.rje_store.proofs.Replacing.{added_call, added_none, added_twice}
+use Rattle.rje_store.specs.Disk.{Rename}
 use Rattle.rje_accounts.specs.BringingIn.{MayRename}
 use Rattle.rje_accounts.proofs.Asked.{ok_turn, sync_added}
 use Rattle.rje_accounts.proofs.Brought.{renamed_is}

@@ -1,6 +1,6 @@
 use Rattle.std.proofs.Common.{inl, inr, refl}
-use Rattle.rje_stores.proofs.Replacing.{added_call, added_none, added_twice, added_weaker}
-use Rattle.rje_stores.specs.Disk.{Remove}
+use Rattle.rje_store.proofs.Replacing.{added_call, added_none, added_twice, added_weaker}
+use Rattle.rje_store.specs.Disk.{Remove}
 use Rattle.rje_accounts.specs.Promising.{MayTakeAway}
 use Rattle.rje_accounts.proofs.Asked.{ok_turn, sync_added}
 use Rattle.rje_accounts.proofs.Seconds.{removed_gone}

@@ -1,6 +1,6 @@
 use Rattle.std.proofs.Common.{◌≤◌, ◌<◌, ◌∙◌, inl, inr, arith}
-use Rattle.rje_stores.specs.Replacing.{Adds}
-use Rattle.rje_stores.proofs.Replacing.{added_weaker}
+use Rattle.rje_store.specs.Replacing.{Adds}
+use Rattle.rje_store.proofs.Replacing.{added_weaker}
 use Rattle.rje_settle.specs.declared.settle_name.SettleName.{SettleName}
 use Rattle.rje_accounts.specs.BringingIn.{MayBringIn}
 use Rattle.rje_accounts.specs.Finishing.{MayFinish}

@@ -1,6 +1,6 @@
 use Rattle.std.proofs.Common.{◌≢◌, ◌≡◌, inl, inr, refl, rules, ◌∙◌}
-use Rattle.rje_stores.specs.Disk.{Remove, came_to}
-use Rattle.rje_stores.proofs.Replacing.{call_came}
+use Rattle.rje_store.specs.Disk.{Remove, came_to}
+use Rattle.rje_store.proofs.Replacing.{call_came}
 use Rattle.rje_accounts.specs.Paths.{settle_path}
 use Rattle.std.specs.Prelude.{string_bytes}
 use Rattle.rje_accounts.proofs.noting.drop_name.Goals as goal

@@ -1,4 +1,4 @@
-use Rattle.rje_stores.proofs.Replacing.{added_none, added_twice}
+use Rattle.rje_store.proofs.Replacing.{added_none, added_twice}
 use Rattle.rje_accounts.specs.Noting.{MayDropOlder}
 use Rattle.rje_accounts.proofs.noting.drop_older.Goals as goal
 

@@ -1,4 +1,4 @@
-use Rattle.rje_stores.specs.Replacing.{Adds}
+use Rattle.rje_store.specs.Replacing.{Adds}
 use Rattle.rje_accounts.specs.Noting.{IsNoted, MayDropOlder}
 use Rattle.rje_accounts.proofs.noting.drop_older.Given as goal
 

@@ -1,5 +1,5 @@
 use Rattle.std.proofs.Common.{inl, inr, refl}
-use Rattle.rje_stores.proofs.Replacing.{added_call, added_none, added_twice, added_weaker}
+use Rattle.rje_store.proofs.Replacing.{added_call, added_none, added_twice, added_weaker}
 use Rattle.rje_accounts.specs.Noting.{MayMakeAgain}
 use Rattle.rje_accounts.proofs.Asked.{ok_turn, sync_added}
 use Rattle.rje_accounts.proofs.Noted.{opened_again, opened_noted}

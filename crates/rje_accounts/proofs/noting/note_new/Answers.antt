@@ -1,7 +1,7 @@
 use Rattle.std.proofs.Common.{inl, inr, refl}
-use Rattle.rje_stores.proofs.Replacing.{added_call, added_none, added_twice, added_weaker}
-use Rattle.rje_stores.specs.declared.new_access.NewAccess.{NewAccess}
-use Rattle.rje_stores.specs.Disk.{Create}
+use Rattle.rje_store.proofs.Replacing.{added_call, added_none, added_twice, added_weaker}
+use Rattle.rje_store.specs.declared.new_access.NewAccess.{NewAccess}
+use Rattle.rje_store.specs.Disk.{Create}
 use Rattle.rje_accounts.specs.Noting.{MayMake}
 use Rattle.rje_accounts.proofs.Asked.{ok_turn, sync_added}
 use Rattle.rje_accounts.proofs.Noted.{made_noted}

@@ -1,5 +1,5 @@
 use Rattle.std.proofs.Common.{inl, inr, refl, ◌∙◌}
-use Rattle.rje_stores.proofs.Replacing.{added_call, added_none, added_twice, added_weaker}
+use Rattle.rje_store.proofs.Replacing.{added_call, added_none, added_twice, added_weaker}
 use Rattle.rje_settle.specs.declared.settle_name.SettleName.{SettleName}
 use Rattle.rje_accounts.specs.Noting.{MayDropOlder, MayMakeAgain, MayNote}
 use Rattle.rje_accounts.specs.Paths.{settle_path}

@@ -1,6 +1,6 @@
 use Rattle.std.proofs.Common.{refl}
-use Rattle.rje_stores.proofs.Replacing.{added_call, added_none}
-use Rattle.rje_stores.specs.Disk.{Asked, Call, Remove}
+use Rattle.rje_store.proofs.Replacing.{added_call, added_none}
+use Rattle.rje_store.specs.Disk.{Asked, Call, Remove}
 use Rattle.rje_accounts.proofs.Seconds.{IsRemoval, removed_others}
 use Rattle.rje_accounts.proofs.promising.clear_tried.Goals as goal
 

@@ -1,6 +1,6 @@
 use Rattle.std.proofs.Common.{inl, inr, refl}
-use Rattle.rje_stores.proofs.Replacing.{added_call, added_none, added_twice}
-use Rattle.rje_stores.specs.Disk.{Remove, Rename}
+use Rattle.rje_store.proofs.Replacing.{added_call, added_none, added_twice}
+use Rattle.rje_store.specs.Disk.{Remove, Rename}
 use Rattle.rje_accounts.specs.Promising.{MayName}
 use Rattle.rje_accounts.proofs.Asked.{sync_added}
 use Rattle.rje_accounts.proofs.promising.name_tried.Goals as goal

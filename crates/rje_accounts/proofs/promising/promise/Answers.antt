@@ -1,8 +1,8 @@
 use Rattle.std.proofs.Common.{◌≡◌, ◌∙◌, inl, inr, refl, rules, ap, List}
-use Rattle.rje_stores.proofs.Replacing.{added_twice, added_weaker}
-use Rattle.rje_stores.specs.Replacing.{Adds}
-use Rattle.rje_folders.specs.declared.folder.Folder.{Folder}
-use Rattle.rje_folders.specs.Folder.{path_in}
+use Rattle.rje_store.proofs.Replacing.{added_twice, added_weaker}
+use Rattle.rje_store.specs.Replacing.{Adds}
+use Rattle.rje_folder.specs.declared.folder.Folder.{Folder}
+use Rattle.rje_folder.specs.Folder.{path_in}
 use Rattle.rje_settle.specs.declared.settle_name.SettleName.{SettleName}
 use Rattle.rje_accounts.specs.Paths.{settle_path, tried_path}
 use Rattle.rje_accounts.specs.Promising.{MayName, MayPromise, MayTry, Promising}

@@ -1,6 +1,6 @@
 use Rattle.std.proofs.Common.{inl, inr, refl}
-use Rattle.rje_stores.proofs.Replacing.{added_call, added_none}
-use Rattle.rje_stores.specs.Disk.{Link, Remove}
+use Rattle.rje_store.proofs.Replacing.{added_call, added_none}
+use Rattle.rje_store.specs.Disk.{Link, Remove}
 use Rattle.rje_accounts.specs.Promising.{MayTry}
 use Rattle.rje_accounts.proofs.promising.try_name.Goals as goal
 

@@ -1,6 +1,6 @@
 use Rattle.std.proofs.Common.{◌∙◌, inl, inr, refl}
 use Rattle.rje_settle.specs.declared.settle_name.SettleName.{SettleName}
-use Rattle.rje_stores.proofs.Replacing.{added_none}
+use Rattle.rje_store.proofs.Replacing.{added_none}
 use Rattle.rje_accounts.specs.Paths.{settle_folder, settle_path}
 use Rattle.rje_accounts.specs.Reading.{MayRead}
 use Rattle.rje_accounts.proofs.Asked.{sync_added}

@@ -1,4 +1,4 @@
-use Rattle.rje_stores.proofs.Replacing.{added_twice}
+use Rattle.rje_store.proofs.Replacing.{added_twice}
 use Rattle.rje_accounts.specs.Reading.{MayRead}
 use Rattle.rje_accounts.proofs.reading.read_accounts.Goals as goal
 

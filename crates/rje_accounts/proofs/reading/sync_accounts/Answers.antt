@@ -1,7 +1,7 @@
 use Rattle.std.proofs.Common.{◌∙◌, inl, inr, refl}
 use Rattle.rje_settle.specs.declared.settle_name.SettleName.{SettleName}
-use Rattle.rje_stores.proofs.Replacing.{added_none}
-use Rattle.rje_folders.proofs.Taken.{sync_keeps_names}
+use Rattle.rje_store.proofs.Replacing.{added_none}
+use Rattle.rje_folder.proofs.Taken.{sync_keeps_names}
 use Rattle.rje_accounts.specs.Paths.{settle_folder, settle_path}
 use Rattle.rje_accounts.specs.Reading.{MayRead}
 use Rattle.rje_accounts.proofs.Asked.{ok_turn, sync_added}

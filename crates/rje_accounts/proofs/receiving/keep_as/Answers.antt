@@ -1,6 +1,6 @@
 use Rattle.std.proofs.Common.{◌∙◌}
-use Rattle.rje_stores.proofs.Replacing.{added_twice}
-use Rattle.rje_stores.specs.Replacing.{IsOnDisk}
+use Rattle.rje_store.proofs.Replacing.{added_twice}
+use Rattle.rje_store.specs.Replacing.{IsOnDisk}
 use Rattle.rje_settle.specs.declared.settle_name.SettleName.{SettleName}
 use Rattle.rje_accounts.specs.Paths.{settle_path}
 use Rattle.rje_accounts.specs.Receiving.{MayKeepJob}

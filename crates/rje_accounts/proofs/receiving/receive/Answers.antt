@@ -1,7 +1,7 @@
 use Rattle.std.proofs.Common.{inl, inr, refl, ap}
-use Rattle.rje_stores.proofs.Replacing.{added_call, added_none, added_twice}
-use Rattle.rje_stores.specs.declared.new_access.NewAccess.{NewAccess}
-use Rattle.rje_stores.specs.Disk.{Create, Fill, Opened, Sync}
+use Rattle.rje_store.proofs.Replacing.{added_call, added_none, added_twice}
+use Rattle.rje_store.specs.declared.new_access.NewAccess.{NewAccess}
+use Rattle.rje_store.specs.Disk.{Create, Fill, Opened, Sync}
 use Rattle.rje_accounts.specs.Receiving.{MayReceive}
 use Rattle.rje_accounts.proofs.Asked.{ok_turn, sync_added}
 use Rattle.rje_accounts.proofs.Received.{received_empty, received_on_disk, received_whole}

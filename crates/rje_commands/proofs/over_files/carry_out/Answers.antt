@@ -1,5 +1,5 @@
 use Rattle.std.proofs.Common.{rules, subst, sym}
-use Rattle.rje_orders.specs.declared.order.FileOrder.{FileOrder}
+use Rattle.rje_requests.specs.declared.order.FileOrder.{FileOrder}
 use Rattle.rje_commands.specs.Commands.{Leaves}
 use Rattle.rje_commands.proofs.over_files.carry_out.Goals as goal
 

@@ -1,6 +1,6 @@
 use Rattle.std.proofs.Common.{rules, IfErr}
 use Rattle.std.proofs.lemmas.Result.{IfErr-weaker}
-use Rattle.rje_orders.specs.declared.order.SocketOrder.{SocketOrder}
+use Rattle.rje_requests.specs.declared.order.SocketOrder.{SocketOrder}
 use Rattle.rje_sockets.specs.SocketCommand.{IsSocketFault}
 use Rattle.rje_sockets.proofs.Failing.{exchange_refused}
 use Rattle.rje_sockets.proofs.over_sockets.carry_out.Goals as goal

@@ -1,6 +1,6 @@
 use Rattle.std.proofs.Common.{◌∙◌, Option, rules, subst, sym}
 use Rattle.std.specs.List.{All}
-use Rattle.rje_folders.specs.declared.ready_file.ReadyFile.{ReadyFile}
+use Rattle.rje_folder.specs.declared.ready_file.ReadyFile.{ReadyFile}
 use Rattle.rje_spool.specs.declared.refused_file.RefusedFile.{RefusedFile}
 use Rattle.rje_spool.specs.Holding.{CanBeHeld}
 use Rattle.rje_spool.specs.Outgoing.{IsRefusal}

@@ -5,12 +5,12 @@ use Rattle.std.proofs.lemmas.Result.{on_ok_weaker}
 use Rattle.rje_text.specs.declared.record.Record.{Record}
 use Rattle.rje_jobs.specs.Deck.{IsDeckFault, cards_of, deck_fault}
 use Rattle.rje_print.specs.JobTexts.{cards_line}
-use Rattle.rje_orders.specs.Device.{writing}
-use Rattle.rje_orders.specs.declared.order.FileOrder.{FileOrder}
+use Rattle.rje_requests.specs.Device.{writing}
+use Rattle.rje_requests.specs.declared.order.FileOrder.{FileOrder}
 use Rattle.rje_commands.specs.declared.command_fault.CommandFault.TheVariants as told
 use Rattle.rje_commands.specs.Commands.{IsFault, MakesCards, MakesFile}
 use Rattle.rje_commands.proofs.Inputs.{of_deck, told_as, made_file, whatever}
-use Rattle.rje_stores.proofs.Changes.{same_twice}
+use Rattle.rje_store.proofs.Changes.{same_twice}
 use Rattle.rje_commands.proofs.commands.cards_command.cards.Goals as goal
 
 pub returns-in_err-cards-clause-fault : goal.returns-in_err-cards-clause-fault

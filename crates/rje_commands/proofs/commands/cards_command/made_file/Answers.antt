@@ -5,8 +5,8 @@ use Rattle.rje_text.specs.declared.record.Record.{Record}
 use Rattle.rje_files.specs.declared.job_file.version.FileVersion.TheVariants.{Second}
 use Rattle.rje_files.specs.Entry.{entry_of_cards}
 use Rattle.rje_files.specs.JobFile.{IsEntryFileOf}
-use Rattle.rje_orders.specs.Device.{select_of, writing}
-use Rattle.rje_orders.specs.declared.order.CardsOrder.{CardsOrder}
+use Rattle.rje_requests.specs.Device.{select_of, writing}
+use Rattle.rje_requests.specs.declared.order.CardsOrder.{CardsOrder}
 use Rattle.rje_commands.specs.Inside.Commands.{cards_entry, IsMade}
 use Rattle.rje_commands.proofs.commands.cards_command.made_file.Goals as goal
 

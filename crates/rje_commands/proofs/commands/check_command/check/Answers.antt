@@ -1,5 +1,5 @@
 use Rattle.std.proofs.Common.{None}
-use Rattle.rje_orders.specs.declared.order.FileOrder.{FileOrder}
+use Rattle.rje_requests.specs.declared.order.FileOrder.{FileOrder}
 use Rattle.rje_commands.specs.Commands.{IsFault}
 use Rattle.rje_commands.proofs.Inputs.{told_as, check_fault}
 use Rattle.rje_commands.proofs.commands.check_command.check.Goals as goal

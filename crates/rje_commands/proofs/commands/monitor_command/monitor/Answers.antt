@@ -1,7 +1,7 @@
 use Rattle.std.proofs.Common.{OnOk, subst}
 use Rattle.std.specs.Io.KnownBytes.{Appends}
 use Rattle.std.proofs.lemmas.Result.{on_ok_weaker}
-use Rattle.rje_orders.specs.declared.order.FileOrder.{FileOrder}
+use Rattle.rje_requests.specs.declared.order.FileOrder.{FileOrder}
 use Rattle.rje_commands.specs.Commands.{IsCaptureText, IsFault, PrintsCapture}
 use Rattle.rje_commands.proofs.Inputs.{of_deck, told_as, monitor_fault}
 use Rattle.rje_commands.proofs.commands.monitor_command.monitor.Goals as goal

@@ -1,5 +1,5 @@
 use Rattle.std.proofs.Common.{None}
-use Rattle.rje_orders.specs.declared.order.FileOrder.{FileOrder}
+use Rattle.rje_requests.specs.declared.order.FileOrder.{FileOrder}
 use Rattle.rje_commands.specs.Commands.{IsFault}
 use Rattle.rje_commands.proofs.Inputs.{told_as, print_fault}
 use Rattle.rje_commands.proofs.commands.print_command.print.Goals as goal

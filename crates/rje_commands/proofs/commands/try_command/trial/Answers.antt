@@ -1,4 +1,4 @@
-use Rattle.rje_orders.specs.declared.order.FileOrder.{FileOrder}
+use Rattle.rje_requests.specs.declared.order.FileOrder.{FileOrder}
 use Rattle.std.proofs.Common.{None}
 use Rattle.rje_commands.specs.Commands.{IsFault}
 use Rattle.rje_commands.proofs.Inputs.{told_as, try_fault}

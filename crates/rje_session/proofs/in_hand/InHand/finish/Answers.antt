@@ -2,7 +2,7 @@ use Rattle.std.proofs.Common.{◌≡◌, ◌∙◌, ◌++◌, ap, arith, length,
 use Rattle.rje_session.specs.Account.{IsSettled, SettlesRest, ended_of}
 use Rattle.rje_session.specs.Keeping.{cutting}
 use Rattle.rje_jobs.specs.declared.job.Job.{Job}
-use Rattle.rje_session.proofs.InStep.{on_ok, rest_as, settled_none, settled_on, settled_rest}
+use Rattle.rje_session.proofs.LedgerInStep.{on_ok, rest_as, settled_none, settled_on, settled_rest}
 use Rattle.rje_session.proofs.in_hand.InHand.finish.Goals.{then-counted-given+in_ok-settle_rest, else-counted-given}
 use Rattle.rje_session.proofs.in_hand.InHand.finish.Goals as goal
 

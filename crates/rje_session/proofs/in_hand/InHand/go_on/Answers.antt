@@ -1,5 +1,5 @@
 use Rattle.std.proofs.Common.{rules}
-use Rattle.rje_session.proofs.InStep.{begun_cut, keeps_cut}
+use Rattle.rje_session.proofs.LedgerInStep.{begun_cut, keeps_cut}
 use Rattle.rje_session.proofs.in_hand.InHand.go_on.Goals.{then-ne+in_ok-finish, else-ne}
 use Rattle.rje_session.proofs.in_hand.InHand.go_on.Goals as goal
 

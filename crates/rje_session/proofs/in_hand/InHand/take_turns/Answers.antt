@@ -2,7 +2,7 @@ use Rattle.std.proofs.Common.{◌≡◌, ◌∙◌, ap, arith, rules, slice_get,
 use Rattle.rje_station.specs.Station.{Contending}
 use Rattle.rje_session.specs.Account.{UnlessSpoolFailed, IsInStep}
 use Rattle.rje_session.specs.Turns.{Carried}
-use Rattle.rje_session.proofs.InStep.{ended_stays, fails_on, few_quiet, others_in_step, others_leave, others_leave_jobs, others_stay, own_in_step, own_leaves, own_leaves_jobs, own_steps, still_in_step}
+use Rattle.rje_session.proofs.LedgerInStep.{ended_stays, fails_on, few_quiet, others_in_step, others_leave, others_leave_jobs, others_stay, own_in_step, own_leaves, own_leaves_jobs, own_steps, still_in_step}
 use Rattle.rje_session.proofs.in_hand.InHand.take_turns.Goals as goal
 
 pub loop-preserved-then-is_own_turn : goal.loop-preserved-then-is_own_turn

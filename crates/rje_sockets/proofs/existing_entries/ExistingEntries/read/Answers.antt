@@ -1,6 +1,6 @@
 use Rattle.std.proofs.Common.{rules, ◌≡◌, ◌<◌, Err, Some, inr, ap, length, refl, arith}
 use Rattle.std.specs.Prelude.{◌≢◌}
-use Rattle.rje_orders.specs.declared.order.Existing.TheVariants.{Replace, Refuse}
+use Rattle.rje_requests.specs.declared.order.Existing.TheVariants.{Replace, Refuse}
 use Rattle.rje_commands.specs.declared.command_fault.CommandFault.TheVariants as told
 use Rattle.rje_commands.proofs.Inputs.{there_file}
 use Rattle.rje_sockets.proofs.Failing.{file_fails_so}

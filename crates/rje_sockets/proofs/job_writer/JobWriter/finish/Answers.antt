@@ -1,7 +1,7 @@
 use Rattle.std.proofs.Common.{rules, ◌≡◌, ℕ, ◌<◌, arith, length, take, get_or, List}
 use Rattle.std.proofs.lemmas.List.{length-take-le}
 use Rattle.rje_jobs.specs.declared.job.Job.{Job}
-use Rattle.rje_stores.specs.declared.store.Place.TheVariants.{Growing}
+use Rattle.rje_store.specs.declared.store.WriteMode.TheVariants.{Growing}
 use Rattle.rje_sockets.proofs.Growing.{made_of, grows_not_once, one_left, none_left}
 use Rattle.rje_sockets.proofs.job_writer.JobWriter.finish.Goals.{then-self-len+in_ok-add, else-self-len}
 use Rattle.rje_sockets.proofs.job_writer.JobWriter.finish.Goals as goal

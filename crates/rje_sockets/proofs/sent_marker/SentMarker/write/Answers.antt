@@ -1,7 +1,7 @@
 use Rattle.std.proofs.Common.{rules, ◌≡◌, ◌≤◌, length, Err}
 use Rattle.std.proofs.lemmas.Result.{on_ok_weaker}
 use Rattle.rje_commands.specs.declared.command_fault.CommandFault.TheVariants as told
-use Rattle.rje_stores.specs.Store.{Sets, Discloses}
+use Rattle.rje_store.specs.Store.{Sets, Discloses}
 use Rattle.rje_sockets.proofs.Failing.{memory_fails}
 use Rattle.rje_commands.proofs.Inputs.{done_both}
 use Rattle.rje_sockets.proofs.sent_marker.SentMarker.write.Goals as goal

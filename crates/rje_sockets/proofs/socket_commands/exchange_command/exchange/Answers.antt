@@ -1,7 +1,7 @@
 use Rattle.std.proofs.Common.{rules, inl, None, Err, ◌≡◌, ap}
 use Rattle.rje_station.specs.Station.{first_contending}
 use Rattle.rje_station.specs.StationFault.{IsNewCause}
-use Rattle.rje_orders.specs.declared.order.Destination.{Destination}
+use Rattle.rje_requests.specs.declared.order.Destination.{Destination}
 use Rattle.rje_commands.specs.CommandFault.{of_station}
 use Rattle.rje_sockets.specs.Exchanging.{ExchangesLeft}
 use Rattle.rje_sockets.specs.Patience.{most_quiet}
@@ -11,7 +11,7 @@ use Rattle.rje_sockets.proofs.Failing.{exchange_fails_so, left_fails, not_refuse
 use Rattle.rje_sockets.proofs.InFront.{opened_before}
 use Rattle.rje_sockets.proofs.NamedFiles.{both_names, station_names}
 use Rattle.rje_sockets.proofs.Sending.{marked_after}
-use Rattle.rje_stores.proofs.Changes.{same_itself, same_twice}
+use Rattle.rje_store.proofs.Changes.{same_itself, same_twice}
 use Rattle.rje_sockets.proofs.socket_commands.exchange_command.exchange.Goals as goal
 
 pub returns : goal.returns

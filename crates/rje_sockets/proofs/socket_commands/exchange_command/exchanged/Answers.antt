@@ -1,14 +1,14 @@
 use Rattle.std.proofs.Common.{rules, inl, Err, ◌≡◌, ap}
 use Rattle.rje_station.specs.Station.{first_contending}
 use Rattle.rje_station.specs.StationFault.{IsNewCause}
-use Rattle.rje_orders.specs.declared.order.Destination.{Destination}
+use Rattle.rje_requests.specs.declared.order.Destination.{Destination}
 use Rattle.rje_commands.specs.CommandFault.{of_station}
 use Rattle.rje_sockets.proofs.Exchanged.{destination_fault_of, exchanges_left, leaves_so, send_fault_of}
 use Rattle.rje_sockets.proofs.Failing.{exchange_fails_so, left_fails, not_refused, station_fails, written_fails_so}
 use Rattle.rje_sockets.proofs.InFront.{opened_before}
 use Rattle.rje_sockets.proofs.NamedFiles.{both_names, station_names}
 use Rattle.rje_sockets.proofs.Sending.{marked_after}
-use Rattle.rje_stores.proofs.Changes.{same_itself, same_twice}
+use Rattle.rje_store.proofs.Changes.{same_itself, same_twice}
 use Rattle.rje_sockets.proofs.socket_commands.exchange_command.exchanged.Goals as goal
 
 pub returns : goal.returns

@@ -1,7 +1,7 @@
 use Rattle.std.proofs.Common.{rules}
 use Rattle.std.proofs.lemmas.Result.{on_ok_weaker}
 use Rattle.rje_sockets.proofs.Growing.{makes_still}
-use Rattle.rje_stores.specs.Store.{Discloses, IsSame}
+use Rattle.rje_store.specs.Store.{Discloses, IsSame}
 use Rattle.rje_sockets.proofs.socket_commands.receive_command.keep_rest.Goals.{in-Err-File, in_default}
 use Rattle.rje_sockets.proofs.socket_commands.receive_command.keep_rest.Goals as goal
 

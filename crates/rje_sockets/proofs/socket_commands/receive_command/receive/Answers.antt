@@ -1,6 +1,6 @@
 use Rattle.std.proofs.Common.{IfOk, ℕ, rules, refl, subst}
 use Rattle.std.specs.Prelude.{IfSome}
-use Rattle.rje_orders.specs.declared.order.Destination.{Destination}
+use Rattle.rje_requests.specs.declared.order.Destination.{Destination}
 use Rattle.rje_sockets.specs.Answering.{KeepsAnswered}
 use Rattle.rje_sockets.specs.Ending.{Receives}
 use Rattle.rje_sockets.proofs.Failing.{not_refused, receive_fails_so}

@@ -1,6 +1,6 @@
 use Rattle.std.proofs.Common.{refl, subst}
 use Rattle.std.specs.Prelude.{IfSome}
-use Rattle.rje_orders.specs.declared.order.Destination.{Destination}
+use Rattle.rje_requests.specs.declared.order.Destination.{Destination}
 use Rattle.rje_sockets.specs.Answering.{KeepsAnswered}
 use Rattle.rje_sockets.proofs.Received.{nothing_kept}
 use Rattle.rje_sockets.proofs.socket_commands.receive_command.received_into.Goals as goal

@@ -4,5 +4,5 @@ use Rattle.rje_spool.proofs.folder_spool.FolderSpool.tell.Goals as goal
 
 pub invariant_of-self : goal.invariant_of-self
 invariant_of-self g c = λ told kept. rw (c.tell.ensures.folder, c.make_paper.ensures.path)
-    (are_backed (string_bytes c.self.inside.files.folder.path) (g.B.Book.entries c.self.inside.book) (g.D.Disk.asked c.self.inside.files.folder.disk) (g.D.Disk.asked c.make_paper.new.self.folder.disk)
+    (are_backed (string_bytes c.self.inside.files.folder.path) (g.B.Ledger.entries c.self.inside.book) (g.D.Disk.asked c.self.inside.files.folder.disk) (g.D.Disk.asked c.make_paper.new.self.folder.disk)
     (c.make_paper.ensures.on told) (c.self.invariant told kept))

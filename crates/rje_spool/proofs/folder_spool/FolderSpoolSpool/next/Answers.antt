@@ -5,10 +5,10 @@ use Rattle.rje_spool.proofs.folder_spool.FolderSpoolSpool.next.Goals as goal
 
 pub invariant_of-self : goal.invariant_of-self
 invariant_of-self g c = λ told kept. rw (c.next.ensures.path ∙ c.make_paper.ensures.path)
-    (are_backed (string_bytes c.self.inside.files.folder.path) (g.B.Book.entries c.self.inside.book) (g.D.Disk.asked c.self.inside.files.folder.disk) (g.D.Disk.asked c.next.new.self.folder.disk)
+    (are_backed (string_bytes c.self.inside.files.folder.path) (g.B.Ledger.entries c.self.inside.book) (g.D.Disk.asked c.self.inside.files.folder.disk) (g.D.Disk.asked c.next.new.self.folder.disk)
     (goes_on_twice _ _ _ (c.make_paper.ensures.on told) (c.next.ensures.on told)) (c.self.invariant told kept))
 
 pub invariant_of-self-2 : goal.invariant_of-self-2
 invariant_of-self-2 g c = λ told kept. rw (c.next.ensures.path ∙ c.make_paper.ensures.path, c.enter_given.ensures.entered kept)
-    (are_backed (string_bytes c.self.inside.files.folder.path) (g.B.Book.entries c.self.inside.book) (g.D.Disk.asked c.self.inside.files.folder.disk) (g.D.Disk.asked c.next.new.self.folder.disk)
+    (are_backed (string_bytes c.self.inside.files.folder.path) (g.B.Ledger.entries c.self.inside.book) (g.D.Disk.asked c.self.inside.files.folder.disk) (g.D.Disk.asked c.next.new.self.folder.disk)
     (goes_on_twice _ _ _ (c.make_paper.ensures.on told) (c.next.ensures.on told)) (c.self.invariant told kept))

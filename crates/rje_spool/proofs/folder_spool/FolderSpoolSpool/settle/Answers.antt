@@ -6,11 +6,11 @@ use Rattle.rje_spool.proofs.GivenFiles.{where_err}
 use Rattle.rje_spool.proofs.folder_spool.FolderSpoolSpool.settle.Goals as goal
 
 pub invariant_of-self : goal.invariant_of-self
-invariant_of-self g c = λ told kept. rw c.settle.ensures.path (are_backed (string_bytes c.self.inside.files.folder.path) (g.B.Book.entries c.self.inside.book) (g.D.Disk.asked c.self.inside.files.folder.disk) (g.D.Disk.asked c.settle.new.self.folder.disk)
+invariant_of-self g c = λ told kept. rw c.settle.ensures.path (are_backed (string_bytes c.self.inside.files.folder.path) (g.B.Ledger.entries c.self.inside.book) (g.D.Disk.asked c.self.inside.files.folder.disk) (g.D.Disk.asked c.settle.new.self.folder.disk)
     (c.settle.ensures.on told) (c.self.invariant told kept))
 
 pub invariant_of-self-2 : goal.invariant_of-self-2
-invariant_of-self-2 g c = λ told kept. rw (c.settle.ensures.path, c.enter_settled.ensures.entered kept) (are_backed (string_bytes c.self.inside.files.folder.path) (g.B.Book.entries c.self.inside.book) (g.D.Disk.asked c.self.inside.files.folder.disk) (g.D.Disk.asked c.settle.new.self.folder.disk)
+invariant_of-self-2 g c = λ told kept. rw (c.settle.ensures.path, c.enter_settled.ensures.entered kept) (are_backed (string_bytes c.self.inside.files.folder.path) (g.B.Ledger.entries c.self.inside.book) (g.D.Disk.asked c.self.inside.files.folder.disk) (g.D.Disk.asked c.settle.new.self.folder.disk)
     (c.settle.ensures.on told) (c.self.invariant told kept))
 
 pub returns-clause-stands : goal.returns-clause-stands

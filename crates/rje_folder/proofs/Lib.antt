@@ -1,0 +1,13 @@
+pub mod Linked
+pub mod Taken
+pub mod TakenOut
+pub mod Moved
+pub mod NewFile
+pub mod Ready
+pub mod Marked
+pub mod Settling
+pub mod TakenOver
+pub mod Tried
+pub mod SecondNames
+pub mod Opened
+pub mod Read

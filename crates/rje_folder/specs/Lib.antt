@@ -1,0 +1,13 @@
+pub mod FileNames
+pub mod Moving
+pub mod Keeping
+pub mod Reading
+pub mod Marking
+pub mod ReadyFile
+pub mod Folder
+pub mod Promising
+pub mod TakingOver
+pub mod Inside
+pub mod TakenName
+pub mod TakingOut
+pub mod Trying

@@ -1,6 +1,0 @@
-use Rattle.rje_stores.specs.Replacing.{Adds}
-use Rattle.rje_folders.specs.Promising.{MayClear}
-use Rattle.rje_folders.proofs.clearing.clear.Given as goal
-
-abbrev pub invariant-loop-name : goal.invariant-loop-name
-invariant-loop-name g l = g.D.Disk.discloses → Adds (MayClear l.station) (g.D.Disk.asked l.fn.disk) (g.D.Disk.asked l.disk)

@@ -1,5 +1,0 @@
-use Rattle.rje_orders.proofs.Addresses.{address_told}
-use Rattle.rje_orders.proofs.callers.is_address.Goals as goal
-
-pub returns : goal.returns
-returns c = address_told c.args.text.now c.parse.result c.is_ok.result c.is_ok.ensures.value c.parse.ensures.value

@@ -1,5 +1,0 @@
-use Rattle.rje_stores.specs.Replacing.{Adds, MayTry}
-use Rattle.rje_stores.proofs.file_store.beside.create_beside.Given as goal
-
-abbrev pub invariant-loop-number : goal.invariant-loop-number
-invariant-loop-number g l = g.D.Disk.discloses → Adds (MayTry l.path) (g.D.Disk.asked l.fn.disk) (g.D.Disk.asked l.disk)

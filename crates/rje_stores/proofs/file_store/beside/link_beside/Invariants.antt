@@ -1,9 +1,0 @@
-use Rattle.rje_stores.specs.Replacing.{Adds}
-use Rattle.rje_stores.specs.Inside.Filling.{KeepsNames, MayLink}
-use Rattle.rje_stores.proofs.file_store.beside.link_beside.Given as goal
-
-abbrev pub invariant-loop-number : goal.invariant-loop-number
-invariant-loop-number g l = record {
-  asks : g.D.Disk.discloses → Adds (MayLink l.path) (g.D.Disk.asked l.fn.disk) (g.D.Disk.asked l.disk);
-  keeps : g.D.Disk.discloses → KeepsNames (g.D.Disk.asked l.fn.disk) (g.D.Disk.asked l.disk);
-}
