@@ -45,7 +45,8 @@ class OverFiles(ClosedCase):
         """A command that makes a file, or adds to one, does its work."""
         for given, words, wanted in (
             (None, ("cards", "a.deck", "f.job"), "one"), ("one", ("cards", "b.deck", "f.job"), "other"),
-            ("one", ("cards", "b.deck", "f.job", "--append"), "two"),
+            ("one", ("cards", "b.deck", "f.job", "--append"), "two"), (None, ("take", "two.job", "f.job", "--job", "2"), "other"),
+            ("one", ("take", "two.job", "f.job", "--job", "2", "--append"), "two"), ("two", ("mark", "f.job", "--job", "1,2", "--waiting"), "two"),
         ):
             if given:
                 self.copy(f"{given}.job", "f.job")

@@ -81,7 +81,7 @@ class Manual(HelpCase):
 
     def test_commands(self):
         told = self.commands()
-        self.equal(len(told), 13, "the number of commands")
+        self.equal(len(told), 15, "the number of commands")
         shown = re.findall(r'^\.SS "rje ([a-z]*)', document("dist/manual/rje.1"), re.MULTILINE)
         self.equal(sorted(shown), told, "the commands of the man page")
         self.equal(self.completed("rje", "help", ""), told, "the commands after help")

@@ -262,6 +262,10 @@ def attempts_at(name, address):
     return [
         ["cards", "a.deck", name],
         ["cards", "a.deck", name, "--append"],
+        ["take", name, "new", "--job", "1"],
+        ["take", "spare", name, "--job", "1"],
+        ["take", "spare", name, "--job", "1", "--append"],
+        ["mark", name, "--job", "1", "--sent"],
         ["send", name, "--to", address],
         ["receive", name, "--listen", "127.0.0.1:0"],
         ["exchange", name, "spare", "--to", address],

@@ -153,6 +153,11 @@ class Commands(Case):
         self.refuse("good 2 jobs\n", "check", "two")
         self.refuse("A\nB\n", "print", "jobs")
 
+    def test_chosen_jobs(self):
+        self.refuse("took 1 jobs, 2 cards\n", "take", "jobs", "new", "--job", "1")
+        self.refuse("took 1 jobs, 1 cards\n", "take", "two", "jobs", "--job", "2", "--append")
+        self.refuse("marked 2 jobs\n", "mark", "two", "--job", "1,2", "--sent")
+
     def test_line(self):
         self.refuse("1 enq\n2 block ETX normal 2 unset 1 records |A|\n", "monitor", "--hex", "turns")
         said_again = "1 bid enq ack0 ack0\n2 block block! nak nak\n3 again block ack1 ack1\n4 end eot - quiet\n" + ENDING

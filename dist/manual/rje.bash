@@ -1,13 +1,15 @@
 # Completions of rje for bash: source this file.
 _rje() {
     local word=${COMP_WORDS[COMP_CWORD]} before=${COMP_WORDS[COMP_CWORD - 1]} command=${COMP_WORDS[1]}
-    local commands='blocks cards show check print try monitor loop send receive exchange station help' words=--help
+    local commands='blocks cards show check print try monitor take mark loop send receive exchange station help' words=--help
     local connection='--to --listen --from --timeout --adapter --trace --quiet'
     case $command in
     show) words+=' --job --records' ;;
     print) words+=' --job --printer --punch --raw' ;;
     cards) words+=' --printer --punch --transparent --name --append' ;;
     monitor) words+=' --hex' ;;
+    take) words+=' --job --append' ;;
+    mark) words+=' --job --sent --waiting' ;;
     loop) words+=' --timeout --trace --quiet' ;;
     send) words+=" $connection" ;;
     receive) words+=" $connection --patience --wait --new --append" ;;

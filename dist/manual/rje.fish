@@ -1,10 +1,10 @@
 # Completions of rje for fish.
-set -l commands blocks cards show check print try monitor loop send receive exchange station help
+set -l commands blocks cards show check print try monitor take mark loop send receive exchange station help
 complete -c rje -n "not __fish_seen_subcommand_from $commands" -f -a "$commands"
 complete -c rje -n "not __fish_seen_subcommand_from $commands" -l help -d 'List the commands'
 complete -c rje -n "not __fish_seen_subcommand_from $commands" -l version -d 'Print the version'
 complete -c rje -n '__fish_seen_subcommand_from help' -f -a "$commands"
-complete -c rje -n '__fish_seen_subcommand_from blocks cards show check print try monitor loop send receive exchange station' -l help -d 'List the options of the command'
+complete -c rje -n '__fish_seen_subcommand_from blocks cards show check print try monitor take mark loop send receive exchange station' -l help -d 'List the options of the command'
 complete -c rje -n '__fish_seen_subcommand_from send receive exchange station' -l to -x -d 'Call the other end'
 complete -c rje -n '__fish_seen_subcommand_from send receive exchange station' -l listen -x -d 'Wait for a call'
 complete -c rje -n '__fish_seen_subcommand_from send receive exchange station' -l from -x -d 'Take calls from these addresses alone'
@@ -16,13 +16,16 @@ complete -c rje -n '__fish_seen_subcommand_from receive exchange station' -l pat
 complete -c rje -n '__fish_seen_subcommand_from exchange station' -l primary -d 'The other end yields'
 complete -c rje -n '__fish_seen_subcommand_from exchange station' -l secondary -d 'This end yields'
 complete -c rje -n '__fish_seen_subcommand_from receive exchange' -l new -d 'Refuse a file that holds jobs'
-complete -c rje -n '__fish_seen_subcommand_from cards receive exchange' -l append -d 'Keep the jobs of the file'
+complete -c rje -n '__fish_seen_subcommand_from cards take receive exchange' -l append -d 'Keep the jobs of the file'
 complete -c rje -n '__fish_seen_subcommand_from receive' -l wait -d 'Pass over silent callers'
 complete -c rje -n '__fish_seen_subcommand_from station' -l every -x -d 'Call again after so many seconds'
 complete -c rje -n '__fish_seen_subcommand_from station' -l progress -x -d 'Leave where no job came or went for so many seconds'
 complete -c rje -n '__fish_seen_subcommand_from station' -l once -d 'End after one connection'
 complete -c rje -n '__fish_seen_subcommand_from station' -l settle -d 'Let receipts tell what may have arrived'
 complete -c rje -n '__fish_seen_subcommand_from show print' -l job -x -d 'This job alone'
+complete -c rje -n '__fish_seen_subcommand_from take mark' -l job -x -d 'The jobs of these numbers'
+complete -c rje -n '__fish_seen_subcommand_from mark' -l sent -d 'They are sent'
+complete -c rje -n '__fish_seen_subcommand_from mark' -l waiting -d 'They wait to be sent'
 complete -c rje -n '__fish_seen_subcommand_from show' -l records -d 'The records too'
 complete -c rje -n '__fish_seen_subcommand_from cards print' -l printer -d 'The printer'
 complete -c rje -n '__fish_seen_subcommand_from cards print' -l punch -d 'The punch'

@@ -11,6 +11,8 @@ _rje() {
         'print:print the listings and cards of a job file'
         'try:show what a line does that loses and damages'
         'monitor:print what is heard of recorded bytes of a line'
+        'take:make a job file of some jobs of another one'
+        'mark:mark jobs as sent, or as waiting to be sent'
         'loop:send the jobs over a connection on this machine'
         'send:send the jobs of a job file'
         'receive:take one transmission into a job file'
@@ -35,6 +37,8 @@ _rje() {
     print) _arguments '--help' '--job[this job alone]:number:' '--printer[listings alone]' '--punch[cards alone]' '--raw[cards as they are]' '*:job file:_files' ;;
     cards) _arguments '--help' '--printer[for the printer]' '--punch[for the punch]' '--transparent[cards as they are]' '--name[name of the job]:name:' '--append[keep the jobs of the file]' '*:file:_files' ;;
     monitor) _arguments '--help' '--hex[text in hexadecimal digits]' '*:capture:_files' ;;
+    take) _arguments '--help' '--job[the jobs of these numbers]:numbers:' '--append[keep the jobs of the file]' '*:job file:_files' ;;
+    mark) _arguments '--help' '--job[the jobs of these numbers]:numbers:' '--sent[they are sent]' '--waiting[they wait to be sent]' '*:job file:_files' ;;
     loop) _arguments '--help' $wait '--trace[report each turn]' $quiet '*:job file:_files' ;;
     send) _arguments '--help' $call $wait '--adapter[a line adapter]' '--trace[report each turn]' $quiet '*:job file:_files' ;;
     receive) _arguments '--help' $call $wait '--adapter[a line adapter]' '--trace[report each turn]' $quiet '--patience[leave after so many hearings]:hearings:' '--wait[pass over silent callers]' '--new[refuse a file that holds jobs]' '--append[keep the jobs of the file]' '*:job file:_files' ;;

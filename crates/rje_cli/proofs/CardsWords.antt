@@ -91,7 +91,9 @@ module _ (deck jobs : Text) (device : Device) (given : Option Text) (name : Text
   none_told rows e fault (inr (inl h)) = apart _ _ h.0 refl
   none_told rows e fault (inr (inr (inl h))) = apart _ _ h.0 refl
   none_told rows e fault (inr (inr (inr (inl h)))) = apart _ _ h.0 refl
-  none_told rows e fault (inr (inr (inr (inr h)))) = apart _ _ h.0 refl
+  none_told rows e fault (inr (inr (inr (inr (inl h))))) = apart _ _ h.0 refl
+  none_told rows e fault (inr (inr (inr (inr (inr (inl h)))))) = apart _ _ h.0 refl
+  none_told rows e fault (inr (inr (inr (inr (inr (inr h)))))) = apart _ _ h.0 refl
 
   ask_all : IsPlain deck → IsPlain jobs → (all : List (List Part)) → AllByRecursion ArePlain all → map (summary deck jobs) all ≡ map (λ _. ([], [], value)) all
       → AllByRecursion (λ options. AskOnlyFor (codes "cards" ∷ deck ∷ jobs ∷ options) (IsCards deck jobs device name adds)) (map (flat_map part_words) all)

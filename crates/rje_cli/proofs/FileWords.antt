@@ -12,7 +12,7 @@ use Rattle.clap.specs.declared.error.Error.{Error}
 use Rattle.rje_requests.specs.declared.order.Order.{Order}
 use Rattle.rje_requests.specs.declared.order.Order.TheVariants.{Files, Sockets, Station}
 use Rattle.rje_requests.specs.declared.order.FileOrder.{FileOrder}
-use Rattle.rje_requests.specs.declared.order.FileOrder.TheVariants.{Blocks, Cards, Show, Check, Print, Try, Monitor}
+use Rattle.rje_requests.specs.declared.order.FileOrder.TheVariants.{Blocks, Cards, Show, Check, Print, Try, Monitor, Take, Mark}
 use Rattle.rje_requests.specs.declared.order.SocketOrder.{SocketOrder}
 use Rattle.rje_requests.specs.declared.order.SocketOrder.TheVariants.{Loop, Send, Receive, Exchange}
 use Rattle.rje_cli.specs.declared.words_fault.WordsFault.{WordsFault}
@@ -250,14 +250,17 @@ no_socket name rows (Exchange order) loop send receive exchange h = apart _ _ h.
 
 pub no_file : (name : Text) (rows : List Row) (order : FileOrder) → bytes_eq name (codes "blocks") ≡ false → bytes_eq name (codes "cards") ≡ false
     → bytes_eq name (codes "show") ≡ false → bytes_eq name (codes "check") ≡ false → bytes_eq name (codes "print") ≡ false
-    → bytes_eq name (codes "try") ≡ false → bytes_eq name (codes "monitor") ≡ false → IsOrderOf name rows (Files order) → ⊥
-no_file name rows (Blocks deck) blocks cards show check print attempt monitor h = apart _ _ h.0 blocks
-no_file name rows (Cards order) blocks cards show check print attempt monitor h = apart _ _ h.0 cards
-no_file name rows (Show order) blocks cards show check print attempt monitor h = apart _ _ h.0 show
-no_file name rows (Check jobs) blocks cards show check print attempt monitor h = apart _ _ h.0 check
-no_file name rows (Print order) blocks cards show check print attempt monitor h = apart _ _ h.0 print
-no_file name rows (Try order) blocks cards show check print attempt monitor h = apart _ _ h.0 attempt
-no_file name rows (Monitor order) blocks cards show check print attempt monitor h = apart _ _ h.0 monitor
+    → bytes_eq name (codes "try") ≡ false → bytes_eq name (codes "monitor") ≡ false → bytes_eq name (codes "take") ≡ false
+    → bytes_eq name (codes "mark") ≡ false → IsOrderOf name rows (Files order) → ⊥
+no_file name rows (Blocks deck) blocks cards show check print attempt monitor take mark h = apart _ _ h.0 blocks
+no_file name rows (Cards order) blocks cards show check print attempt monitor take mark h = apart _ _ h.0 cards
+no_file name rows (Show order) blocks cards show check print attempt monitor take mark h = apart _ _ h.0 show
+no_file name rows (Check jobs) blocks cards show check print attempt monitor take mark h = apart _ _ h.0 check
+no_file name rows (Print order) blocks cards show check print attempt monitor take mark h = apart _ _ h.0 print
+no_file name rows (Try order) blocks cards show check print attempt monitor take mark h = apart _ _ h.0 attempt
+no_file name rows (Monitor order) blocks cards show check print attempt monitor take mark h = apart _ _ h.0 monitor
+no_file name rows (Take order) blocks cards show check print attempt monitor take mark h = apart _ _ h.0 take
+no_file name rows (Mark order) blocks cards show check print attempt monitor take mark h = apart _ _ h.0 mark
 
 blocks_read : (deck : Text) (rows : List Row) → deck_in rows ≡ deck → (order : Order) → IsOrderOf (codes "blocks") rows order → IsBlocks deck order
 blocks_read deck rows e (Files (Blocks named)) h = h.1 ∙ e
@@ -313,52 +316,55 @@ monitor_read capture hex rows e (Sockets order) h = absurd (no_socket (codes "mo
 -- only the values of these commands can be such that they can't be carried out
 no_fault : (name : Text) (rows : List Row) → bytes_eq name (codes "cards") ≡ false → bytes_eq name (codes "send") ≡ false
     → bytes_eq name (codes "receive") ≡ false → bytes_eq name (codes "exchange") ≡ false → bytes_eq name (codes "station") ≡ false
-    → (fault : WordsFault) → IsFaultOf name rows fault → ⊥
-no_fault name rows cards send receive exchange station fault (inl h) = apart _ _ h.0 cards
-no_fault name rows cards send receive exchange station fault (inr (inl h)) = apart _ _ h.0 send
-no_fault name rows cards send receive exchange station fault (inr (inr (inl h))) = apart _ _ h.0 receive
-no_fault name rows cards send receive exchange station fault (inr (inr (inr (inl h)))) = apart _ _ h.0 exchange
-no_fault name rows cards send receive exchange station fault (inr (inr (inr (inr h)))) = apart _ _ h.0 station
+    → bytes_eq name (codes "take") ≡ false → bytes_eq name (codes "mark") ≡ false → (fault : WordsFault) → IsFaultOf name rows fault → ⊥
+no_fault name rows cards send receive exchange station take mark fault (inl h) = apart _ _ h.0 cards
+no_fault name rows cards send receive exchange station take mark fault (inr (inl h)) = apart _ _ h.0 send
+no_fault name rows cards send receive exchange station take mark fault (inr (inr (inl h))) = apart _ _ h.0 receive
+no_fault name rows cards send receive exchange station take mark fault (inr (inr (inr (inl h)))) = apart _ _ h.0 exchange
+no_fault name rows cards send receive exchange station take mark fault (inr (inr (inr (inr (inl h))))) = apart _ _ h.0 station
+no_fault name rows cards send receive exchange station take mark fault (inr (inr (inr (inr (inr (inl h)))))) = apart _ _ h.0 take
+no_fault name rows cards send receive exchange station take mark fault (inr (inr (inr (inr (inr (inr h)))))) = apart _ _ h.0 mark
 
 module _ {V : Type 0} (view : List Row → V) (word : Text) (words : List Text) (name : Text) (value : V) (P : Order → Type 0) where
   ask_only : fault_of rje_app (word ∷ words) ≡ [] → seen view (subcommand_of rje_app (word ∷ words)) ≡ Some (name, value)
       → bytes_eq name (codes "cards") ≡ false → bytes_eq name (codes "send") ≡ false → bytes_eq name (codes "receive") ≡ false
-      → bytes_eq name (codes "exchange") ≡ false → bytes_eq name (codes "station") ≡ false → ((rows : List Row) → view rows ≡ value → (order : Order) → IsOrderOf name rows order → P order) → AskOnlyFor (word ∷ words) P
-  ask_only none found cards send receive exchange station reads = let taken : AreTaken view (word ∷ words) name value = record { faultless = none; found = found } in record {
+      → bytes_eq name (codes "exchange") ≡ false → bytes_eq name (codes "station") ≡ false → bytes_eq name (codes "take") ≡ false
+      → bytes_eq name (codes "mark") ≡ false → ((rows : List Row) → view rows ≡ value → (order : Order) → IsOrderOf name rows order → P order) → AskOnlyFor (word ∷ words) P
+  ask_only none found cards send receive exchange station take mark reads = let taken : AreTaken view (word ∷ words) name value = record { faultless = none; found = found } in record {
     order = only_order view word words name value taken P reads;
-    fault = only_memory view word words name value taken (λ rows _. no_fault name rows cards send receive exchange station);
+    fault = only_memory view word words name value taken (λ rows _. no_fault name rows cards send receive exchange station take mark);
   }
 
 pub blocks_asked : BlocksAsked
 blocks_asked deck h = ask_only deck_in (codes "blocks") (deck ∷ []) (codes "blocks") deck (IsBlocks deck) (blocks_taken deck h) (blocks_found deck h)
-    refl refl refl refl refl (blocks_read deck)
+    refl refl refl refl refl refl refl (blocks_read deck)
 
 pub show_asked : ShowAsked
 show_asked jobs records h = ask_only show_in (codes "show") (jobs ∷ flag_words records (codes "--records")) (codes "show") (jobs, None, records)
-    (IsShow jobs records) (show_taken jobs (jobs_plain jobs h) records) (show_found jobs (jobs_plain jobs h) records) refl refl refl refl refl
+    (IsShow jobs records) (show_taken jobs (jobs_plain jobs h) records) (show_found jobs (jobs_plain jobs h) records) refl refl refl refl refl refl refl
     (show_read jobs records)
 
 pub check_asked : CheckAsked
 check_asked jobs h = ask_only jobs_in (codes "check") (jobs ∷ []) (codes "check") jobs (IsCheck jobs) (check_taken jobs h) (check_found jobs h)
-    refl refl refl refl refl (check_read jobs)
+    refl refl refl refl refl refl refl (check_read jobs)
 
 pub print_asked : PrintAsked
 print_asked jobs printer punch raw h = ask_only print_in (codes "print") (jobs ∷ print_words printer punch raw) (codes "print")
     (jobs, None, printer, punch, raw) (IsPrint jobs (devices_chosen printer punch) (form_chosen raw))
-    (print_taken jobs (jobs_plain jobs h) printer punch raw) (print_found jobs (jobs_plain jobs h) printer punch raw) refl refl refl refl refl
+    (print_taken jobs (jobs_plain jobs h) printer punch raw) (print_found jobs (jobs_plain jobs h) printer punch raw) refl refl refl refl refl refl refl
     (print_read jobs printer punch raw)
 
 pub try_asked : TryAsked
 try_asked jobs script h k = ask_only files_in (codes "try") (jobs ∷ script ∷ []) (codes "try") (record { jobs = jobs; script = script }) (IsTry jobs script)
-    (try_taken jobs script h k) (try_found jobs script h k) refl refl refl refl refl (try_read jobs script)
+    (try_taken jobs script h k) (try_found jobs script h k) refl refl refl refl refl refl refl (try_read jobs script)
 
 capture_asked : (capture : Text) (hex : Bool) → is_file capture ≡ true → AskOnlyFor (codes "monitor" ∷ capture ∷ flag_words hex (codes "--hex")) (IsMonitor capture hex)
 capture_asked capture hex h = ask_only monitor_in (codes "monitor") (capture ∷ flag_words hex (codes "--hex")) (codes "monitor") (capture, hex) (IsMonitor capture hex)
-    (monitor_taken capture (deck_plain capture h) hex) (monitor_found capture (deck_plain capture h) hex) refl refl refl refl refl (monitor_read capture hex)
+    (monitor_taken capture (deck_plain capture h) hex) (monitor_found capture (deck_plain capture h) hex) refl refl refl refl refl refl refl (monitor_read capture hex)
 
 input_asked : (hex : Bool) → AskOnlyFor (codes "monitor" ∷ flag_words hex (codes "--hex")) (IsMonitor (codes "-") hex)
 input_asked hex = ask_only monitor_in (codes "monitor") (flag_words hex (codes "--hex")) (codes "monitor") (codes "-", hex) (IsMonitor (codes "-") hex)
-    (input_taken hex) (input_found hex) refl refl refl refl refl (monitor_read (codes "-") hex)
+    (input_taken hex) (input_found hex) refl refl refl refl refl refl refl (monitor_read (codes "-") hex)
 
 pub monitor_asked : MonitorAsked
 monitor_asked = record { named = capture_asked; unnamed = input_asked }

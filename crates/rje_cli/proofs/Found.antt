@@ -126,9 +126,11 @@ never_refused name rows error (inr (inr (inl (is, inl h)))) = no_meeting_refuses
 never_refused name rows error (inr (inr (inl (is, inr h)))) = h.2
 never_refused name rows error (inr (inr (inr (inl (is, inl h))))) = no_meeting_refuses _ _ _ error h
 never_refused name rows error (inr (inr (inr (inl (is, inr h))))) = h.2
-never_refused name rows error (inr (inr (inr (inr (is, inl h))))) = no_partner_refuses _ _ _ error h
-never_refused name rows error (inr (inr (inr (inr (is, inr (partner, there, inl h)))))) = h
-never_refused name rows error (inr (inr (inr (inr (is, inr (partner, there, inr h)))))) = h.3.2
+never_refused name rows error (inr (inr (inr (inr (inl (is, inl h)))))) = no_partner_refuses _ _ _ error h
+never_refused name rows error (inr (inr (inr (inr (inl (is, inr (partner, there, inl h))))))) = h
+never_refused name rows error (inr (inr (inr (inr (inl (is, inr (partner, there, inr h))))))) = h.3.2
+never_refused name rows error (inr (inr (inr (inr (inr (inl h)))))) = h.1
+never_refused name rows error (inr (inr (inr (inr (inr (inr h)))))) = h.1
 
 none_refused : (met : Option (Text × List Row)) (error : Error) → IsSomeAnd met (λ m. IsFaultOf m.0 m.1 (Refused error)) → ⊥
 none_refused None error h = h

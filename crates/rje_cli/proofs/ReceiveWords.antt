@@ -60,7 +60,7 @@ module _ (jobs address : Text) (existing : Existing) (rows : List Row) (e : rece
   )
   order_read (Sockets _) h = absurd (apart _ _ h.0 refl)
   order_read (Station order) h = absurd (apart _ _ h.0 refl)
-  order_read (Files order) h = absurd (no_file (codes "receive") rows order refl refl refl refl refl refl refl h)
+  order_read (Files order) h = absurd (no_file (codes "receive") rows order refl refl refl refl refl refl refl refl refl h)
 
   both_told : (place : Meeting) (fault : WordsFault) → IsReceivingFault place rows fault → ⊥
   both_told place WaitCalled h = none-some false (sym h ∙ not_waiting place rows (ap (λ (v : Seen). v.4) e))
@@ -74,7 +74,9 @@ module _ (jobs address : Text) (existing : Existing) (rows : List Row) (e : rece
       awaited_well address some fault (usual_fault None (Some address) rows (ap (λ (v : Seen). v.1) e) fault h)
   none_told some fault (inr (inr (inl (is, inr h)))) = both_told h.0.place fault h.2
   none_told some fault (inr (inr (inr (inl h)))) = apart _ _ h.0 refl
-  none_told some fault (inr (inr (inr (inr h)))) = apart _ _ h.0 refl
+  none_told some fault (inr (inr (inr (inr (inl h))))) = apart _ _ h.0 refl
+  none_told some fault (inr (inr (inr (inr (inr (inl h)))))) = apart _ _ h.0 refl
+  none_told some fault (inr (inr (inr (inr (inr (inr h)))))) = apart _ _ h.0 refl
 
 pub receive_asked : ReceiveAsked
 receive_asked jobs address existing h k some =

@@ -41,14 +41,16 @@ module _ (jobs address : Text) (rows : List Row) (e : send_in rows ≡ value job
   )
   order_read (Sockets _) h = absurd (apart _ _ h.0 refl)
   order_read (Station order) h = absurd (apart _ _ h.0 refl)
-  order_read (Files order) h = absurd (no_file (codes "send") rows order refl refl refl refl refl refl refl h)
+  order_read (Files order) h = absurd (no_file (codes "send") rows order refl refl refl refl refl refl refl refl refl h)
 
   none_told : IsSomeAddress address → (fault : WordsFault) → IsFaultOf (codes "send") rows fault → ⊥
   none_told some fault (inl h) = apart _ _ h.0 refl
   none_told some fault (inr (inl h)) = called_well address some fault (usual_fault (Some address) None rows (ap (λ (v : Seen). v.1) e) fault h.1)
   none_told some fault (inr (inr (inl h))) = apart _ _ h.0 refl
   none_told some fault (inr (inr (inr (inl h)))) = apart _ _ h.0 refl
-  none_told some fault (inr (inr (inr (inr h)))) = apart _ _ h.0 refl
+  none_told some fault (inr (inr (inr (inr (inl h))))) = apart _ _ h.0 refl
+  none_told some fault (inr (inr (inr (inr (inr (inl h)))))) = apart _ _ h.0 refl
+  none_told some fault (inr (inr (inr (inr (inr (inr h)))))) = apart _ _ h.0 refl
 
 pub send_asked : SendAsked
 send_asked jobs address h k some =

@@ -83,7 +83,7 @@ module _ (folder host : Text) (rows : List Row) (e : station_in rows ≡ value f
     quiet = h.1.quiet ∙ ap (λ (v : Seen). v.4.3) e;
   }
   order_read (Sockets order) h = absurd (no_socket (codes "station") rows order refl refl refl refl h)
-  order_read (Files order) h = absurd (no_file (codes "station") rows order refl refl refl refl refl refl refl h)
+  order_read (Files order) h = absurd (no_file (codes "station") rows order refl refl refl refl refl refl refl refl refl h)
 
   standing_told : (partner : Partner) → IsPartnerIn rows partner → (fault : WordsFault) → IsStandingFault partner rows fault → ⊥
   standing_told partner is EveryListens h = goes host partner rows (partner_read partner is) h
@@ -99,10 +99,12 @@ module _ (folder host : Text) (rows : List Row) (e : station_in rows ≡ value f
   none_told some fault (inr (inl h)) = apart _ _ h.0 refl
   none_told some fault (inr (inr (inl h))) = apart _ _ h.0 refl
   none_told some fault (inr (inr (inr (inl h)))) = apart _ _ h.0 refl
-  none_told some fault (inr (inr (inr (inr (is, inl h))))) =
+  none_told some fault (inr (inr (inr (inr (inl (is, inl h)))))) =
       called_well host some fault (subst (λ (v : Seen). IsPartnerFault v.1.0 v.1.1 v.1.2 fault) e h)
-  none_told some fault (inr (inr (inr (inr (is, inr (partner, there, inl h)))))) = standing_told partner there fault h
-  none_told some fault (inr (inr (inr (inr (is, inr (partner, there, inr h)))))) = settling_told partner fault h
+  none_told some fault (inr (inr (inr (inr (inl (is, inr (partner, there, inl h))))))) = standing_told partner there fault h
+  none_told some fault (inr (inr (inr (inr (inl (is, inr (partner, there, inr h))))))) = settling_told partner fault h
+  none_told some fault (inr (inr (inr (inr (inr (inl h)))))) = apart _ _ h.0 refl
+  none_told some fault (inr (inr (inr (inr (inr (inr h)))))) = apart _ _ h.0 refl
 
 pub station_asked : StationAsked
 station_asked folder host h k some =

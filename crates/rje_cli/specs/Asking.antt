@@ -23,18 +23,21 @@ use Rattle.rje_requests.specs.declared.order.LoopOrder.{LoopOrder}
 use Rattle.rje_requests.specs.declared.order.Order.{Order}
 use Rattle.rje_requests.specs.declared.order.Order.TheVariants.{Files, Sockets, Station}
 use Rattle.rje_requests.specs.declared.order.MonitorOrder.{MonitorOrder}
-use Rattle.rje_requests.specs.declared.order.FileOrder.TheVariants.{Blocks, Cards, Show, Check, Print, Try, Monitor}
+use Rattle.rje_requests.specs.declared.order.FileOrder.TheVariants.{Blocks, Cards, Show, Check, Print, Try, Monitor, Take, Mark}
 use Rattle.rje_requests.specs.declared.order.SocketOrder.TheVariants.{Loop, Send, Receive, Exchange}
+use Rattle.rje_requests.specs.declared.order.MarkOrder.{MarkOrder}
 use Rattle.rje_requests.specs.declared.order.PrintOrder.{PrintOrder}
 use Rattle.rje_requests.specs.declared.order.ReceiveOrder.{ReceiveOrder}
 use Rattle.rje_requests.specs.declared.order.SendOrder.{SendOrder}
 use Rattle.rje_requests.specs.declared.order.ShowOrder.{ShowOrder}
+use Rattle.rje_requests.specs.declared.order.TakeOrder.{TakeOrder}
 use Rattle.rje_requests.specs.declared.order.TryOrder.{TryOrder}
+use Rattle.rje_requests.specs.declared.job_numbers.JobNumbers.{JobNumbers}
 use Rattle.rje_requests.specs.declared.station.Partner.{Partner}
 use Rattle.rje_requests.specs.declared.station.Partner.TheVariants as ways
 use Rattle.rje_requests.specs.declared.station.StationOrder.{StationOrder}
 use Rattle.rje_cli.specs.declared.words_fault.WordsFault.{WordsFault}
-use Rattle.rje_cli.specs.declared.words_fault.WordsFault.TheVariants.{Refused, TwoDevices, BadName, BadAddress, NoMeeting, CallersCalled, BadCallers, BadHost, EveryListens, WaitCalled, TwoRanks, NewAndAppend, SettlesWithAdapter, SettlesForEver, SettlesWithCallers}
+use Rattle.rje_cli.specs.declared.words_fault.WordsFault.TheVariants.{Refused, TwoDevices, BadName, BadNumbers, NoMark, BadAddress, NoMeeting, CallersCalled, BadCallers, BadHost, EveryListens, WaitCalled, TwoRanks, NewAndAppend, SettlesWithAdapter, SettlesForEver, SettlesWithCallers}
 use Rattle.rje_cli.specs.Address.{IsAddressOf, IsHostAddress, IsSomeAddress}
 use Rattle.rje_cli.specs.CommandLine.{rje_app}
 use Rattle.rje_requests.specs.Callers.{AreAddresses}
@@ -42,6 +45,8 @@ use Rattle.rje_requests.specs.Choice.{devices_chosen}
 use Rattle.rje_requests.specs.Connection.{rank_chosen}
 use Rattle.rje_requests.specs.Device.{chosen}
 use Rattle.rje_requests.specs.Existing.{existing_chosen}
+use Rattle.rje_requests.specs.JobNumbers.{AreJobNumbers}
+use Rattle.rje_requests.specs.Mark.{mark_chosen}
 use Rattle.rje_requests.specs.Station.{has_callers, station_rank}
 use Rattle.rje_cli.specs.Orders.{IsBlocks}
 
@@ -114,6 +119,34 @@ pub record IsTryOrderOf (rows : List Row) (order : TryOrder) : Type 0 where
 pub record IsMonitorOrderOf (rows : List Row) (order : MonitorOrder) : Type 0 where
   pub capture : order.capture.now ≡ unwrap_or (first_of (codes "CAPTURE") rows) (codes "-")
   pub hex : order.hex ≡ is_on (codes "hex") rows
+
+-- the numbers of jobs are those of the text that was found, which are numbers from 1, each once
+abbrev pub AreNumbersIn : List Row → JobNumbers → Type 0
+AreNumbersIn rows numbers = (numbers.text.now ≡ word_in (codes "job") rows) × AreJobNumbers (word_in (codes "job") rows)
+
+-- what was found for them is this word, and they aren't so
+abbrev pub IsBadNumbersIn : List Row → WordsFault → Type 0
+IsBadNumbersIn rows (BadNumbers word) = (word.now ≡ word_in (codes "job") rows) × ¬ (AreJobNumbers (word_in (codes "job") rows))
+IsBadNumbersIn rows _ = ⊥
+
+-- the order has the two job files and the numbers that were found, and adds to the second where that option was
+pub record IsTakeOrderOf (rows : List Row) (order : TakeOrder) : Type 0 where
+  pub jobs : order.jobs.now ≡ word_in (codes "JOBS") rows
+  pub new : order.new.now ≡ word_in (codes "NEW") rows
+  pub numbers : AreNumbersIn rows order.numbers
+  pub append : order.append ≡ is_on (codes "append") rows
+
+-- the order has the job file and the numbers that were found, and the mark that the options choose
+pub record IsMarkOrderOf (rows : List Row) (order : MarkOrder) : Type 0 where
+  pub jobs : order.jobs.now ≡ word_in (codes "JOBS") rows
+  pub numbers : AreNumbersIn rows order.numbers
+  pub mark : mark_chosen (is_on (codes "sent") rows) (is_on (codes "waiting") rows) ≡ Some order.mark
+
+-- what was found is no numbers of jobs; or it is some, and the options choose no mark
+abbrev pub IsMarkFaultOf : List Row → WordsFault → Type 0
+IsMarkFaultOf rows NoMark =
+    AreJobNumbers (word_in (codes "job") rows) × (mark_chosen (is_on (codes "sent") rows) (is_on (codes "waiting") rows) ≡ None)
+IsMarkFaultOf rows fault = IsBadNumbersIn rows fault
 
 -- the number of this text, where it is below the bound: the decimal number that it writes, which a plus may precede, and the usual one where
 -- no text was found
@@ -353,6 +386,8 @@ IsOrderOf name rows (Files (Check jobs)) = (name ≡ codes "check") × (jobs.now
 IsOrderOf name rows (Files (Print order)) = (name ≡ codes "print") × IsPrintOrderOf rows order
 IsOrderOf name rows (Files (Try order)) = (name ≡ codes "try") × IsTryOrderOf rows order
 IsOrderOf name rows (Files (Monitor order)) = (name ≡ codes "monitor") × IsMonitorOrderOf rows order
+IsOrderOf name rows (Files (Take order)) = (name ≡ codes "take") × IsTakeOrderOf rows order
+IsOrderOf name rows (Files (Mark order)) = (name ≡ codes "mark") × IsMarkOrderOf rows order
 IsOrderOf name rows (Sockets (Loop order)) = (name ≡ codes "loop") × IsLoopOrderOf rows order
 IsOrderOf name rows (Sockets (Send order)) = (name ≡ codes "send") × IsSendOrderOf rows order
 IsOrderOf name rows (Sockets (Receive order)) = (name ≡ codes "receive") × IsReceiveOrderOf rows order
@@ -365,7 +400,8 @@ IsFaultOf name rows fault =
     ((name ≡ codes "cards") × IsCardsFaultOf rows fault)
     ⊎ (((name ≡ codes "send") × IsConnectionFault rows fault)
     ⊎ (((name ≡ codes "receive") × IsReceiveFaultOf rows fault)
-    ⊎ (((name ≡ codes "exchange") × IsExchangeFaultOf rows fault) ⊎ ((name ≡ codes "station") × IsStationFaultOf rows fault))))
+    ⊎ (((name ≡ codes "exchange") × IsExchangeFaultOf rows fault) ⊎ (((name ≡ codes "station") × IsStationFaultOf rows fault)
+    ⊎ (((name ≡ codes "take") × IsBadNumbersIn rows fault) ⊎ ((name ≡ codes "mark") × IsMarkFaultOf rows fault))))))
 
 -- the words are taken, and what is found of the command that they name is this
 abbrev pub IsFound : List Text → (Text → List Row → Type 0) → Type 0

@@ -69,6 +69,10 @@ quiet_rule = flag_rule (codes "quiet")
 abbrev pub number_rule : Rule
 number_rule = record (value_rule (codes "job")) { parser = Some (parser.Unsigned 1 18446744073709551615) }
 
+-- the option for the numbers of jobs, which must be given
+abbrev pub numbers_rule : Rule
+numbers_rule = record (value_rule (codes "job")) { required = true }
+
 -- a command of this name with one file
 abbrev pub file_app : Text → Text → App
 file_app name id = with_rule (new_app name) (file_rule id)
@@ -111,6 +115,16 @@ try_app = with_rule (file_app (codes "try") (codes "JOBS")) (file_rule (codes "S
 -- `monitor CAPTURE`, whose file may be left out, with the option for hexadecimal digits
 abbrev pub monitor_app : App
 monitor_app = with_rule (with_rule (new_app (codes "monitor")) capture_rule) (flag_rule (codes "hex"))
+
+-- `take JOBS NEW`, with the options for the numbers of jobs, and to add the jobs to those of the file
+abbrev pub take_app : App
+take_app =
+    with_rule (with_rule (with_rule (file_app (codes "take") (codes "JOBS")) (file_rule (codes "NEW"))) numbers_rule) (flag_rule (codes "append"))
+
+-- `mark JOBS`, with the options for the numbers of jobs, and for either mark
+abbrev pub mark_app : App
+mark_app =
+    with_rule (with_rule (with_rule (file_app (codes "mark") (codes "JOBS")) numbers_rule) (flag_rule (codes "sent"))) (flag_rule (codes "waiting"))
 
 -- `loop JOBS`
 abbrev pub loop_app : App
@@ -168,8 +182,8 @@ with_deck_apps app = with_subcommand (with_subcommand app cards_app.top) blocks_
 -- the commands over job files alone, and the one over a capture
 abbrev pub with_file_apps : App → App
 with_file_apps app =
-    with_subcommand (with_subcommand (with_subcommand (with_subcommand (with_subcommand app show_app.top)
-    (file_app (codes "check") (codes "JOBS")).top) print_app.top) try_app.top) monitor_app.top
+    with_subcommand (with_subcommand (with_subcommand (with_subcommand (with_subcommand (with_subcommand (with_subcommand app show_app.top)
+    (file_app (codes "check") (codes "JOBS")).top) print_app.top) try_app.top) monitor_app.top) take_app.top) mark_app.top
 
 -- the commands over connections
 abbrev pub with_line_apps : App → App
@@ -195,7 +209,7 @@ is_file (c ∷ d ∷ rest) = not (c == 45)
 -- the names of the commands
 abbrev pub command_names : List Text
 command_names =
-    codes "cards" ∷ codes "blocks" ∷ codes "show" ∷ codes "check" ∷ codes "print" ∷ codes "try" ∷ codes "monitor" ∷ codes "loop" ∷ codes "send" ∷ codes "receive" ∷ codes "exchange" ∷ codes "station" ∷ []
+    codes "cards" ∷ codes "blocks" ∷ codes "show" ∷ codes "check" ∷ codes "print" ∷ codes "try" ∷ codes "monitor" ∷ codes "take" ∷ codes "mark" ∷ codes "loop" ∷ codes "send" ∷ codes "receive" ∷ codes "exchange" ∷ codes "station" ∷ []
 
 -- the text is one of these
 abbrev pub IsOneOf : Text → List Text → Type 0

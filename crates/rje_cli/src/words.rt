@@ -7,6 +7,7 @@ ghost use Rattle.rje_cli.specs.Asking.{AsksFor, IsWordsFault, IsOrderOf, IsFault
 ghost use Rattle.rje_cli.specs.Asking.{IsLoopOrderOf, IsSendOrderOf, IsReceiveOrderOf, IsReceiveFaultOf, IsExchangeOrderOf, IsExchangeFaultOf};
 ghost use Rattle.rje_cli.specs.Asking.{IsTimeoutOf, IsPatienceOf, IsBadName, IsGivenName, IsNumberOf, word_in, is_on, existing_in, rank_in, waits_in};
 ghost use Rattle.rje_cli.specs.Asking.{IsMonitorOrderOf, IsPrintOrderOf, IsShowOrderOf};
+ghost use Rattle.rje_cli.specs.Asking.{AreNumbersIn, IsBadNumbersIn, IsMarkFaultOf, IsMarkOrderOf, IsTakeOrderOf};
 ghost use Rattle.rje_cli.specs.Asking.{IsStationOrderOf, IsStationFaultOf};
 ghost use Rattle.rje_cli.specs.Asking.{IsBadCallers, IsCallersOf, IsConnectionOf, IsConnectionFault, IsMeetingIn};
 
@@ -22,8 +23,8 @@ use rje_files::{JobName, NO_NAME, name_of};
 use rje_jobs::Form;
 use rje_requests::{
     Callers, CardsOrder, Choice, Connection, Destination, Device, Devices, ExchangeOrder, Existing,
-    FileOrder, LoopOrder, Meeting, MonitorOrder, Order, PrintOrder, ReceiveOrder, STANDARD_INPUT,
-    SendOrder, ShowOrder, SocketOrder, TryOrder,
+    FileOrder, JobNumbers, LoopOrder, Mark, MarkOrder, Meeting, MonitorOrder, Order, PrintOrder,
+    ReceiveOrder, STANDARD_INPUT, SendOrder, ShowOrder, SocketOrder, TakeOrder, TryOrder,
 };
 use station::station_order;
 use std::alloc::Global;
@@ -59,6 +60,8 @@ fn order_of<'a>(command: &str, matches: &ArgMatches<'a>) -> Result<Order<'a>, Wo
             script: word(matches, "SCRIPT"),
         }))),
         "monitor" => Ok(Order::Files(FileOrder::Monitor(monitor_order(matches)))),
+        "take" => Ok(Order::Files(FileOrder::Take(take_order(matches)?))),
+        "mark" => Ok(Order::Files(FileOrder::Mark(mark_order(matches)?))),
         "loop" => Ok(Order::Sockets(SocketOrder::Loop(loop_order(matches)))),
         "send" => Ok(Order::Sockets(SocketOrder::Send(send_order(matches)?))),
         "receive" => Ok(Order::Sockets(SocketOrder::Receive(receive_order(matches)?))),
@@ -151,6 +154,47 @@ fn monitor_order<'a>(matches: &ArgMatches<'a>) -> MonitorOrder<'a>
     MonitorOrder {
         capture: value_of(matches, "CAPTURE").unwrap_or(STANDARD_INPUT),
         hex: is_given(matches, "hex"),
+    }
+}
+
+fn take_order<'a>(matches: &ArgMatches<'a>) -> Result<TakeOrder<'a>, WordsFault<'a>>
+    ensures asked { IfOk result (IsTakeOrderOf (rows_of (found_of matches.now))) }
+    ensures told { IfErr result (IsBadNumbersIn (rows_of (found_of matches.now))) }
+{
+    Ok(TakeOrder {
+        jobs: word(matches, "JOBS"),
+        new: word(matches, "NEW"),
+        numbers: numbers_in(matches)?,
+        append: is_given(matches, "append"),
+    })
+}
+
+fn mark_order<'a>(matches: &ArgMatches<'a>) -> Result<MarkOrder<'a>, WordsFault<'a>>
+    ensures asked { IfOk result (IsMarkOrderOf (rows_of (found_of matches.now))) }
+    ensures told { IfErr result (IsMarkFaultOf (rows_of (found_of matches.now))) }
+{
+    let numbers = numbers_in(matches)?;
+    let sent = is_given(matches, "sent");
+    let waiting = is_given(matches, "waiting");
+    match Mark::chosen(sent, waiting) {
+        Some(mark) => Ok(MarkOrder {
+            jobs: word(matches, "JOBS"),
+            numbers,
+            mark,
+        }),
+        None => Err(WordsFault::NoMark),
+    }
+}
+
+/// The numbers of the jobs that a command is for.
+fn numbers_in<'a>(matches: &ArgMatches<'a>) -> Result<JobNumbers<'a>, WordsFault<'a>>
+    ensures asked { IfOk result (AreNumbersIn (rows_of (found_of matches.now))) }
+    ensures told { IfErr result (IsBadNumbersIn (rows_of (found_of matches.now))) }
+{
+    let text = word(matches, "job");
+    match JobNumbers::of(text) {
+        Some(numbers) => Ok(numbers),
+        None => Err(WordsFault::BadNumbers(text)),
     }
 }
 

@@ -19,6 +19,12 @@ pub enum WordsFault<'a> {
     /// A name for a deck's job that isn't one to eight of A to Z and 0 to 9. Two lines.
     #[error("{}: not one to eight of A to Z and 0 to 9\nrje: bad name", PrintedName(.0))]
     BadName(&'a str),
+    /// Not the numbers of jobs, each once. Two lines.
+    #[error("{}: not numbers of jobs with commas between, each once\nrje: bad number", PrintedName(.0))]
+    BadNumbers(&'a str),
+    /// Both of the options for a mark, or none of them.
+    #[error("choose --sent or --waiting")]
+    NoMark,
     /// Not an address. Two lines.
     #[error("{}: not four numbers and a port\nrje: bad address", PrintedName(.0))]
     BadAddress(&'a str),

@@ -1,11 +1,12 @@
 -- What holds of the bytes that were read holds of the file, and of the deck, that they are.
-use Rattle.std.proofs.Common.{◌≡◌, ◌≤◌, ℕ, Bor, Bool, true, false, List, length, Option, Some, None, Result, Ok, Err, OnOk, IfErr, inr, refl, sym, subst, ◌∙◌}
-use Rattle.std.specs.Prelude.{IfSome}
+use Rattle.std.proofs.Common.{◌≡◌, ◌⊎◌, ◌≤◌, ℕ, Bor, Bool, true, false, List, length, Option, Some, None, Result, Ok, Err, OnOk, IfErr, inl, inr, refl, sym, subst, ◌∙◌}
+use Rattle.std.specs.Prelude.{◌≢◌, IfSome}
 use Rattle.std.specs.Option.{IsSomeAnd}
 use Rattle.std.specs.Result.{IsErrAnd}
 use Rattle.rje_text.specs.declared.record.Record.{Record}
 use Rattle.rje_jobs.specs.declared.job.Job.{Job}
 use Rattle.rje_jobs.specs.Deck.{cards_of, deck_fault}
+use Rattle.rje_jobs.specs.declared.file_fault.FileFault.TheVariants.{NotJobFile}
 use Rattle.rje_files.specs.declared.entry.Entry.{Entry}
 use Rattle.rje_files.specs.FileFault.{IsFileFault}
 use Rattle.rje_files.specs.JobFile.{HasJobs, IsEntryFile}
@@ -18,16 +19,18 @@ use Rattle.rje_commands.specs.CommandFault.{of_world}
 use Rattle.rje_requests.specs.Device.{writing}
 use Rattle.rje_requests.specs.declared.order.CardsOrder.{CardsOrder}
 use Rattle.rje_monitor.specs.Turns.{IsFirstBadLine}
+use Rattle.rje_requests.specs.declared.order.MarkOrder.{MarkOrder}
 use Rattle.rje_requests.specs.declared.order.MonitorOrder.{MonitorOrder}
 use Rattle.rje_requests.specs.declared.order.PrintOrder.{PrintOrder}
 use Rattle.rje_requests.specs.declared.order.ShowOrder.{ShowOrder}
+use Rattle.rje_requests.specs.declared.order.TakeOrder.{TakeOrder}
 use Rattle.rje_requests.specs.declared.order.TryOrder.{TryOrder}
 use Rattle.rje_requests.specs.declared.order.FileOrder.{FileOrder}
 use Rattle.rje_commands.specs.declared.command_fault.CommandFault.{CommandFault}
 use Rattle.rje_commands.specs.declared.command_fault.CommandFault.TheVariants as told
-use Rattle.rje_commands.specs.Commands.{AreEntriesOf, AreInFront, IsThere, OfFile, OfFiles, OfDeck, HasFewer, IsFault, MakesFile}
-use Rattle.rje_commands.specs.NamedFile.{IsWriteFault}
-use Rattle.rje_commands.specs.Inside.Commands.{cards_entry, IsMadeFault, IsHeld, IsHeldFault, IsMade, IsTryFault, IsTextFault, IsCaptureFault, IsCheckFault, IsChoiceFault}
+use Rattle.rje_commands.specs.Commands.{AreEntriesOf, AreInFront, AreKept, HasCutJob, IsThere, LacksJob, OfFile, OfFiles, OfDeck, HasFewer, IsFault, MakesFile, MarksEntries, TakesEntries}
+use Rattle.rje_commands.specs.NamedFile.{IsHoldFault, IsWriteFault}
+use Rattle.rje_commands.specs.Inside.Commands.{cards_entry, IsMadeFault, IsHeld, IsHeldFault, IsMade, IsTryFault, IsTextFault, IsCaptureFault, IsCheckFault, IsChoiceFault, IsFound, IsMarkedFault, IsMarkedOf, IsNamedFault, IsNumbersFault, IsTakenFault, IsTakenOf}
 use Rattle.rje_store.specs.Store.{FileMap, Discloses, IsSame, Sets}
 
 module _ (P Q : List ℕ → Type 0) (more : (file : List ℕ) → P file → Q file) where
@@ -202,3 +205,149 @@ monitor_fault order files input bytes is told.OutOfMemory h = tt
 monitor_fault order files input bytes is (told.NotHex line) h =
     (h.0, of_deck (λ read. IsFirstBadLine read line) bytes h.1 order.capture.now files input is)
 monitor_fault order files input bytes is _ h = absurd h
+
+-- why a file can't be had is why `take` isn't carried out, of the file that jobs are taken from and of the one that is made
+pub take_hold_fault : (order : TakeOrder) (files : Option FileMap) (name : List ℕ) → (name ≡ order.jobs.now) ⊎ (name ≡ order.new.now) → (fault : CommandFault)
+    → IsHoldFault name fault → IsFault (FileOrder.Take order) files None fault
+take_hold_fault order files name one told.OutOfMemory h = tt
+take_hold_fault order files name one (told.CannotRead named fault) h = subst (λ n. (n ≡ order.jobs.now) ⊎ (n ≡ order.new.now)) (sym h) one
+take_hold_fault order files name one (told.CannotWrite named cause) h = subst (λ n. (n ≡ order.jobs.now) ⊎ (n ≡ order.new.now)) (sym h) one
+take_hold_fault order files name one (told.InUse named) h = subst (λ n. (n ≡ order.jobs.now) ⊎ (n ≡ order.new.now)) (sym h) one
+take_hold_fault order files name one (told.Unsynced named) h = subst (λ n. (n ≡ order.jobs.now) ⊎ (n ≡ order.new.now)) (sym h) one
+take_hold_fault order files name one _ h = absurd h
+
+-- and so it is of `mark`
+pub mark_hold_fault : (order : MarkOrder) (files : Option FileMap) (fault : CommandFault) → IsHoldFault order.jobs.now fault
+    → IsFault (FileOrder.Mark order) files None fault
+mark_hold_fault order files told.OutOfMemory h = tt
+mark_hold_fault order files (told.CannotRead named fault) h = h
+mark_hold_fault order files (told.CannotWrite named cause) h = h
+mark_hold_fault order files (told.InUse named) h = h
+mark_hold_fault order files (told.Unsynced named) h = h
+mark_hold_fault order files _ h = absurd h
+
+-- a file that can't be written can't be had
+pub hold_of_write : (name : List ℕ) (fault : CommandFault) → IsWriteFault name fault → IsHoldFault name fault
+hold_of_write name told.OutOfMemory h = tt
+hold_of_write name (told.CannotWrite named cause) h = h
+hold_of_write name (told.InUse named) h = h
+hold_of_write name (told.Unsynced named) h = h
+hold_of_write name _ h = absurd h
+
+-- why there is no file with marks is why `mark` isn't carried out
+pub marked_fault : (order : MarkOrder) (files : Option FileMap) (bytes : List ℕ) → OfFile order.jobs.now files (λ file. bytes ≡ file)
+    → (fault : CommandFault) → IsMarkedFault order bytes fault → IsFault (FileOrder.Mark order) files None fault
+marked_fault order files bytes is told.OutOfMemory h = tt
+marked_fault order files bytes is (told.File fault) h = of_file (λ file. IsFileFault IsEntryFile file fault) bytes h order.jobs.now files is
+marked_fault order files bytes is (told.BadJob number) h = of_file (HasCutJob order number) bytes h order.jobs.now files is
+marked_fault order files bytes is (told.NoJob number) h = of_file (LacksJob order.numbers.text.now number) bytes h order.jobs.now files is
+marked_fault order files bytes is (told.NoJobFile name) h = (
+  h.0,
+  subst (λ n. OfFile n files (λ file. IsFileFault IsEntryFile file NotJobFile)) (sym h.0)
+      (of_file (λ file. IsFileFault IsEntryFile file NotJobFile) bytes h.1 order.jobs.now files is),
+)
+marked_fault order files bytes is _ h = absurd h
+
+-- a fault of the entries of the file of a name that was read is one of `take`
+take_named_fault : (order : TakeOrder) (files : Option FileMap) (name bytes : List ℕ)
+    → (name ≡ order.jobs.now) ⊎ ((order.append ≡ true) × (name ≡ order.new.now)) → ((P : List ℕ → Type 0) → P bytes → OfFile name files P)
+    → (fault : CommandFault) → IsNamedFault name bytes fault → IsFault (FileOrder.Take order) files None fault
+take_named_fault order files name bytes one of told.OutOfMemory h = tt
+take_named_fault order files name bytes (inl is) of (told.File fault) h =
+    inl (subst (λ n. OfFile n files (λ file. IsFileFault IsEntryFile file fault)) is (of (λ file. IsFileFault IsEntryFile file fault) h))
+take_named_fault order files name bytes (inr (on, is)) of (told.File fault) h =
+    inr (on, subst (λ n. OfFile n files (λ file. IsFileFault IsEntryFile file fault)) is (of (λ file. IsFileFault IsEntryFile file fault) h))
+take_named_fault order files name bytes one of (told.NoJobFile named) h = (
+  subst (λ n. (n ≡ order.jobs.now) ⊎ ((order.append ≡ true) × (n ≡ order.new.now))) (sym h.0) one,
+  subst (λ n. OfFile n files (λ file. IsFileFault IsEntryFile file NotJobFile)) (sym h.0) (of (λ file. IsFileFault IsEntryFile file NotJobFile) h.1),
+)
+take_named_fault order files name bytes one of _ h = absurd h
+
+-- and so is one of the numbers
+take_numbers_fault : (order : TakeOrder) (files : Option FileMap) (bytes : List ℕ) → OfFile order.jobs.now files (λ file. bytes ≡ file)
+    → (fault : CommandFault) → IsNumbersFault order.jobs.now order.numbers.text.now bytes fault → IsFault (FileOrder.Take order) files None fault
+take_numbers_fault order files bytes is (told.NoJob number) h = of_file (LacksJob order.numbers.text.now number) bytes h order.jobs.now files is
+take_numbers_fault order files bytes is told.OutOfMemory h = tt
+take_numbers_fault order files bytes is (told.File fault) h =
+    take_named_fault order files order.jobs.now bytes (inl refl) (λ P p. of_file P bytes p order.jobs.now files is) (told.File fault) h
+take_numbers_fault order files bytes is (told.NoJobFile name) h =
+    take_named_fault order files order.jobs.now bytes (inl refl) (λ P p. of_file P bytes p order.jobs.now files is) (told.NoJobFile name) h
+take_numbers_fault order files bytes is _ h = absurd h
+
+-- why there is no file of taken jobs is why `take` isn't carried out
+pub taken_fault : (order : TakeOrder) (f g : Option FileMap) (bytes : List ℕ) (found : Option (List ℕ)) → OfFile order.jobs.now f (λ file. bytes ≡ file)
+    → Discloses f g IsSame → IsFound order g found → (fault : CommandFault) → IsTakenFault order bytes found fault
+    → IsFault (FileOrder.Take order) f None fault
+taken_fault order f g bytes found is same kept fault (inl h) = take_numbers_fault order f bytes is fault h
+taken_fault order f g bytes found is same kept fault (inr (inl memory)) = subst (IsFault (FileOrder.Take order) f None) (sym memory) tt
+taken_fault order f g bytes found is same kept fault (inr (inr h)) = go found kept h
+  where
+    on : (b : Bool) (file : List ℕ) → (b ≡ false → Some file ≡ None) → b ≡ true
+    on true file k = refl
+    on false file k = let no : Some file ≡ None = k refl in cc
+
+    go : (found : Option (List ℕ)) → IsFound order g found → IsSomeAnd found (λ file. IsNamedFault order.new.now file fault)
+        → IsFault (FileOrder.Take order) f None fault
+    go None kept h = absurd h
+    go (Some file) kept h =
+        take_named_fault order f order.new.now file (inr (on order.append file kept.1, refl))
+        (λ P p. there_file order.new.now f (Some file) P (there_before order.new.now f g (Some file) same kept.0) p) fault h
+
+-- a fault of the entries of a file is one of entries of some numbers
+pub numbers_named : (name numbers file : List ℕ) (fault : CommandFault) → IsNamedFault name file fault → IsNumbersFault name numbers file fault
+numbers_named name numbers file told.OutOfMemory h = tt
+numbers_named name numbers file (told.File fault) h = h
+numbers_named name numbers file (told.NoJobFile named) h = h
+numbers_named name numbers file _ h = absurd h
+
+-- and that is one of a file with marks
+pub marked_numbers : (order : MarkOrder) (file : List ℕ) (fault : CommandFault) → IsNumbersFault order.jobs.now order.numbers.text.now file fault
+    → IsMarkedFault order file fault
+marked_numbers order file told.OutOfMemory h = tt
+marked_numbers order file (told.File fault) h = h
+marked_numbers order file (told.NoJobFile named) h = h
+marked_numbers order file (told.NoJob number) h = h
+marked_numbers order file _ h = absurd h
+
+-- what the file that was found holds stands in front
+pub kept_in_front : (order : TakeOrder) (f g : Option FileMap) (found : Option (List ℕ)) (front : List Entry) → Discloses f g IsSame → IsFound order g found
+    → AreEntriesOf found front → AreKept order f front
+kept_in_front order f g found front same kept h = (
+  λ on. held f (there_before order.new.now f g found same kept.0),
+  λ off. (
+    none f (subst (IsThere order.new.now f) (kept.1 off) (there_before order.new.now f g found same kept.0)),
+    subst (λ (known : Option (List ℕ)). AreEntriesOf known front) (kept.1 off) h,
+  ),
+)
+  where
+    held : (f : Option FileMap) → IsThere order.new.now f found → IfSome f (λ known. AreEntriesOf (known order.new.now) front)
+    held None there = tt
+    held (Some known) there = subst (λ (file : Option (List ℕ)). AreEntriesOf file front) (sym there) h
+
+    none : (f : Option FileMap) → IsThere order.new.now f None → IfSome f (λ known. known order.new.now ≡ None)
+    none None there = tt
+    none (Some known) there = there
+
+-- the file that `take` makes, after both were had and read
+pub takes_entries : (order : TakeOrder) (file bytes : List ℕ) (found : Option (List ℕ)) (jobs cards : ℕ) (f g h i : Option FileMap)
+    → (made : IsTakenOf order file found bytes jobs cards) → length bytes ≤ 16777216 → Discloses f g IsSame → IsFound order g found → Discloses g h IsSame
+    → order.jobs.now ≢ order.new.now → Discloses h i (Sets order.new.now bytes) → TakesEntries order made.entries f i
+takes_entries order file bytes found jobs cards f g h i made few read kept still two sets = record {
+  front = made.made.0;
+  bytes = bytes;
+  kept = kept_in_front order f g found made.made.0 read kept made.made.1;
+  taken_file = record { there = made.there; file = made.made.2; few = few };
+  two = two;
+  sets = set_after order.new.now bytes f h i (same_twice f g h read still) sets;
+}
+
+-- the file that `mark` makes, after it was had
+pub marks_entries : (order : MarkOrder) (file bytes : List ℕ) (jobs : ℕ) (f g h : Option FileMap) → (made : IsMarkedOf order file bytes jobs)
+    → length bytes ≤ 16777216 → Discloses f g IsSame → Discloses g h (Sets order.jobs.now bytes) → MarksEntries order made.entries f h
+marks_entries order file bytes jobs f g h made few same sets = record {
+  bytes = bytes;
+  there = made.there;
+  file = made.made;
+  few = few;
+  sets = set_after order.jobs.now bytes f g h same sets;
+}

@@ -10,7 +10,7 @@ use Rattle.rje_text.specs.declared.text_fault.TextFault.{TextFault}
 use Rattle.rje_station.specs.declared.station_fault.StationFault.{StationFault}
 use Rattle.line_world.specs.declared.world_fault.WorldFault.{WorldFault}
 use Rattle.rje_commands.specs.declared.command_fault.CommandFault.{CommandFault}
-use Rattle.rje_commands.specs.declared.command_fault.CommandFault.TheVariants.{OutOfMemory, Deck, File, BadJob, NoJob, NotHex, Script, NotDamage, BadCut, HoldsJobs, NoCommand, LineFailed, Unreadable, Babble, OutOfStep, CannotRead, CannotWrite, InUse, Unsynced, Output, Closed}
+use Rattle.rje_commands.specs.declared.command_fault.CommandFault.TheVariants.{OutOfMemory, Deck, File, BadJob, NoJob, NotHex, Script, NotDamage, BadCut, HoldsJobs, NoJobFile, NoCommand, LineFailed, Unreadable, Babble, OutOfStep, CannotRead, CannotWrite, InUse, Unsynced, Output, Closed}
 
 -- an input that is refused has status 1, out of memory 5
 abbrev pub deck_status : DeckFault → ℕ
@@ -35,6 +35,7 @@ status_of (Script line) = 1
 status_of (NotDamage turn) = 1
 status_of (BadCut turn) = 1
 status_of (HoldsJobs name) = 1
+status_of (NoJobFile name) = 1
 status_of NoCommand = 2
 status_of LineFailed = 3
 status_of (Unreadable fault) = 3

@@ -5,9 +5,11 @@ use Rattle.std.specs.Option.{IsSomeAnd}
 use Rattle.bsc_link.specs.declared.outcome.Outcome.{Outcome}
 use Rattle.rje_jobs.specs.declared.job.Job.{Job}
 use Rattle.rje_jobs.specs.Deck.{deck_fault, job_of, IsDeckFault}
+use Rattle.rje_jobs.specs.declared.file_fault.FileFault.TheVariants.{NotJobFile}
 use Rattle.rje_files.specs.declared.entry.Entry.{Entry}
 use Rattle.rje_files.specs.declared.entry.State.TheVariants.{Waiting}
 use Rattle.rje_files.specs.declared.job_file.version.FileVersion.TheVariants.{Second}
+use Rattle.rje_files.specs.Entry.{bad_entry}
 use Rattle.rje_files.specs.FileFault.{IsFileFault}
 use Rattle.rje_files.specs.JobFile.{HasEntries, HasJobs, IsEntryFile, IsEntryFileOf}
 use Rattle.rje_station.specs.StationFault.{IsFirstUnfit}
@@ -20,14 +22,18 @@ use Rattle.rje_requests.specs.declared.device.Device.{Device}
 use Rattle.rje_requests.specs.Device.{select_of, writing}
 use Rattle.rje_requests.specs.declared.order.CardsOrder.{CardsOrder}
 use Rattle.rje_requests.specs.declared.order.FileOrder.{FileOrder}
+use Rattle.rje_requests.specs.declared.order.MarkOrder.{MarkOrder}
+use Rattle.rje_requests.specs.declared.order.TakeOrder.{TakeOrder}
+use Rattle.rje_requests.specs.JobNumbers.{AreWithin, HasAbove}
 use Rattle.rje_monitor.specs.Stream.{IsStreamText}
 use Rattle.rje_monitor.specs.Turns.{IsTurnsText}
 use Rattle.rje_monitor.specs.Turns.{IsFirstBadLine as IsFirstBadTurn}
 use Rattle.rje_print.specs.BlockListing.{IsBlockListing}
-use Rattle.rje_print.specs.JobTexts.{cards_line, IsShown, IsChecked, IsPaper}
+use Rattle.rje_print.specs.JobTexts.{cards_line, marked_line, taken_line, IsShown, IsChecked, IsPaper}
 use Rattle.rje_print.specs.ReportTexts.{run_text}
 use Rattle.rje_print.specs.Script.{IsScript, IsFirstBadLine}
 use Rattle.rje_commands.specs.declared.command_fault.CommandFault.{CommandFault}
+use Rattle.rje_commands.specs.Chosen.{cards_in, chosen, marked, state_given, taken}
 use Rattle.rje_store.specs.Store.{FileMap, Discloses, IsSame, Sets}
 
 -- WHAT A COMMAND READS
@@ -124,6 +130,57 @@ IsCaptureText true capture text = IsTurnsText capture text
 abbrev pub PrintsCapture : (hex : Bool) → List ℕ → Option (List ℕ) → Option (List ℕ) → Type 0
 PrintsCapture hex capture before after = (text : List ℕ) × IsCaptureText hex capture text × Appends before after text
 
+-- what the file holds that `take` writes: with `--append` these entries, where there is such a file; else there is none
+abbrev pub AreKept : TakeOrder → Option FileMap → List Entry → Type 0
+AreKept order files front =
+    (order.append ≡ true → IfSome files (λ known. AreEntriesOf (known order.new.now) front))
+    × (order.append ≡ false → IfSome files (λ known. known order.new.now ≡ None) × (front ≡ []))
+
+-- These bytes are the version 2 file of the entries in front and, after them, of the chosen ones of these entries as they are taken. Each number
+-- is that of an entry, and the bytes are no more than are read of a file.
+pub record IsTakenFile (numbers : List ℕ) (front entries : List Entry) (bytes : List ℕ) : Type 0 where
+  pub there : AreWithin numbers (length entries)
+  pub file : IsEntryFileOf Second (front ++ taken numbers entries) bytes
+  pub few : length bytes ≤ 16777216
+
+-- the file that the order names became that of the chosen ones of these entries, and no other file changed: not the one that they are in
+pub record TakesEntries (order : TakeOrder) (entries : List Entry) (files made : Option FileMap) : Type 0 where
+  pub front : List Entry
+  pub bytes : List ℕ
+  pub kept : AreKept order files front
+  pub taken_file : IsTakenFile order.numbers.text.now front entries bytes
+  pub two : order.jobs.now ≢ order.new.now
+  pub sets : Discloses files made (Sets order.new.now bytes)
+
+-- so it did, of the entries of this file
+abbrev pub TakesFile : TakeOrder → (file : List ℕ) → (files made : Option FileMap) → Type 0
+TakesFile order file files made = (entries : List Entry) × HasEntries entries file × TakesEntries order entries files made
+
+-- so it did, and just the line was printed of how many jobs and cards were taken
+abbrev pub TakesJobs : TakeOrder → (file : List ℕ) → (files made : Option FileMap) → (before after : Option (List ℕ)) → Type 0
+TakesJobs order file files made before after =
+    (entries : List Entry) × HasEntries entries file × TakesEntries order entries files made
+    × Appends before after (taken_line (length (taken order.numbers.text.now entries)) (cards_in (taken order.numbers.text.now entries)))
+
+-- the file that the order names became one of version 2 of these entries, of which just the chosen ones have the state of the mark, and no other
+-- file changed. Each number is that of an entry, and the bytes are no more than are read of a file.
+pub record MarksEntries (order : MarkOrder) (entries : List Entry) (files made : Option FileMap) : Type 0 where
+  pub bytes : List ℕ
+  pub there : AreWithin order.numbers.text.now (length entries)
+  pub file : IsEntryFileOf Second (marked order.numbers.text.now (state_given order.mark) entries) bytes
+  pub few : length bytes ≤ 16777216
+  pub sets : Discloses files made (Sets order.jobs.now bytes)
+
+-- so it did, of the entries of this file
+abbrev pub MarksFile : MarkOrder → (file : List ℕ) → (files made : Option FileMap) → Type 0
+MarksFile order file files made = (entries : List Entry) × HasEntries entries file × MarksEntries order entries files made
+
+-- so it did, and just the line was printed of how many jobs were marked
+abbrev pub MarksJobs : MarkOrder → (file : List ℕ) → (files made : Option FileMap) → (before after : Option (List ℕ)) → Type 0
+MarksJobs order file files made before after =
+    (entries : List Entry) × HasEntries entries file × MarksEntries order entries files made
+    × Appends before after (marked_line (length (chosen order.numbers.text.now entries)))
+
 -- what is done where an order is carried out: what files and input were and held, what the files are then, and what was printed before and after
 abbrev pub Does : FileOrder → (files made : Option FileMap) (input before after : Option (List ℕ)) → Type 0
 Does (FileOrder.Blocks deck) files made input before after = OfDeck deck.now files input (λ bytes. PrintsBlocks bytes before after)
@@ -138,13 +195,19 @@ Does (FileOrder.Try order) files made input before after =
     OfFiles order.jobs.now order.script.now files (λ file script. PrintsRun file script before after)
 Does (FileOrder.Monitor order) files made input before after =
     OfDeck order.capture.now files input (λ bytes. PrintsCapture order.hex bytes before after)
+Does (FileOrder.Take order) files made input before after = OfFile order.jobs.now files (λ bytes. TakesJobs order bytes files made before after)
+Does (FileOrder.Mark order) files made input before after = OfFile order.jobs.now files (λ bytes. MarksJobs order bytes files made before after)
 
 -- WHAT BECOMES OF THE FILES
 
--- all files are as they were; those of `cards` as they were, or with just the file that it makes
+-- all files are as they were; those of `cards`, `take` and `mark` as they were, or with just the file that it makes
 abbrev pub Leaves : FileOrder → (files made : Option FileMap) (input : Option (List ℕ)) → Type 0
 Leaves (FileOrder.Cards order) files made input =
     Discloses files made IsSame ⊎ OfDeck order.deck.now files input (λ bytes. MakesFile order bytes files made)
+Leaves (FileOrder.Take order) files made input =
+    Discloses files made IsSame ⊎ OfFile order.jobs.now files (λ bytes. TakesFile order bytes files made)
+Leaves (FileOrder.Mark order) files made input =
+    Discloses files made IsSame ⊎ OfFile order.jobs.now files (λ bytes. MarksFile order bytes files made)
 Leaves _ files made input = Discloses files made IsSame
 
 -- WHY A COMMAND ISN'T CARRIED OUT
@@ -162,7 +225,15 @@ OfItsFile (FileOrder.Check jobs) files P = OfFile jobs.now files P
 OfItsFile (FileOrder.Print order) files P = OfFile order.jobs.now files P
 OfItsFile (FileOrder.Try order) files P = OfFile order.jobs.now files P
 OfItsFile (FileOrder.Cards order) files P = (order.append ≡ true) × OfFile order.jobs.now files P
+OfItsFile (FileOrder.Take order) files P = OfFile order.jobs.now files P ⊎ ((order.append ≡ true) × OfFile order.new.now files P)
+OfItsFile (FileOrder.Mark order) files P = OfFile order.jobs.now files P
 OfItsFile _ files P = ⊥
+
+-- the order names the job file that is none, if one is: it has this name
+abbrev pub NamesFile : FileOrder → (name : List ℕ) → Type 0
+NamesFile (FileOrder.Take order) name = (name ≡ order.jobs.now) ⊎ ((order.append ≡ true) × (name ≡ order.new.now))
+NamesFile (FileOrder.Mark order) name = name ≡ order.jobs.now
+NamesFile _ name = ⊥
 
 -- this holds of the job file and the script of `try`
 abbrev pub OfItsScript : FileOrder → Option FileMap → (List ℕ → List ℕ → Type 0) → Type 0
@@ -177,19 +248,32 @@ IsFaultOfRun fault file script = (jobs : List Job) × (turns : List Turn) × Has
 abbrev pub HasBadJob : ℕ → List ℕ → Type 0
 HasBadJob number file = (jobs : List Job) × HasJobs jobs file × IsFirstUnfit jobs number
 
--- the job of this number is the first that can't be sent: of the jobs to check, or of those to try
+-- it is a job file, and the chosen job of this number is the first that can't have the state of the mark, since it was cut
+abbrev pub HasCutJob : MarkOrder → ℕ → List ℕ → Type 0
+HasCutJob order number file =
+    (entries : List Entry) × HasEntries entries file
+    × (bad_entry (marked order.numbers.text.now (state_given order.mark) entries) ≡ Some number)
+
+-- the job of this number is the first that can't be sent: of the jobs to check, of those to mark, or of those to try
 abbrev pub IsBadJob : FileOrder → Option FileMap → ℕ → Type 0
 IsBadJob (FileOrder.Check jobs) files number = OfFile jobs.now files (HasBadJob number)
+IsBadJob (FileOrder.Mark order) files number = OfFile order.jobs.now files (HasCutJob order number)
 IsBadJob order files number = OfItsScript order files (IsFaultOfRun (world.BadJob number))
 
 -- it is a job file of fewer jobs than this
 abbrev pub HasFewer : ℕ → List ℕ → Type 0
 HasFewer number file = (entries : List Entry) × HasEntries entries file × (length entries < number)
 
--- the one job that the order is for has this number, and its file has fewer
+-- it is a job file, and this is one of the numbers of a text and above how many jobs there are
+abbrev pub LacksJob : (numbers : List ℕ) → ℕ → List ℕ → Type 0
+LacksJob numbers number file = (entries : List Entry) × HasEntries entries file × HasAbove numbers (length entries) number
+
+-- the one job that the order is for, or one of those that it is for, has this number, and its file has fewer
 abbrev pub IsNoJob : FileOrder → Option FileMap → ℕ → Type 0
 IsNoJob (FileOrder.Show order) files number = (order.choice.job ≡ Some number) × OfFile order.jobs.now files (HasFewer number)
 IsNoJob (FileOrder.Print order) files number = (order.choice.job ≡ Some number) × OfFile order.jobs.now files (HasFewer number)
+IsNoJob (FileOrder.Take order) files number = OfFile order.jobs.now files (LacksJob order.numbers.text.now number)
+IsNoJob (FileOrder.Mark order) files number = OfFile order.jobs.now files (LacksJob order.numbers.text.now number)
 IsNoJob order files number = ⊥
 
 -- the order is for a capture in hexadecimal, of which the line of this number is the first that is none
@@ -207,10 +291,14 @@ Reads (FileOrder.Check jobs) name = name ≡ jobs.now
 Reads (FileOrder.Print order) name = name ≡ order.jobs.now
 Reads (FileOrder.Try order) name = (name ≡ order.jobs.now) ⊎ (name ≡ order.script.now)
 Reads (FileOrder.Monitor order) name = name ≡ order.capture.now
+Reads (FileOrder.Take order) name = (name ≡ order.jobs.now) ⊎ (name ≡ order.new.now)
+Reads (FileOrder.Mark order) name = name ≡ order.jobs.now
 
--- the order writes the file of this name
+-- the order writes the file of this name, or has it for itself
 abbrev pub Writes : FileOrder → List ℕ → Type 0
 Writes (FileOrder.Cards order) name = name ≡ order.jobs.now
+Writes (FileOrder.Take order) name = (name ≡ order.jobs.now) ⊎ (name ≡ order.new.now)
+Writes (FileOrder.Mark order) name = name ≡ order.jobs.now
 Writes _ name = ⊥
 
 -- why the order isn't carried out: there is no memory, the store, the reader or the output fails, or what it reads is refused
@@ -224,6 +312,8 @@ IsFault order files input (CommandFault.InUse name) = Writes order name.now
 IsFault order files input (CommandFault.Unsynced name) = Writes order name.now
 IsFault order files input (CommandFault.Deck fault) = OfItsDeck order files input (λ deck. IsDeckFault deck fault)
 IsFault order files input (CommandFault.File fault) = OfItsFile order files (λ file. IsFileFault IsEntryFile file fault)
+IsFault order files input (CommandFault.NoJobFile name) =
+    NamesFile order name.now × OfFile name.now files (λ file. IsFileFault IsEntryFile file NotJobFile)
 IsFault order files input (CommandFault.BadJob number) = IsBadJob order files number
 IsFault order files input (CommandFault.NoJob number) = IsNoJob order files number
 IsFault order files input (CommandFault.NotHex line) = IsNotHex order files input line

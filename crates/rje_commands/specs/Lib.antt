@@ -1,3 +1,4 @@
+pub mod Chosen
 pub mod Commands
 pub mod CommandFault
 pub mod Inside

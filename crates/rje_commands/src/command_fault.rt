@@ -49,6 +49,9 @@ pub enum CommandFault<'a> {
     /// The file of this name holds jobs, and the order keeps those.
     #[error("{} holds jobs", PrintedName(.0))]
     HoldsJobs(&'a str),
+    /// The file of this name is no job file. Two lines.
+    #[error("{}: no job file\nrje: not a job file", PrintedName(.0))]
+    NoJobFile(&'a str),
     /// The words ask for a command that isn't served here: one over sockets, or one over files.
     #[error("no command")]
     NoCommand,
@@ -117,6 +120,7 @@ impl CommandFault<'_> {
             | CommandFault::Script(_)
             | CommandFault::NotDamage(_)
             | CommandFault::HoldsJobs(_)
+            | CommandFault::NoJobFile(_)
             | CommandFault::BadCut(_) => 1,
             CommandFault::NoCommand => 2,
             CommandFault::LineFailed

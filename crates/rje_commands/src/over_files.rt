@@ -5,7 +5,7 @@ ghost use Rattle.rje_commands.specs.CommandFault.{is_of_output};
 ghost use Rattle.rje_store.specs.Store.{Discloses, IsSame};
 
 use crate::command_fault::CommandFault;
-use crate::commands::{blocks, cards, check, monitor, print, show, trial};
+use crate::commands::{blocks, cards, check, mark, monitor, print, show, take, trial};
 use rje_requests::FileOrder;
 use rje_store::Store;
 use std::alloc::Global;
@@ -38,5 +38,7 @@ pub fn carry_out<'a, S: Store, I: Read, O: Write, E: Write>(
         FileOrder::Print(order) => print(alloc, order, store, out, err),
         FileOrder::Try(order) => trial(alloc, order, store, out),
         FileOrder::Monitor(order) => monitor(alloc, order, store, input, out),
+        FileOrder::Take(order) => take(alloc, order, store, out),
+        FileOrder::Mark(order) => mark(alloc, order, store, out),
     }
 }

@@ -11,6 +11,12 @@ pub enum WriteCause {
     /// It is the file that is sent.
     #[error("it is the file that is sent")]
     IsSent,
+    /// It is the file that jobs are taken from.
+    #[error("it is the file that jobs are taken from")]
+    IsTakenFrom,
+    /// There is such a file, and it isn't to be replaced.
+    #[error("it is there already")]
+    IsThere,
     /// It is a device or a pipe, in which no job can be marked.
     #[error("no job can be marked in a device or a pipe")]
     NoMarks,

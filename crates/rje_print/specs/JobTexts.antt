@@ -1,4 +1,4 @@
--- What the program prints of jobs: the lines of `show`, `check` and `cards`, and the paper of `print` (own profile).
+-- What the program prints of jobs: the lines of `show`, `check`, `cards`, `take` and `mark`, and the paper of `print` (own profile).
 use Rattle.std.specs.Prelude.{◌≡◌, ℕ, ◌+◌, ◌-◌, ◌==◌, ◌&&◌, Bool, true, false, if◌then◌else◌, List, [], ◌∷◌, ◌++◌, length, replicate, codes, decimal}
 use Rattle.std.specs.List.{before_first, AllByRecursion}
 use Rattle.rje_text.specs.declared.mode.Mode.{Mode}
@@ -74,6 +74,14 @@ cards_line count = decimal count ++ codes " cards\n"
 -- the line that says how many jobs can all be sent
 abbrev pub good_line : ℕ → List ℕ
 good_line count = codes "good " ++ decimal count ++ codes " jobs\n"
+
+-- the line that says how many jobs were taken, and how many cards they have
+abbrev pub taken_line : (jobs cards : ℕ) → List ℕ
+taken_line jobs cards = codes "took " ++ decimal jobs ++ codes " jobs, " ++ decimal cards ++ codes " cards\n"
+
+-- the line that says how many jobs were marked
+abbrev pub marked_line : ℕ → List ℕ
+marked_line jobs = codes "marked " ++ decimal jobs ++ codes " jobs\n"
 
 -- the paper of a job: its cards for the punch, in this form, and else a listing
 abbrev pub paper_for : Form → Select → Job → List ℕ

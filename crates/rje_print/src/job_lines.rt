@@ -1,7 +1,7 @@
 //! The lines of jobs.
 ghost use Rattle.std.specs.Prelude.{◌≡◌, ◌==◌, ◌+◌, ◌≤◌, ◌++◌, [], length, position, OnOk};
 ghost use Rattle.rje_print.specs.JobTexts.{select_name, mode_name, state_name};
-ghost use Rattle.rje_print.specs.JobTexts.{name_letters, name_text, entry_line, cards_line, cut_line, good_line};
+ghost use Rattle.rje_print.specs.JobTexts.{name_letters, name_text, entry_line, cards_line, cut_line, good_line, marked_line, taken_line};
 
 use crate::printed_line::{MAX_LINE, PrintedLine, push, push_number};
 use rje_files::{FileEntry, JobName, State};
@@ -75,6 +75,30 @@ pub fn good_text(count: usize) -> PrintedLine
     let mut line = PrintedLine::new();
     push(&mut line, b"good ");
     push_number(&mut line, count);
+    push(&mut line, b" jobs\n");
+    line
+}
+
+/// The line that says how many jobs were taken, and how many cards they have.
+pub fn taken_text(jobs: usize, cards: usize) -> PrintedLine
+    ensures line { result.items ≡ taken_line jobs cards }
+{
+    let mut line = PrintedLine::new();
+    push(&mut line, b"took ");
+    push_number(&mut line, jobs);
+    push(&mut line, b" jobs, ");
+    push_number(&mut line, cards);
+    push(&mut line, b" cards\n");
+    line
+}
+
+/// The line that says how many jobs were marked.
+pub fn marked_text(jobs: usize) -> PrintedLine
+    ensures line { result.items ≡ marked_line jobs }
+{
+    let mut line = PrintedLine::new();
+    push(&mut line, b"marked ");
+    push_number(&mut line, jobs);
     push(&mut line, b" jobs\n");
     line
 }

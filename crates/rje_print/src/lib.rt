@@ -18,7 +18,7 @@ mod shown_lines;
 mod turn_lines;
 
 pub use block_place::BlockPlace;
-pub use job_lines::{cards_text, good_text};
+pub use job_lines::{cards_text, good_text, marked_text, taken_text};
 pub use job_texts::{cut_text, entries_text, papers_text};
 pub use listing::print_blocks;
 pub use listing_fault::ListingFault;

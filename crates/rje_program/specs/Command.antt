@@ -6,6 +6,8 @@ use Rattle.clap.specs.declared.error.kind.ErrorKind.{ErrorKind}
 use Rattle.clap.specs.declared.error.kind.ErrorKind.TheVariants.{DisplayHelp, DisplayVersion, OutOfMemory}
 use Rattle.rje_requests.specs.declared.order.CardsOrder.{CardsOrder}
 use Rattle.rje_requests.specs.declared.order.FileOrder.{FileOrder}
+use Rattle.rje_requests.specs.declared.order.MarkOrder.{MarkOrder}
+use Rattle.rje_requests.specs.declared.order.TakeOrder.{TakeOrder}
 use Rattle.rje_requests.specs.declared.order.Order.TheVariants.{Files, Sockets, Station}
 use Rattle.rje_requests.specs.declared.order.SocketOrder.{SocketOrder}
 use Rattle.rje_requests.specs.declared.station.StationOrder.{StationOrder}
@@ -13,7 +15,7 @@ use Rattle.rje_cli.specs.declared.words_fault.WordsFault.{WordsFault}
 use Rattle.rje_cli.specs.Asking.{AsksFor, IsWordsFault}
 use Rattle.rje_commands.specs.declared.command_fault.CommandFault.{CommandFault}
 use Rattle.rje_commands.specs.CommandFault.{status_of}
-use Rattle.rje_commands.specs.Commands.{Does, IsFault, MakesFile, OfDeck}
+use Rattle.rje_commands.specs.Commands.{Does, IsFault, MakesFile, MarksFile, OfDeck, OfFile, TakesFile}
 use Rattle.rje_store.specs.Store.{FileMap, Discloses, IsSame}
 
 -- clap's error gives help, or the version
@@ -66,9 +68,13 @@ AsksForNoFiles words = AreMistaken words ⊎ (((order : SocketOrder) × AsksFor 
 abbrev pub IsStatus : ℕ → Type 0
 IsStatus status = (status ≡ 0) ⊎ ((status ≡ 1) ⊎ ((status ≡ 2) ⊎ ((status ≡ 3) ⊎ ((status ≡ 5) ⊎ (status ≡ 141)))))
 
--- all files are as they were, or the words ask for `cards` and just the file that it makes was made
+-- all files are as they were, or the words ask for `cards`, `take` or `mark` and just the file that it makes was made
 abbrev pub LeavesAsAsked : List (List ℕ) → (files made : Option FileMap) (input : Option (List ℕ)) → Type 0
 LeavesAsAsked words files made input =
     Discloses files made IsSame
-    ⊎ ((order : CardsOrder) × AsksFor words (Files (FileOrder.Cards order))
+    ⊎ (((order : CardsOrder) × AsksFor words (Files (FileOrder.Cards order))
     × OfDeck order.deck.now files input (λ deck. MakesFile order deck files made))
+    ⊎ (((order : TakeOrder) × AsksFor words (Files (FileOrder.Take order))
+    × OfFile order.jobs.now files (λ file. TakesFile order file files made))
+    ⊎ ((order : MarkOrder) × AsksFor words (Files (FileOrder.Mark order))
+    × OfFile order.jobs.now files (λ file. MarksFile order file files made))))

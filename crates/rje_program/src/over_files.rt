@@ -52,7 +52,7 @@ pub fn command<S: Store, I: Read, O: Write, E: Write>(
     }
 }
 
-/// The name of the job file that an order reads.
+/// The name of the job file that an order reads. `take` and `mark` report themselves which is none.
 fn job_file<'a>(order: &FileOrder<'a>) -> Option<&'a str> {
     match order {
         FileOrder::Cards(order) => Some(order.jobs),
@@ -60,6 +60,7 @@ fn job_file<'a>(order: &FileOrder<'a>) -> Option<&'a str> {
         FileOrder::Check(jobs) => Some(*jobs),
         FileOrder::Print(order) => Some(order.jobs),
         FileOrder::Try(order) => Some(order.jobs),
-        FileOrder::Blocks(_) | FileOrder::Monitor(_) => None,
+        FileOrder::Blocks(_) | FileOrder::Monitor(_) | FileOrder::Take(_) | FileOrder::Mark(_) =>
+            None,
     }
 }

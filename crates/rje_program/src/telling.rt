@@ -25,6 +25,8 @@ pub fn tell_words<O: Write, E: Write>(fault: &WordsFault, out: &mut O, err: &mut
         WordsFault::Refused(error) => tell_error(error, out, err),
         WordsFault::TwoDevices
         | WordsFault::BadName(_)
+        | WordsFault::BadNumbers(_)
+        | WordsFault::NoMark
         | WordsFault::BadAddress(_)
         | WordsFault::BadHost(_)
         | WordsFault::NoMeeting

@@ -3,4 +3,6 @@ pub mod Choice
 pub mod Connection
 pub mod Device
 pub mod Existing
+pub mod JobNumbers
+pub mod Mark
 pub mod Station

@@ -5,6 +5,8 @@ ghost use Rattle.rje_requests.specs.Existing.{existing_chosen};
 use crate::choice::Choice;
 use crate::connection::Connection;
 use crate::device::Device;
+use crate::job_numbers::JobNumbers;
+use crate::mark::Mark;
 use crate::station::StationOrder;
 use bsc_link::Rank;
 use rje_files::JobName;
@@ -41,6 +43,10 @@ pub enum FileOrder<'a> {
     Try(TryOrder<'a>),
     /// What is heard of bytes as they stood on a line.
     Monitor(MonitorOrder<'a>),
+    /// A job file of some jobs of another one.
+    Take(TakeOrder<'a>),
+    /// A mark for some jobs of a job file.
+    Mark(MarkOrder<'a>),
 }
 
 /// A command over sockets.
@@ -109,6 +115,30 @@ pub struct MonitorOrder<'a> {
     pub capture: &'a str,
     /// Whether it is text, a transmission a line in hexadecimal digits, and not the bytes themselves.
     pub hex: bool,
+}
+
+/// What `take` is asked for.
+#[derive(Clone, Copy, Debug, PartialEq, Eq)]
+pub struct TakeOrder<'a> {
+    /// The job file from which jobs are taken. It stays as it is.
+    pub jobs: &'a str,
+    /// The job file that is written.
+    pub new: &'a str,
+    /// Which jobs are taken.
+    pub numbers: JobNumbers<'a>,
+    /// Whether the jobs are added to those that the job file holds which is written; else there is to be no such file.
+    pub append: bool,
+}
+
+/// What `mark` is asked for.
+#[derive(Clone, Copy, Debug, PartialEq, Eq)]
+pub struct MarkOrder<'a> {
+    /// The job file.
+    pub jobs: &'a str,
+    /// Which of its jobs are marked.
+    pub numbers: JobNumbers<'a>,
+    /// The mark that they are given.
+    pub mark: Mark,
 }
 
 /// What `loop` is asked for.

@@ -1,7 +1,8 @@
 -- The statuses of a transmission that fails.
-use Rattle.std.proofs.Common.{◌≡◌, ◌⊎◌, inl, inr, ℕ, List, [], ◌∷◌, ◌++◌, map, Bool, true, false, not, Option, Result, Ok, Err, IfErr, if◌then◌else◌, refl, sym, ◌∙◌, subst, arith}
+use Rattle.std.proofs.Common.{◌≡◌, ◌⊎◌, inl, inr, ℕ, List, [], ◌∷◌, ◌++◌, map, Bool, true, false, not, Option, Result, Ok, Err, IfErr, if◌then◌else◌, refl, sym, ◌∙◌, subst, arith, ap}
 use Rattle.std.specs.Prelude.{◌≢◌}
 use Rattle.std.specs.List.{AllByRecursion}
+use Rattle.std.specs.Result.{IsErrAnd}
 use Rattle.std.proofs.lemmas.List.Elements.{recursion_from_All}
 use Rattle.std.proofs.lemmas.Option.{none-some}
 use Rattle.rje_jobs.specs.declared.job.Job.{Job}
@@ -215,3 +216,8 @@ exchange_refused order files f (inr (inr (file, is, read))) = elim (standing_sta
   | inl one ↦ inr (one, inr (file, is, read))
   | inr fails ↦ inl (fails, standing_names order.received file f _ _ is)
 ]
+
+-- what fails with this fault is its refusal
+pub fails_with : {T E : Type 0} (r : Result T E) (fault : E) → IsErrAnd r (λ e. e ≡ fault) → r ≡ Err fault
+fails_with (Err e) fault is = ap Err is
+fails_with (Ok x) fault is = absurd is

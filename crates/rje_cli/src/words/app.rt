@@ -7,13 +7,14 @@ ghost use Rattle.rje_cli.specs.CommandLine.{try_app, loop_app, send_app, receive
 ghost use Rattle.rje_cli.specs.CommandLine.{capture_rule, monitor_app, number_rule, print_app, show_app, with_choice_rules};
 ghost use Rattle.rje_cli.specs.CommandLine.{with_connection_rules, with_device_rules, with_existing_rules, with_meeting_rules, with_rank_rules};
 ghost use Rattle.rje_cli.specs.CommandLine.{every_rule, progress_rule, station_app, with_partner_rules};
+ghost use Rattle.rje_cli.specs.CommandLine.{mark_app, numbers_rule, take_app};
 ghost use Rattle.rje_cli.specs.CommandLine.{with_deck_apps, with_file_apps, with_line_apps};
 
 use clap::{Arg, ArgAction, Command, value_parser};
 use std::alloc::{AllocError, Global};
 
 /// The program's version.
-const VERSION: &str = "1.7.2";
+const VERSION: &str = "1.8.0";
 
 /// What stands after the commands where help is given.
 const AFTER_HELP: &str = "\
@@ -69,7 +70,9 @@ fn with_file_commands<'a>(alloc: Global, top: Command<'a>) -> Result<Command<'a>
     let top = with_jobs(alloc, top, "check", check)?;
     let top = with_command(top, print(alloc))?;
     let top = with_command(top, attempt(alloc))?;
-    with_command(top, monitor(alloc))
+    let top = with_command(top, monitor(alloc))?;
+    let top = with_command(top, take(alloc))?;
+    with_command(top, mark(alloc))
 }
 
 /// The command line with one command more: this one, which reads a job file.
@@ -152,6 +155,38 @@ fn monitor<'a>(alloc: Global) -> Result<Command<'a>, AllocError>
     let command = with_arg(command, capture(alloc))?;
     let hex = "CAPTURE is text in hexadecimal digits, a transmission a line";
     with_arg(command, flag(alloc, "hex", hex))
+}
+
+fn take<'a>(alloc: Global) -> Result<Command<'a>, AllocError>
+    ensures { IfOk result (IsApp take_app) }
+{
+    let about = "Make a job file of some jobs of another one";
+    let jobs = "The job file that has the jobs; it stays as it is";
+    let command = of_jobs(alloc, "take", about, jobs)?;
+    let new = "The job file to write; there is to be no such file, unless with --append";
+    let command = with_arg(command, file(alloc, "NEW", new))?;
+    let numbers = "Take the jobs of these numbers, as 1,4,5";
+    let command = with_arg(command, numbers_of(alloc, numbers))?;
+    let append =
+        "Keep the jobs that NEW holds, where there is such a file, and add the jobs after them";
+    with_arg(command, flag(alloc, "append", append))
+}
+
+fn mark<'a>(alloc: Global) -> Result<Command<'a>, AllocError>
+    ensures { IfOk result (IsApp mark_app) }
+{
+    let about = "Mark some jobs of a job file as sent, or as waiting to be sent";
+    let command = of_jobs(
+        alloc,
+        "mark",
+        about,
+        "The job file in which they are marked",
+    )?;
+    let numbers = "Mark the jobs of these numbers, as 1,4,5";
+    let command = with_arg(command, numbers_of(alloc, numbers))?;
+    let sent = "They are sent, and send passes over them";
+    let command = with_arg(command, flag(alloc, "sent", sent))?;
+    with_arg(command, flag(alloc, "waiting", "They wait to be sent"))
 }
 
 fn loopback<'a>(alloc: Global) -> Result<Command<'a>, AllocError>
@@ -411,6 +446,18 @@ fn number<'a>(alloc: Global, help: &'a str) -> Arg<'a>
         .value_name("K")
         .action(ArgAction::Set)
         .value_parser(value_parser!(u64).range(1..))
+        .help(help)
+}
+
+/// The option for the numbers of jobs, which must be given, with this help.
+fn numbers_of<'a>(alloc: Global, help: &'a str) -> Arg<'a>
+    ensures { IsArg numbers_rule result }
+{
+    Arg::new(alloc, "job")
+        .long("job")
+        .value_name("K,..")
+        .required(true)
+        .action(ArgAction::Set)
         .help(help)
 }
 

@@ -104,7 +104,7 @@ pub fn look_at_file<'a, S: Store>(
     }
 }
 
-/// Looks whether the file of this name can be another one than that of another name.
+/// Looks whether the file of this name can be another one than that which is sent, of another name.
 pub fn look_beside<'a, S: Store>(
     alloc: Global,
     other: &str,
@@ -115,9 +115,24 @@ pub fn look_beside<'a, S: Store>(
     ensures fault { IfErr result (IsWriteFault name.entry.now) }
     ensures same { Discloses (S.files store.old) (S.files store.new) IsSame }
 {
+    look_apart(alloc, other, name, WriteCause::IsSent, store)
+}
+
+/// Looks whether the file of this name can be another one than that of another name: where it is the same, it can't be written for this cause.
+pub(super) fn look_apart<'a, S: Store>(
+    alloc: Global,
+    other: &str,
+    name: &'a str,
+    cause: WriteCause,
+    store: &mut S,
+) -> Result<(), CommandFault<'a>>
+    ensures two { OnOk result (other.now ≢ name.entry.now) }
+    ensures fault { IfErr result (IsWriteFault name.entry.now) }
+    ensures same { Discloses (S.files store.old) (S.files store.new) IsSame }
+{
     match store.is_one_file(alloc, other, name) {
         Ok(false) => Ok(()),
-        Ok(true) => Err(CommandFault::CannotWrite(name, WriteCause::IsSent)),
+        Ok(true) => Err(CommandFault::CannotWrite(name, cause)),
         Err(fault) => Err(not_written(name, fault)),
     }
 }

@@ -7,7 +7,7 @@ use Rattle.rje_sockets.specs.Exchanging.{ExchangesLeft}
 use Rattle.rje_sockets.specs.Patience.{most_quiet}
 use Rattle.rje_sockets.proofs.Exchanged.{destination_fault_of, exchanges_left, leaves_so, outgoing_before, send_fault_of}
 use Rattle.rje_sockets.proofs.OverLine.{over_connection}
-use Rattle.rje_sockets.proofs.Failing.{exchange_fails_so, left_fails, not_refused, station_fails, written_fails_so}
+use Rattle.rje_sockets.proofs.Failing.{exchange_fails_so, fails_with, left_fails, not_refused, station_fails, written_fails_so}
 use Rattle.rje_sockets.proofs.InFront.{opened_before}
 use Rattle.rje_sockets.proofs.NamedFiles.{both_names, station_names}
 use Rattle.rje_sockets.proofs.Sending.{marked_after}
@@ -53,13 +53,13 @@ pub returns-in_err-look_before_meeting-clause-fault : goal.returns-in_err-look_b
 returns-in_err-look_before_meeting-clause-fault g c =
     let f = g.S.Store.files c.args.store.now in
     let fault = c.in_err-look_before_meeting.field-0.0 in
-    let is : c.from_residual.result ≡ Err fault = search rules in
+    let is = fails_with c.from_residual.result fault c.from_residual.ensures.1 in
     rw is (send_fault_of c.args.order.send.now c.args.order.received (λ n. n ≡ c.args.order.send.now) f f fault (λ n e. e) (same_itself f) c.in_err-look_before_meeting.ensures.fault)
 
 pub returns-in_err-keeper-clause-fault : goal.returns-in_err-keeper-clause-fault
 returns-in_err-keeper-clause-fault g c =
     let fault = c.in_err-keeper.field-0.0 in
-    let is : c.from_residual-in_err-keeper.result ≡ Err fault = search rules in
+    let is = fails_with c.from_residual-in_err-keeper.result fault c.from_residual-in_err-keeper.ensures.1 in
     rw is (destination_fault_of c.args.order.send.now c.args.order.received (g.S.Store.files c.args.store.now) (g.S.Store.files c.look_before_meeting.new.store) fault c.look_before_meeting.ensures.same
     c.in_err-keeper.ensures.fault)
 
@@ -75,7 +75,7 @@ pub returns-in_err-begin-clause-fault : goal.returns-in_err-begin-clause-fault
 returns-in_err-begin-clause-fault g c =
     let out = c.in_ok-jobs.ensures.outgoing in
     let fault = c.in_err-begin.field-0.0 in
-    let is : c.from_residual-in_err-begin.result ≡ Err fault = search rules in
+    let is = fails_with c.from_residual-in_err-begin.result fault c.from_residual-in_err-begin.ensures.1 in
     rw is (written_fails_so c.args.order.send.now c.args.order.received (g.S.Store.files c.args.store.now) fault c.in_ok-jobs.field-0.marker.name.now out.named
     (c.in_err-begin.ensures.status c.in_ok-jobs.field-0.jobs out.left) c.in_err-begin.ensures.names)
 
@@ -86,7 +86,7 @@ returns-in_err-jobs-clause-fault g c =
     let beside = g.S.Store.files c.keeper_beside.new.store in
     let same = same_twice f looked beside c.look_before_meeting.ensures.same c.keeper_beside.ensures.same in
     let fault = c.in_err-jobs.field-0.0 in
-    let is : c.from_residual-in_err-jobs.result ≡ Err fault = search rules in
+    let is = fails_with c.from_residual-in_err-jobs.result fault c.from_residual-in_err-jobs.ensures.1 in
     rw is (send_fault_of c.args.order.send.now c.args.order.received (λ n. n ≡ c.args.order.send.now) f beside fault (λ n e. e) same c.in_err-jobs.ensures.fault)
 
 pub returns-in_err-jobs-clause-files_kept : goal.returns-in_err-jobs-clause-files_kept
@@ -96,7 +96,7 @@ returns-in_err-jobs-clause-files_kept g c =
     let beside = g.S.Store.files c.keeper_beside.new.store in
     let read = g.S.Store.files c.read_outgoing.new.store in
     let same = same_twice f looked beside c.look_before_meeting.ensures.same c.keeper_beside.ensures.same in
-    let is : c.from_residual-in_err-jobs.result ≡ Err c.in_err-jobs.field-0.0 = search rules in
+    let is = fails_with c.from_residual-in_err-jobs.result c.in_err-jobs.field-0.0 c.from_residual-in_err-jobs.ensures.1 in
     rw is (λ one. same_twice f beside read same c.read_outgoing.ensures.same)
 
 pub returns-in_err-keeper-clause-files_kept : goal.returns-in_err-keeper-clause-files_kept
@@ -104,5 +104,5 @@ returns-in_err-keeper-clause-files_kept g c =
     let f = g.S.Store.files c.args.store.now in
     let looked = g.S.Store.files c.look_before_meeting.new.store in
     let beside = g.S.Store.files c.keeper_beside.new.store in
-    let is : c.from_residual-in_err-keeper.result ≡ Err c.in_err-keeper.field-0.0 = search rules in
+    let is = fails_with c.from_residual-in_err-keeper.result c.in_err-keeper.field-0.0 c.from_residual-in_err-keeper.ensures.1 in
     rw is (λ one. same_twice f looked beside c.look_before_meeting.ensures.same c.keeper_beside.ensures.same)

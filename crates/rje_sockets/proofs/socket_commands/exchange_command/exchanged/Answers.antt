@@ -4,7 +4,7 @@ use Rattle.rje_station.specs.StationFault.{IsNewCause}
 use Rattle.rje_requests.specs.declared.order.Destination.{Destination}
 use Rattle.rje_commands.specs.CommandFault.{of_station}
 use Rattle.rje_sockets.proofs.Exchanged.{destination_fault_of, exchanges_left, leaves_so, send_fault_of}
-use Rattle.rje_sockets.proofs.Failing.{exchange_fails_so, left_fails, not_refused, station_fails, written_fails_so}
+use Rattle.rje_sockets.proofs.Failing.{exchange_fails_so, fails_with, left_fails, not_refused, station_fails, written_fails_so}
 use Rattle.rje_sockets.proofs.InFront.{opened_before}
 use Rattle.rje_sockets.proofs.NamedFiles.{both_names, station_names}
 use Rattle.rje_sockets.proofs.Sending.{marked_after}
@@ -45,13 +45,13 @@ pub returns-in_err-jobs-clause-fault : goal.returns-in_err-jobs-clause-fault
 returns-in_err-jobs-clause-fault g c =
     let f = g.S.Store.files c.args.store.now in
     let fault = c.in_err-jobs.field-0.0 in
-    let is : c.from_residual.result ≡ Err fault = search rules in
+    let is = fails_with c.from_residual.result fault c.from_residual.ensures.1 in
     rw is (send_fault_of c.args.send.now c.args.received (λ n. n ≡ c.args.send.now) f f fault (λ n e. e) (same_itself f) c.in_err-jobs.ensures.fault)
 
 pub returns-in_err-keeper-clause-fault : goal.returns-in_err-keeper-clause-fault
 returns-in_err-keeper-clause-fault g c =
     let fault = c.in_err-keeper.field-0.0 in
-    let is : c.from_residual-in_err-keeper.result ≡ Err fault = search rules in
+    let is = fails_with c.from_residual-in_err-keeper.result fault c.from_residual-in_err-keeper.ensures.1 in
     rw is (destination_fault_of c.args.send.now c.args.received (g.S.Store.files c.args.store.now) (g.S.Store.files c.read_outgoing.new.store) fault c.read_outgoing.ensures.same c.in_err-keeper.ensures.fault)
 
 pub returns-in_err-station-clause-fault : goal.returns-in_err-station-clause-fault
@@ -67,7 +67,7 @@ returns-in_err-begin-clause-fault g c =
     let f = g.S.Store.files c.args.store.now in
     let out = c.in_ok-jobs.ensures.outgoing in
     let fault = c.in_err-begin.field-0.0 in
-    let is : c.from_residual-in_err-begin.result ≡ Err fault = search rules in
+    let is = fails_with c.from_residual-in_err-begin.result fault c.from_residual-in_err-begin.ensures.1 in
     rw is (written_fails_so c.args.send.now c.args.received f fault c.in_ok-jobs.field-0.marker.name.now out.named (c.in_err-begin.ensures.status c.in_ok-jobs.field-0.jobs out.left) c.in_err-begin.ensures.names)
 
 pub returns-in_err-keeper-clause-files_kept : goal.returns-in_err-keeper-clause-files_kept
@@ -75,5 +75,5 @@ returns-in_err-keeper-clause-files_kept g c =
     let f = g.S.Store.files c.args.store.now in
     let read = g.S.Store.files c.read_outgoing.new.store in
     let looked = g.S.Store.files c.keeper_beside.new.store in
-    let is : c.from_residual-in_err-keeper.result ≡ Err c.in_err-keeper.field-0.0 = search rules in
+    let is = fails_with c.from_residual-in_err-keeper.result c.in_err-keeper.field-0.0 c.from_residual-in_err-keeper.ensures.1 in
     rw is (λ one. same_twice f read looked c.read_outgoing.ensures.same c.keeper_beside.ensures.same)
