@@ -15,7 +15,15 @@ from tests.lib.terminal import OnTerminal  # noqa: E402
 
 
 class Calls(StationCase):
-    seconds = 26
+    seconds = 28
+
+    def test_unknown_host(self):
+        """A host that nobody knows is named."""
+        station = self.station("unknown", "--to", "nosuch.invalid:3780", "--every", "60")
+        station.start()
+        wanted = "can't connect: host not found: nosuch.invalid"
+        self.true(waits_for(lambda: has_logged(station, f"{wanted}\n"), 40), lambda: f"unknown: it told {told_by(station)}")
+        station.kill()
 
     def test_calls_again(self):
         """After the first connection that broke a station calls again at once, after the second when it is time to; an end that answers nothing breaks it."""

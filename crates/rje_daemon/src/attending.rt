@@ -4,7 +4,7 @@ ghost use Rattle.rje_daemon.specs.Calling.{SeeksConnection};
 
 use crate::attendant::Attendant;
 use crate::call_times::CallTimes;
-use crate::doorway::{Caller, called};
+use crate::doorway::{CallFault, Caller, called, host_of};
 use crate::speaking::speak;
 use crate::station_spool::StationSpool;
 use rje_day::{Day, DayEvent, Inputs, NextAction};
@@ -157,9 +157,27 @@ fn call<R: Net + Clock, S: StationSpool + Drop>(
             speak(rt, alloc, order, stream, day, seen, attendant);
             attendant.spool.disconnect();
         }
-        Err(error) => {
+        Err(fault) => {
             day.note(DayEvent::NoConnection);
-            attendant.spool.tell(Notice::NotConnected(error.kind()));
+            tell_not_called(alloc, address, &fault, &mut attendant.spool);
+        }
+    }
+}
+
+/// Tells that the other end at this address can't be called, and why.
+fn tell_not_called<S: StationSpool>(
+    alloc: Global,
+    address: &str,
+    fault: &CallFault,
+    spool: &mut S,
+) {
+    match fault {
+        CallFault::NotTaken(why) => spool.tell(Notice::NotConnected(why.kind())),
+        CallFault::HostNotFound => {
+            let host = host_of(address);
+            if let Ok(text) = format!(in alloc; "can't connect: host not found: {host}") {
+                spool.tell(Notice::Failed(text.as_str()));
+            }
         }
     }
 }

@@ -114,15 +114,35 @@ fn is_nobody(kind: ErrorKind) -> bool
     )
 }
 
+/// Why the other end can't be called.
+#[derive(Drop)]
+pub(crate) enum CallFault {
+    /// No address of its host is found.
+    HostNotFound,
+    /// None of its addresses takes the call: why the last one that was tried doesn't.
+    NotTaken(io::Error),
+}
+
 /// Calls the other end at this address: a host, which may have several, and a port.
-pub(crate) fn called<R: Net>(rt: &R, address: &str, timeout: u16) -> io::Result<R::Stream> {
+pub(crate) fn called<R: Net>(rt: &R, address: &str, timeout: u16) -> Result<R::Stream, CallFault> {
     let longest = Duration::from_millis(u64::from(timeout.max(MIN_CONNECTING)));
+    let Ok(addresses) = address.to_socket_addrs(rt) else {
+        return Err(CallFault::HostNotFound);
+    };
     let mut why = io::Error::from(ErrorKind::NotFound);
-    for address in address.to_socket_addrs(rt)? {
+    for address in addresses {
         match TcpStream::connect_timeout(rt, &address, longest) {
             Ok(stream) => return Ok(stream),
             Err(error) => why = error,
         }
     }
-    Err(why)
+    Err(CallFault::NotTaken(why))
+}
+
+/// The host of an address: all in front of its port.
+pub(crate) fn host_of(address: &str) -> &str {
+    match address.rsplit_once(':') {
+        Some((host, _)) => host,
+        None => address,
+    }
 }
