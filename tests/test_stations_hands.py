@@ -324,6 +324,26 @@ class FullDisk(StationCase):
         self.true(door.takes_call(20), lambda: f"due: it doesn't call, and told {told_by(station)}")
         station.kill()
 
+    def test_log_renamed(self):
+        """A log that is renamed, or removed, is made anew with the next line, which nobody else may read; what has a link in its place stays as it is."""
+        station, port = self.is_called("turned")
+        for number, moves in enumerate((lambda: os.rename(station.at("log"), station.at("log.1")), lambda: os.remove(station.at("log")))):
+            moves()
+            self.peer(port).close()
+            self.true(waits_for(lambda: has_logged(station, "hung up")), f"turned, {number}: nothing is logged")
+            self.equal(os.stat(station.at("log")).st_mode & 0o777, 0o600, f"turned, {number}: who may read the log")
+            self.check(has_logged(station, "listening") and f"turned, {number}: it is the log of before")
+        self.true("listening" in file_text(station, ".", "log.1"), "turned: the log of before lacks lines")
+        os.rename(station.at("log"), station.at("log.2"))
+        self.write("target", "TARGET\n")
+        os.symlink(self.at("target"), station.at("log"))
+        with open(station.at("drain"), "w"):
+            pass
+        self.true(waits_for(lambda: station.process.poll() is not None), "turned: it doesn't end")
+        self.true("ended" in file_text(station, ".", "log.2"), "turned: the last line is nowhere")
+        with open(self.at("target")) as target:
+            self.equal(target.read(), "TARGET\n", "turned: what a link leads to")
+
     def test_no_log(self):
         """A log that can't be written stops nothing, and is told once on the console."""
         os.mkdir(f"{self.folder}/logged")

@@ -6,6 +6,7 @@ mod attending;
 mod call_times;
 mod doorway;
 mod guarding;
+mod log_file;
 mod paced_stream;
 mod running;
 mod speaking;

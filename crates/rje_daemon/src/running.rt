@@ -6,6 +6,7 @@ use crate::attendant::Attendant;
 use crate::attending::attend;
 use crate::doorway::Door;
 use crate::guarding::{Openness, how_open};
+use crate::log_file::LogFile;
 use crate::speaking::most_quiet;
 use crate::station_spool::StationSpool;
 use rje_cli::parse;
@@ -19,10 +20,9 @@ use rje_settling::{SettlingFault, SettlingSpool};
 use rje_spool::{Console, FolderSpool, Notice};
 use rje_store::{Disk, SystemDisk};
 use std::alloc::Global;
-use std::fs::{File, OpenOptions};
+use std::fs::File;
 use std::io::{self, ErrorKind, Write};
 use std::net::{Net, OpenListener, SocketAddr, TcpListener};
-use std::os::unix::fs::OpenOptionsExt;
 use std::rt::Files;
 use std::time::Clock;
 
@@ -145,7 +145,7 @@ where
     guard(rt, alloc, path.as_str())?;
     let folder = StationFolder::open(SystemDisk::new(rt), alloc, path.as_str());
     let folder = folder.map_err(StationEnd::Folder)?;
-    let log = opened_log(rt, alloc, path.as_str()).map_err(StationEnd::Log)?;
+    let log = LogFile::open(rt, alloc, path.as_str()).map_err(StationEnd::Log)?;
     let rewrites = is_terminal && !order.quiet;
     let console = Console::new(rt, alloc, &mut *err, log, rewrites);
     let mut spool = FolderSpool::new(alloc, folder, console);
@@ -157,7 +157,7 @@ where
     let calls = matches!(order.partner, Partner::Calls(_));
     let patience = most_quiet(order.patience);
     match SettlingSpool::begin(alloc, path.as_str(), disk, spool, calls, patience) {
-        Ok(spool) => ended(serve::<R, SettlingSpool<SystemDisk<R>, &R, &mut E, File>>(
+        Ok(spool) => ended(serve::<R, SettlingSpool<SystemDisk<R>, &R, &mut E, LogFile<R>>>(
             rt, alloc, order, spool,
         )),
         Err(fault) => Err(StationEnd::Settling(fault)),
@@ -216,16 +216,6 @@ fn guard<R: Files<File = File>>(rt: &R, alloc: Global, folder: &str) -> Result<(
         Ok(Some(open)) => Err(StationEnd::Open(open)),
         Err(_) => Err(StationEnd::Folder(FolderFault::OutOfMemory)),
     }
-}
-
-/// Its log, to which lines are added.
-fn opened_log<R: Files<File = File>>(rt: &R, alloc: Global, folder: &str) -> io::Result<File> {
-    let path = format!(in alloc; "{folder}/log")?;
-    OpenOptions::new()
-        .append(true)
-        .create(true)
-        .mode(0o600)
-        .open(rt, path.as_str())
 }
 
 /// Listens at this address, and attends to the calls. What ends the station is told where it can't.
