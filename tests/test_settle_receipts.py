@@ -244,16 +244,16 @@ class OutOfStep(PeerCase):
 
     seconds = 12
 
-    def given_up(self, *answers):
-        """Of two decks; with these answers to its bid and to its blocks, before it is given up."""
-        self.listens(decks=("a.deck", "b.deck"))
+    def given_up(self, *answers, decks=("a.deck", "b.deck")):
+        """Of these decks; with these answers to its bid and to its blocks, before it is given up."""
+        self.listens(decks=decks)
         peer = self.calls_near()
         self.true(peer.hears(ENQ), "it doesn't bid")
         for answer in answers:
             peer.says(answer)
             hears_block(peer)
         self.true(peer.hears(EOT), "it doesn't give up")
-        peer.says(ACK1 if len(answers) == 1 else ACK0)
+        peer.says(ACK1 if len(answers) % 2 else ACK0)
         self.tells(self.near, "line failed: answers out of step")
         peer.close()
 
@@ -275,6 +275,16 @@ class OutOfStep(PeerCase):
         self.given_up(ACK0)
         self.equal((self.near.names("out"), self.near.names("doubt")), (["b.deck"], ["a.deck"]), "what lies ready, and what is in doubt")
         self.goes(self.all_kept(), 1)
+
+    def test_counted(self):
+        """Two of four were counted, and the third was out: the three are in doubt, and the next receipt tells that they came."""
+        self.given_up(ACK0, ACK1, ACK0, decks=("a.deck", "b.deck", "c.deck", "d.deck"))
+        self.equal((self.near.names("out"), self.near.names("doubt")), (["d.deck"], ["a.deck", "b.deck", "c.deck"]), "what lies ready, and what is in doubt")
+        peer = self.calls_near(self.all_kept())
+        self.takes(peer, 1)
+        everything = ["a.deck", "b.deck", "c.deck", "d.deck"]
+        self.true(waits_for(lambda: self.near.names("sent") == everything), lambda: f"sent/ has {self.near.names('sent')}")
+        self.equal(self.near.names("out") + self.near.names("doubt"), [], "what is left")
 
 
 class Kept(PeerCase):
