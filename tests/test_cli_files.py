@@ -39,8 +39,9 @@ class Help(Case):
         head = "Jobs of cards and lines over a Binary Synchronous line.\n\nUsage: rje <COMMAND>\n"
         self.equal((told.status, told.printed[: len(head)]), (0, head), "how rje --help begins")
         for line in (
-            "  0    done; help or the version was asked for", "  1    an input was refused", "  2    the command line is wrong",
-            "  3    a file, a read, a line or an output failed", "  4    a transmission ended, but not by done", "  5    there was no memory",
+            "  0    done; help or the version was asked for", "  1    an input was refused, or `status` found something to be seen to",
+            "  2    the command line is wrong", "  3    a file, a read, a line or an output failed",
+            "  4    a transmission ended, but not by done", "  5    there was no memory",
             "  141  nobody reads the output any more",
         ):
             self.true(line in told.printed.splitlines(), f"rje --help lacks '{line}'")

@@ -1,5 +1,7 @@
 """What helps to run a station all day: the units of systemd, and the watcher that prints its listings. Each where its tools are installed."""
+import grp
 import os
+import pwd
 import shutil
 import subprocess
 import sys
@@ -42,6 +44,28 @@ class Units(Case):
         ended = self.run_words("systemd-analyze", "verify", "--man=no", *(self.at(name.replace("@", "@there")) for name in UNITS))
         told = [line for line in ended.told.splitlines() if "nknown" in line or "nvalid" in line or "gnoring" in line]
         self.equal(told, [], "what systemd doesn't know of the units")
+
+
+class Logs(Case):
+    level, seconds = "quick", 1
+
+    def test_turned_over(self):
+        """logrotate takes the file, and turns a log over that was written to: the old lines are in a file beside, and there is no log until the next line."""
+        if not shutil.which("logrotate"):
+            self.skipTest("logrotate isn't installed")
+        with open(os.path.join(ROOT, "dist/contrib/rje.logrotate"), encoding="utf-8") as file:
+            text = file.read()
+        self.true("/var/lib/rje/*/log {" in text and "su rje rje" in text, "it is of other files")
+        # (here nobody is called rje, and the folder is the test's)
+        user = f"su {pwd.getpwuid(os.getuid()).pw_name} {grp.getgrgid(os.getgid()).gr_name}"
+        os.makedirs(self.at("rje/there"), mode=0o700)
+        self.write("rje/there/log", "2026-12-01 00:00:00 hung up\n")
+        self.write("config", text.replace("/var/lib/rje", self.at("rje")).replace("su rje rje", user))
+        os.chmod(self.at("config"), 0o644)
+        ended = self.run_words("logrotate", "--force", "--state", self.at("state"), self.at("config"))
+        self.equal((ended.status, ended.err), (0, b""), "logrotate")
+        self.has_just("rje/there", "log.1")
+        self.same("rje/there/log.1", "2026-12-01 00:00:00 hung up\n", "the old lines")
 
 
 class Printing(Case):

@@ -6,6 +6,7 @@ More pairs beside a `send` of the same file: ROUNDS=1000 python3 tests/test_file
 import concurrent.futures
 import os
 import random
+import signal
 import sys
 
 sys.path.insert(0, os.path.dirname(os.path.dirname(os.path.abspath(__file__))))
@@ -341,6 +342,27 @@ class Ended(Case):
     def test_mark(self):
         done = job_file(*(marked(parts, SENT) if number in (2, 4) else entry(*parts) for number, parts in enumerate(PARTS, 1)))
         self.at_each_call(["mark", "all.job", "--job", "2,4", "--sent"], {"all.job": MIXED}, {"all.job": done})
+
+
+class Replaced(Case):
+    level = "quick"
+
+    def test_before_the_lock(self):
+        """Another file that takes the name just before a command locks the one that had it stays as it is, as one does that a station puts there."""
+        other = job_file(entry("OTHER", WAITING, PRINTER, NORMAL, PAY_RECORDS))
+        for words in (["mark", "m.job", "--job", "1", "--sent"], ["cards", "a.deck", "m.job", "--append"]):
+            self.write("m.job", MIXED)
+            self.write("a.deck", "A\n")
+            # (the first lock is that of the file beside it)
+            process = self.start(*words, env=shim.under("stop flock 2"))
+            os.waitid(os.P_PID, process.pid, os.WSTOPPED | os.WNOWAIT)
+            self.write("new", other)
+            os.rename(self.at("new"), self.at("m.job"))
+            process.send_signal(signal.SIGCONT)
+            out, err = process.communicate()
+            self.equal((process.returncode, out, err), (3, b"", b"rje: m.job is in use\nrje: can't write m.job\n"), f"{words[0]}: how it ended")
+            self.same("m.job", other, f"{words[0]}: the other file")
+            self.has_just("", "m.job", "a.deck")
 
 
 if __name__ == "__main__":

@@ -14,7 +14,7 @@ from tests.lib.program import ROOT  # noqa: E402
 # What it is made of, but for the sources, of which the copy has none.
 PARTS = ["dist", "docs", "README.md", "CHANGELOG.md", "crates.txt", "HANDLES"]
 PLACES = [
-    "lib/systemd/system/rje-print@.service", "lib/systemd/system/rje-tunnel@.service", "lib/systemd/system/rje@.service",
+    "etc/logrotate.d/rje", "lib/systemd/system/rje-print@.service", "lib/systemd/system/rje-tunnel@.service", "lib/systemd/system/rje@.service",
     "usr/bin/rje", "usr/bin/rje-print",
     "usr/share/bash-completion/completions/rje", "usr/share/fish/vendor_completions.d/rje.fish", "usr/share/man/man1/rje-print.1.gz",
     "usr/share/man/man1/rje.1.gz", "usr/share/zsh/vendor-completions/_rje",

@@ -257,6 +257,14 @@ class OutOfStep(PeerCase):
         self.tells(self.near, "line failed: answers out of step")
         peer.close()
 
+    def stands(self, ready, doubted):
+        """This lies ready, and this is in doubt, once the files are moved: that comes after the line in the log."""
+
+        def found():
+            return self.near.names("out"), self.near.names("doubt")
+
+        self.true(waits_for(lambda: found() == (ready, doubted)), lambda: f"what lies ready, and what is in doubt: {found()}")
+
     def goes(self, receipt, jobs):
         """On the next connection, with this receipt, so many jobs go, and then both decks are in sent/."""
         peer = self.calls_near(receipt)
@@ -273,13 +281,13 @@ class OutOfStep(PeerCase):
     def test_first(self):
         """The first job was out: the next receipt tells that it came."""
         self.given_up(ACK0)
-        self.equal((self.near.names("out"), self.near.names("doubt")), (["b.deck"], ["a.deck"]), "what lies ready, and what is in doubt")
+        self.stands(["b.deck"], ["a.deck"])
         self.goes(self.all_kept(), 1)
 
     def test_counted(self):
         """Two of four were counted, and the third was out: the three are in doubt, and the next receipt tells that they came."""
         self.given_up(ACK0, ACK1, ACK0, decks=("a.deck", "b.deck", "c.deck", "d.deck"))
-        self.equal((self.near.names("out"), self.near.names("doubt")), (["d.deck"], ["a.deck", "b.deck", "c.deck"]), "what lies ready, and what is in doubt")
+        self.stands(["d.deck"], ["a.deck", "b.deck", "c.deck"])
         peer = self.calls_near(self.all_kept())
         self.takes(peer, 1)
         everything = ["a.deck", "b.deck", "c.deck", "d.deck"]

@@ -1,5 +1,7 @@
 """What other hands and a full disk do to a station: files of out/ that are replaced, written to, held or taken back, folders that are gone, what comes and
 can't be kept, and a log that can't be written."""
+import contextlib
+import fcntl
 import os
 import resource
 import shutil
@@ -125,6 +127,65 @@ class Hands(HandCase):
         self.true(waits_for(lambda: station.names("doubt") == ["m.job"]), lambda: f"marks: doubt/ has {station.names('doubt')}")
         states = [state for state, _ in lines_of_jobs(station.at("doubt", "m.job"))]
         self.equal(states, [1, 1, 0], f"marks: its jobs are {states}")
+        station.kill()
+
+
+class InHand(HandCase):
+    seconds = 8
+
+    def refused(self, station, *words):
+        """A command that changes a file of out/ is refused, as the station has it in hand."""
+        ended = self.rje(*words)
+        self.equal((ended.status, ended.told.split("\n")[0]), (3, f"rje: {station.at('out', 'm.job')} is in use"), f"in hand: {words[0]}")
+
+    def test_marked(self):
+        """No command marks a file whose jobs are on the line, or adds to it: each of them comes once."""
+        door, station = self.calls("hand", "--every", "1")
+        peer = door.takes_call()
+        path, more = station.at("out", "m.job"), station.at("more.deck")
+        station.put("m.job", ["ONE", "ONE", "TWO", "TWO"])
+        with open(more, "w") as file:
+            file.write("MORE\n")
+        self.true(peer.hears(ENQ), "hand: it doesn't bid")
+        peer.says(ACK0)
+        for answer in (ACK1, ACK0):
+            self.true(hears_block(peer), "hand: no block")
+            self.refused(station, "mark", path, "--job", "1", "--waiting")
+            self.refused(station, "cards", more, path, "--append")
+            peer.says(answer)
+        self.true(waits_for(lambda: station.names("sent") == ["m.job"]), lambda: f"hand: sent/ has {station.names('sent')}, it told {told_by(station)}")
+        # Between two transmissions it has no file in hand.
+        self.true(peer.hears(EOT), "hand: no EOT")
+        ended = waits_for(lambda: self.rje("mark", station.at("sent", "m.job"), "--job", "2", "--waiting").status == 0)
+        self.true(ended, "hand: the file in sent/ is still locked")
+        self.equal([state for state, _ in lines_of_jobs(station.at("sent", "m.job"))], [1, 0], "hand: its jobs")
+        peer.close()
+        station.kill()
+
+    def test_locked(self):
+        """A file that another program has locked goes once it isn't locked any more, and others go meanwhile."""
+        door, station = self.calls("locked", "--every", "1")
+        peer = door.takes_call()
+        os.makedirs(station.at("out"), exist_ok=True)
+        with open(station.at("out", ".a"), "w") as file:
+            file.write("AAA\n")
+            file.flush()
+            fcntl.flock(file, fcntl.LOCK_EX)
+            os.rename(station.at("out", ".a"), station.at("out", "a.deck"))
+            station.put("b.deck", ["BBB"])
+            self.true(peer.hears(ENQ), "locked: it doesn't bid")
+            peer.says(ACK0)
+            self.true(ebcdic("BBB") in hears_block(peer), "locked: b.deck doesn't go first")
+            peer.says(ACK1)
+            self.true(peer.hears(EOT), "locked: a.deck goes too")
+            peer.connection.settimeout(1.5)
+            with contextlib.suppress(socket.timeout):
+                self.check(ENQ in peer.connection.recv(4096) and "locked: it bids for a.deck")
+            peer.connection.settimeout(10)
+        self.true(peer.hears(ENQ), "locked: it doesn't bid once a.deck isn't locked")
+        peer.says(ACK0)
+        self.true(ebcdic("AAA") in hears_block(peer), "locked: a.deck doesn't go")
+        peer.close()
         station.kill()
 
 

@@ -113,6 +113,7 @@ class Moments(StationCase):
         """A deck that takes the name of one that was counted, and that can't be given it back at once, has it back within some seconds; nothing is told of
         the one that was counted."""
         station = self.replaced_at_the_rename("hidden", "fail link 5")
+        self.true(waits_for(lambda: ".x.deck.taken-0" in os.listdir(station.at("out"))), lambda: f"hidden: out/ has {os.listdir(station.at('out'))}")
         self.true(waits_for(lambda: station.names("out") == ["x.deck"], 40), lambda: f"hidden: out/ has {os.listdir(station.at('out'))}")
         self.equal(file_text(station, "out", "x.deck"), "NEW\n", "hidden: the second deck")
         self.tells_nothing_wrong("hidden", station)

@@ -1,7 +1,7 @@
 # Completions of rje for bash: source this file.
 _rje() {
     local word=${COMP_WORDS[COMP_CWORD]} before=${COMP_WORDS[COMP_CWORD - 1]} command=${COMP_WORDS[1]}
-    local commands='blocks cards show check print try monitor take mark loop send receive exchange station help' words=--help
+    local commands='blocks cards show check print try monitor take mark loop send receive exchange station status help' words=--help
     local connection='--to --listen --from --timeout --adapter --trace --quiet'
     case $command in
     show) words+=' --job --records' ;;
@@ -15,6 +15,7 @@ _rje() {
     receive) words+=" $connection --patience --wait --new --append" ;;
     exchange) words+=" $connection --patience --primary --secondary --new --append" ;;
     station) words+=' --to --listen --from --every --timeout --patience --progress --primary --secondary --adapter --once --settle --quiet' ;;
+    status) words+=' --json' ;;
     esac
     COMPREPLY=()
     if [ "$COMP_CWORD" = 1 ]; then

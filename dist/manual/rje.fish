@@ -1,10 +1,10 @@
 # Completions of rje for fish.
-set -l commands blocks cards show check print try monitor take mark loop send receive exchange station help
+set -l commands blocks cards show check print try monitor take mark loop send receive exchange station status help
 complete -c rje -n "not __fish_seen_subcommand_from $commands" -f -a "$commands"
 complete -c rje -n "not __fish_seen_subcommand_from $commands" -l help -d 'List the commands'
 complete -c rje -n "not __fish_seen_subcommand_from $commands" -l version -d 'Print the version'
 complete -c rje -n '__fish_seen_subcommand_from help' -f -a "$commands"
-complete -c rje -n '__fish_seen_subcommand_from blocks cards show check print try monitor take mark loop send receive exchange station' -l help -d 'List the options of the command'
+complete -c rje -n '__fish_seen_subcommand_from blocks cards show check print try monitor take mark loop send receive exchange station status' -l help -d 'List the options of the command'
 complete -c rje -n '__fish_seen_subcommand_from send receive exchange station' -l to -x -d 'Call the other end'
 complete -c rje -n '__fish_seen_subcommand_from send receive exchange station' -l listen -x -d 'Wait for a call'
 complete -c rje -n '__fish_seen_subcommand_from send receive exchange station' -l from -x -d 'Take calls from these addresses alone'
@@ -32,4 +32,5 @@ complete -c rje -n '__fish_seen_subcommand_from cards print' -l punch -d 'The pu
 complete -c rje -n '__fish_seen_subcommand_from print' -l raw -d 'Cards as they are'
 complete -c rje -n '__fish_seen_subcommand_from cards' -l transparent -d 'Cards as they are, for the punch'
 complete -c rje -n '__fish_seen_subcommand_from cards' -l name -x -d 'The name of the job'
+complete -c rje -n '__fish_seen_subcommand_from status' -l json -d 'As JSON'
 complete -c rje -n '__fish_seen_subcommand_from monitor' -l hex -d 'Text in hexadecimal digits'

@@ -18,6 +18,7 @@ _rje() {
         'receive:take one transmission into a job file'
         'exchange:send and receive over one connection'
         'station:stay on the line'
+        'status:tell what lies in the folder of a station'
         'help:list the options of a command'
     )
     call=('--to[call the other end]:address:' '--listen[wait for a call]:address:' '--from[take calls from these addresses alone]:addresses:')
@@ -44,6 +45,7 @@ _rje() {
     receive) _arguments '--help' $call $wait '--adapter[a line adapter]' '--trace[report each turn]' $quiet '--patience[leave after so many hearings]:hearings:' '--wait[pass over silent callers]' '--new[refuse a file that holds jobs]' '--append[keep the jobs of the file]' '*:job file:_files' ;;
     exchange) _arguments '--help' $call $wait '--adapter[a line adapter]' '--trace[report each turn]' $quiet $ranks '--patience[leave after so many hearings]:hearings:' '--new[refuse a file that holds jobs]' '--append[keep the jobs of the file]' '*:job file:_files' ;;
     station) _arguments '--help' $call $wait '--adapter[a line adapter]' $quiet $ranks '--every[call again after so long]:seconds:' '--patience[leave after so many hearings]:hearings:' '--progress[leave where no job came or went for so long]:seconds:' '--once[end after one connection]' '--settle[let receipts tell what may have arrived]' '*:folder:_files -/' ;;
+    status) _arguments '--help' '--json[as JSON]' '*:folder:_files -/' ;;
     esac
 }
 _rje "$@"

@@ -20,6 +20,8 @@ pub struct FailingDisk {
     is_done: bool,
     // A file that is written to by nobody, and gets no second name.
     denied: u64,
+    // A file that another process has locked.
+    locked: u64,
     // A file whose names nobody changes.
     stuck: u64,
     // What others do meanwhile.
@@ -84,6 +86,7 @@ impl FailingDisk {
             fails_at,
             is_done,
             denied: 0,
+            locked: 0,
             stuck: 0,
             meanwhile: None,
             ends_at: 0,
@@ -99,6 +102,11 @@ impl FailingDisk {
     /// From now on the file of this number is written to by nobody, and gets no second name.
     pub fn deny(&mut self, file: u64) {
         self.denied = file;
+    }
+
+    /// From now on another process has the file of this number locked.
+    pub fn lock(&mut self, file: u64) {
+        self.locked = file;
     }
 
     /// From now on the names of the file of this number stay.
@@ -609,6 +617,10 @@ impl FolderDisk for FailingDisk {
 
     ghost is_open = { λ _ _ _. Unit {0} };
 
+    ghost has_names = { λ _ _ _. Unit {0} };
+
+    ghost is_locked = { λ _. Unit {0} };
+
     fn is_one_file(&self, one: &str, other: &str) -> io::Result<bool> {
         Ok(self.found(one)? == self.found(other)?)
     }
@@ -619,6 +631,13 @@ impl FolderDisk for FailingDisk {
 
     fn identity_of(&self, file: &OpenFile) -> io::Result<FileIdentity> {
         Ok(FileIdentity::of(&self.status_of(file)?))
+    }
+
+    fn try_lock_to_read(&self, file: &OpenFile) -> Result<(), TryLockError> {
+        if self.locked == file.file {
+            return Err(TryLockError::WouldBlock);
+        }
+        Ok(())
     }
 
     fn names_in(&self, alloc: Global, folder: &str) -> io::Result<Vec<String>> {

@@ -174,6 +174,10 @@ impl FolderDisk for SharedDisk<'_> {
 
     ghost is_open = { λ _ _ _. Unit {0} };
 
+    ghost has_names = { λ _ _ _. Unit {0} };
+
+    ghost is_locked = { λ _. Unit {0} };
+
     fn is_one_file(&self, one: &str, other: &str) -> io::Result<bool> {
         self.seen()?.is_one_file(one, other)
     }
@@ -184,6 +188,13 @@ impl FolderDisk for SharedDisk<'_> {
 
     fn identity_of(&self, file: &OpenFile) -> io::Result<FileIdentity> {
         self.seen()?.identity_of(file)
+    }
+
+    fn try_lock_to_read(&self, file: &OpenFile) -> Result<(), TryLockError> {
+        match self.seen() {
+            Ok(disk) => disk.try_lock_to_read(file),
+            Err(error) => Err(TryLockError::Error(error)),
+        }
     }
 
     fn names_in(&self, alloc: Global, folder: &str) -> io::Result<Vec<String>> {

@@ -3,7 +3,8 @@
 
 use rje_commands::CommandFault;
 use rje_daemon::station_command;
-use rje_program::{command, is_for_sockets, is_for_station, socket_command};
+use rje_program::{command, is_for_sockets, is_for_station, is_for_status, socket_command};
+use rje_status::status_command;
 use rje_store::FileStore;
 use std::fs::{File, OpenOptions};
 use std::io::IsTerminal;
@@ -37,6 +38,15 @@ fn run(rt: &HostRuntime) -> io::Result<u8> {
             &mut rt.stdout(),
             &mut rt.stderr(),
             rt.stderr().is_terminal(),
+        ));
+    }
+    if is_for_status(words.as_slice()) {
+        return Ok(status_command(
+            rt,
+            alloc,
+            words.as_slice(),
+            &mut rt.stdout(),
+            &mut rt.stderr(),
         ));
     }
     let mut store = FileStore::new(rt, alloc);

@@ -1,10 +1,11 @@
 -- Names that are sorted by their kinds.
-use Rattle.std.proofs.Common.{◌≡◌, List, [], ◌∷◌, ◌++◌, Option, Some, None, refl, sym, ◌∙◌, ap}
+use Rattle.std.specs.Option.{option_to_list}
+use Rattle.std.proofs.Common.{◌≡◌, ℕ, List, [], ◌∷◌, ◌++◌, Option, Some, None, refl, sym, ◌∙◌, ap}
 use Rattle.std.specs.List.{filter_map}
-use Rattle.std.proofs.lemmas.List.{append-nil}
+use Rattle.std.proofs.lemmas.List.{append_assoc, append-nil}
 use Rattle.std.proofs.lemmas.List.Elements.{filter_map-append}
 use Rattle.rje_settle.specs.declared.settle_name.SettleName.{SettleName}
-use Rattle.rje_accounts.specs.Names.{AreSorted}
+use Rattle.rje_accounts.specs.Names.{AreNamesOf, AreSorted, IsRead}
 use Rattle.rje_accounts.specs.declared.settle_names.SettleNames.{SettleNames}
 
 -- one more of the kind, and one of another
@@ -26,3 +27,9 @@ passed_over all s t (sent, kept, promises, come) sorted = rw (append-nil all) (r
   promises = ap (λ (v : _). v.items) promises ∙ sorted.promises;
   come = ap (λ (v : _). v.items) come ∙ sorted.come;
 })
+
+-- one text more: its name, where it is one, comes behind the others
+pub names_more : (texts : List (List ℕ)) (text : List ℕ) (all : List SettleName) (read : Option SettleName) → AreNamesOf texts all → IsRead text read → AreNamesOf (texts ++ text ∷ []) (all ++ option_to_list read)
+names_more [] text all read none is = (read, [], is, refl, ap (λ l. l ++ option_to_list read) none ∙ sym (append-nil (option_to_list read)))
+names_more (first ∷ texts) text all read (one, later, is_one, names, joined) is =
+    (one, later ++ option_to_list read, is_one, names_more texts text later read names is, ap (λ l. l ++ option_to_list read) joined ∙ append_assoc (option_to_list one) later (option_to_list read))

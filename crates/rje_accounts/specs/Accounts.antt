@@ -7,7 +7,7 @@ use Rattle.rje_settle.specs.declared.receipt.Receipt.{Receipt}
 use Rattle.rje_settle.specs.declared.settle_name.SettleName.{SettleName}
 use Rattle.rje_settle.specs.Receipt.{no_receipt}
 use Rattle.rje_accounts.specs.declared.accounts.Accounts.{Accounts}
-use Rattle.rje_accounts.specs.Names.{come_of, kept_of, promise_of, sent_of}
+use Rattle.rje_accounts.specs.Names.{AreNamesOf, come_of, kept_of, promise_of, sent_of}
 
 -- one of these counts, which none is above
 pub record IsMost (counts : List Receipt) (r : Receipt) : Type 0 where
@@ -41,3 +41,7 @@ pub record AreAccounts (all : List SettleName) (a : Accounts) : Type 0 where
   pub in_order : IsNonDecreasingBy (λ (p : Promise). p.receipt.kept) a.promises.items
   pub come : IsPermutation (filter_map come_of all) a.come.items
   pub come_in_order : IsNonDecreasingBy (λ (number : ℕ). number) a.come.items
+
+-- the accounts are those of these texts, which are the names in settle/; a text that is no name's is passed over
+abbrev pub AreAccountsOf : (texts : List (List ℕ)) → Accounts → Type 0
+AreAccountsOf texts a = (all : List SettleName) × AreNamesOf texts all × AreAccounts all a

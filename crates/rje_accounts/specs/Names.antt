@@ -1,9 +1,11 @@
 -- The names in settle/, each kind by itself.
-use Rattle.std.specs.Prelude.{◌≡◌, ℕ, List, Option, Some, None}
+use Rattle.std.specs.Prelude.{◌≡◌, ◌≢◌, ℕ, List, [], ◌∷◌, ◌++◌, Option, Some, None}
 use Rattle.std.specs.List.{filter_map}
+use Rattle.std.specs.Option.{option_to_list}
 use Rattle.rje_settle.specs.declared.promise.Promise.{Promise}
 use Rattle.rje_settle.specs.declared.receipt.Receipt.{Receipt}
 use Rattle.rje_settle.specs.declared.settle_name.SettleName.{SettleName}
+use Rattle.rje_settle.specs.Names.{CanBeNamed, name_text}
 use Rattle.rje_accounts.specs.declared.settle_names.SettleNames.{SettleNames}
 
 -- what a name says that was sent, or kept; the job that it promises; the number of the job that came
@@ -22,6 +24,16 @@ promise_of _ = None
 abbrev pub come_of : SettleName → Option ℕ
 come_of (SettleName.Come number) = Some number
 come_of _ = None
+
+-- a text is this name's; where there is none, it is no name's
+abbrev pub IsRead : (text : List ℕ) → Option SettleName → Type 0
+IsRead text (Some name) = (text ≡ name_text name) × CanBeNamed name
+IsRead text None = (name : SettleName) → CanBeNamed name → text ≢ name_text name
+
+-- these names are those of the texts, one after another, without the texts that are no name's
+abbrev pub AreNamesOf : (texts : List (List ℕ)) → List SettleName → Type 0
+AreNamesOf [] all = all ≡ []
+AreNamesOf (text ∷ texts) all = (read : Option SettleName) × (later : List SettleName) × IsRead text read × AreNamesOf texts later × (all ≡ option_to_list read ++ later)
 
 -- some names, each kind by itself, in their order
 pub record AreSorted (all : List SettleName) (names : SettleNames) : Type 0 where

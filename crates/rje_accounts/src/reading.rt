@@ -1,10 +1,10 @@
 //! How the accounts are read.
-ghost use Rattle.std.specs.Prelude.{◌≡◌, ℕ, IfOk, OnOk, List, true};
+ghost use Rattle.std.specs.Prelude.{◌≡◌, ℕ, IfOk, OnOk, List, map, string_bytes, true};
 ghost use Rattle.rje_store.specs.Disk.{has_synced_name};
 ghost use Rattle.rje_store.specs.Replacing.{Adds};
 ghost use Rattle.rje_settle.specs.declared.settle_name.SettleName.{SettleName as Named};
-ghost use Rattle.rje_accounts.specs.Accounts.{AreAccounts};
-ghost use Rattle.rje_accounts.specs.Names.{AreSorted};
+ghost use Rattle.rje_accounts.specs.Accounts.{AreAccountsOf};
+ghost use Rattle.rje_accounts.specs.Names.{AreNamesOf, AreSorted};
 ghost use Rattle.rje_accounts.specs.Paths.{settle_folder as folder_path};
 ghost use Rattle.rje_accounts.specs.Reading.{AreSynced, MayRead};
 
@@ -30,7 +30,10 @@ pub fn read_accounts<D: FolderDisk>(
     ensures folder { D.discloses → OnOk result
         (has_synced_name (folder_path station.now) (D.asked disk.new) ≡ true) }
     ensures synced { D.discloses → OnOk result (AreSynced station.now (D.asked disk.new)) }
-    ensures accounts { IfOk result (λ accounts. (all : List Named) × AreAccounts all accounts) }
+    // They are those of the names that the disk says are there.
+    ensures accounts { IfOk result (λ accounts. (texts : List (List ℕ))
+        × D.has_names (D.asked disk.new) (folder_path station.now) texts
+        × AreAccountsOf texts accounts) }
 {
     make_folder(disk, alloc, station)?;
     sync_accounts(disk, alloc, station)?;
@@ -69,11 +72,22 @@ fn read_names<D: FolderDisk>(
     station: &str,
 ) -> Result<SettleNames, AccountsFault>
     requires { D.discloses → AreSynced station.now (D.asked disk.now) }
-    ensures { IfOk result (λ names. (all : List Named) × AreSorted all names) }
+    ensures { IfOk result (λ names. (texts : List (List ℕ)) × (all : List Named)
+        × D.has_names (D.asked disk.now) (folder_path station.now) texts
+        × AreNamesOf texts all × AreSorted all names) }
 {
     let folder = settle_folder(alloc, station)?;
+    let texts = disk.names_in(alloc, folder.as_str())?;
+    sorted(alloc, texts.as_slice())
+}
+
+/// Those of these texts that are names, each kind by itself.
+fn sorted(alloc: Global, texts: &[String]) -> Result<SettleNames, AccountsFault>
+    ensures { IfOk result (λ names. (all : List Named)
+        × AreNamesOf (map string_bytes texts.now) all × AreSorted all names) }
+{
     let mut names = SettleNames::new(alloc);
-    for text in disk.names_in(alloc, folder.as_str())? {
+    for text in texts {
         names.push_text(text.as_str())?;
     }
     Ok(names)

@@ -1,7 +1,8 @@
 //! The names in settle/, each kind by itself.
-ghost use Rattle.std.specs.Prelude.{◌≡◌, ◌∷◌, ◌++◌, [], List, OnOk};
+ghost use Rattle.std.specs.Prelude.{◌≡◌, ◌∷◌, ◌++◌, [], List, OnOk, Option};
 ghost use Rattle.rje_settle.specs.declared.settle_name.SettleName.{SettleName as Named};
-ghost use Rattle.rje_accounts.specs.Names.{AreSorted};
+ghost use Rattle.std.specs.Option.{option_to_list};
+ghost use Rattle.rje_accounts.specs.Names.{AreSorted, IsRead};
 
 use crate::accounts_fault::AccountsFault;
 use rje_settle::{Promise, Receipt, SettleName};
@@ -52,7 +53,8 @@ impl SettleNames {
     /// What is there under one name more, whether it is one of these or not.
     pub(crate) fn push_text(&mut self, text: &str) -> Result<(), AccountsFault>
         ensures { (all : List Named) → AreSorted all self.old → OnOk result
-            ((more : List Named) × AreSorted (all ++ more) self.new) }
+            ((read : Option Named) × IsRead text.now read
+            × AreSorted (all ++ option_to_list read) self.new) }
     {
         match SettleName::read(text.as_bytes()) {
             Some(name) => self.push(name),

@@ -10,7 +10,7 @@ use Rattle.rje_files.specs.Entry.{is_name_character}
 use Rattle.rje_requests.specs.declared.device.Device.{Device}
 use Rattle.rje_requests.specs.declared.device.Device.TheVariants.{Default, Printer, Punch, Transparent}
 use Rattle.rje_requests.specs.declared.order.Order.{Order}
-use Rattle.rje_requests.specs.declared.order.Order.TheVariants.{Files, Sockets, Station}
+use Rattle.rje_requests.specs.declared.order.Order.TheVariants.{Files, Sockets, Station, Status}
 use Rattle.rje_requests.specs.declared.order.FileOrder.TheVariants.{Cards}
 use Rattle.rje_cli.specs.declared.words_fault.WordsFault.{WordsFault}
 use Rattle.rje_cli.specs.declared.words_fault.WordsFault.TheVariants.{TwoDevices, BadName}
@@ -79,6 +79,7 @@ module _ (deck jobs : Text) (device : Device) (given : Option Text) (name : Text
   )
   order_read rows e (Files _) h = absurd (apart _ _ h.0 refl)
   order_read rows e (Station order) h = absurd (apart _ _ h.0 refl)
+  order_read rows e (Status order) h = absurd (apart _ _ h.0 refl)
   order_read rows e (Sockets order) h = absurd (no_socket (codes "cards") rows order refl refl refl refl h)
 
   cards_told : (rows : List Row) → cards_in rows ≡ value → (fault : WordsFault) → IsCardsFaultOf rows fault → ⊥

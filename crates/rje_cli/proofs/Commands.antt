@@ -176,5 +176,5 @@ pub is_command : (words : List Text) (name : Text) (rows : List Row) → fault_o
 is_command words name rows none met =
     let kept = walk_no_help (built rje_app).top (names_of (built rje_app)) (walk_from nothing_held) words refl tt
     (level_walk (built rje_app).top (names_of (built rje_app)) nothing_held words (is_some (subcommand_of rje_app words)) _ none) in
-    let r = command_entered (built rje_app) _ name rows met (refl, (refl, (refl, (refl, (refl, (refl, (refl, (refl, (refl, (refl, (refl, (refl, (refl, (refl, (refl, tt))))))))))))))) kept in
+    let r = command_entered (built rje_app) _ name rows met (refl, (refl, (refl, (refl, (refl, (refl, (refl, (refl, (refl, (refl, (refl, (refl, (refl, (refl, (refl, (refl, tt)))))))))))))))) kept in
     before_last name (codes "help") command_names r.0 r.1

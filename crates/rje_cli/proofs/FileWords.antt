@@ -10,7 +10,7 @@ use Rattle.clap.specs.Words.{HasKind, Row, Text, fault_of, first_of, one_of, sub
 use Rattle.clap.proofs.OnLiterals.{clap_on_literals}
 use Rattle.clap.specs.declared.error.Error.{Error}
 use Rattle.rje_requests.specs.declared.order.Order.{Order}
-use Rattle.rje_requests.specs.declared.order.Order.TheVariants.{Files, Sockets, Station}
+use Rattle.rje_requests.specs.declared.order.Order.TheVariants.{Files, Sockets, Station, Status}
 use Rattle.rje_requests.specs.declared.order.FileOrder.{FileOrder}
 use Rattle.rje_requests.specs.declared.order.FileOrder.TheVariants.{Blocks, Cards, Show, Check, Print, Try, Monitor, Take, Mark}
 use Rattle.rje_requests.specs.declared.order.SocketOrder.{SocketOrder}
@@ -266,6 +266,7 @@ blocks_read : (deck : Text) (rows : List Row) → deck_in rows ≡ deck → (ord
 blocks_read deck rows e (Files (Blocks named)) h = h.1 ∙ e
 blocks_read deck rows e (Files _) h = absurd (apart _ _ h.0 refl)
 blocks_read deck rows e (Station order) h = absurd (apart _ _ h.0 refl)
+blocks_read deck rows e (Status order) h = absurd (apart _ _ h.0 refl)
 blocks_read deck rows e (Sockets order) h = absurd (no_socket (codes "blocks") rows order refl refl refl refl h)
 
 show_read : (jobs : Text) (records : Bool) (rows : List Row) → show_in rows ≡ (jobs, None, records) → (order : Order) → IsOrderOf (codes "show") rows order
@@ -277,12 +278,14 @@ show_read jobs records rows e (Files (Show order)) h = (
 )
 show_read jobs records rows e (Files _) h = absurd (apart _ _ h.0 refl)
 show_read jobs records rows e (Station order) h = absurd (apart _ _ h.0 refl)
+show_read jobs records rows e (Status order) h = absurd (apart _ _ h.0 refl)
 show_read jobs records rows e (Sockets order) h = absurd (no_socket (codes "show") rows order refl refl refl refl h)
 
 check_read : (jobs : Text) (rows : List Row) → jobs_in rows ≡ jobs → (order : Order) → IsOrderOf (codes "check") rows order → IsCheck jobs order
 check_read jobs rows e (Files (Check named)) h = h.1 ∙ e
 check_read jobs rows e (Files _) h = absurd (apart _ _ h.0 refl)
 check_read jobs rows e (Station order) h = absurd (apart _ _ h.0 refl)
+check_read jobs rows e (Status order) h = absurd (apart _ _ h.0 refl)
 check_read jobs rows e (Sockets order) h = absurd (no_socket (codes "check") rows order refl refl refl refl h)
 
 print_read : (jobs : Text) (printer punch raw : Bool) (rows : List Row) → print_in rows ≡ (jobs, None, printer, punch, raw) → (order : Order)
@@ -297,6 +300,7 @@ print_read jobs printer punch raw rows e (Files (Print order)) h = (
 )
 print_read jobs printer punch raw rows e (Files _) h = absurd (apart _ _ h.0 refl)
 print_read jobs printer punch raw rows e (Station order) h = absurd (apart _ _ h.0 refl)
+print_read jobs printer punch raw rows e (Status order) h = absurd (apart _ _ h.0 refl)
 print_read jobs printer punch raw rows e (Sockets order) h = absurd (no_socket (codes "print") rows order refl refl refl refl h)
 
 try_read : (jobs script : Text) (rows : List Row) → files_in rows ≡ record { jobs = jobs; script = script } → (order : Order) → IsOrderOf (codes "try") rows order
@@ -304,6 +308,7 @@ try_read : (jobs script : Text) (rows : List Row) → files_in rows ≡ record {
 try_read jobs script rows e (Files (Try order)) h = (h.1.jobs ∙ ap (λ f. f.jobs) e, h.1.script ∙ ap (λ f. f.script) e)
 try_read jobs script rows e (Files _) h = absurd (apart _ _ h.0 refl)
 try_read jobs script rows e (Station order) h = absurd (apart _ _ h.0 refl)
+try_read jobs script rows e (Status order) h = absurd (apart _ _ h.0 refl)
 try_read jobs script rows e (Sockets order) h = absurd (no_socket (codes "try") rows order refl refl refl refl h)
 
 monitor_read : (capture : Text) (hex : Bool) (rows : List Row) → monitor_in rows ≡ (capture, hex) → (order : Order) → IsOrderOf (codes "monitor") rows order
@@ -311,6 +316,7 @@ monitor_read : (capture : Text) (hex : Bool) (rows : List Row) → monitor_in ro
 monitor_read capture hex rows e (Files (Monitor order)) h = (h.1.capture ∙ ap (λ (v : Monitoring). v.0) e, h.1.hex ∙ ap (λ (v : Monitoring). v.1) e)
 monitor_read capture hex rows e (Files _) h = absurd (apart _ _ h.0 refl)
 monitor_read capture hex rows e (Station order) h = absurd (apart _ _ h.0 refl)
+monitor_read capture hex rows e (Status order) h = absurd (apart _ _ h.0 refl)
 monitor_read capture hex rows e (Sockets order) h = absurd (no_socket (codes "monitor") rows order refl refl refl refl h)
 
 -- only the values of these commands can be such that they can't be carried out
@@ -326,7 +332,7 @@ no_fault name rows cards send receive exchange station take mark fault (inr (inr
 no_fault name rows cards send receive exchange station take mark fault (inr (inr (inr (inr (inr (inr h)))))) = apart _ _ h.0 mark
 
 module _ {V : Type 0} (view : List Row → V) (word : Text) (words : List Text) (name : Text) (value : V) (P : Order → Type 0) where
-  ask_only : fault_of rje_app (word ∷ words) ≡ [] → seen view (subcommand_of rje_app (word ∷ words)) ≡ Some (name, value)
+  pub ask_only : fault_of rje_app (word ∷ words) ≡ [] → seen view (subcommand_of rje_app (word ∷ words)) ≡ Some (name, value)
       → bytes_eq name (codes "cards") ≡ false → bytes_eq name (codes "send") ≡ false → bytes_eq name (codes "receive") ≡ false
       → bytes_eq name (codes "exchange") ≡ false → bytes_eq name (codes "station") ≡ false → bytes_eq name (codes "take") ≡ false
       → bytes_eq name (codes "mark") ≡ false → ((rows : List Row) → view rows ≡ value → (order : Order) → IsOrderOf name rows order → P order) → AskOnlyFor (word ∷ words) P

@@ -9,3 +9,4 @@ pub mod Connections
 pub mod ReceiveWords
 pub mod SendWords
 pub mod StationWords
+pub mod StatusWords

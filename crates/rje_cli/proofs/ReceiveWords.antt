@@ -6,7 +6,7 @@ use Rattle.clap.proofs.OnLiterals.{clap_on_literals}
 use Rattle.rje_requests.specs.declared.order.Existing.{Existing}
 use Rattle.rje_requests.specs.declared.order.Existing.TheVariants.{Replace, Refuse, Append}
 use Rattle.rje_requests.specs.declared.order.Order.{Order}
-use Rattle.rje_requests.specs.declared.order.Order.TheVariants.{Files, Sockets, Station}
+use Rattle.rje_requests.specs.declared.order.Order.TheVariants.{Files, Sockets, Station, Status}
 use Rattle.rje_requests.specs.declared.order.SocketOrder.TheVariants.{Receive}
 use Rattle.rje_cli.specs.declared.words_fault.WordsFault.{WordsFault}
 use Rattle.rje_requests.specs.declared.connection.Meeting.{Meeting}
@@ -60,6 +60,7 @@ module _ (jobs address : Text) (existing : Existing) (rows : List Row) (e : rece
   )
   order_read (Sockets _) h = absurd (apart _ _ h.0 refl)
   order_read (Station order) h = absurd (apart _ _ h.0 refl)
+  order_read (Status order) h = absurd (apart _ _ h.0 refl)
   order_read (Files order) h = absurd (no_file (codes "receive") rows order refl refl refl refl refl refl refl refl refl h)
 
   both_told : (place : Meeting) (fault : WordsFault) → IsReceivingFault place rows fault → ⊥

@@ -3,7 +3,7 @@ use Rattle.std.proofs.Common.{List, [], ◌∷◌, ◌≡◌, Some, None, refl, 
 use Rattle.clap.specs.Words.{Row, Text, fault_of, subcommand_of}
 use Rattle.clap.proofs.OnLiterals.{clap_on_literals}
 use Rattle.rje_requests.specs.declared.order.Order.{Order}
-use Rattle.rje_requests.specs.declared.order.Order.TheVariants.{Files, Sockets, Station}
+use Rattle.rje_requests.specs.declared.order.Order.TheVariants.{Files, Sockets, Station, Status}
 use Rattle.rje_requests.specs.declared.order.SocketOrder.TheVariants.{Send}
 use Rattle.rje_cli.specs.declared.words_fault.WordsFault.{WordsFault}
 use Rattle.rje_cli.specs.Address.{IsSomeAddress}
@@ -41,6 +41,7 @@ module _ (jobs address : Text) (rows : List Row) (e : send_in rows ≡ value job
   )
   order_read (Sockets _) h = absurd (apart _ _ h.0 refl)
   order_read (Station order) h = absurd (apart _ _ h.0 refl)
+  order_read (Status order) h = absurd (apart _ _ h.0 refl)
   order_read (Files order) h = absurd (no_file (codes "send") rows order refl refl refl refl refl refl refl refl refl h)
 
   none_told : IsSomeAddress address → (fault : WordsFault) → IsFaultOf (codes "send") rows fault → ⊥

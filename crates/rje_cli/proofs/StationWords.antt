@@ -6,7 +6,7 @@ use Rattle.clap.specs.Words.{Row, Text, fault_of, first_of, one_of, subcommand_o
 use Rattle.clap.proofs.OnLiterals.{clap_on_literals}
 use Rattle.bsc_link.specs.declared.rank.Rank.{Rank}
 use Rattle.rje_requests.specs.declared.order.Order.{Order}
-use Rattle.rje_requests.specs.declared.order.Order.TheVariants.{Files, Sockets, Station}
+use Rattle.rje_requests.specs.declared.order.Order.TheVariants.{Files, Sockets, Station, Status}
 use Rattle.rje_requests.specs.declared.station.Partner.{Partner}
 use Rattle.rje_requests.specs.declared.station.Partner.TheVariants.{Calls, Listens}
 use Rattle.rje_requests.specs.Station.{station_rank}
@@ -82,6 +82,7 @@ module _ (folder host : Text) (rows : List Row) (e : station_in rows ≡ value f
     settle = h.1.settle ∙ ap (λ (v : Seen). v.4.2) e;
     quiet = h.1.quiet ∙ ap (λ (v : Seen). v.4.3) e;
   }
+  order_read (Status order) h = absurd (apart _ _ h.0 refl)
   order_read (Sockets order) h = absurd (no_socket (codes "station") rows order refl refl refl refl h)
   order_read (Files order) h = absurd (no_file (codes "station") rows order refl refl refl refl refl refl refl refl refl h)
 

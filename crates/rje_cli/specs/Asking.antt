@@ -21,7 +21,7 @@ use Rattle.rje_requests.specs.declared.order.ExchangeOrder.{ExchangeOrder}
 use Rattle.rje_requests.specs.declared.order.Existing.{Existing}
 use Rattle.rje_requests.specs.declared.order.LoopOrder.{LoopOrder}
 use Rattle.rje_requests.specs.declared.order.Order.{Order}
-use Rattle.rje_requests.specs.declared.order.Order.TheVariants.{Files, Sockets, Station}
+use Rattle.rje_requests.specs.declared.order.Order.TheVariants.{Files, Sockets, Station, Status}
 use Rattle.rje_requests.specs.declared.order.MonitorOrder.{MonitorOrder}
 use Rattle.rje_requests.specs.declared.order.FileOrder.TheVariants.{Blocks, Cards, Show, Check, Print, Try, Monitor, Take, Mark}
 use Rattle.rje_requests.specs.declared.order.SocketOrder.TheVariants.{Loop, Send, Receive, Exchange}
@@ -36,6 +36,7 @@ use Rattle.rje_requests.specs.declared.job_numbers.JobNumbers.{JobNumbers}
 use Rattle.rje_requests.specs.declared.station.Partner.{Partner}
 use Rattle.rje_requests.specs.declared.station.Partner.TheVariants as ways
 use Rattle.rje_requests.specs.declared.station.StationOrder.{StationOrder}
+use Rattle.rje_requests.specs.declared.status.StatusOrder.{StatusOrder}
 use Rattle.rje_cli.specs.declared.words_fault.WordsFault.{WordsFault}
 use Rattle.rje_cli.specs.declared.words_fault.WordsFault.TheVariants.{Refused, TwoDevices, BadName, BadNumbers, NoMark, BadAddress, NoMeeting, CallersCalled, BadCallers, BadHost, EveryListens, WaitCalled, TwoRanks, NewAndAppend, SettlesWithAdapter, SettlesForEver, SettlesWithCallers}
 use Rattle.rje_cli.specs.Address.{IsAddressOf, IsHostAddress, IsSomeAddress}
@@ -377,6 +378,11 @@ IsStationFaultOf rows fault =
     IsPartnerFaultIn rows fault
     ⊎ ((partner : Partner) × IsPartnerIn rows partner × (IsStandingFault partner rows fault ⊎ IsSettlingFaultIn partner rows fault))
 
+-- the order has the folder that was found, and is told as JSON where that option was given
+pub record IsStatusOrderOf (rows : List Row) (order : StatusOrder) : Type 0 where
+  pub folder : order.folder.now ≡ word_in (codes "FOLDER") rows
+  pub json : order.json ≡ is_on (codes "json") rows
+
 -- the order is that of the command of this name, with the values that were found
 abbrev pub IsOrderOf : Text → List Row → Order → Type 0
 IsOrderOf name rows (Files (Blocks deck)) = (name ≡ codes "blocks") × (deck.now ≡ word_in (codes "DECK") rows)
@@ -393,6 +399,7 @@ IsOrderOf name rows (Sockets (Send order)) = (name ≡ codes "send") × IsSendOr
 IsOrderOf name rows (Sockets (Receive order)) = (name ≡ codes "receive") × IsReceiveOrderOf rows order
 IsOrderOf name rows (Sockets (Exchange order)) = (name ≡ codes "exchange") × IsExchangeOrderOf rows order
 IsOrderOf name rows (Station order) = (name ≡ codes "station") × IsStationOrderOf rows order
+IsOrderOf name rows (Status order) = (name ≡ codes "status") × IsStatusOrderOf rows order
 
 -- the values that were found for the command of this name can't be carried out
 abbrev pub IsFaultOf : Text → List Row → WordsFault → Type 0

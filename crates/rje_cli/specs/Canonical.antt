@@ -15,7 +15,7 @@ use Rattle.rje_requests.specs.Choice.{devices_chosen}
 use Rattle.rje_cli.specs.Asking.{AsksFor, form_chosen, IsGivenName, IsMeetingOf, IsPartnerOf, IsPatienceOf, IsProgressOf, IsTimeoutOf, IsWordsFault}
 use Rattle.rje_cli.specs.Address.{IsHostAddress, IsSomeAddress}
 use Rattle.rje_cli.specs.CommandLine.{is_file, names_file}
-use Rattle.rje_cli.specs.Orders.{IsBlocks, IsCards, IsShow, IsCheck, IsPrint, IsTry, IsMonitor}
+use Rattle.rje_cli.specs.Orders.{IsBlocks, IsCards, IsShow, IsCheck, IsPrint, IsTry, IsMonitor, IsStatus}
 use Rattle.rje_cli.specs.WordsFault.{IsWantOfMemory}
 
 -- each order that the words ask for is such a one, and they have no fault but out of memory
@@ -162,3 +162,9 @@ abbrev pub StationAsked : Type 0
 StationAsked =
     (folder host : Text) → names_file folder ≡ true → names_file host ≡ true → IsHostAddress host
     → AskOnlyFor (codes "station" ∷ folder ∷ codes "--to" ∷ host ∷ []) (IsStation folder host)
+
+-- `status FOLDER` asks for a look at the folder, told as JSON with `--json`
+abbrev pub StatusAsked : Type 0
+StatusAsked =
+    (folder : Text) (json : Bool) → names_file folder ≡ true
+    → AskOnlyFor (codes "status" ∷ folder ∷ flag_words json (codes "--json")) (IsStatus folder json)

@@ -175,6 +175,10 @@ station_app =
     with_rule (with_rule (with_rule (with_rule (with_partner_rules (file_app (codes "station") (codes "FOLDER"))) (flag_rule (codes "adapter")))
     (flag_rule (codes "once"))) (flag_rule (codes "settle"))) quiet_rule
 
+-- `status FOLDER`, with the option for JSON
+abbrev pub status_app : App
+status_app = with_rule (file_app (codes "status") (codes "FOLDER")) (flag_rule (codes "json"))
+
 -- the commands over decks
 abbrev pub with_deck_apps : App → App
 with_deck_apps app = with_subcommand (with_subcommand app cards_app.top) blocks_app.top
@@ -185,11 +189,11 @@ with_file_apps app =
     with_subcommand (with_subcommand (with_subcommand (with_subcommand (with_subcommand (with_subcommand (with_subcommand app show_app.top)
     (file_app (codes "check") (codes "JOBS")).top) print_app.top) try_app.top) monitor_app.top) take_app.top) mark_app.top
 
--- the commands over connections
+-- the commands over connections, and the one over a station's folder
 abbrev pub with_line_apps : App → App
 with_line_apps app =
-    with_subcommand (with_subcommand (with_subcommand (with_subcommand (with_subcommand app loop_app.top) send_app.top) receive_app.top)
-    exchange_app.top) station_app.top
+    with_subcommand (with_subcommand (with_subcommand (with_subcommand (with_subcommand (with_subcommand app loop_app.top) send_app.top)
+    receive_app.top) exchange_app.top) station_app.top) status_app.top
 
 -- the program with all its commands
 abbrev pub rje_app : App
@@ -209,7 +213,7 @@ is_file (c ∷ d ∷ rest) = not (c == 45)
 -- the names of the commands
 abbrev pub command_names : List Text
 command_names =
-    codes "cards" ∷ codes "blocks" ∷ codes "show" ∷ codes "check" ∷ codes "print" ∷ codes "try" ∷ codes "monitor" ∷ codes "take" ∷ codes "mark" ∷ codes "loop" ∷ codes "send" ∷ codes "receive" ∷ codes "exchange" ∷ codes "station" ∷ []
+    codes "cards" ∷ codes "blocks" ∷ codes "show" ∷ codes "check" ∷ codes "print" ∷ codes "try" ∷ codes "monitor" ∷ codes "take" ∷ codes "mark" ∷ codes "loop" ∷ codes "send" ∷ codes "receive" ∷ codes "exchange" ∷ codes "station" ∷ codes "status" ∷ []
 
 -- the text is one of these
 abbrev pub IsOneOf : Text → List Text → Type 0

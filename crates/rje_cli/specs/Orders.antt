@@ -7,7 +7,7 @@ use Rattle.rje_requests.specs.declared.choice.Devices.{Devices}
 use Rattle.rje_requests.specs.declared.choice.Devices.TheVariants.{All}
 use Rattle.rje_requests.specs.declared.device.Device.{Device}
 use Rattle.rje_requests.specs.declared.order.Order.{Order}
-use Rattle.rje_requests.specs.declared.order.Order.TheVariants.{Files}
+use Rattle.rje_requests.specs.declared.order.Order.TheVariants.{Files, Status}
 use Rattle.rje_requests.specs.declared.order.FileOrder.TheVariants.{Blocks, Cards, Show, Check, Print, Try, Monitor}
 
 -- the order is for the blocks of this deck
@@ -50,3 +50,8 @@ IsTry jobs script _ = ⊥
 abbrev pub IsMonitor : Text → (hex : Bool) → Order → Type 0
 IsMonitor capture hex (Files (Monitor order)) = (order.capture.now ≡ capture) × (order.hex ≡ hex)
 IsMonitor capture hex _ = ⊥
+
+-- the order is for a look at this folder, and says whether it is told as JSON
+abbrev pub IsStatus : Text → (json : Bool) → Order → Type 0
+IsStatus folder json (Status order) = (order.folder.now ≡ folder) × (order.json ≡ json)
+IsStatus folder json _ = ⊥

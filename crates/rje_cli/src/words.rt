@@ -8,7 +8,7 @@ ghost use Rattle.rje_cli.specs.Asking.{IsLoopOrderOf, IsSendOrderOf, IsReceiveOr
 ghost use Rattle.rje_cli.specs.Asking.{IsTimeoutOf, IsPatienceOf, IsBadName, IsGivenName, IsNumberOf, word_in, is_on, existing_in, rank_in, waits_in};
 ghost use Rattle.rje_cli.specs.Asking.{IsMonitorOrderOf, IsPrintOrderOf, IsShowOrderOf};
 ghost use Rattle.rje_cli.specs.Asking.{AreNumbersIn, IsBadNumbersIn, IsMarkFaultOf, IsMarkOrderOf, IsTakeOrderOf};
-ghost use Rattle.rje_cli.specs.Asking.{IsStationOrderOf, IsStationFaultOf};
+ghost use Rattle.rje_cli.specs.Asking.{IsStationOrderOf, IsStationFaultOf, IsStatusOrderOf};
 ghost use Rattle.rje_cli.specs.Asking.{IsBadCallers, IsCallersOf, IsConnectionOf, IsConnectionFault, IsMeetingIn};
 
 mod app;
@@ -24,7 +24,8 @@ use rje_jobs::Form;
 use rje_requests::{
     Callers, CardsOrder, Choice, Connection, Destination, Device, Devices, ExchangeOrder, Existing,
     FileOrder, JobNumbers, LoopOrder, Mark, MarkOrder, Meeting, MonitorOrder, Order, PrintOrder,
-    ReceiveOrder, STANDARD_INPUT, SendOrder, ShowOrder, SocketOrder, TakeOrder, TryOrder,
+    ReceiveOrder, STANDARD_INPUT, SendOrder, ShowOrder, SocketOrder, StatusOrder, TakeOrder,
+    TryOrder,
 };
 use station::station_order;
 use std::alloc::Global;
@@ -67,6 +68,7 @@ fn order_of<'a>(command: &str, matches: &ArgMatches<'a>) -> Result<Order<'a>, Wo
         "receive" => Ok(Order::Sockets(SocketOrder::Receive(receive_order(matches)?))),
         "exchange" => Ok(Order::Sockets(SocketOrder::Exchange(exchange_order(matches)?))),
         "station" => Ok(Order::Station(station_order(matches)?)),
+        "status" => Ok(Order::Status(status_order(matches))),
         _ => unreachable!(),
     }
 }
@@ -290,6 +292,15 @@ fn existing_in(matches: &ArgMatches) -> Option<Existing>
     ensures { result ≡ existing_in (rows_of (found_of matches.now)) }
 {
     Existing::chosen(is_given(matches, "new"), is_given(matches, "append"))
+}
+
+fn status_order<'a>(matches: &ArgMatches<'a>) -> StatusOrder<'a>
+    ensures { IsStatusOrderOf (rows_of (found_of matches.now)) result }
+{
+    StatusOrder {
+        folder: word(matches, "FOLDER"),
+        json: is_given(matches, "json"),
+    }
 }
 
 /// How a command comes to its connection, and what it keeps to there.

@@ -24,7 +24,14 @@ use std::fs::File;
 use std::io::{self, ErrorKind, Write};
 use std::net::{Net, OpenListener, SocketAddr, TcpListener};
 use std::rt::Files;
-use std::time::Clock;
+use std::thread;
+use std::time::{Clock, Duration};
+
+/// How many times more a folder is tried that is in use.
+const LOCK_TRIES: u32 = 25;
+
+/// How long it waits before it tries again, in milliseconds.
+const LOCK_PAUSE: u64 = 20;
 
 /// Runs the station that these words ask for, which are those after the program's name, and returns its exit status: 0 where it was drained, or
 /// its one connection is over (or it gave help), 2 where the words ask for no station, 3 where its folder can't be used, another station has
@@ -143,8 +150,7 @@ where
     }
     let path = whole_path(rt, alloc, order.folder)?;
     guard(rt, alloc, path.as_str())?;
-    let folder = StationFolder::open(SystemDisk::new(rt), alloc, path.as_str());
-    let folder = folder.map_err(StationEnd::Folder)?;
+    let folder = opened(rt, alloc, path.as_str()).map_err(StationEnd::Folder)?;
     let log = LogFile::open(rt, alloc, path.as_str()).map_err(StationEnd::Log)?;
     let rewrites = is_terminal && !order.quiet;
     let console = Console::new(rt, alloc, &mut *err, log, rewrites);
@@ -162,6 +168,21 @@ where
         )),
         Err(fault) => Err(StationEnd::Settling(fault)),
     }
+}
+
+/// Has the folder of this path for this station. One that is in use is tried again for half a second: a look at it locks it for a moment.
+fn opened<'a, R: Clock + Files<File = File> + Alloc + Clone + Drop>(
+    rt: &'a R,
+    alloc: Global,
+    path: &str,
+) -> Result<StationFolder<SystemDisk<'a, R>>, FolderFault> {
+    for _ in 0..LOCK_TRIES {
+        match StationFolder::open(SystemDisk::new(rt), alloc, path) {
+            Err(FolderFault::InUse) => thread::sleep(rt, Duration::from_millis(LOCK_PAUSE)),
+            opened => return opened,
+        }
+    }
+    StationFolder::open(SystemDisk::new(rt), alloc, path)
 }
 
 /// How a station ended that was served so.

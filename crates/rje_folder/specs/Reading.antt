@@ -19,6 +19,10 @@ IsWholeRead {F} remaining is_open file read = IfSome (remaining file) (λ rest. 
 abbrev pub IsReadOf : {F : Type 0} → (F → Opened) → (F → Option (List ℕ)) → (is_open : F → FileIdentity → Type 0) → (path : List ℕ) → FileRead → Type 0
 IsReadOf {F} opened remaining is_open path read = (file : F) × ((opened file).name ≡ path) × IsWholeRead remaining is_open file read
 
+-- once it was read the station locked the file itself for a moment, so that no command had it locked
+abbrev pub WasLocked : {F : Type 0} → (is_locked : F → Type 0) → (is_open : F → FileIdentity → Type 0) → FileRead → Type 0
+WasLocked {F} is_locked is_open read = (lock : F) × is_locked lock × is_open lock read.file
+
 -- a file that was opened under a path has more bytes than so many, where the file shows that
 abbrev pub IsLongerThan : {F : Type 0} → (F → Opened) → (F → Option (List ℕ)) → (path : List ℕ) → (most : ℕ) → Type 0
 IsLongerThan {F} opened remaining path most = (file : F) × ((opened file).name ≡ path) × IfSome (remaining file) (λ rest. most < length rest)

@@ -26,6 +26,10 @@ MayNameTried are_one tried IsNew call before = MayAdd are_one tried IsNew call b
 abbrev pub WasSeen : (is_file : List Asked → List ℕ → FileIdentity → Type 0) → (folder tried : List ℕ) → FileIdentity → List Asked → Type 0
 WasSeen is_file folder tried file before = IsTemporary folder tried × ((later moment : List Asked) × (before ≡ later ++ moment) × is_file moment tried file)
 
+-- an open file is locked, and the disk said at one moment before this that it is this one
+abbrev pub IsLockedAs : {F : Type 0} → (is_locked : F → Type 0) → (is_open : List Asked → F → FileIdentity → Type 0) → (lock : F) → FileIdentity → List Asked → Type 0
+IsLockedAs {F} is_locked is_open lock file before = is_locked lock × ((later moment : List Asked) × (before ≡ later ++ moment) × is_open moment lock file)
+
 -- What may be asked to give this file, and no other, one of some names beside the one that it has: to try whatever has that name; to give it one of those
 -- by the hidden name, once the disk said that this is the file's; and to take that one away again, of which the file has the first name still.
 abbrev pub MayAddOf : (is_file : List Asked → List ℕ → FileIdentity → Type 0) → (are_one : List Asked → List ℕ → List ℕ → Type 0) → Trial → (IsNew : List ℕ → Type 0) → Call → List Asked → Type 0

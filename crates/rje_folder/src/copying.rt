@@ -10,16 +10,18 @@ use crate::folder::Folder;
 use crate::folder_disk::FolderDisk;
 use crate::folder_fault::FolderFault;
 use crate::keeping::{create_new, fill_new};
-use crate::reading::{FileRead, identity, read_named};
+use crate::reading::{FileRead, LockedFile, identity, read_named};
 use std::alloc::Global;
 use std::io;
 
 /// A copy of a file of out/, which is in refused/ under a name that is left alone.
 #[derive(Drop)]
-pub(crate) struct FileCopy {
+pub(crate) struct FileCopy<F: Drop> {
     pub(crate) path: String,
     /// What was read of the file.
     pub(crate) read: FileRead,
+    /// The file itself, which is locked as long as this is open.
+    pub(crate) lock: F,
 }
 
 /// A copy of a file of out/, on disk. Too large if it has more than `most` bytes; being written if it was written to meanwhile, or isn't at rest at this
@@ -31,11 +33,12 @@ pub(crate) fn copied<D: FolderDisk>(
     name: &str,
     most: u64,
     now: Option<i64>,
-) -> Result<FileCopy, FolderFault>
+) -> Result<FileCopy<D::File>, FolderFault>
     ensures asks { D.discloses → Adds (MayCopy (path_of station.now Folder.Refused))
         (D.asked disk.old) (D.asked disk.new) }
     ensures read { D.discloses → IfOk result (λ copy. IsReadOf D.opened D.File.remaining
         (D.is_open (D.asked disk.old)) (path_in station.now Folder.Out name.now) copy.read) }
+    ensures locked { IfOk result (λ copy. D.is_locked copy.lock) }
     ensures rests { IfOk result (λ copy. IsAtRest copy.read.file.changed.seconds now) }
     ensures whole { D.discloses → IfOk result (λ copy. IsWhole (string_bytes copy.path)
         copy.read.bytes.items (D.asked disk.new)) }
@@ -45,12 +48,12 @@ pub(crate) fn copied<D: FolderDisk>(
         IsTemporary (path_of station.now Folder.Refused) (string_bytes copy.path)) }
 {
     rests(disk, alloc, station, name, now)?;
-    let read = read_named(disk, alloc, station, name, most)?;
+    let LockedFile { read, lock } = read_named(disk, alloc, station, name, most)?;
     if !read.file.is_at_rest(now) {
         return Err(FolderFault::BeingWritten(Folder::Out));
     }
     match new_copy(disk, alloc, station, read.bytes.as_slice()) {
-        Ok(path) => Ok(FileCopy { path, read }),
+        Ok(path) => Ok(FileCopy { path, read, lock }),
         Err(error) => Err(FolderFault::of(Folder::Out, &error)),
     }
 }

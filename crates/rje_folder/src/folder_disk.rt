@@ -1,12 +1,12 @@
 //! A disk with folders.
-ghost use Rattle.std.specs.Prelude.{◌≡◌, ℕ, List, true, IfOk};
+ghost use Rattle.std.specs.Prelude.{◌≡◌, ℕ, List, true, IfOk, OnOk, map, string_bytes};
 ghost use Rattle.rje_folder.specs.declared.file_identity.FileIdentity.{FileIdentity as Identity};
 ghost use Rattle.rje_store.specs.Disk.{Asked};
 
 use crate::file_identity::FileIdentity;
 use rje_store::{Disk, FileKind, FileStatus, SystemDisk};
 use std::alloc::Global;
-use std::fs::{self, File};
+use std::fs::{self, File, TryLockError};
 use std::io::{self, ErrorKind};
 use std::rt::Files;
 
@@ -21,6 +21,12 @@ pub trait FolderDisk: Disk {
     /// After these calls, the disk said that an open file is this one.
     ghost is_open: { List Asked → Self.File → Identity → Type 0 };
 
+    /// After these calls, the disk said that a folder has these names, in some order, and no other that is text.
+    ghost has_names: { List Asked → List ℕ → List (List ℕ) → Type 0 };
+
+    /// This open file is locked: no command of this program writes to it, or puts another in its place, as long as it is open.
+    ghost is_locked: { Self.File → Type 0 };
+
     /// Whether two names are of one file, which is a symbolic link itself where they are names of one. Not found where nothing stands under one of them.
     fn is_one_file(&self, one: &str, other: &str) -> io::Result<bool>
         ensures { IfOk result (λ is_one. is_one ≡ true
@@ -34,8 +40,15 @@ pub trait FolderDisk: Disk {
     fn identity_of(&self, file: &Self::File) -> io::Result<FileIdentity>
         ensures { IfOk result (λ is. is_open (Self.asked self.now) file.now is) };
 
+    /// Locks an open file against those who write it, as long as it is open. It would block where a process has locked it to write it; others may read it
+    /// so too.
+    fn try_lock_to_read(&self, file: &Self::File) -> Result<(), TryLockError>
+        ensures { OnOk result (is_locked file.now) };
+
     /// The names in a folder, in no order, except those that are no text.
-    fn names_in(&self, alloc: Global, folder: &str) -> io::Result<Vec<String>>;
+    fn names_in(&self, alloc: Global, folder: &str) -> io::Result<Vec<String>>
+        ensures { IfOk result (λ names. has_names (Self.asked self.now) folder.now
+            (map string_bytes names.items)) };
 
     /// How many names in a folder are no text.
     fn count_unreadable_names(&self, folder: &str) -> io::Result<usize>;
@@ -52,6 +65,10 @@ impl<'a, R: Files<File = File> + Alloc + Clone + Drop> FolderDisk for SystemDisk
 
     ghost is_open = { λ _ _ _. Unit {0} };
 
+    ghost has_names = { λ _ _ _. Unit {0} };
+
+    ghost is_locked = { λ _. Unit {0} };
+
     fn is_one_file(&self, one: &str, other: &str) -> io::Result<bool> {
         let found = self.status_of_name(one)?;
         let also = self.status_of_name(other)?;
@@ -65,6 +82,10 @@ impl<'a, R: Files<File = File> + Alloc + Clone + Drop> FolderDisk for SystemDisk
 
     fn identity_of(&self, file: &File) -> io::Result<FileIdentity> {
         Ok(FileIdentity::of(&self.status_of(file)?))
+    }
+
+    fn try_lock_to_read(&self, file: &File) -> Result<(), TryLockError> {
+        file.try_lock_shared()
     }
 
     fn names_in(&self, alloc: Global, folder: &str) -> io::Result<Vec<String>> {

@@ -62,11 +62,23 @@ impl FolderFault {
         }
     }
 
-    /// Why a file can't get a name in a folder: left there if that is busy, as another one took its name in out/ meanwhile.
+    /// Why a file can't get a name in a folder: left there if that is busy, as another one took its name in out/ meanwhile; being written in out/ if a
+    /// command has it locked.
     pub(crate) fn left_in(folder: Folder, error: &io::Error) -> FolderFault {
         match error.kind() {
             ErrorKind::ResourceBusy => FolderFault::LeftIn(folder),
+            ErrorKind::WouldBlock => FolderFault::BeingWritten(Folder::Out),
             _ => FolderFault::of(folder, error),
+        }
+    }
+
+    /// Why a file of out/ that was read can't be locked: being written if a command has it locked.
+    pub(crate) fn unlocked(error: &io::Error) -> FolderFault
+        ensures { (other : Folder) → result ≢ TooLarge other }
+    {
+        match error.kind() {
+            ErrorKind::WouldBlock => FolderFault::BeingWritten(Folder::Out),
+            _ => FolderFault::of(Folder::Out, error),
         }
     }
 

@@ -7,6 +7,7 @@ ghost use Rattle.rje_folder.specs.Moving.{IsGone, IsMoved, IsSecond, MayMove};
 ghost use Rattle.rje_folder.specs.declared.settled.OutName.TheVariants.{TakenAway};
 ghost use Rattle.rje_folder.specs.Promising.{IsSent, IsSettled, MayPromise, MaySettle};
 ghost use Rattle.rje_folder.specs.TakingOut.{MayTakeOut};
+ghost use Rattle.rje_folder.specs.Trying.{IsLockedAs};
 
 use crate::file_identity::FileIdentity;
 use crate::file_names::FileNames;
@@ -17,29 +18,32 @@ use crate::linking::sync_names;
 use crate::moving::{change_name, drop_name, move_file};
 use crate::settled::{OutName, Settled};
 use crate::taking_out::take_out;
-use crate::trying::add_name_of;
+use crate::trying::{AddedName, add_name_of};
 use rje_day::Disposition;
 use std::alloc::Global;
 use std::io::{self, ErrorKind};
 
-/// Before the last block of a job is said: its file gets a second name, in doubt/, on disk. That name's path. Replaced where it isn't this file,
-/// and then the second name is taken away again, if it can be.
+/// Before the last block of a job is said: its file gets a second name, in doubt/, on disk, and is locked. That name's path. Replaced where it isn't this
+/// file, and then the second name is taken away again, if it can be; being written where a command has it locked.
 pub(crate) fn promise<D: FolderDisk>(
     disk: &mut D,
     alloc: Global,
     station: &str,
     name: &str,
     file: FileIdentity,
-) -> Result<String, FolderFault>
+) -> Result<AddedName<D::File>, FolderFault>
     ensures asks { D.discloses → Adds (MayPromise D.is_file D.are_one station.now
         (record { name = name.now; file = file }))
         (D.asked disk.old) (D.asked disk.new) }
     ensures second { D.discloses → IfOk result (λ doubt. IsSecond
-        (path_in station.now Folder.Out name.now) (string_bytes doubt)
+        (path_in station.now Folder.Out name.now) (string_bytes doubt.path)
         (D.asked disk.old) (D.asked disk.new)) }
-    ensures file { IfOk result (λ doubt. D.is_file (D.asked disk.new) (string_bytes doubt) file) }
+    ensures file { IfOk result (λ doubt.
+        D.is_file (D.asked disk.new) (string_bytes doubt.path) file) }
     ensures named { IfOk result (λ doubt. IsNumbered
-        (path_in station.now Folder.Doubt name.now) (string_bytes doubt)) }
+        (path_in station.now Folder.Doubt name.now) (string_bytes doubt.path)) }
+    ensures locked { D.discloses → IfOk result (λ doubt.
+        IsLockedAs D.is_locked D.is_open doubt.lock file (D.asked disk.new)) }
 {
     match name_in_doubt(disk, alloc, station, name, file) {
         Ok(Some(doubt)) => Ok(doubt),
@@ -48,25 +52,27 @@ pub(crate) fn promise<D: FolderDisk>(
     }
 }
 
-/// Gives a file in out/ a second name, in doubt/, on disk. That name's path. Where it isn't this file the second name is taken away again, if it can
-/// be, and there is none.
+/// Gives a file in out/ a second name, in doubt/, on disk, and locks it. That name's path. Where it isn't this file the second name is taken away again, if
+/// it can be, and there is none.
 fn name_in_doubt<D: FolderDisk>(
     disk: &mut D,
     alloc: Global,
     station: &str,
     name: &str,
     file: FileIdentity,
-) -> io::Result<Option<String>>
+) -> io::Result<Option<AddedName<D::File>>>
     ensures asks { D.discloses → Adds (MayPromise D.is_file D.are_one station.now
         (record { name = name.now; file = file }))
         (D.asked disk.old) (D.asked disk.new) }
     ensures second { D.discloses → IfOk result (λ doubt. IfSome doubt (λ doubt. IsSecond
-        (path_in station.now Folder.Out name.now) (string_bytes doubt)
+        (path_in station.now Folder.Out name.now) (string_bytes doubt.path)
         (D.asked disk.old) (D.asked disk.new))) }
     ensures file { IfOk result (λ doubt. IfSome doubt (λ doubt.
-        D.is_file (D.asked disk.new) (string_bytes doubt) file)) }
+        D.is_file (D.asked disk.new) (string_bytes doubt.path) file)) }
     ensures named { IfOk result (λ doubt. IfSome doubt (λ doubt. IsNumbered
-        (path_in station.now Folder.Doubt name.now) (string_bytes doubt))) }
+        (path_in station.now Folder.Doubt name.now) (string_bytes doubt.path))) }
+    ensures locked { D.discloses → IfOk result (λ doubt. IfSome doubt (λ doubt.
+        IsLockedAs D.is_locked D.is_open doubt.lock file (D.asked disk.new))) }
 {
     let ready = Folder::Out.path(alloc, station, name)?;
     let second = Folder::Doubt.path(alloc, station, name)?;

@@ -98,13 +98,14 @@ fn second_path<D: FolderDisk>(
 }
 
 /// An open file of out/, and which file stands under its name: that one. Being written where it is another.
-fn as_named<D: FolderDisk>(
+pub(crate) fn as_named<D: FolderDisk>(
     disk: &D,
     alloc: Global,
     station: &str,
     name: &str,
     file: D::File,
 ) -> Result<NamedFile<D::File>, FolderFault>
+    ensures same { IfOk result (λ ready. ready.file ≡ file) }
     ensures opened { IfOk result (λ ready. D.opened ready.file ≡ D.opened file) }
     ensures is { IfOk result (λ ready. D.is_open (D.asked disk.now) ready.file ready.named) }
     ensures named { IfOk result (λ ready. D.is_file (D.asked disk.now)

@@ -15,12 +15,12 @@ use crate::folder_fault::FolderFault;
 use crate::keeping::{Kept, keep};
 use crate::moving::is_this_file;
 use crate::taking_out::take_out;
-use crate::trying::add_name_of;
+use crate::trying::{AddedName, add_name_of};
 use std::alloc::Global;
 use std::io::{self, ErrorKind};
 
-/// Puts this file of out/ into refused/. The path that it has there. Replaced where another file has its name, which stays; left in refused/ where one
-/// has no other name.
+/// Puts this file of out/ into refused/. The path that it has there. Replaced where another file has its name, which stays; being written where a
+/// command has it locked; left in refused/ where one has no other name.
 pub(crate) fn refuse<D: FolderDisk>(
     disk: &mut D,
     alloc: Global,
@@ -69,7 +69,14 @@ fn move_to_refused<D: FolderDisk>(
     let out = disk.open_folder(ready.as_str())?;
     let names = FileNames::Of(refused.as_str());
     let own = Folder::Refused.own_path(alloc, station)?;
-    let Some(second) = add_name_of(disk, alloc, own.as_str(), ready.as_str(), names, file)? else {
+    let added = add_name_of(disk, alloc, own.as_str(), ready.as_str(), names, file)?;
+    let Some(
+        AddedName {
+            path: second,
+            lock: _lock,
+        },
+    ) = added
+    else {
         return Ok(None);
     };
     if take_out(disk, alloc, station, name, second.as_str(), &out)? {

@@ -1,5 +1,5 @@
 //! The folder of a station.
-ghost use Rattle.std.specs.Prelude.{◌≡◌, ◌⊎◌, ◌≤◌, length, true, IfOk, IsErrOf, OnOk, string_bytes};
+ghost use Rattle.std.specs.Prelude.{◌≡◌, ◌⊎◌, ◌≤◌, length, true, IfOk, IsErrOf, None, OnOk, Some, string_bytes};
 ghost use Rattle.rje_store.specs.Disk.{has_synced_name};
 ghost use Rattle.rje_store.specs.Replacing.{Adds, IsOnDisk};
 ghost use Rattle.rje_folder.specs.FileNames.{IsBetween, IsBetweenFrom, IsNumbered};
@@ -8,9 +8,10 @@ ghost use Rattle.rje_folder.specs.Keeping.{HasTriedToKeep, LeavesNone, MayKeep, 
 ghost use Rattle.rje_folder.specs.Marking.{IsMarked, IsSaid, MayMark, WasSaid};
 ghost use Rattle.rje_folder.specs.Moving.{IsGone, IsMoved, IsSecond, MayMove};
 ghost use Rattle.rje_folder.specs.Promising.{IsSent, IsSettled, MayDropCut, MayOpen, MayPromise, MayPutAside, MaySettle, WasOnDisk};
-ghost use Rattle.rje_folder.specs.Reading.{IsLongerThan, IsReadOf, MayRead, OfSecond};
+ghost use Rattle.rje_folder.specs.Reading.{IsLongerThan, IsReadOf, MayRead, OfSecond, WasLocked};
 ghost use Rattle.rje_folder.specs.ReadyFile.{AreInOrder};
 ghost use Rattle.rje_folder.specs.TakingOver.{IsTakenOver, MayFinish, MayTakeOver};
+ghost use Rattle.rje_folder.specs.Trying.{IsLockedAs};
 ghost use Rattle.rje_folder.specs.declared.folder_fault.FolderFault.TheVariants.{TooLarge};
 ghost use Rattle.rje_folder.specs.declared.settled.OutName.TheVariants.{TakenAway};
 
@@ -31,6 +32,7 @@ use crate::reading::{FileRead, identity, read_ready};
 use crate::receiving::{drop_cut, explain, keep_in, refuse};
 use crate::settled::Settled;
 use crate::taking_over::take_over;
+use crate::trying::AddedName;
 use rje_day::Disposition;
 use std::alloc::Global;
 
@@ -42,6 +44,8 @@ pub struct StationFolder<D: FolderDisk + Drop> {
     path: String,
     // Locked as long as it is open.
     lock: D::File,
+    // The file that was promised last and isn't settled yet, locked as long as it is open: no command changes it, or puts another in its place.
+    promised: Option<D::File>,
 }
 
 impl<D: FolderDisk + Drop> StationFolder<D> {
@@ -64,6 +68,7 @@ impl<D: FolderDisk + Drop> StationFolder<D> {
             alloc,
             path: String::from_str(alloc, path)?,
             lock,
+            promised: None,
         })
     }
 
@@ -96,8 +101,8 @@ impl<D: FolderDisk + Drop> StationFolder<D> {
         ))
     }
 
-    /// All bytes of a file in out/, and which file it is. Too large where it has more than `most`; being written where it was written to meanwhile;
-    /// without a second name where it can't get one, as it has to before its last block is said.
+    /// All bytes of a file in out/, and which file it is. Too large where it has more than `most`; being written where it was written to meanwhile, or where
+    /// a command has it locked; without a second name where it can't get one, as it has to before its last block is said.
     pub fn read(&mut self, name: &str, most: u64) -> Result<FileRead, FolderFault>
         ensures asks { D.discloses → Adds (MayRead (string_bytes self.old.path) name.now)
             (D.asked self.old.disk) (D.asked self.new.disk) }
@@ -109,6 +114,7 @@ impl<D: FolderDisk + Drop> StationFolder<D> {
         // It is the file that stands under the name itself, as the disk said.
         ensures named { IfOk result (λ read. D.is_file (D.asked self.new.disk)
             (path_in (string_bytes self.old.path) Folder.Out name.now) read.file) }
+        ensures free { IfOk result (WasLocked D.is_locked (D.is_open (D.asked self.new.disk))) }
         ensures limit { IfOk result (λ read. length read.bytes.items ≤ most) }
         ensures long { D.discloses → IsErrOf result (TooLarge Folder.Out)
             → OfSecond (string_bytes self.old.path) name.now
@@ -200,8 +206,9 @@ impl<D: FolderDisk + Drop> StationFolder<D> {
         Ok(!names.is_empty())
     }
 
-    /// Before the last block of the job of this file in out/ is said: the file gets a second name, in doubt/, on disk. That name's path. Replaced
-    /// where another file has its name in out/, or it was written to: then it has no second name, if that could be taken away again.
+    /// Before the last block of the job of this file in out/ is said: the file gets a second name, in doubt/, on disk, and is locked until it is settled. That
+    /// name's path. Replaced where another file has its name in out/, or it was written to, and being written where a command has it locked: then it has
+    /// no second name, if that could be taken away again.
     pub fn promise(&mut self, name: &str, file: FileIdentity) -> Result<String, FolderFault>
         ensures asks { D.discloses → Adds
             (MayPromise D.is_file D.are_one (string_bytes self.old.path)
@@ -215,9 +222,19 @@ impl<D: FolderDisk + Drop> StationFolder<D> {
             D.is_file (D.asked self.new.disk) (string_bytes doubt) file) }
         ensures named { IfOk result (λ doubt. IsNumbered
             (path_in (string_bytes self.old.path) Folder.Doubt name.now) (string_bytes doubt)) }
+        ensures locked { D.discloses → OnOk result ((lock : _) × (self.new.promised ≡ Some lock)
+            × IsLockedAs D.is_locked D.is_open lock file (D.asked self.new.disk)) }
         ensures path { self.new.path ≡ self.old.path }
     {
-        promise(&mut self.disk, self.alloc, self.path.as_str(), name, file)
+        let AddedName { path, lock } = promise(
+            &mut self.disk,
+            self.alloc,
+            self.path.as_str(),
+            name,
+            file,
+        )?;
+        self.promised = Some(lock);
+        Ok(path)
     }
 
     /// Whether this file has this path, and wasn't written to.
@@ -249,7 +266,7 @@ impl<D: FolderDisk + Drop> StationFolder<D> {
             (IsSaid D.opened (D.is_open (D.asked self.new.disk)) doubt.now) }
         ensures in_doubt { D.discloses → has_synced_name doubt.now (D.asked self.old.disk) ≡ true
             → has_synced_name doubt.now (D.asked self.new.disk) ≡ true }
-        ensures path { self.new.path ≡ self.old.path }
+        ensures rest { self.new ≡ record self.old { disk = self.new.disk } }
     {
         match set_mark(&mut self.disk, doubt, place, mark, file) {
             Ok(Some(marked)) => Ok(marked),
@@ -282,7 +299,7 @@ impl<D: FolderDisk + Drop> StationFolder<D> {
             (D.asked self.new.disk)) }
         ensures settled { IfOk result (λ settled. IsSettled disposition
             (string_bytes self.old.path) name.now doubt.now (string_bytes settled.path)) }
-        ensures path { self.new.path ≡ self.old.path }
+        ensures rest { self.new ≡ record self.old { disk = self.new.disk; promised = None } }
     {
         let settled = settle(
             &mut self.disk,
@@ -292,6 +309,7 @@ impl<D: FolderDisk + Drop> StationFolder<D> {
             doubt,
             disposition,
         );
+        self.promised = None;
         settled.map_err(|error| FolderFault::of(Folder::Doubt, &error))
     }
 
@@ -414,6 +432,7 @@ impl<D: FolderDisk + Drop> StationFolder<D> {
             alloc: _,
             path: _,
             lock: _,
+            promised: _,
         } = self;
         disk
     }

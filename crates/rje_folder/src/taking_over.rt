@@ -58,7 +58,7 @@ fn exchange<D: FolderDisk>(
     station: &str,
     name: &str,
     hidden: &str,
-    copy: &FileCopy,
+    copy: &FileCopy<D::File>,
 ) -> Result<String, FolderFault>
     requires named { IsTakenName name.now hidden.now }
     requires copy { D.discloses → HasCopy D.opened D.File.remaining D.is_open station.now
@@ -184,7 +184,7 @@ fn put_in<D: FolderDisk>(
     station: &str,
     name: &str,
     hidden: &str,
-    copy: &FileCopy,
+    copy: &FileCopy<D::File>,
 ) -> Result<Option<String>, FolderFault>
     requires named { IsTakenName name.now hidden.now }
     requires copy { D.discloses → HasCopy D.opened D.File.remaining D.is_open station.now
@@ -222,7 +222,7 @@ fn place<D: FolderDisk>(
     alloc: Global,
     station: &str,
     hidden: &str,
-    copy: &FileCopy,
+    copy: &FileCopy<D::File>,
 ) -> io::Result<bool>
     requires copy { D.discloses → HasCopy D.opened D.File.remaining D.is_open station.now
         (string_bytes copy.now.path) copy.now.read (D.asked disk.old) }

@@ -8,9 +8,10 @@ use Rattle.rje_requests.specs.declared.order.CardsOrder.{CardsOrder}
 use Rattle.rje_requests.specs.declared.order.FileOrder.{FileOrder}
 use Rattle.rje_requests.specs.declared.order.MarkOrder.{MarkOrder}
 use Rattle.rje_requests.specs.declared.order.TakeOrder.{TakeOrder}
-use Rattle.rje_requests.specs.declared.order.Order.TheVariants.{Files, Sockets, Station}
+use Rattle.rje_requests.specs.declared.order.Order.TheVariants.{Files, Sockets, Station, Status}
 use Rattle.rje_requests.specs.declared.order.SocketOrder.{SocketOrder}
 use Rattle.rje_requests.specs.declared.station.StationOrder.{StationOrder}
+use Rattle.rje_requests.specs.declared.status.StatusOrder.{StatusOrder}
 use Rattle.rje_cli.specs.declared.words_fault.WordsFault.{WordsFault}
 use Rattle.rje_cli.specs.Asking.{AsksFor, IsWordsFault}
 use Rattle.rje_commands.specs.declared.command_fault.CommandFault.{CommandFault}
@@ -56,11 +57,11 @@ abbrev pub IsRefused : List (List ℕ) → Option FileMap → (input : Option (L
 IsRefused words files input =
     (order : FileOrder) × (fault : CommandFault) × AsksFor words (Files order) × IsFault order files input fault × (status_of fault ≡ 1)
 
--- the words ask for a station
+-- the words ask for a station, or for a look at its folder
 abbrev pub AsksForStation : List (List ℕ) → Type 0
-AsksForStation words = (order : StationOrder) × AsksFor words (Station order)
+AsksForStation words = ((order : StationOrder) × AsksFor words (Station order)) ⊎ ((order : StatusOrder) × AsksFor words (Status order))
 
--- there is a mistake in the words, or they ask for a command over sockets, or they ask for a station
+-- there is a mistake in the words, or they ask for a command over sockets, or they ask for a station or for a look at its folder
 abbrev pub AsksForNoFiles : List (List ℕ) → Type 0
 AsksForNoFiles words = AreMistaken words ⊎ (((order : SocketOrder) × AsksFor words (Sockets order)) ⊎ AsksForStation words)
 

@@ -22,6 +22,11 @@ abbrev pub NamesStation : List (List ℕ) → Type 0
 NamesStation [] = ⊥
 NamesStation (word ∷ words) = word ≡ codes "station"
 
+-- the first word names a look at the folder of a station
+abbrev pub NamesStatus : List (List ℕ) → Type 0
+NamesStatus [] = ⊥
+NamesStatus (word ∷ words) = word ≡ codes "status"
+
 -- the words ask for a command over sockets, this is what it does, and this is the status of how it ended; or they ask for help or the version
 abbrev pub TransmitsAsAsked : (status : ℕ) → List (List ℕ) → (files made : Option FileMap) → (before after : Option (List ℕ)) → Type 0
 TransmitsAsAsked status words files made before after =
@@ -33,7 +38,7 @@ abbrev pub RefusesAsAsked : List (List ℕ) → Option FileMap → Type 0
 RefusesAsAsked words files =
     (order : SocketOrder) × (fault : CommandFault) × AsksFor words (Sockets order) × Refuses order files fault × (status_of fault ≡ 1)
 
--- there is a mistake in the words, or they ask for a command over files, or they ask for a station
+-- there is a mistake in the words, or they ask for a command over files, or they ask for a station or for a look at its folder
 abbrev pub AsksForNoSockets : List (List ℕ) → Type 0
 AsksForNoSockets words = AreMistaken words ⊎ (((order : FileOrder) × AsksFor words (Files order)) ⊎ AsksForStation words)
 

@@ -7,5 +7,5 @@ mod printed_error;
 mod telling;
 
 pub use over_files::command;
-pub use over_sockets::{is_for_sockets, is_for_station, socket_command};
+pub use over_sockets::{is_for_sockets, is_for_station, is_for_status, socket_command};
 pub use telling::tell_words;

@@ -44,6 +44,7 @@ pub fn command<S: Store, I: Read, O: Write, E: Write>(
         Ok(Order::Files(order)) => order,
         Ok(Order::Sockets(_)) => return tell(&CommandFault::NoCommand, err),
         Ok(Order::Station(_)) => return tell(&CommandFault::NoCommand, err),
+        Ok(Order::Status(_)) => return tell(&CommandFault::NoCommand, err),
         Err(fault) => return tell_words(&fault, out, err),
     };
     match carry_out(alloc, order, store, input, out, err) {

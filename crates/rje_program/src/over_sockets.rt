@@ -5,7 +5,7 @@ ghost use Rattle.rje_cli.specs.Asking.{AsksFor, IsWordsFault};
 ghost use Rattle.rje_commands.specs.CommandFault.{status_of};
 ghost use Rattle.rje_sockets.specs.SocketCommand.{IsSocketFault, LeavesFiles, Transmits};
 ghost use Rattle.rje_program.specs.SocketCommand.{AsksForNoSockets, IsSocketStatus, LeavesFilesAsAsked, NamesSockets, RefusesAsAsked};
-ghost use Rattle.rje_program.specs.SocketCommand.{NamesStation, TransmitsAsAsked};
+ghost use Rattle.rje_program.specs.SocketCommand.{NamesStation, NamesStatus, TransmitsAsAsked};
 ghost use Rattle.rje_store.specs.Store.{Discloses, IsSame};
 
 use crate::telling::{tell_of, tell_words};
@@ -41,6 +41,17 @@ pub fn is_for_station(words: &[&str]) -> bool
     }
 }
 
+/// Whether these words, which are those after the program's name, ask for a look at the folder of a station: by the first of them.
+pub fn is_for_status(words: &[&str]) -> bool
+    ensures yes { result ≡ true → NamesStatus (map (λ word. word.now) words.now) }
+    ensures no { result ≡ false → NamesStatus (map (λ word. word.now) words.now) → ⊥ }
+{
+    match words.first() {
+        Some(word) => matches!(*word, "status"),
+        None => false,
+    }
+}
+
 /// Runs the command over sockets that these words ask for, and returns its exit status: 0 where all was sent and received (or it gave help or
 /// the version), 4 where some was not, 1 where a job file that it sends or receives into is refused, 2 where the words ask for no command over sockets, 3
 /// where a file, a line or an output failed, 5 where there was no memory, 141 where nobody reads `out` any more. What the command gives goes
@@ -70,7 +81,9 @@ pub fn socket_command<R: Net + Clock, S: Store, O: Write, E: Write>(
 {
     let order = match parse(alloc, words) {
         Ok(Order::Sockets(order)) => order,
-        Ok(Order::Files(_) | Order::Station(_)) => return tell(&CommandFault::NoCommand, err),
+        Ok(Order::Files(_)) => return tell(&CommandFault::NoCommand, err),
+        Ok(Order::Station(_)) => return tell(&CommandFault::NoCommand, err),
+        Ok(Order::Status(_)) => return tell(&CommandFault::NoCommand, err),
         Err(fault) => return tell_words(&fault, out, err),
     };
     match carry_out(rt, alloc, order, store, out, err, is_terminal) {

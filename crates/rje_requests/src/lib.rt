@@ -9,6 +9,7 @@ mod job_numbers;
 mod mark;
 mod order;
 mod station;
+mod status;
 
 pub use callers::Callers;
 pub use choice::{Choice, Devices};
@@ -22,3 +23,4 @@ pub use order::{
     SocketOrder, TakeOrder, TryOrder,
 };
 pub use station::{Partner, StationOrder};
+pub use status::StatusOrder;

@@ -8,6 +8,7 @@ use crate::device::Device;
 use crate::job_numbers::JobNumbers;
 use crate::mark::Mark;
 use crate::station::StationOrder;
+use crate::status::StatusOrder;
 use bsc_link::Rank;
 use rje_files::JobName;
 use rje_jobs::Form;
@@ -24,6 +25,8 @@ pub enum Order<'a> {
     Sockets(SocketOrder<'a>),
     /// A station that stays on the line.
     Station(StationOrder<'a>),
+    /// A look at the folder of a station.
+    Status(StatusOrder<'a>),
 }
 
 /// A command over files.

@@ -296,6 +296,9 @@ impl<'a> InHand<'a> {
         ensures comes { (before : Held)
             → was_receiving ≡ is_receiving before.station.contender.place
             → IfSome result (ComesOf before self.now) }
+        // The connection is left only where the transmission broke, or where the other end's was over before its EOT.
+        ensures left { result ≡ Some DayEvent.Disconnected → (self.now.broken ≡ true)
+            ⊎ (is_ended self.now.station.receiver.arrival ≡ false) }
         ensures allowed { result ≡ None → allows self.now.broken (due_at self.now.station)
             ≡ true }
     {

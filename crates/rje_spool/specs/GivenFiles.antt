@@ -1,5 +1,5 @@
 -- The files of out/ whose jobs are in a transmission, in the order of their jobs (own profile). A job goes by its number there, from 0.
-use Rattle.std.specs.Prelude.{◌≡◌, ◌≢◌, ℕ, ◌+◌, ◌-◌, ◌==◌, Bool, true, ◌&&◌, List, length, min, position, slice_get, slice_set, nat_lt, nat_le, Option, Some, None, if◌then◌else◌, option_and_then, string_bytes}
+use Rattle.std.specs.Prelude.{◌≡◌, ◌≢◌, ℕ, ◌+◌, ◌-◌, ◌==◌, Bool, true, ◌&&◌, List, ◌++◌, length, min, position, slice_get, slice_set, nat_lt, nat_le, Option, Some, None, if◌then◌else◌, option_and_then, string_bytes}
 use Rattle.std.specs.Option.{option_map_or}
 use Rattle.rje_day.specs.declared.disposition.Disposition.{Disposition}
 use Rattle.rje_day.specs.declared.disposition.Disposition.TheVariants as disposition
@@ -59,6 +59,10 @@ pub record HasGoneOut (is_file : List Asked → List ℕ → FileIdentity → Ty
   pub out : now.place ≢ Standing.Ready
   pub promised : file.place ≡ Standing.Ready → IsPromised station (string_bytes file.name) now.place before after
   pub same : file.place ≡ Standing.Ready → IsOfRead (is_file after) now.place file.file
+
+-- a job that was counted was marked so, at one moment between these two
+abbrev pub WasMarked : (job : ℕ) → GivenFile → (before after : List Asked) → Type 0
+WasMarked job file before after = (later moment : List Asked) × (after ≡ later ++ moment) × HasMark job file before moment
 
 -- where its last job was counted, and it had a name in doubt/, it stands in sent/ now, on disk
 abbrev pub HasBeenCounted : (job : ℕ) → (station : List ℕ) → (file now : GivenFile) → (after : List Asked) → Type 0

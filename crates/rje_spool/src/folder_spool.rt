@@ -3,7 +3,7 @@ ghost use Rattle.std.specs.Prelude.{◌≡◌, List, [], ◌∷◌, None, Some, 
 ghost use Rattle.rje_jobs.specs.declared.job.Job.{Job as Item};
 ghost use Rattle.rje_spool.specs.Backed.{AreBacked, with_doubted};
 ghost use Rattle.rje_spool.specs.GivenFile.{HasSecondName, IsDoubted};
-ghost use Rattle.rje_spool.specs.GivenFiles.{HasGoneOut, IsSettledSo, OfFile};
+ghost use Rattle.rje_spool.specs.GivenFiles.{HasGoneOut, IsSettledSo, OfFile, WasMarked};
 ghost use Rattle.rje_session.specs.Ledger.{Given, IsEntered, MayArrive, MayBeEntered, Settled};
 
 mod settling;
@@ -178,6 +178,10 @@ impl<D: FolderDisk + Drop, C: Clock, W: Write, L: Write, B: Ledger + Drop> Spool
         // The job's file stands where it belongs then.
         ensures stands { D.discloses → OnOk result (OfFile job
             (IsSettledSo job what self.old.station self.new.asked)
+            self.old.files self.new.files) }
+        // One that was counted is marked as sent, where its file is a job file.
+        ensures marked { D.discloses → OnOk result (what ≡ Disposition.Sent → OfFile job
+            (λ file _. WasMarked job file self.old.asked self.new.asked)
             self.old.files self.new.files) }
         // Where it can't, a file with a name in doubt/ is there.
         ensures left { OnErr result (OfFile job

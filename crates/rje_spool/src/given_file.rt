@@ -10,7 +10,7 @@ ghost use Rattle.rje_folder.specs.Promising.{MayPromise, MaySettle};
 ghost use Rattle.rje_spool.specs.declared.given_file.Standing.TheVariants.{Promised, Ready};
 ghost use Rattle.rje_spool.specs.Backed.{GoesOn};
 ghost use Rattle.rje_spool.specs.GivenFile.{HasSecondName, HasSent, IsDoubted, IsDoubtedUnder, IsInSent, IsOfRead, IsUnsettled, OfPromised, StaysInDoubt};
-ghost use Rattle.rje_spool.specs.GivenFiles.{HasBeenCounted, HasGoneOut, HasMark, IsKnownAsMarked, is_last_of, is_of, mark_of};
+ghost use Rattle.rje_spool.specs.GivenFiles.{HasBeenCounted, HasGoneOut, HasMark, IsKnownAsMarked, WasMarked, is_last_of, is_of, mark_of};
 ghost use Rattle.rje_spool.specs.GivenJob.{IsGivenJob};
 
 use crate::given_job::GivenJob;
@@ -122,6 +122,8 @@ impl GivenFile {
         job: usize,
         folder: &mut StationFolder<D>,
     ) -> Result<(), FolderFault>
+        ensures marked { D.discloses → OnOk result (WasMarked job self.old
+            (D.asked folder.old.disk) (D.asked folder.new.disk)) }
         ensures sent { D.discloses → OnOk result (HasBeenCounted job (string_bytes folder.old.path)
             self.old self.new (D.asked folder.new.disk)) }
         ensures ready { OnOk result (is_last_of job self.old ≡ false
@@ -149,6 +151,8 @@ impl GivenFile {
         job: usize,
         folder: &mut StationFolder<D>,
     ) -> Result<(), FolderFault>
+        ensures marked { D.discloses → OnOk result (WasMarked job self.old
+            (D.asked folder.old.disk) (D.asked folder.new.disk)) }
         ensures sent { D.discloses → OnOk result (HasBeenCounted job (string_bytes folder.old.path)
             self.old self.new (D.asked folder.new.disk)) }
         ensures ready { OnOk result (is_last_of job self.old ≡ false

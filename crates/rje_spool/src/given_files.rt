@@ -4,7 +4,7 @@ ghost use Rattle.rje_spool.specs.declared.given_file.GivenFile.{GivenFile as Ite
 ghost use Rattle.rje_spool.specs.declared.given_file.Standing.TheVariants.{Ready};
 ghost use Rattle.rje_spool.specs.Backed.{GoesOn};
 ghost use Rattle.rje_spool.specs.GivenFile.{HasSecondName, IsDoubted};
-ghost use Rattle.rje_spool.specs.GivenFiles.{HasBeenCounted, HasGoneOut, IsNext, OfFile, file_of, is_last_of, is_of, jobs_of};
+ghost use Rattle.rje_spool.specs.GivenFiles.{HasBeenCounted, HasGoneOut, IsNext, OfFile, WasMarked, file_of, is_last_of, is_of, jobs_of};
 
 use crate::given_file::{GivenFile, Standing};
 use rje_folder::{FileIdentity, FolderDisk, FolderFault, OutName, StationFolder};
@@ -105,6 +105,9 @@ impl GivenFiles {
         job: usize,
         folder: &mut StationFolder<D>,
     ) -> Result<(), FolderFault>
+        ensures marked { D.discloses → OnOk result (OfFile job
+            (λ file _. WasMarked job file (D.asked folder.old.disk) (D.asked folder.new.disk))
+            self.old.files.items self.new.files.items) }
         ensures sent { D.discloses → OnOk result (OfFile job
             (λ file now. HasBeenCounted job (string_bytes folder.old.path) file now
             (D.asked folder.new.disk)) self.old.files.items self.new.files.items) }

@@ -6,7 +6,7 @@ ghost use Rattle.rje_cli.specs.CommandLine.{timeout_rule, patience_rule, trace_r
 ghost use Rattle.rje_cli.specs.CommandLine.{try_app, loop_app, send_app, receive_app, exchange_app, rje_app};
 ghost use Rattle.rje_cli.specs.CommandLine.{capture_rule, monitor_app, number_rule, print_app, show_app, with_choice_rules};
 ghost use Rattle.rje_cli.specs.CommandLine.{with_connection_rules, with_device_rules, with_existing_rules, with_meeting_rules, with_rank_rules};
-ghost use Rattle.rje_cli.specs.CommandLine.{every_rule, progress_rule, station_app, with_partner_rules};
+ghost use Rattle.rje_cli.specs.CommandLine.{every_rule, progress_rule, station_app, status_app, with_partner_rules};
 ghost use Rattle.rje_cli.specs.CommandLine.{mark_app, numbers_rule, take_app};
 ghost use Rattle.rje_cli.specs.CommandLine.{with_deck_apps, with_file_apps, with_line_apps};
 
@@ -14,7 +14,7 @@ use clap::{Arg, ArgAction, Command, value_parser};
 use std::alloc::{AllocError, Global};
 
 /// The program's version.
-const VERSION: &str = "1.8.0";
+const VERSION: &str = "1.9.0";
 
 /// What stands after the commands where help is given.
 const AFTER_HELP: &str = "\
@@ -23,7 +23,7 @@ No words do what `rje blocks -` does: they read a deck from standard input.
 
 Exit status:
   0    done; help or the version was asked for
-  1    an input was refused
+  1    an input was refused, or `status` found something to be seen to
   2    the command line is wrong
   3    a file, a read, a line or an output failed
   4    a transmission ended, but not by done
@@ -35,6 +35,9 @@ const DECK_HELP: &str = "A text file with a card a line; - is standard input";
 
 /// The help of the word of a job file that is read.
 const JOBS_HELP: &str = "A job file";
+
+/// The help of the word of a station's folder.
+const FOLDER_HELP: &str = "The station's folder";
 
 /// The help of the option for the address that is called.
 const TO_HELP: &str = "Call the other end, which listens at 192.0.2.1:3780, say";
@@ -95,7 +98,8 @@ fn with_line_commands<'a>(alloc: Global, top: Command<'a>) -> Result<Command<'a>
     let top = with_command(top, send(alloc))?;
     let top = with_command(top, receive(alloc))?;
     let top = with_command(top, exchange(alloc))?;
-    with_command(top, station(alloc))
+    let top = with_command(top, station(alloc))?;
+    with_command(top, status(alloc))
 }
 
 fn show<'a>(alloc: Global) -> Result<Command<'a>, AllocError>
@@ -271,13 +275,23 @@ fn station<'a>(alloc: Global) -> Result<Command<'a>, AllocError>
     let command = Command::new(alloc, "station").about(
         "Stay on the line: send what lies in a folder, and keep what comes",
     );
-    let command = with_arg(command, file(alloc, "FOLDER", "The station's folder"))?;
+    let command = with_arg(command, file(alloc, "FOLDER", FOLDER_HELP))?;
     let command = with_partner(alloc, command)?;
     let command = with_arg(command, adapter(alloc))?;
     let once = flag(alloc, "once", "End after one connection");
     let command = with_arg(command, once)?;
     let command = with_arg(command, settle(alloc))?;
     with_arg(command, quiet(alloc))
+}
+
+fn status<'a>(alloc: Global) -> Result<Command<'a>, AllocError>
+    ensures { IfOk result (IsApp status_app) }
+{
+    let command = Command::new(alloc, "status").about(
+        "Tell what lies in a station's folder, and whether it asks for the operator",
+    );
+    let command = with_arg(command, file(alloc, "FOLDER", FOLDER_HELP))?;
+    with_arg(command, flag(alloc, "json", "As JSON"))
 }
 
 /// The command with the options for how a station comes to its connections, and what it keeps to

@@ -3,7 +3,7 @@ ghost use Rattle.std.specs.Prelude.{◌≡◌, [], OnErr, OnOk, string_bytes, tr
 ghost use Rattle.rje_spool.specs.Backed.{GoesOn};
 ghost use Rattle.rje_spool.specs.declared.given_file.Standing.TheVariants.{Ready};
 ghost use Rattle.rje_spool.specs.GivenFile.{HasSecondName, IsDoubted};
-ghost use Rattle.rje_spool.specs.GivenFiles.{HasBeenCounted, HasGoneOut, IsSettledSo, OfFile};
+ghost use Rattle.rje_spool.specs.GivenFiles.{HasBeenCounted, HasGoneOut, IsSettledSo, OfFile, WasMarked};
 ghost use Rattle.rje_spool.specs.Passing.{may_be_hidden};
 
 use super::SpoolFiles;
@@ -54,6 +54,10 @@ impl<D: FolderDisk + Drop, C: Clock, W: Write, L: Write> SpoolFiles<D, C, W, L> 
         ensures stands { D.discloses → OnOk result (OfFile job
             (IsSettledSo job what (string_bytes self.old.folder.path)
             (D.asked self.new.folder.disk))
+            self.old.given.files.items self.new.given.files.items) }
+        ensures marked { D.discloses → OnOk result (what ≡ Disposition.Sent → OfFile job
+            (λ file _. WasMarked job file
+            (D.asked self.old.folder.disk) (D.asked self.new.folder.disk))
             self.old.given.files.items self.new.given.files.items) }
         ensures left { OnErr result (OfFile job
             (λ file now. HasSecondName file.place → IsDoubted now.place)
@@ -143,6 +147,10 @@ impl<D: FolderDisk + Drop, C: Clock, W: Write, L: Write> SpoolFiles<D, C, W, L> 
     /// A job was counted.
     fn count(&mut self, job: usize) -> Result<(), SpoolFault>
         ensures sends { OnOk result (self.new.brake.doubts ≡ 0) }
+        ensures marked { D.discloses → OnOk result (OfFile job
+            (λ file _. WasMarked job file
+            (D.asked self.old.folder.disk) (D.asked self.new.folder.disk))
+            self.old.given.files.items self.new.given.files.items) }
         ensures sent { D.discloses → OnOk result (OfFile job
             (λ file now. HasBeenCounted job (string_bytes self.old.folder.path) file now
             (D.asked self.new.folder.disk))

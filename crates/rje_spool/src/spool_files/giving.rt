@@ -255,7 +255,7 @@ impl<D: FolderDisk + Drop, C: Clock, W: Write, L: Write> SpoolFiles<D, C, W, L> 
         Ok(cards)
     }
 
-    /// Puts a file aside that can't be sent. One that was replaced meanwhile is read again.
+    /// Puts a file aside that can't be sent. One that was replaced meanwhile, or that a command has locked, is read again.
     pub(super) fn refuse(
         &mut self,
         name: String,
@@ -275,7 +275,9 @@ impl<D: FolderDisk + Drop, C: Clock, W: Write, L: Write> SpoolFiles<D, C, W, L> 
                 }
                 Ok(())
             }
-            Err(FolderFault::Replaced) => Ok(self.passed.add(name, Until::NextLook)?),
+            Err(FolderFault::Replaced | FolderFault::BeingWritten(_)) => {
+                Ok(self.passed.add(name, Until::NextLook)?)
+            }
             Err(fault) => {
                 self.hidden.add(self.console.stamps().clock());
                 self.tell_stays(name.as_str(), why, &fault);

@@ -41,10 +41,6 @@ impl<F: Drop> FileLock<F> {
             Ok(_) => return Ok(None),
             Err(_) => false,
         };
-        let own = match is_there {
-            true => open_to_lock(disk, path.as_str()).ok(),
-            false => None,
-        };
         let lock = match lock_of(disk, beside.as_str()) {
             Err(StoreFault::Failed(_) | StoreFault::Missing) if !is_there => {
                 return Err(StoreFault::Missing);
@@ -52,7 +48,11 @@ impl<F: Drop> FileLock<F> {
             Err(StoreFault::Missing) => return Err(StoreFault::Failed(ErrorKind::NotFound)),
             taken => taken?,
         };
-        match own_locked(disk, own.as_ref()) {
+        let own = match is_there {
+            true => open_to_lock(disk, path.as_str()).ok(),
+            false => None,
+        };
+        match own_locked(disk, path.as_str(), own.as_ref()) {
             Ok(()) => Ok(Some(FileLock {
                 name,
                 path,
@@ -177,10 +177,25 @@ fn locked<D: Disk>(disk: &D, file: &D::File) -> Result<(), StoreFault> {
     }
 }
 
-/// Locks the file itself, where it is there.
-fn own_locked<D: Disk>(disk: &D, own: Option<&D::File>) -> Result<(), StoreFault> {
-    match own {
-        Some(file) => locked(disk, file),
-        None => Ok(()),
+/// Locks the file itself, where it is there. In use as well where another one has its path by then, as a station put it there or took it away.
+fn own_locked<D: Disk>(disk: &D, path: &str, own: Option<&D::File>) -> Result<(), StoreFault> {
+    let Some(file) = own else {
+        return Ok(());
+    };
+    locked(disk, file)?;
+    if stands_at(disk, path, file)? {
+        Ok(())
+    } else {
+        Err(StoreFault::InUse)
+    }
+}
+
+/// Whether an open file is the one that has this path.
+fn stands_at<D: Disk>(disk: &D, path: &str, file: &D::File) -> io::Result<bool> {
+    let found = disk.status_of(file)?;
+    match disk.status(path) {
+        Ok(stands) => Ok(found.device == stands.device && found.inode == stands.inode),
+        Err(error) if error.kind() == ErrorKind::NotFound => Ok(false),
+        Err(error) => Err(error),
     }
 }

@@ -1,6 +1,6 @@
 //! Which call serves which command, and an input that fails. What commands print, and what they refuse, is in tests/.
 use super::{FILE, Written, store_of};
-use rje_program::{command, is_for_sockets, is_for_station, socket_command};
+use rje_program::{command, is_for_sockets, is_for_station, is_for_status, socket_command};
 use rje_store::{MAX_INPUT, MemoryStore};
 use std::io::{self, ErrorKind, Read};
 
@@ -60,6 +60,9 @@ fn each_call_serves_its_own_commands(rt: HostRuntime) {
     assert!(rt; !is_for_sockets(&["show", "loop"]));
     assert!(rt; !is_for_sockets(&[]));
     assert!(rt; is_for_station(&["station", "here"]));
+    assert!(rt; !is_for_station(&["status", "here"]));
+    assert!(rt; is_for_status(&["status", "here"]));
+    assert!(rt; !is_for_status(&["station", "status"]));
     assert!(rt; !is_for_station(&["loop", "station"]));
     let mut store = store_of(&rt, "jobs", FILE);
     let mut out = Written::new();

@@ -218,6 +218,22 @@ fn what_a_killed_station_was_writing_is_taken_away(rt: HostRuntime) -> Result<()
     Ok(())
 }
 
+/// A file that a command has locked isn't read, and goes once it isn't locked any more.
+#[test]
+fn a_file_that_a_command_has_locked_is_being_written(rt: HostRuntime) -> Result<(), Fail> {
+    let alloc = rt.alloc();
+    let mut disk = disk_with(alloc, 0, false, "s/out/A.job")?;
+    disk.lock(1);
+    let mut station = opened(&rt, alloc, disk);
+    let refused = station.read("A.job", 5).err();
+    assert!(rt; refused == Some(FolderFault::BeingWritten(Folder::Out)));
+    let mut disk = station.close();
+    assert!(rt; disk.has("s/out/A.job", b"12345") && disk.count() == 2);
+    disk.lock(0);
+    assert!(rt; opened(&rt, alloc, disk).read("A.job", 5).is_ok());
+    Ok(())
+}
+
 #[test]
 fn a_file_that_gets_no_second_name_is_not_read(rt: HostRuntime) -> Result<(), Fail> {
     let alloc = rt.alloc();

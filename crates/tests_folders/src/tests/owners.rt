@@ -56,6 +56,20 @@ fn closed(
     Ok((disk, count))
 }
 
+/// A file of another user that a command has locked isn't taken over: it stays as it is.
+#[test]
+fn a_file_that_a_command_has_locked_is_not_taken_over(rt: HostRuntime) -> Result<(), Fail> {
+    let alloc = rt.alloc();
+    let mut disk = disk_of_another(alloc, 0, false)?;
+    disk.lock(1);
+    let mut station = opened(&rt, alloc, disk);
+    let refused = station.take_over("A.deck", 5, None).err();
+    assert!(rt; refused == Some(FolderFault::BeingWritten(Folder::Out)));
+    let disk = station.close();
+    assert!(rt; disk.file_of("s/out/A.deck") == Some(1) && disk.count() == 2);
+    Ok(())
+}
+
 /// Whichever call fails, done or not, a station that begins then has the file once, as its own.
 #[test]
 fn a_file_of_another_user_is_taken_over(rt: HostRuntime) -> Result<(), Fail> {

@@ -18,3 +18,6 @@ returns-clause-stands g c = λ told. rw (ap (λ (s : Spooled). s.files) c.self.v
 
 pub returns-in_err-settle-clause-left : goal.returns-in_err-settle-clause-left
 returns-in_err-settle-clause-left g c = where_err c.from_residual.result _ (rw (ap (λ (s : Spooled). s.files) c.self.view_is) at (c.in_err-settle.ensures.left))
+
+pub returns-clause-marked : goal.returns-clause-marked
+returns-clause-marked g c = λ told. rw (ap (λ (s : Spooled). s.files) c.self.view_is, ap (λ (s : Spooled). s.asked) c.self.view_is) at (c.in_ok-settle.ensures.marked told)

@@ -6,3 +6,6 @@ returns-in-Ok-clause-sent g c = λ told. rw (c.tell_sent.ensures.given, c.tell_s
 
 pub returns-in-Err-clause-left : goal.returns-in-Err-clause-left
 returns-in-Err-clause-left g c = rw (c.fault_of.ensures.given ∙ c.tell_doubt.ensures.given) c.in-Err.ensures.failed
+
+pub returns-in-Ok-clause-marked : goal.returns-in-Ok-clause-marked
+returns-in-Ok-clause-marked g c = λ told. rw (c.tell_sent.ensures.given, c.tell_sent.ensures.folder) (c.in-Ok.ensures.marked told)

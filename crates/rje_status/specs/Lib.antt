@@ -1,0 +1,2 @@
+pub mod QueuedFile
+pub mod Status
