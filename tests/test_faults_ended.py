@@ -158,9 +158,10 @@ def move(path):
 
 
 class Moved(LineCase):
-    """A job file that is removed, replaced or moved while its jobs are sent, in spite of its lock: what was counted is marked all the same. A peer of
-    the test's own acknowledges four jobs, and does that to the file after the third one came. At the end the file of the name that was given has
-    all four jobs marked, as the one has that was moved away."""
+    """A job file that is removed, replaced or moved while its jobs are sent, in spite of its lock: the sender goes on to its end, and then says that it
+    can't write the file. What took the name isn't written to, though it has as many jobs, and no file is made where none has it. In one that was moved
+    away what is counted is marked, one job after another. A peer of the test's own acknowledges four jobs, and does that to the file after the third one
+    came."""
 
     def acknowledge(self, connection, act, path):
         """Grants the bid and acknowledges each block, up to EOT."""
@@ -188,8 +189,12 @@ class Moved(LineCase):
         return ended.status, ended.printed, ended.told, marks
 
     def test_moved(self):
-        for act, names in (remove, ["pay.job"]), (replace, ["pay.job"]), (move, ["pay.job", "pay.job.moved"]):
-            wanted = 0, "counted 4 of 4 jobs\noutcome done\n", "", {name: [SENT] * 4 for name in names}
+        none = {}
+        new = {"pay.job": [WAITING] * 4}
+        moved = {"pay.job.moved": [SENT] * 4}
+        for act, marks in (remove, none), (replace, new), (move, moved):
+            name = f"{act.__name__}/pay.job"
+            wanted = 3, "counted 4 of 4 jobs\noutcome done\n", f"rje: {name}: resource busy\nrje: can't write {name}\n", marks
             self.equal(self.sent_while(act), wanted, f"a job file to which '{act.__name__}' was done while it was sent")
 
 

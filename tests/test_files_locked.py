@@ -4,7 +4,9 @@ every other one is refused before it does anything.
 More pairs of `receive`, and of `send`, and four times as many as rounds of eight `cards --append`: ROUNDS=2000 python3 tests/test_files_locked.py
 """
 import concurrent.futures
+import fcntl
 import functools
+import itertools
 import os
 import signal
 import sys
@@ -428,8 +430,45 @@ def refused_at_first(program):
     return faults.told("refused at first")
 
 
+def is_locked(path):
+    """Whether another process has this file, so that a station wouldn't send it."""
+    with open(path) as file:
+        try:
+            fcntl.flock(file, fcntl.LOCK_SH | fcntl.LOCK_NB)
+        except BlockingIOError:
+            return True
+        return False
+
+
+def locked_before(program, call):
+    """Whether the file that a sender has is locked just before the sender's call of this number that changes a file; None where it ends with fewer calls."""
+    with Folder(program) as folder:
+        folder.write("held", JOBS)
+        other = Called()
+        inject = shim.under(f"stop changes {call}")
+        process = folder.start("send", "held", "--to", other.address, "--timeout", "60000", environment=inject)
+        found = os.waitid(os.P_PID, process.pid, os.WSTOPPED | os.WEXITED | os.WNOWAIT)
+        locked = is_locked(folder.at("held")) if found.si_code == os.CLD_STOPPED else None
+        process.send_signal(signal.SIGCONT)
+        is_well = ended(process) == (0, SENT_ALL, "")
+        other.over()
+        return locked, is_well
+
+
 class BesideAnother(Case):
-    seconds = 6
+    seconds = 8
+
+    def test_held_throughout(self):
+        """A file is locked from the first lock of it until the sender ends, also in the moment in which the sender's own copy takes its place."""
+        found = [locked_before(self.program, 1)]
+        for call in itertools.count(2):
+            if found[-1][0] is None:
+                break
+            found.append(locked_before(self.program, call))
+        self.true(all(is_well for _, is_well in found), "how it ended")
+        locked = [locked for locked, _ in found[:-1]]
+        self.true(True in locked, "it is locked at no call")
+        self.true(all(locked[locked.index(True):]), lambda: f"whether it is locked before each call: {locked}")
 
     def test_holders(self):
         with concurrent.futures.ThreadPoolExecutor(WORKERS) as pool:
@@ -475,7 +514,6 @@ class Appends(Case):
         refused = sum(count for _, count in appends)
         self.check(None if refused else "of eight that add to one file none is refused")
         figures(f"{refused} of {8 * len(appends)} that add were refused")
-
 
 
 if __name__ == "__main__":

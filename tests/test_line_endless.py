@@ -32,14 +32,15 @@ def answer(line):
     return said
 
 
-def send(line, block):
-    """Sends blocks until the receiver leaves, or doesn't take one that was said seven times. Returns how many it took."""
+def send(line, block, first=None):
+    """Sends blocks, with another one first if one is given, until the receiver leaves, or doesn't take one that was said seven times. Returns how many it
+    took."""
     line.sendall(ENQ)
     assert answer(line) == ACK0
     taken = tries = 0
     while tries < 7:
         try:
-            line.sendall(block)
+            line.sendall(first if first and taken == 0 else block)
             said = answer(line)
         except ConnectionError:
             return taken
@@ -125,13 +126,13 @@ class Stations(EndlessCase):
 
     seconds = 14
 
-    def stays(self, kind):
+    def stays(self, kind, first=None):
         """How many blocks a station took, what it told then, what is shown of what is in cut/, how much memory it took, and whether it listens on."""
         port = free_port()
         with open(self.at("err"), "wb") as err:
             station = self.start("station", ".", "--listen", f"127.0.0.1:{port}", stdout=subprocess.DEVNULL, stderr=err)
         with self.connected(port, station) as line:
-            taken = send(line, BLOCKS[kind])
+            taken = send(line, BLOCKS[kind], first)
         with self.connected(port, station):
             listens = station.poll() is None
         station.terminate()
@@ -143,6 +144,12 @@ class Stations(EndlessCase):
     def test_full(self):
         told = ["more came than can be kept"]
         self.equal(self.stays("full"), (34066, told, "1 unset normal cut 204402 records\n", "little", True), "full cards")
+
+    def test_second(self):
+        """The same of a second job, whose file is its own: the first one, of one block, was kept."""
+        told = ["more came than can be kept"]
+        self.equal(self.stays("full", BLOCKS["jobs"]), (34067, told, "1 unset normal cut 204402 records\n", "little", True), "full cards of a second job")
+        self.equal(len(os.listdir(self.at("in"))), 1, "how many jobs were kept")
 
     def test_empty(self):
         told = ["more came than can be kept"]

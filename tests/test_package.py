@@ -15,7 +15,7 @@ from tests.lib.program import ROOT  # noqa: E402
 PARTS = ["dist", "docs", "README.md", "CHANGELOG.md", "crates.txt", "HANDLES"]
 PLACES = [
     "etc/logrotate.d/rje", "lib/systemd/system/rje-print@.service", "lib/systemd/system/rje-tunnel@.service", "lib/systemd/system/rje@.service",
-    "usr/bin/rje", "usr/bin/rje-print",
+    "usr/bin/rje", "usr/bin/rje-print", "usr/lib/rje/rje",
     "usr/share/bash-completion/completions/rje", "usr/share/fish/vendor_completions.d/rje.fish", "usr/share/man/man1/rje-print.1.gz",
     "usr/share/man/man1/rje.1.gz", "usr/share/zsh/vendor-completions/_rje",
 ]
@@ -73,6 +73,9 @@ class Package(PackageCase):
         found = [os.path.relpath(os.path.join(path, name), self.at("tree")) for path, _, names in os.walk(self.at("tree")) for name in names]
         self.equal(sorted(it for it in found if not it.startswith(("usr/share/doc/", "usr/share/lintian/", "DEBIAN/"))), PLACES, "what is in it")
         self.equal(self.run_words(self.at("tree/usr/bin/rje"), "--version").printed, f"rje {self.version}\n", "what its program prints")
+        self.write("long.deck", f"{'X' * 79}\n" * 300)
+        ended = self.run_words("bash", "-c", 'ulimit -f 1 && exec "$@"', "sh", self.at("tree/usr/bin/rje"), "cards", "long.deck", "long.job", cwd=self.folder)
+        self.equal((ended.status, ended.told), (3, "rje: long.job: file too large\nrje: can't write long.job\n"), "where the user's files are limited")
         ended = self.run_words("md5sum", "--quiet", "--check", "DEBIAN/md5sums", cwd=self.at("tree"))
         self.equal((ended.status, ended.printed), (0, ""), "the checksums")
         kept = self.run_words("dpkg-deb", "--field", package, "Version").printed.strip()

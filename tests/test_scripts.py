@@ -79,7 +79,7 @@ class CopyCase(Case):
                 os.makedirs(self.at("copy/crates", crate, part))
         for name in "copy/dist/program", "copy/tools", "tools", "none", "rooms", "far":
             os.makedirs(self.at(name))
-        for name in "rje", "tools/build", "tools/release", "dist/install", "dist/program/choosing", "HANDLES":
+        for name in "rje", "tools/build", "tools/release", "dist/install", "dist/program/choosing", "dist/program/launcher", "HANDLES":
             shutil.copy2(os.path.join(ROOT, name), self.at("copy", name))
         shutil.copytree(os.path.join(ROOT, "dist/manual"), self.at("copy/dist/manual"))
         self.write("copy/crates.txt", CRATES)
@@ -407,9 +407,10 @@ class Install(CopyCase):
             "share/bash-completion/completions/rje": "rje.bash", "share/fish/vendor_completions.d/rje.fish": "rje.fish", "share/man/man1/rje.1": "rje.1",
             "share/zsh/site-functions/_rje": "rje.zsh",
         }
-        places = ["bin/rje", *manual]
+        places = ["bin/rje", "lib/rje/rje", *manual]
         self.equal((ended.status, ended.told, self.files("prefix")), (0, "", places), f"dist/install: {ended.printed}")
-        sources = [self.at("copy/dist/program/rje-x86_64-linux"), *(os.path.join(ROOT, "dist/manual", name) for name in manual.values())]
+        programs = [self.at("copy/dist/program", name) for name in ("launcher", "rje-x86_64-linux")]
+        sources = [*programs, *(os.path.join(ROOT, "dist/manual", name) for name in manual.values())]
         for place, source in zip(places, sources):
             with open(source, "rb") as file:
                 self.same(f"prefix/{place}", file.read(), "what is installed")
@@ -422,7 +423,7 @@ class Install(CopyCase):
         """A link in its place is replaced, and what it leads to stays; a folder there stays too, and nothing is put into it."""
         places = {**self.tooled(), "DESTDIR": self.at("room")}
         self.installs("/usr", env=places)
-        self.same("room/usr/bin/rje", self.read("copy/dist/program/rje-x86_64-linux"), "the program that is installed under DESTDIR")
+        self.same("room/usr/lib/rje/rje", self.read("copy/dist/program/rje-x86_64-linux"), "the program that is installed under DESTDIR")
         self.write("elsewhere", "other\n")
         self.remove("room/usr/bin/rje")
         os.symlink(self.at("elsewhere"), self.at("room/usr/bin/rje"))
@@ -434,7 +435,23 @@ class Install(CopyCase):
         os.mkdir(self.at("room/usr/bin/rje"))
         ended = self.installs("/usr", env=places)
         found = ended.status, ended.printed, os.listdir(self.at("room/usr/bin/rje")), os.listdir(self.at("room/usr/bin"))
-        self.equal(found, (3, "", [], ["rje"]), "where a folder stands in its place")
+        wanted = 3, f"installed {self.at('room/usr/lib/rje/rje')}\n", [], ["rje"]
+        self.equal(found, wanted, "where a folder stands in its place")
+
+    def test_command(self):
+        """What is installed runs the program with the caller's words, by its path, by PATH and through a link, also where standard files are closed;
+        and the program isn't ended where a file gets too long."""
+        prefix = self.at("a prefix")
+        self.installs(prefix)
+        os.symlink(f"{prefix}/bin/rje", self.at("link"))
+        path = {"PATH": f"{prefix}/bin:/usr/bin:/bin"}
+        for words, closes in ([f"{prefix}/bin/rje"], ""), (["rje"], ""), (["./link"], ""), (["rje"], "<&-"), (["rje"], "2>&-"), (["rje"], "<&- 2>&-"):
+            script = f'cd "$1" && shift && exec "$@" {closes}'
+            ended = self.run_words("bash", "-c", script, "sh", self.folder, *words, "show", "a b", "", env=path)
+            self.equal((ended.status, ended.printed), (7, f"program 1: show a b  in {os.path.basename(self.folder)}\n"), f"{words} {closes}")
+        self.write("copy/dist/program/rje-x86_64-linux", "#!/bin/bash\ngrep -q '^SigIgn:.*[13579bdf][0-9a-f]\\{6\\}$' /proc/self/status\n")
+        shutil.copy2(self.at("copy/dist/program/rje-x86_64-linux"), f"{prefix}/lib/rje/rje")
+        self.equal(self.run_words(f"{prefix}/bin/rje", env=path).status, 0, "whether the signal XFSZ is ignored")
 
     def test_words(self):
         for words in ["--plotter"], ["a", "b"], ["--remove", "a", "b"]:

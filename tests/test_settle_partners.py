@@ -147,8 +147,7 @@ class Odd(SettlingCase):
         return peer
 
     def transmits(self, peer, *cards):
-        peer.says(ENQ)
-        self.true(peer.hears(ACK0), "the bid isn't granted")
+        self.true(peer.bids(), "the bid isn't granted")
         for number, card in enumerate(cards):
             peer.says(text_of([ebcdic(card)]))
             self.true(peer.hears(ACK0 if number % 2 else ACK1), f"{card} isn't acknowledged")

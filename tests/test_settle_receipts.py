@@ -58,8 +58,9 @@ class Marks(PeerCase):
         self.parts(peer)
         open(self.near.at("hold"), "w").close()
         peer = self.calls_near()
-        self.tells(self.near, "COUNTED, AND HASN'T COME: sent again: out/m.job")
         self.true(waits_for(lambda: not self.promises(self.near)), "a promise is left")
+        told = [line for line in told_in(self.near) if "COME" in line.upper()]
+        self.equal(told, ["COUNTED, AND HASN'T COME: sent again: out/m.job"] * 2, "what is told of its jobs")
         self.equal([state for state, _ in lines_of_jobs(self.near.at("out", "m.job"))], [0, 0], "the states of its jobs in out/")
         os.remove(self.near.at("hold"))
         self.takes(peer, 2)
@@ -82,6 +83,29 @@ class Vain(PeerCase):
             self.parts(peer)
         told = [line for line in told_in(self.near) if line.startswith(("settled: ", "refused "))]
         self.equal((told, self.near.names("refused")), ([], []), "what else is told, and what is refused")
+
+    def test_first_of_a_file(self):
+        """The same of the first job of a file whose second one is in doubt, also after the station was killed: the second one alone is refused in the end."""
+        self.listens()
+        self.near.put("m.job", ["ONE", "ONE", "TWO", "TWO"])
+        for time_ in range(3):
+            peer = self.calls_near()
+            self.true(peer.hears(ENQ), "it doesn't bid")
+            for answer in ACK0, ACK1:
+                peer.says(answer)
+                self.true(hears_block(peer), "no block comes")
+            self.parts(peer)
+            self.true(waits_for(lambda: self.near.names("doubt") == ["m.job"] and not self.near.names("out")), "m.job isn't in doubt")
+            # (a kill in between gives it no fourth attempt)
+            if time_ == 0:
+                self.near.kill()
+                self.begins()
+        peer = self.calls_near()
+        self.true(waits_for(lambda: self.near.names("refused")), "m.job isn't refused")
+        told = [line for line in told_in(self.near) if "COME" in line.upper() or line.startswith("refused ")]
+        not_come = ["settled: it hasn't come: out/m.job", COUNTED_IN_VAIN.replace("a.deck", "m.job")]
+        self.equal(told, [*not_come * 3, "refused m.job: the other end didn't keep a job three times"], "what is told of its jobs")
+        self.equal([state for state, _ in lines_of_jobs(self.near.at("refused", "m.job"))], [0, 0], "the states of its jobs in refused/")
 
     def test_killed_as_it_settles(self):
         """A station that has two such decks, killed before each of the names that it takes away: both lie ready again, and go once."""

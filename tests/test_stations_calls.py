@@ -467,7 +467,7 @@ class Told(StationCase):
     def test_no_folder(self):
         """A folder of no name is refused, and what ends a station stands in its log."""
         ended = subprocess.run([self.program, "station", "", "--to", "127.0.0.1:1"], cwd=self.folder, stdin=subprocess.DEVNULL, capture_output=True, text=True)
-        self.equal((ended.returncode, ended.stdout, ended.stderr), (3, "", "rje: : entity not found\n"), f"a folder of no name: {ended}")
+        self.equal((ended.returncode, ended.stdout, ended.stderr), (3, "", "rje: : no such folder\n"), f"a folder of no name: {ended}")
         with socket.socket() as taken:
             taken.bind(("127.0.0.1", 0))
             taken.listen()

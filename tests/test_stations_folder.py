@@ -10,7 +10,7 @@ from tests.lib import case  # noqa: E402
 from tests.lib.frames import ACK0, ACK1, ENQ, EOT, text_of  # noqa: E402
 from tests.lib.ports import PATIENCE, free_port, waits_for  # noqa: E402
 from tests.lib.samples import WHOLE  # noqa: E402
-from tests.lib.stations import FIRST_JOBS, LAST, Door, Peer, StationCase, file_text, has_logged, hears_block, serves, told_by  # noqa: E402
+from tests.lib.stations import FIRST_JOBS, LAST, Door, Peer, StationCase, by_process, file_text, has_logged, hears_block, serves, told_by  # noqa: E402
 
 
 def touch(path, text=""):
@@ -82,8 +82,9 @@ class OneStation(StationCase):
     def refuses_others(self):
         """A second station of the folder, and one without a folder."""
         folder, nowhere = self.one.folder, self.one.at("nowhere")
-        self.gives(3, "", f"rje: {folder} is in use\n", "station", folder, "--to", self.door.address)
-        self.gives(3, "", f"rje: {nowhere}: entity not found\n", "station", nowhere, "--to", self.door.address)
+        by = by_process(folder, self.one.process.pid)
+        self.gives(3, "", f"rje: {folder} is in use{by}\n", "station", folder, "--to", self.door.address)
+        self.gives(3, "", f"rje: {nowhere}: no such folder\n", "station", nowhere, "--to", self.door.address)
 
     def hears_too_much(self, peer):
         """An answer after EOT: what was counted is in doubt."""
@@ -152,6 +153,28 @@ class OneStation(StationCase):
         self.equal(self.one.names("out"), ["many.deck"], "what is left in out/")
         told = [line for line in told_by(self.one) if "many.deck" in line]
         self.equal(told, ["many.deck: out: too many links"], f"it told {told}")
+        self.one.kill()
+
+    def test_jobs_of_a_file(self):
+        """Which job of its file each is, and by which name, is reported; and where a file went whose name was taken in sent/."""
+        for number, words in enumerate((["--name", "ONE"], [], ["--name", "THREE", "--printer"]), 1):
+            self.write(f"{number}.deck", "A\n" * number)
+            self.equal(self.rje("cards", self.at(f"{number}.deck"), self.one.at("pay.job"), "--append", *words).status, 0, "cards")
+        self.equal(self.rje("mark", self.one.at("pay.job"), "--job", "1", "--sent").status, 0, "mark")
+        for folder in ("out", "sent"):
+            os.makedirs(self.one.at(folder), exist_ok=True)
+        os.rename(self.one.at("pay.job"), self.one.at("out", "pay.job"))
+        for name in ("pay.job", "d.deck"):
+            self.write(f"one/sent/{name}", "")
+        self.one.put("d.deck", ["D"])
+        self.one.start()
+        peer = self.door.takes_call()
+        self.true(peer.hears(ENQ), "it doesn't bid")
+        self.equal(peer.takes(), 3, "how many jobs it sends")
+        self.true(waits_for(lambda: not self.one.names("out")), "not all is sent")
+        told = [line for line in told_by(self.one) if line.startswith(("sending ", "sent "))]
+        self.equal(told, ["sending d.deck unset 1 cards", "sent d.deck: sent/d.2.deck", "sending pay.job job 2 of 3 unset 2 cards", "sent pay.job job 2 of 3",
+                          "sending pay.job job 3 of 3 THREE printer 3 cards", "sent pay.job job 3 of 3 THREE: sent/pay.2.job"], "what is told")
         self.one.kill()
 
     def test_callers(self):

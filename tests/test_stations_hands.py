@@ -55,6 +55,42 @@ class Hands(HandCase):
         self.check([line for line in told_by(station) if "taken" in line])
         station.kill()
 
+    def test_unread(self):
+        """What is no file, as a pipe or a link, is told and keeps no second name: refused/ has nothing, hidden or not."""
+        door, station = self.calls("unread", "--every", "1")
+        peer = door.takes_call()
+        os.mkfifo(station.at("out", "pipe.deck"))
+        os.symlink(station.at("log"), station.at("out", "link.deck"))
+        for name in ("pipe.deck", "link.deck"):
+            self.true(waits_for(lambda: any(line.startswith(f"{name}: ") for line in told_by(station))), lambda: f"unread: it told {told_by(station)}")
+        station.put("a.deck", ["A"])
+        self.true(peer.hears(ENQ), "unread: it doesn't bid")
+        self.equal(peer.takes(), 1, "unread: how many jobs go")
+        self.equal(os.listdir(station.at("refused")), [], "unread: what is in refused/")
+        self.equal([os.lstat(station.at("out", name)).st_nlink for name in ("pipe.deck", "link.deck")], [1, 1], "unread: how many names they have")
+        station.kill()
+
+    def test_renamed_too_late(self):
+        """A file that is only renamed in out/ while its last block is out isn't sent again under its new name; that is reported, and other files go."""
+        door = Door()
+        self.addCleanup(door.socket.close)
+        station = self.station("renamed", "--to", door.address, "--every", "1")
+        os.makedirs(station.at("out"))
+        station.put("a.deck", ["A"])
+        station.start()
+        peer = self.begins(door, "renamed")
+        hears_block(peer)
+        os.rename(station.at("out", "a.deck"), station.at("out", "b.deck"))
+        peer.says(ACK1)
+        said = "out/b.deck was a.deck when its last block was out: it isn't sent again"
+        self.true(waits_for(lambda: said in told_by(station)), lambda: f"renamed: it told {told_by(station)}")
+        station.put("c.deck", ["C"])
+        self.true(peer.hears(ENQ), "renamed: it doesn't bid again")
+        self.equal(peer.takes(), 1, "renamed: how many files it sends then")
+        self.true(waits_for(lambda: station.names("sent") == ["a.deck", "c.deck"]), lambda: f"renamed: sent/ has {station.names('sent')}")
+        self.equal(station.names("out"), ["b.deck"], "renamed: what is left in out/")
+        station.kill()
+
     def test_replaced_before_it_is_refused(self):
         """A file that takes the name of one that can't be sent, once that was read, isn't put aside in its place: it goes."""
         door = Door()
@@ -306,6 +342,40 @@ def answer_of(port):
         return None
     finally:
         peer.close()
+
+
+class Touched(HandCase):
+    seconds = 8
+
+    def test_others_go(self):
+        """A deck that is touched each time before its last block is out keeps no other from going: it is passed over for one look."""
+        door, station = self.calls("s", "--every", "1", decks=("a.deck", "z.deck"))
+        for _ in range(4):
+            peer = door.takes_call()
+            self.true(peer.hears(ENQ), "it doesn't bid")
+            if station.names("sent"):
+                break
+            os.utime(station.at("out", "a.deck"))
+            peer.takes()
+            peer.close()
+        self.equal((station.names("sent"), station.names("out")), (["z.deck"], ["a.deck"]), lambda: f"sent/ and out/; it told {told_by(station)}")
+        self.equal(peer.takes(), 1, "how many jobs go in the end")
+        self.true(waits_for(lambda: station.names("sent") == ["a.deck", "z.deck"]), "a.deck isn't sent")
+        station.kill()
+
+    def test_lock_fails(self):
+        """A lock that fails once on a file of out/ is told, and the file goes all the same."""
+        door, station = self.calls("l", "--every", "1")
+        station.kill()
+        station.environment = {**os.environ, **shim.under("fail flock 2")}
+        station.put("a.deck", ["ONE"])
+        station.start()
+        peer = door.takes_call()
+        self.true(peer.hears(ENQ), "it doesn't bid")
+        self.equal(peer.takes(), 1, "how many jobs go")
+        self.true(waits_for(lambda: station.names("sent") == ["a.deck"]), "a.deck isn't sent")
+        self.true(any(line.startswith("out: can't be locked: ") for line in told_by(station)), f"it told {told_by(station)}")
+        station.kill()
 
 
 class FullDisk(StationCase):

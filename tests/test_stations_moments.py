@@ -10,7 +10,7 @@ sys.path.insert(0, os.path.dirname(os.path.dirname(os.path.abspath(__file__))))
 from tests.lib import case, shim  # noqa: E402
 from tests.lib.frames import ACK0, ACK1, ENQ  # noqa: E402
 from tests.lib.ports import waits_for  # noqa: E402
-from tests.lib.stations import Door, StationCase, file_text, hears_block, put_beside, told_by  # noqa: E402
+from tests.lib.stations import Door, StationCase, file_text, has_logged, hears_block, put_beside, told_by  # noqa: E402
 from tests.test_stations_owners import OWN, OwnStation, protects_links  # noqa: E402
 
 
@@ -32,7 +32,8 @@ class Moments(StationCase):
 
     def replaces(self, name, station, then=lambda: None):
         """Another deck takes the name x.deck once the station has stopped; then that goes on."""
-        os.waitid(os.P_PID, station.process.pid, os.WSTOPPED | os.WNOWAIT)
+        has_stopped = waits_for(lambda: os.waitid(os.P_PID, station.process.pid, os.WSTOPPED | os.WNOWAIT | os.WNOHANG))
+        self.true(has_stopped, lambda: f"{name}: it doesn't stop; it told {told_by(station)}")
         put_beside(station, "x.deck", "NEW\n")
         then()
         station.process.send_signal(signal.SIGCONT)
@@ -79,6 +80,24 @@ class Moments(StationCase):
             self.replaces(name, station)
             self.is_ready(name, station)
             station.kill()
+
+    def test_replaced_as_it_begins(self):
+        """The same of one that a killed station left in out/ and in doubt/, sent/ or refused/, just before its name is taken away as the station begins."""
+        for order in ("stop unlink 1", "stop rename 1"):
+            for folder in ("doubt", "sent", "refused"):
+                name = f"{order.split()[1]}_{folder}"
+                station = self.station(name, "--to", "127.0.0.1:9")
+                for part in ("out", folder):
+                    os.makedirs(station.at(part), 0o700)
+                station.put("x.deck", ["OLD"])
+                os.link(station.at("out", "x.deck"), station.at(folder, "x.deck"))
+                station.environment = {**os.environ, **shim.under(order)}
+                station.start()
+                self.replaces(name, station)
+                self.true(waits_for(lambda: has_logged(station, "can't connect")), f"{name}: it doesn't begin")
+                self.is_ready(name, station)
+                self.equal(file_text(station, folder, "x.deck"), "OLD\n", f"{name}: the old deck")
+                station.kill()
 
     def replaced_at_the_rename(self, name, further):
         """A station whose deck was counted, and was replaced by another one just before it got a hidden name; what is done to its calls then, and its peer."""
@@ -136,6 +155,31 @@ class Moments(StationCase):
             station.kill()
 
 
+class Among(StationCase):
+    seconds = 4
+
+    def test_counted_among_others(self):
+        """A deck that a killed station left in out/ and in sent/, doubt/ or refused/, beside many others there, isn't sent again."""
+        for folder in ("sent", "doubt", "refused"):
+            door = Door()
+            self.addCleanup(door.socket.close)
+            station = self.station(f"among_{folder}", "--to", door.address, "--every", "1")
+            for part in ("out", folder):
+                os.makedirs(station.at(part), 0o700)
+            for number in range(20):
+                with open(station.at(folder, f"{number}.deck"), "w") as file:
+                    file.write("OTHER\n")
+            station.put("x.deck", ["OLD"])
+            os.link(station.at("out", "x.deck"), station.at(folder, "x.deck"))
+            station.start()
+            peer = door.takes_call()
+            self.addCleanup(peer.close)
+            self.true(waits_for(lambda: station.names("out") == []), lambda: f"{folder}: out/ has {station.names('out')}")
+            self.equal(len(station.names(folder)), 21, f"{folder}: how many names it has")
+            self.check(any("bid" in line for line in told_by(station)) and f"{folder}: it told {told_by(station)}")
+            station.kill()
+
+
 class Written(StationCase):
     seconds = 8
 
@@ -160,9 +204,36 @@ class Written(StationCase):
             self.equal((station.names("doubt"), station.names("out"), len(told)), (["a.deck"], [], 1), f"{name}: doubt/, out/ and what is told")
             station.kill()
 
+    def test_written_to_as_it_is_filed(self):
+        """One that is written to once its job was counted, as its name is taken out of out/, is in sent/, and that is told all the same."""
+        door = Door()
+        self.addCleanup(door.socket.close)
+        station = self.station("filed", "--to", door.address, "--every", "1")
+        os.makedirs(station.at("out"))
+        station.put("a.deck", ["A"])
+        # (the name in out/ gets a hidden one before it is taken away)
+        station.environment = {**os.environ, **shim.under("stop rename 1")}
+        station.start()
+        peer = door.takes_call()
+        self.addCleanup(peer.close)
+        self.true(peer.hears(ENQ), "filed: it doesn't bid")
+        peer.says(ACK0)
+        hears_block(peer)
+        peer.says(ACK1)
+        has_stopped = waits_for(lambda: os.waitid(os.P_PID, station.process.pid, os.WSTOPPED | os.WNOWAIT | os.WNOHANG))
+        self.true(has_stopped, lambda: f"filed: it doesn't stop; it told {told_by(station)}")
+        with open(station.at("out", "a.deck"), "w") as file:
+            file.write("WRITTEN ANEW\n")
+        station.process.send_signal(signal.SIGCONT)
+        self.true(waits_for(lambda: station.names("out") == []), "filed: it stays in out/")
+        told = "a.deck: written to when its last block was out"
+        self.true(waits_for(lambda: told in told_by(station), 3), lambda: f"filed: it told {told_by(station)}")
+        self.equal(station.names("sent") + station.names("doubt"), ["a.deck"], "filed: sent/ and doubt/")
+        station.kill()
+
     def test_long_names(self):
         """A deck leaves out/ once it is counted, however long its name is: also one that is too long for a hidden name."""
-        for length in (237, 238, 246, 255):
+        for length in (237, 238, 246, 247, 255):
             door = Door()
             self.addCleanup(door.socket.close)
             station = self.station(f"of{length}", "--to", door.address, "--every", "1")

@@ -10,7 +10,7 @@ sys.path.insert(0, os.path.dirname(os.path.dirname(os.path.abspath(__file__))))
 from tests.lib import case  # noqa: E402
 from tests.lib.ports import waits_for  # noqa: E402
 from tests.lib.processes import as_user  # noqa: E402
-from tests.lib.samples import ebcdic  # noqa: E402
+from tests.lib.samples import ebcdic, lines_of_jobs  # noqa: E402
 from tests.lib.stations import Door, Station, StationCase, file_text, serves, told_by  # noqa: E402
 
 # The user that the station runs as.
@@ -95,6 +95,23 @@ class Owners(StationCase):
             self.equal(file_text(station, "sent", deck), f"{deck} OF ROOT\n", f"own: {deck} is another text")
         for name in ("out", "doubt", "refused"):
             self.check(os.listdir(station.at(name)) and f"own: {name}/ has {os.listdir(station.at(name))}")
+        station.kill()
+
+    def test_sealed(self):
+        """A job file that its own user may not write to goes whole, once: the station marks a copy of its own."""
+        door, station = self.calls("sealed")
+        for deck in MODES:
+            os.remove(station.at("out", deck))
+        station.put("m.job", ["ONE", "ONE", "TWO", "TWO"])
+        os.chown(station.at("out", "m.job"), OWN, OWN)
+        os.chmod(station.at("out", "m.job"), 0o444)
+        station.start()
+        self.true(waits_for(lambda: os.path.isdir(station.at("sent"))), "sealed: the station makes no folders")
+        came = sends(door, station, ["m.job"])
+        for card in ("ONE", "TWO"):
+            self.equal(came.count(ebcdic(card) + b"\x1e"), 2, f"sealed: {card}, twice in its job")
+        self.equal((station.names("sent"), station.names("doubt"), station.names("out")), (["m.job"], [], []), lambda: f"sealed: it told {told_by(station)}")
+        self.equal([state for state, _ in lines_of_jobs(station.at("sent", "m.job"))], [1, 1], "sealed: its jobs")
         station.kill()
 
     def test_passed_over(self):

@@ -3,7 +3,8 @@
 
    kill|stop|fail|full CALLS N   At the Nth of these calls, counted from 1, ends the process (KILL), stops it (STOP), fails the call (EIO), or
                                  fails it and all after it (ENOSPC). CALLS: `any` call on a file or a connection; calls on `files`, those that
-                                 make `changes` and those that take `room`, of which the system's own files and connections are left out; or
+                                 make `changes` and those that take `room`, of which the system's own files, connections and the file in which a
+                                 station notes what it is doing are left out; or
                                  the name of one of the latter calls.
    met PATH                      Adds the call that was met so, and its file, to the file of this path.
    refuse N                      Refuses the Nth growth of memory, and says so on standard error.
@@ -116,9 +117,18 @@ static const char *of(int file)
     return file >= 0 && file < MOST_FILES && paths[file][0] ? paths[file] : NULL;
 }
 
+/* Whether this is the file in which a station notes what it is doing, or the new one beside it: of which nothing is promised. */
+static int is_note(const char *path)
+{
+    const char *name = strrchr(path, '/');
+    return name && (strcmp(name, "/status") == 0 || strcmp(name, "/.status.new") == 0);
+}
+
 static const char *named(const char *path)
 {
-    return path[0] == 0 || strncmp(path, "/proc/", 6) == 0 || strncmp(path, "/dev/", 5) == 0 ? NULL : path;
+    if (path[0] == 0 || strncmp(path, "/proc/", 6) == 0 || strncmp(path, "/dev/", 5) == 0 || is_note(path))
+        return NULL;
+    return path;
 }
 
 /* A file that was opened counts from then on, where its path does. */

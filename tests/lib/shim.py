@@ -26,3 +26,10 @@ def library():
 def under(*orders):
     """The environment of a program to which these orders are done; each is a word and what it takes, as shim.c has them."""
     return {"LD_PRELOAD": library(), "SHIM": ";".join(orders)} if orders else {}
+
+
+def and_under(environment, order):
+    """This environment, or the test's own where there is none, and one order more."""
+    environment = environment or os.environ
+    orders = [environment["SHIM"]] if "SHIM" in environment else []
+    return {**environment, **under(*orders, order)}

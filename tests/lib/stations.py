@@ -18,6 +18,8 @@ TIMEOUT = "200"
 FIRST_JOBS = 64
 # The end of a block's text that is the last of its job.
 LAST = b"\x03"
+# How many seconds after a bid that wasn't granted a peer bids again.
+BIDS_AGAIN = 2
 # (fcntl has a name for it as of Python 3.10)
 SET_PIPE_SIZE = 1031
 
@@ -32,11 +34,12 @@ class Station:
         os.mkdir(folder)
 
     def start(self):
+        """Starts it, with syncs that do nothing: on a busy machine one may take longer than the time-outs of the tests."""
         self.errors.close()
         self.errors = open(f"{self.folder}.err", "ab")
         words = [self.program, "station", self.folder, *self.words]
         note(words, self.environment)
-        further = {"stderr": self.errors, "env": self.environment}
+        further = {"stderr": self.errors, "env": shim.and_under(self.environment, "unsynced all")}
         self.process = subprocess.Popen(words, stdin=subprocess.DEVNULL, stdout=subprocess.DEVNULL, **further)
 
     def kill(self, how=signal.SIGKILL):
@@ -102,6 +105,21 @@ class Peer:
     def says(self, *pieces):
         for piece in pieces:
             self.connection.sendall(piece)
+
+    def bids(self):
+        """Bids up to seven times, until the bid is granted: one that comes right after EOT isn't heard if both come in one piece. Whether it is."""
+        patience = self.connection.gettimeout()
+        self.connection.settimeout(BIDS_AGAIN)
+        try:
+            for _ in range(7):
+                self.says(ENQ)
+                try:
+                    return self.hears(ACK0)
+                except socket.timeout:
+                    continue
+            return False
+        finally:
+            self.connection.settimeout(patience)
 
     def takes(self):
         """Grants a bid that was heard, and acknowledges each block. How many jobs the transmission has."""
@@ -202,6 +220,15 @@ def seconds_of(station):
     with open(f"/proc/{station.process.pid}/stat") as file:
         user, system = file.read().rsplit(")", 1)[1].split()[11:13]
     return (int(user) + int(system)) / os.sysconf("SC_CLK_TCK")
+
+
+def by_process(folder, process):
+    """What is told of who has a station's folder: this process, if the system lists its lock."""
+    found = os.stat(os.path.join(folder, "lock"))
+    file = f"{os.major(found.st_dev):02x}:{os.minor(found.st_dev):02x}:{found.st_ino}"
+    with open("/proc/locks") as locks:
+        is_told = any(line.split()[1] == "FLOCK" and line.split()[4:6] == [str(process), file] for line in locks)
+    return f" by process {process}" if is_told else ""
 
 
 def hears_block(peer):

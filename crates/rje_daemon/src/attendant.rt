@@ -4,11 +4,13 @@ ghost use Rattle.rje_jobs.specs.declared.job.Job.{Job as Item};
 ghost use Rattle.rje_session.specs.Ledger.{Given, IsEntered, Kept, KeptCut, MayArrive, MayBeEntered, Settled};
 
 use crate::doorway::Door;
+use crate::line_note::LineNote;
 use crate::strangers::Strangers;
 use rje_day::{Disposition, Inputs};
 use rje_jobs::Job;
 use rje_session::Spool;
 use rje_station::Station;
+use rje_store::Disk;
 use std::alloc::Global;
 use std::net::{OpenListener, SocketAddr};
 use std::time::{Clock, Duration, Instant};
@@ -16,7 +18,7 @@ use std::time::{Clock, Duration, Instant};
 /// A station's spool, and the door where calls come in, if it is called: while one end is on the line, it is seen whether that calls again, and
 /// whether it has the line for too long.
 #[derive(Drop)]
-pub(crate) struct Attendant<'o, C: Clock + Drop, S: Drop, L: OpenListener + Drop> {
+pub(crate) struct Attendant<'o, C: Clock + Drop, S: Drop, L: OpenListener + Drop, D: Drop> {
     clock: C,
     pub(crate) spool: S,
     pub(crate) door: Option<Door<'o, L>>,
@@ -29,16 +31,25 @@ pub(crate) struct Attendant<'o, C: Clock + Drop, S: Drop, L: OpenListener + Drop
     progress: u32,
     // Since when no job came whole and none was counted on this connection.
     since: Option<Instant>,
+    // What it notes of what it is doing.
+    pub(crate) note: LineNote<C, D>,
 }
 
-impl<'o, C: Clock + Drop, S: Drop, L: OpenListener + Drop> Attendant<'o, C, S, L> {
+impl<'o, C: Clock + Drop, S: Drop, L: OpenListener + Drop, D: Disk + Drop> Attendant<
+    'o,
+    C,
+    S,
+    L,
+    D,
+> {
     /// Nobody is on the line. An end has it for so many seconds in which no job comes whole and none is counted, and with 0 for ever.
     pub(crate) fn new(
         clock: C,
         spool: S,
         door: Option<Door<'o, L>>,
         progress: u32,
-    ) -> Attendant<'o, C, S, L>
+        note: LineNote<C, D>,
+    ) -> Attendant<'o, C, S, L, D>
         ensures spool { result.spool ≡ spool }
         ensures progress { result.progress ≡ progress }
         ensures nobody { result.peer ≡ None }
@@ -54,13 +65,19 @@ impl<'o, C: Clock + Drop, S: Drop, L: OpenListener + Drop> Attendant<'o, C, S, L
             peer: None,
             progress,
             since: None,
+            note,
         }
     }
 
     /// A connection begins: with this one, where it called.
     pub(crate) fn begin(&mut self, peer: Option<SocketAddr>)
-        ensures begun { self.new ≡ record self.old { peer = peer; since = self.new.since } }
+        ensures begun { self.new ≡ record self.old {
+          peer = peer;
+          since = self.new.since;
+          note = self.new.note;
+        } }
     {
+        self.note.connects(peer);
         self.peer = peer;
         self.since = Instant::now(&self.clock).ok();
     }
@@ -98,8 +115,8 @@ impl<'o, C: Clock + Drop, S: Drop, L: OpenListener + Drop> Attendant<'o, C, S, L
     }
 }
 
-impl<'o, C: Clock + Drop, S: Spool + Drop, L: OpenListener + Drop> Spool
-    for Attendant<'o, C, S, L> {
+impl<'o, C: Clock + Drop, S: Spool + Drop, L: OpenListener + Drop, D: Disk + Drop> Spool
+    for Attendant<'o, C, S, L, D> {
     type Fault = S::Fault;
 
     ghost discloses = { S.discloses };
@@ -107,6 +124,7 @@ impl<'o, C: Clock + Drop, S: Spool + Drop, L: OpenListener + Drop> Spool
     ghost ledger = { λ a. S.ledger a.spool };
 
     fn seen(&mut self) -> Inputs {
+        self.note.rests();
         let seen = self.spool.seen();
         Inputs {
             line_wanted: seen.line_wanted || self.is_called_again() || self.is_overdue(),
@@ -119,6 +137,7 @@ impl<'o, C: Clock + Drop, S: Spool + Drop, L: OpenListener + Drop> Spool
     }
 
     fn look_on<'a>(&mut self, station: &Station<'a>) -> bool {
+        self.note.goes_on(station);
         self.spool.look_on(station) && !self.is_overdue()
     }
 

@@ -10,6 +10,7 @@ use crate::station_spool::StationSpool;
 use rje_day::{Day, DayEvent, Inputs, NextAction};
 use rje_requests::{Partner, StationOrder};
 use rje_spool::Notice;
+use rje_store::Disk;
 use std::alloc::Global;
 use std::net::{Net, SocketAddr};
 use std::time::{Clock, Duration};
@@ -19,12 +20,12 @@ use std::{io, thread};
 const TICK: u64 = 100;
 
 /// Spends the day of a station as ordered: until it is drained, or its one connection is over.
-pub(crate) fn attend<R: Net + Clock, S: StationSpool + Drop>(
+pub(crate) fn attend<R: Net + Clock, S: StationSpool + Drop, D: Disk + Drop>(
     rt: &R,
     alloc: Global,
     order: &StationOrder,
     day: &mut Day,
-    attendant: &mut Attendant<&R, S, R::Listener>,
+    attendant: &mut Attendant<&R, S, R::Listener, D>,
 )
     ensures day { GoesOnAsDay day.old day.new }
 {
@@ -37,12 +38,18 @@ pub(crate) fn attend<R: Net + Clock, S: StationSpool + Drop>(
         };
         match day.next(seen) {
             NextAction::End => return,
-            NextAction::Listen => await_call(rt, alloc, order, day, seen, attendant),
+            NextAction::Listen => {
+                attendant.note.listens();
+                await_call(rt, alloc, order, day, seen, attendant);
+            }
             NextAction::Call => {
                 call(rt, alloc, order, day, seen, attendant);
                 calls.note(rt, attendant.receives);
             }
-            _ => wait(rt),
+            _ => {
+                attendant.note.waits(calls.seconds_left(rt));
+                wait(rt);
+            }
         }
     }
 }
@@ -53,9 +60,9 @@ fn wait<C: Clock>(clock: &C) {
 }
 
 /// What comes can't be kept: a call that waits is hung up; where none does, it waits a moment.
-fn hang_up_caller<R: Net + Clock, S: StationSpool + Drop>(
+fn hang_up_caller<R: Net + Clock, S: StationSpool + Drop, D: Disk + Drop>(
     rt: &R,
-    attendant: &mut Attendant<&R, S, R::Listener>,
+    attendant: &mut Attendant<&R, S, R::Listener, D>,
 ) {
     let came = match &mut attendant.door {
         Some(door) => door.next_caller(),
@@ -69,13 +76,13 @@ fn hang_up_caller<R: Net + Clock, S: StationSpool + Drop>(
 
 /// Takes a call that waits, and stays on its connection; where none waits, or none can be taken, it waits a moment. Where what comes can't be kept the
 /// call is hung up.
-fn await_call<R: Net + Clock, S: StationSpool + Drop>(
+fn await_call<R: Net + Clock, S: StationSpool + Drop, D: Disk + Drop>(
     rt: &R,
     alloc: Global,
     order: &StationOrder,
     day: &mut Day,
     seen: Inputs,
-    attendant: &mut Attendant<&R, S, R::Listener>,
+    attendant: &mut Attendant<&R, S, R::Listener, D>,
 )
     requires seeks { SeeksConnection day.old seen }
     ensures day { GoesOnAsDay day.old day.new }
@@ -111,9 +118,9 @@ fn await_call<R: Net + Clock, S: StationSpool + Drop>(
 }
 
 /// Tells that a caller was hung up, once in a minute.
-fn tell_hung_up<R: Net + Clock, S: StationSpool + Drop>(
+fn tell_hung_up<R: Net + Clock, S: StationSpool + Drop, D: Disk + Drop>(
     rt: &R,
-    attendant: &mut Attendant<&R, S, R::Listener>,
+    attendant: &mut Attendant<&R, S, R::Listener, D>,
     peer: SocketAddr,
 ) {
     if attendant.strangers.is_told(rt) {
@@ -129,13 +136,13 @@ fn tell_not_taken<S: StationSpool>(alloc: Global, why: &io::Error, spool: &mut S
 }
 
 /// Calls, and stays on the connection where there is one. Where what comes can't be kept it waits a moment.
-fn call<R: Net + Clock, S: StationSpool + Drop>(
+fn call<R: Net + Clock, S: StationSpool + Drop, D: Disk + Drop>(
     rt: &R,
     alloc: Global,
     order: &StationOrder,
     day: &mut Day,
     seen: Inputs,
-    attendant: &mut Attendant<&R, S, R::Listener>,
+    attendant: &mut Attendant<&R, S, R::Listener, D>,
 )
     requires seeks { SeeksConnection day.old seen }
     ensures day { GoesOnAsDay day.old day.new }
@@ -149,6 +156,7 @@ fn call<R: Net + Clock, S: StationSpool + Drop>(
         return;
     }
     attendant.spool.tell(Notice::Calling(address));
+    attendant.note.calls();
     match called(rt, address, order.timeout) {
         Ok(stream) => {
             attendant.spool.tell(Notice::Connected);

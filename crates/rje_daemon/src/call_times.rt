@@ -36,6 +36,19 @@ impl CallTimes {
         }
     }
 
+    /// In how many seconds it calls. Where the clock can't be read it calls now.
+    pub(crate) fn seconds_left<C: Clock>(&self, clock: &C) -> u64
+        ensures first { self.now.last ≡ None → result ≡ 0 }
+    {
+        let Some(last) = self.last else {
+            return 0;
+        };
+        match last.elapsed(clock) {
+            Ok(passed) => self.every.as_secs().saturating_sub(passed.as_secs()),
+            Err(_) => 0,
+        }
+    }
+
     /// It called now, or its connection is over now; or it didn't call.
     pub(crate) fn note<C: Clock>(&mut self, clock: &C, called: bool)
         ensures every { self.new.every ≡ self.old.every }

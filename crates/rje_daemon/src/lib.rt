@@ -6,10 +6,12 @@ mod attending;
 mod call_times;
 mod doorway;
 mod guarding;
+mod line_note;
 mod log_file;
 mod paced_stream;
 mod running;
 mod speaking;
+mod state_file;
 mod station_spool;
 mod strangers;
 

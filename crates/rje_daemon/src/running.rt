@@ -6,8 +6,10 @@ use crate::attendant::Attendant;
 use crate::attending::attend;
 use crate::doorway::Door;
 use crate::guarding::{Openness, how_open};
+use crate::line_note::LineNote;
 use crate::log_file::LogFile;
 use crate::speaking::most_quiet;
+use crate::state_file::StateFile;
 use crate::station_spool::StationSpool;
 use rje_cli::parse;
 use rje_commands::{CommandFault, tell};
@@ -18,8 +20,10 @@ use rje_program::tell_words;
 use rje_requests::{Callers, Order, Partner, StationOrder};
 use rje_settling::{SettlingFault, SettlingSpool};
 use rje_spool::{Console, FolderSpool, Notice};
+use rje_status::holder_of;
 use rje_store::{Disk, SystemDisk};
 use std::alloc::Global;
+use std::fmt::Display;
 use std::fs::File;
 use std::io::{self, ErrorKind, Write};
 use std::net::{Net, OpenListener, SocketAddr, TcpListener};
@@ -55,8 +59,30 @@ where
     };
     match run(rt, alloc, &order, err, is_terminal) {
         Ok(()) => 0,
+        Err(StationEnd::Folder(FolderFault::InUse)) => tell_in_use(rt, alloc, order.folder, err),
         Err(end) => tell_end(&end, order.folder, err),
     }
+}
+
+/// Tells that another station has this folder, and which process that is, where it is known; and returns the exit status.
+fn tell_in_use<R: Files<File = File>, E: Write>(
+    rt: &R,
+    alloc: Global,
+    folder: &str,
+    err: &mut E,
+) -> u8
+    ensures { result ≡ 3 }
+{
+    let printed = PrintedName(folder);
+    let holder = match format!(in alloc; "{folder}/lock") {
+        Ok(lock) => holder_of(&SystemDisk::new(rt), alloc, lock.as_str()),
+        Err(_) => None,
+    };
+    let _ = match holder {
+        Some(process) => writeln!(err, "rje: {printed} is in use by process {process}"),
+        None => writeln!(err, "rje: {printed} is in use"),
+    };
+    3
 }
 
 /// Tells why a station in this folder ends that wasn't to, and returns the exit status.
@@ -68,10 +94,9 @@ fn tell_end<E: Write>(end: &StationEnd, folder: &str, err: &mut E) -> u8
     }
     let folder = PrintedName(folder);
     let _ = match end {
-        StationEnd::Folder(FolderFault::InUse) => writeln!(err, "rje: {folder} is in use"),
         // No folder can be made in one that isn't there.
         StationEnd::Folder(FolderFault::Failed(Folder::Out, ErrorKind::NotFound)) => {
-            writeln!(err, "rje: {folder}: {}", ErrorKind::NotFound)
+            writeln!(err, "rje: {folder}: no such folder")
         }
         StationEnd::Folder(fault) => writeln!(err, "rje: {folder}: {fault}"),
         StationEnd::Open(Openness::OfAnother(part)) => {
@@ -85,7 +110,7 @@ fn tell_end<E: Write>(end: &StationEnd, folder: &str, err: &mut E) -> u8
             )
         }
         StationEnd::Open(Openness::NoFile(part)) => writeln!(err, "rje: {folder}{part}: no file"),
-        StationEnd::Log(error) => writeln!(err, "rje: {folder}/log: {error}"),
+        StationEnd::Log(error) => writeln!(err, "rje: {folder}/log: {}", error.kind()),
         StationEnd::Listener(address, error) => writeln!(
             err,
             "rje: can't listen on {address}: {}\nrje: line failed",
@@ -152,22 +177,36 @@ where
     guard(rt, alloc, path.as_str())?;
     let folder = opened(rt, alloc, path.as_str()).map_err(StationEnd::Folder)?;
     let log = LogFile::open(rt, alloc, path.as_str()).map_err(StationEnd::Log)?;
+    let state = state_file(rt, alloc, path.as_str())?;
     let rewrites = is_terminal && !order.quiet;
     let console = Console::new(rt, alloc, &mut *err, log, rewrites);
     let mut spool = FolderSpool::new(alloc, folder, console);
     spool.tell(Notice::Began(order.folder));
     if !order.settle {
-        return ended(serve(rt, alloc, order, spool));
+        return ended(serve(rt, alloc, order, spool, state));
     }
     let disk = SystemDisk::new(rt);
     let calls = matches!(order.partner, Partner::Calls(_));
     let patience = most_quiet(order.patience);
     match SettlingSpool::begin(alloc, path.as_str(), disk, spool, calls, patience) {
-        Ok(spool) => ended(serve::<R, SettlingSpool<SystemDisk<R>, &R, &mut E, LogFile<R>>>(
-            rt, alloc, order, spool,
-        )),
+        Ok(spool) => ended(serve::<
+            R,
+            SettlingSpool<SystemDisk<R>, &R, &mut E, LogFile<R>>,
+            SystemDisk<R>,
+        >(rt, alloc, order, spool, state)),
         Err(fault) => Err(StationEnd::Settling(fault)),
     }
+}
+
+/// The file in which the station of this folder notes what it is doing.
+fn state_file<'a, R: Files<File = File>>(
+    rt: &'a R,
+    alloc: Global,
+    folder: &str,
+) -> Result<StateFile<SystemDisk<'a, R>>, StationEnd> {
+    StateFile::new(SystemDisk::new(rt), alloc, folder).map_err(|_| StationEnd::Folder(
+        FolderFault::OutOfMemory,
+    ))
 }
 
 /// Has the folder of this path for this station. One that is in use is tried again for half a second: a look at it locks it for a moment.
@@ -193,19 +232,22 @@ fn ended(served: Result<(), ListenFault>) -> Result<(), StationEnd> {
     }
 }
 
-/// Stays on the line with this spool: calls, or is called.
-fn serve<R: Net + Clock, S: StationSpool + Drop>(
+/// Stays on the line with this spool: calls, or is called. It notes what it is doing in this file.
+fn serve<R: Net + Clock, S: StationSpool + Drop, D: Disk + Drop>(
     rt: &R,
     alloc: Global,
     order: &StationOrder,
     spool: S,
+    state: StateFile<D>,
 ) -> Result<(), ListenFault> {
     match order.partner {
-        Partner::Calls(_) => {
-            stay_on(rt, alloc, order, None, spool);
+        Partner::Calls(address) => {
+            stay_on(rt, alloc, order, address, None, spool, state);
             Ok(())
         }
-        Partner::Listens(address, callers) => listen(rt, alloc, order, address, callers, spool),
+        Partner::Listens(address, callers) => {
+            listen(rt, alloc, order, address, callers, spool, state)
+        }
     }
 }
 
@@ -240,18 +282,20 @@ fn guard<R: Files<File = File>>(rt: &R, alloc: Global, folder: &str) -> Result<(
 }
 
 /// Listens at this address, and attends to the calls. What ends the station is told where it can't.
-fn listen<R: Net + Clock, S: StationSpool + Drop>(
+fn listen<R: Net + Clock, S: StationSpool + Drop, D: Disk + Drop>(
     rt: &R,
     alloc: Global,
     order: &StationOrder,
     address: SocketAddr,
     callers: Callers,
     mut spool: S,
+    state: StateFile<D>,
 ) -> Result<(), ListenFault> {
     match listener_at(rt, address) {
         Ok((listener, own)) => {
             spool.tell(Notice::Listening(own));
-            stay_on(rt, alloc, order, Some(Door::new(listener, callers)), spool);
+            let door = Some(Door::new(listener, callers));
+            stay_on(rt, alloc, order, own, door, spool, state);
             Ok(())
         }
         Err(error) => {
@@ -272,17 +316,22 @@ fn listener_at<R: Net>(rt: &R, address: SocketAddr) -> io::Result<(R::Listener, 
     Ok((listener, own))
 }
 
-/// Stays on the line, with this door where it is called, until the station ends.
-fn stay_on<'o, R: Net + Clock, S: StationSpool + Drop>(
+/// Stays on the line, where it calls this address or is called at it through this door, until the station ends.
+fn stay_on<'o, R: Net + Clock, S: StationSpool + Drop, A: Display + Drop, D: Disk + Drop>(
     rt: &R,
     alloc: Global,
     order: &StationOrder,
+    own: A,
     door: Option<Door<'o, R::Listener>>,
     spool: S,
+    state: StateFile<D>,
 ) {
     let mut day = Day::new(settings_of(order));
-    let mut attendant = Attendant::new(rt, spool, door, order.progress);
+    let own = format!(in alloc; "{own}").ok();
+    let note = LineNote::new(rt, alloc, state, own);
+    let mut attendant = Attendant::new(rt, spool, door, order.progress, note);
     attend(rt, alloc, order, &mut day, &mut attendant);
+    attendant.note.ends();
     attendant.spool.tell(Notice::Ended);
 }
 

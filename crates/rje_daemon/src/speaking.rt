@@ -11,6 +11,7 @@ use rje_net::{AdapterStream, LineCause, ObservedStream, SocketLine};
 use rje_requests::StationOrder;
 use rje_session::{ConnectionEnd, StayFault, Terms, stay};
 use rje_spool::Notice;
+use rje_store::Disk;
 use std::alloc::Global;
 use std::fmt::Display;
 use std::io;
@@ -23,14 +24,14 @@ type StationLine<'r, R> = SocketLine<
 >;
 
 /// Stays on this connection until it is over, and reports why that is.
-pub(crate) fn speak<R: Net + Clock, S: StationSpool + Drop>(
+pub(crate) fn speak<R: Net + Clock, S: StationSpool + Drop, D: Disk + Drop>(
     rt: &R,
     alloc: Global,
     order: &StationOrder,
     stream: R::Stream,
     day: &mut Day,
     seen: Inputs,
-    attendant: &mut Attendant<&R, S, R::Listener>,
+    attendant: &mut Attendant<&R, S, R::Listener, D>,
 )
     requires seeks { SeeksConnection day.old seen }
     ensures day { GoesOnAsDay day.old day.new }
@@ -74,12 +75,12 @@ fn terms_of(order: &StationOrder) -> Terms
 }
 
 /// Stays on this line until the connection is over.
-fn speak_over<'r, R: Net + Clock, S: StationSpool + Drop>(
+fn speak_over<'r, R: Net + Clock, S: StationSpool + Drop, D: Disk + Drop>(
     alloc: Global,
     order: &StationOrder,
     mut line: StationLine<'r, R>,
     day: &mut Day,
-    attendant: &mut Attendant<&R, S, R::Listener>,
+    attendant: &mut Attendant<&R, S, R::Listener, D>,
 )
     ensures day { GoesOnAsDay day.old day.new }
 {

@@ -46,9 +46,10 @@ abbrev pub IsKeptElsewhere : (station name path : List ℕ) → Type 0
 IsKeptElsewhere station name path = IsNamedAfter (path_in station Folder.Sent name) path ⊎ IsNamedAfter (path_in station Folder.Doubt name) path ⊎ IsNamedAfter (path_in station Folder.Refused name) path
 
 -- What may be asked to bring to its end what was begun: to take the name in out/ away from a file that has one in sent/, doubt/ or refused/ too, once
--- that is on disk; and the name in doubt/ from a file that has one in sent/ too, where both are of one name, with a number or without.
+-- that is on disk, so that another file which has got the name keeps it; and the name in doubt/ from a file that has one in sent/ too, where both are
+-- of one name, with a number or without.
 abbrev pub MayTidy : (List Asked → List ℕ → List ℕ → Type 0) → (station : List ℕ) → Call → List Asked → Type 0
-MayTidy are_one station call before = ((name kept : List ℕ) × IsKeptElsewhere station name kept × MayDrop are_one kept (path_in station Folder.Out name) call before)
+MayTidy are_one station call before = ((name kept : List ℕ) × IsKeptElsewhere station name kept × MayTakeOut are_one station name kept call before)
     ⊎ ((name kept doubt : List ℕ) × IsNamedAfter (path_in station Folder.Sent name) kept × IsNamedAfter (path_in station Folder.Doubt name) doubt × MayDrop are_one kept doubt call before)
 
 -- The path that the file of a job has once that is done: one in sent/; the one in doubt/; or the one in out/, but the one in doubt/ still where another

@@ -8,9 +8,10 @@ use Rattle.rje_text.specs.declared.select.Select.{Select}
 use Rattle.rje_folder.specs.declared.ready_file.ReadyFile.{ReadyFile}
 use Rattle.rje_folder.specs.declared.ready_file.ReadyFile.TheVariants.{JobFile, Deck}
 
--- a file is left alone whose name begins with a dot, or ends in .part or .hold
+-- a file is left alone whose name begins with a dot, or ends in .part, in .hold, or as a command's new file does beside the one that it replaces
 abbrev pub is_left_alone : List ℕ → Bool
-is_left_alone name = starts_with nat_eq name (codes ".") || (ends_with nat_eq name (codes ".part") || ends_with nat_eq name (codes ".hold"))
+is_left_alone name = starts_with nat_eq name (codes ".") || (ends_with nat_eq name (codes ".part") || (ends_with nat_eq name (codes ".hold")
+    || (ends_with nat_eq name (codes ".rje-0") || ends_with nat_eq name (codes ".rje-1"))))
 
 -- What a file is, by the ending of its name: a job file, or a deck for the printer, for the punch, for the punch as it is, or for the receiving
 -- station's own choice.

@@ -43,6 +43,9 @@ pub enum FolderFault {
     /// A file with a hidden name has others, none of them named after the one that it had.
     #[error("it has other names")]
     OtherNames,
+    /// A file of out/ can't be locked, and why.
+    #[error("out: can't be locked: {0}")]
+    NotLocked(ErrorKind),
     /// A file can't get a second name, and why.
     #[error("can't get a second name: {0}")]
     NoSecondName(ErrorKind),
@@ -78,7 +81,8 @@ impl FolderFault {
     {
         match error.kind() {
             ErrorKind::WouldBlock => FolderFault::BeingWritten(Folder::Out),
-            _ => FolderFault::of(Folder::Out, error),
+            ErrorKind::OutOfMemory => FolderFault::OutOfMemory,
+            kind => FolderFault::NotLocked(kind),
         }
     }
 

@@ -39,6 +39,7 @@ pub use folder_fault::FolderFault;
 pub use keeping::{Kept, keep};
 pub use marking::set_mark;
 pub use moving::{add_name, drop_name, move_file};
+pub use naming::is_named_after;
 pub use reading::FileRead;
 pub use ready_file::{ReadyFile, is_left_alone, ready_names};
 pub use settled::{OutName, Settled};

@@ -7,8 +7,8 @@ use crate::file_identity::FileIdentity;
 use crate::folder_disk::FolderDisk;
 use std::io::{self, ErrorKind};
 
-/// Writes a byte at a place of this file under a path, on disk. Which file it is then, as it was written to; `None`, and nothing was written, where
-/// another file has the path. An invalid input where the file has no byte there.
+/// Writes a byte at a place of this file under a path, on disk. Which file it is then, as it was written to; `None` where another file has the path, and
+/// nothing was written, or where somebody else wrote to it until it was on disk. An invalid input where the file has no byte there.
 pub fn set_mark<D: FolderDisk>(
     disk: &mut D,
     path: &str,
@@ -35,8 +35,13 @@ pub fn set_mark<D: FolderDisk>(
         return Err(io::Error::from(ErrorKind::InvalidInput));
     }
     disk.write_at(&opened, place, &[mark])?;
+    let marked = disk.identity_of(&opened)?;
     disk.sync_bytes(&opened)?;
-    Ok(Some(disk.identity_of(&opened)?))
+    if is_open_as(disk, &opened, marked)? {
+        Ok(Some(marked))
+    } else {
+        Ok(None)
+    }
 }
 
 /// Whether an open file is this one.

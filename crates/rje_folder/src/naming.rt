@@ -7,7 +7,7 @@ use std::alloc::Global;
 use std::io;
 
 /// Whether a path is another one, or that one with a number, before its ending or at its end.
-pub(crate) fn is_named_after(alloc: Global, first: &str, path: &str) -> io::Result<bool>
+pub fn is_named_after(alloc: Global, first: &str, path: &str) -> io::Result<bool>
     ensures { IfOk result (λ is. is ≡ true → IsNamedAfter first.now path.now) }
 {
     if path == first {

@@ -6,7 +6,6 @@ ghost use Rattle.rje_folder.specs.Folder.{path_in};
 ghost use Rattle.rje_folder.specs.Moving.{IsGone, IsMoved, IsSecond, MayMove};
 ghost use Rattle.rje_folder.specs.declared.settled.OutName.TheVariants.{TakenAway};
 ghost use Rattle.rje_folder.specs.Promising.{IsSent, IsSettled, MayPromise, MaySettle};
-ghost use Rattle.rje_folder.specs.TakingOut.{MayTakeOut};
 ghost use Rattle.rje_folder.specs.Trying.{IsLockedAs};
 
 use crate::file_identity::FileIdentity;
@@ -14,10 +13,9 @@ use crate::file_names::FileNames;
 use crate::folder::Folder;
 use crate::folder_disk::FolderDisk;
 use crate::folder_fault::FolderFault;
-use crate::linking::sync_names;
 use crate::moving::{change_name, drop_name, move_file};
 use crate::settled::{OutName, Settled};
-use crate::taking_out::take_out;
+use crate::taking_out::{take_from_out, take_out};
 use crate::trying::{AddedName, add_name_of};
 use rje_day::Disposition;
 use std::alloc::Global;
@@ -169,26 +167,6 @@ fn leave_in_doubt<D: FolderDisk>(
     let taken = take_from_out(disk, alloc, station, name, doubt);
     let out = out_name(disk, ready.as_str(), doubt, taken);
     Ok(Settled { path: kept, out })
-}
-
-/// Takes the name in out/ away from a file that has this path in doubt/, which is put on disk before that. `false` if another file has the name.
-fn take_from_out<D: FolderDisk>(
-    disk: &mut D,
-    alloc: Global,
-    station: &str,
-    name: &str,
-    doubt: &str,
-) -> io::Result<bool>
-    ensures asks { D.discloses → Adds (MayTakeOut D.are_one station.now name.now doubt.now)
-        (D.asked disk.old) (D.asked disk.new) }
-    ensures taken { D.discloses → IfOk result (λ taken. taken ≡ true
-        → IsGone (path_in station.now Folder.Out name.now) (D.asked disk.new)) }
-{
-    let ready = Folder::Out.path(alloc, station, name)?;
-    let kept = disk.open_folder(doubt)?;
-    let out = disk.open_folder(ready.as_str())?;
-    sync_names(disk, &kept)?;
-    take_out(disk, alloc, station, name, doubt, &out)
 }
 
 /// The job lies ready still: the name in doubt/ is taken away. The file is in out/, or in doubt/ still where its name in out/ is gone or of another

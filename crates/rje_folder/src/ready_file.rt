@@ -48,12 +48,16 @@ fn deck(select: Select, mode: Mode) -> ReadyFile
     ReadyFile::Deck { select, mode }
 }
 
-/// Whether a file of this name is left alone: one that is being written, or held back.
+/// Whether a file of this name is left alone: one that is being written, as a command's new file beside the one that it replaces, or held back.
 pub fn is_left_alone(name: &str) -> bool
     ensures { result ≡ left_alone name.now }
 {
     let name = name.as_bytes();
-    name.starts_with(b".") || name.ends_with(b".part") || name.ends_with(b".hold")
+    name.starts_with(b".")
+        || name.ends_with(b".part")
+        || name.ends_with(b".hold")
+        || name.ends_with(b".rje-0")
+        || name.ends_with(b".rje-1")
 }
 
 /// Those of these names that aren't left alone, in the order of their bytes, each once.

@@ -14,6 +14,7 @@ use crate::folder::Folder;
 use crate::folder_disk::FolderDisk;
 use crate::folder_fault::FolderFault;
 use crate::linking::link_free;
+use crate::ready_file::ReadyFile;
 use rje_store::FileKind;
 use std::alloc::Global;
 use std::io::{self, ErrorKind};
@@ -29,7 +30,8 @@ pub(crate) struct NamedFile<F: Drop> {
 }
 
 /// A file in out/, open to be read, by a second name that it has for that moment: in refused/, where nobody else can put a pipe or a link in its place
-/// between the look and the open. Being written where another file has its name in out/ then.
+/// between the look and the open. Being written where another file has its name in out/ then; without a second name where it is a job file that the
+/// station may not write to.
 pub(crate) fn open_ready<D: FolderDisk>(
     disk: &mut D,
     alloc: Global,
@@ -49,12 +51,46 @@ pub(crate) fn open_ready<D: FolderDisk>(
         Ok(second) => second,
         Err(error) => return Err(unnamed(&error)),
     };
-    let opened = open_regular(disk, second.as_str());
+    let opened = open_to_send(disk, name, second.as_str());
     // (a name that stays is taken away at the next begin)
     let _ = disk.remove(second.as_str());
     match opened {
         Ok(file) => as_named(disk, alloc, station, name, file),
-        Err(error) => Err(FolderFault::of(Folder::Out, &error)),
+        Err(error) => Err(unopened(&error)),
+    }
+}
+
+/// A file of this name, which has this path, open to be read. A job file that the station may not write to, so that no job of it could be marked as sent,
+/// is as one on a disk that can only be read.
+fn open_to_send<D: FolderDisk>(disk: &D, name: &str, path: &str) -> io::Result<D::File>
+    ensures { D.discloses → IfOk result (λ file. (D.opened file).name ≡ path.now) }
+{
+    let file = open_regular(disk, path)?;
+    if is_sealed(disk, name, path) {
+        Err(io::Error::from(ErrorKind::ReadOnlyFilesystem))
+    } else {
+        Ok(file)
+    }
+}
+
+/// Why a file in out/ that has a second name isn't read: a job file that the station may not write to is as one that gets none.
+fn unopened(error: &io::Error) -> FolderFault
+    ensures { (other : Folder) → result ≢ TooLarge other }
+{
+    match error.kind() {
+        ErrorKind::ReadOnlyFilesystem => FolderFault::NoSecondName(ErrorKind::PermissionDenied),
+        _ => FolderFault::of(Folder::Out, error),
+    }
+}
+
+/// Whether a file of this name, which has this path, is a job file that the station may not write to: its jobs couldn't be marked as sent.
+fn is_sealed<D: FolderDisk>(disk: &D, name: &str, path: &str) -> bool {
+    match ReadyFile::of_name(name) {
+        Some(ReadyFile::JobFile) => match disk.try_to_write(path) {
+            Err(error) => error.kind() == ErrorKind::PermissionDenied,
+            Ok(()) => false,
+        },
+        _ => false,
     }
 }
 

@@ -46,6 +46,26 @@ pub(crate) fn take_out<D: FolderDisk>(
     take_by(disk, ready.as_str(), path.as_str(), kept, folder)
 }
 
+/// Takes a name in out/ away from a file that has this other path, which is put on disk before that. `false` if another file has the name.
+pub(crate) fn take_from_out<D: FolderDisk>(
+    disk: &mut D,
+    alloc: Global,
+    station: &str,
+    name: &str,
+    kept: &str,
+) -> io::Result<bool>
+    ensures asks { D.discloses → Adds (MayTakeOut D.are_one station.now name.now kept.now)
+        (D.asked disk.old) (D.asked disk.new) }
+    ensures taken { D.discloses → IfOk result (λ taken. taken ≡ true
+        → IsGone (path_in station.now Place.Out name.now) (D.asked disk.new)) }
+{
+    let ready = Folder::Out.path(alloc, station, name)?;
+    let folder = disk.open_folder(kept)?;
+    let out = disk.open_folder(ready.as_str())?;
+    sync_names(disk, &folder)?;
+    take_out(disk, alloc, station, name, kept, &out)
+}
+
 /// The same of a path in out/, by way of this hidden one.
 fn take_by<D: FolderDisk>(
     disk: &mut D,

@@ -10,11 +10,12 @@ use crate::folder_disk::FolderDisk;
 use crate::kept_names::KeptNames;
 use crate::moving::drop_name;
 use crate::naming::{is_named_after, may_be_named_after, names_before};
+use crate::taking_out::take_from_out;
 use std::alloc::Global;
 use std::io::{self, ErrorKind};
 
 /// Takes a name in out/ away, where its file has one in sent/, doubt/ or refused/ too, of those that are listed: so a file that was counted, that may
-/// have arrived or that was refused doesn't lie ready.
+/// have arrived or that was refused doesn't lie ready. Another file that gets the name meanwhile keeps it.
 pub(crate) fn tidy_ready<D: FolderDisk>(
     disk: &mut D,
     alloc: Global,
@@ -31,7 +32,7 @@ pub(crate) fn tidy_ready<D: FolderDisk>(
     }
     match kept_name(disk, alloc, station, name, ready.as_str(), listed)? {
         Some(kept) => {
-            drop_name(disk, kept.as_str(), ready.as_str())?;
+            take_from_out(disk, alloc, station, name, kept.as_str())?;
             Ok(())
         }
         None => Ok(()),

@@ -1,12 +1,13 @@
 //! What becomes of the file of a promised job, once a receipt settles the job.
 
+use crate::comparing::{has_job, is_marked};
 use crate::finding::{Standing, path_in, path_of};
 use rje_accounts::settle_path;
 use rje_files::MARK;
 use rje_folder::{
     FileIdentity, FileNames, Folder, FolderDisk, add_name, drop_name, move_file, set_mark,
 };
-use rje_settle::{Promise, SettleName};
+use rje_settle::{Promise, Receipt, SettleName};
 use std::alloc::Global;
 use std::io::{self, ErrorKind};
 
@@ -27,28 +28,28 @@ pub(crate) struct FiledJob {
     pub(crate) out: Option<String>,
     /// Whether it stood in sent/.
     pub(crate) was_sent: bool,
+    /// Whether somebody has written to it since the job was promised: it has that no more.
+    pub(crate) is_changed: bool,
 }
 
 /// The job of this promise came: it is marked as sent in its file, and that goes to sent/ if it has no further one, and else to out/. One that stands
-/// in sent/ stays there. A name that it has in out/ besides isn't taken away yet.
+/// in sent/ stays there, and one that somebody has written to where it is. A name that it has in out/ besides isn't taken away yet. If it is known, this
+/// is what the other end had said before.
 pub(crate) fn file_as_sent<D: FolderDisk>(
     disk: &mut D,
     alloc: Global,
     station: &str,
     promise: Promise,
+    before: Option<Receipt>,
 ) -> io::Result<FiledJob> {
     let second = settle_path(alloc, station, SettleName::Out(promise))?;
-    let standing = Standing::of(disk, alloc, station, second.as_str())?;
-    let was_sent = standing.is_in(Folder::Sent);
-    if was_sent {
-        return filed(
-            disk,
-            alloc,
-            station,
-            second.as_str(),
-            Folder::Sent,
-            &standing,
-        );
+    let second = second.as_str();
+    let standing = Standing::of(disk, alloc, station, second)?;
+    if standing.is_in(Folder::Sent) {
+        return filed(disk, alloc, station, second, Folder::Sent, &standing);
+    }
+    if is_changed(disk, alloc, second, &standing, promise, before)? {
+        return left(disk, alloc, station, second, &standing);
     }
     let to = if promise.place.is_last {
         Folder::Sent
@@ -56,31 +57,97 @@ pub(crate) fn file_as_sent<D: FolderDisk>(
         Folder::Out
     };
     if standing.folder().is_some() {
-        set_job_mark(disk, second.as_str(), promise.place.mark, MARK)?;
+        set_job_mark(disk, second, promise.place.mark, MARK)?;
     }
-    filed(disk, alloc, station, second.as_str(), to, &standing)
+    filed(disk, alloc, station, second, to, &standing)
 }
 
-/// The job of this promise hasn't come, though it may have been counted: it isn't marked as sent in its file, and that goes to out/.
+/// The job of this promise hasn't come, though it may have been counted: it isn't marked as sent in its file, unless somebody has written to that, and the
+/// file goes to out/. If it is known, this is what the other end had said before.
 pub(crate) fn file_as_ready<D: FolderDisk>(
     disk: &mut D,
     alloc: Global,
     station: &str,
     promise: Promise,
+    before: Option<Receipt>,
 ) -> io::Result<FiledJob> {
     let second = settle_path(alloc, station, SettleName::Out(promise))?;
-    let standing = Standing::of(disk, alloc, station, second.as_str())?;
-    if standing.folder().is_some() {
-        set_job_mark(disk, second.as_str(), promise.place.mark, NO_MARK)?;
+    let second = second.as_str();
+    let standing = Standing::of(disk, alloc, station, second)?;
+    let is_changed = is_changed(disk, alloc, second, &standing, promise, before)?;
+    if !is_changed && is_marked(disk, alloc, second, promise)? {
+        set_job_mark(disk, second, promise.place.mark, NO_MARK)?;
     }
-    filed(
-        disk,
-        alloc,
-        station,
-        second.as_str(),
-        Folder::Out,
-        &standing,
-    )
+    filed(disk, alloc, station, second, Folder::Out, &standing)
+}
+
+/// Whether the job of a promise is marked as sent in its file, and so was counted; not where that can't be read.
+pub(crate) fn was_marked<D: FolderDisk>(
+    disk: &D,
+    alloc: Global,
+    station: &str,
+    promise: Promise,
+) -> bool {
+    match settle_path(alloc, station, SettleName::Out(promise)) {
+        Ok(second) => is_marked(disk, alloc, second.as_str(), promise).unwrap_or(false),
+        Err(_) => false,
+    }
+}
+
+/// The path of the file of a promised job: in doubt/, out/ or sent/; none, where somebody has taken it away, or that can't be seen.
+pub(crate) fn path_of_promised<D: FolderDisk>(
+    disk: &D,
+    alloc: Global,
+    station: &str,
+    promise: Promise,
+) -> Option<String> {
+    let second = settle_path(alloc, station, SettleName::Out(promise)).ok()?;
+    let standing = Standing::of(disk, alloc, station, second.as_str()).ok()?;
+    let folder = standing.folder()?;
+    path_in(alloc, station, folder, standing.name_in(folder)?).ok()
+}
+
+/// Whether somebody has written to the file of a promise, which has this second name and these names: it has the promised job no more. It isn't known
+/// where it isn't known what the other end had said before, nor of a file that somebody has taken away.
+fn is_changed<D: FolderDisk>(
+    disk: &D,
+    alloc: Global,
+    second: &str,
+    standing: &Standing,
+    promise: Promise,
+    before: Option<Receipt>,
+) -> io::Result<bool> {
+    let (Some(before), Some(folder)) = (before, standing.folder()) else {
+        return Ok(false);
+    };
+    let Some(name) = standing.name_in(folder) else {
+        return Ok(false);
+    };
+    Ok(!has_job(disk, alloc, second, name, promise, before)?)
+}
+
+/// The file of a promised job, which has this second name and these names, stays where it is, since somebody has written to it.
+fn left<D: FolderDisk>(
+    disk: &D,
+    alloc: Global,
+    station: &str,
+    second: &str,
+    standing: &Standing,
+) -> io::Result<FiledJob> {
+    let path = match standing.folder() {
+        Some(folder) => match standing.name_in(folder) {
+            Some(name) => Some(path_in(alloc, station, folder, name)?),
+            None => None,
+        },
+        None => None,
+    };
+    Ok(FiledJob {
+        file: disk.identity(second)?,
+        path,
+        out: None,
+        was_sent: false,
+        is_changed: true,
+    })
 }
 
 /// Writes this byte where a job is marked in its file, on disk; a deck has no such place.
@@ -115,6 +182,7 @@ fn filed<D: FolderDisk>(
         path,
         out: out_name(alloc, to, standing)?,
         was_sent: standing.is_in(Folder::Sent),
+        is_changed: false,
     })
 }
 

@@ -1,6 +1,6 @@
 //! Where the file of a promised job stands.
 
-use rje_folder::{Folder, FolderDisk};
+use rje_folder::{Folder, FolderDisk, is_named_after};
 use std::alloc::Global;
 use std::io::{self, ErrorKind};
 
@@ -20,10 +20,13 @@ impl Standing {
         station: &str,
         file: &str,
     ) -> io::Result<Standing> {
+        let doubt = name_in(disk, alloc, station, Folder::Doubt, file, None)?;
+        let sent = name_in(disk, alloc, station, Folder::Sent, file, None)?;
+        let own = doubt.as_deref().or(sent.as_deref());
         Ok(Standing {
-            out: name_in(disk, alloc, station, Folder::Out, file)?,
-            doubt: name_in(disk, alloc, station, Folder::Doubt, file)?,
-            sent: name_in(disk, alloc, station, Folder::Sent, file)?,
+            out: name_in(disk, alloc, station, Folder::Out, file, own)?,
+            doubt,
+            sent,
         })
     }
 
@@ -73,21 +76,31 @@ pub(crate) fn path_of(alloc: Global, station: &str, folder: Folder) -> io::Resul
     Ok(format!(in alloc; "{station}/{folder}")?)
 }
 
-/// The name that a file has in a folder of the station, if it has one there. A folder that isn't there has none.
+/// The name that a file has in a folder of the station, if it has one there: one after which this other one is named, if there is one. A folder that isn't
+/// there has none.
 fn name_in<D: FolderDisk>(
     disk: &D,
     alloc: Global,
     station: &str,
     folder: Folder,
     file: &str,
+    named: Option<&str>,
 ) -> io::Result<Option<String>> {
     for name in names_in(disk, alloc, station, folder)? {
         let path = path_in(alloc, station, folder, name.as_str())?;
-        if is_one_file(disk, file, path.as_str())? {
+        if is_one_file(disk, file, path.as_str())? && may_be_of(alloc, name.as_str(), named)? {
             return Ok(Some(name));
         }
     }
     Ok(None)
+}
+
+/// Whether a name may be of the file that has this other one: it is that, or that is made of it by a number.
+fn may_be_of(alloc: Global, name: &str, other: Option<&str>) -> io::Result<bool> {
+    match other {
+        Some(other) => is_named_after(alloc, name, other),
+        None => Ok(true),
+    }
 }
 
 /// The names in a folder of the station.

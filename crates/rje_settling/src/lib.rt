@@ -2,6 +2,8 @@
 #![tactic(auto)]
 
 mod attempts;
+mod comparing;
+mod failures;
 mod filing;
 mod finding;
 mod settling_fault;

@@ -9,6 +9,7 @@ mod receiving;
 mod settling;
 
 use crate::attempts::Attempts;
+use crate::failures::Failures;
 use crate::settling_fault::SettlingFault;
 use crate::station_accounts::StationAccounts;
 use rje_accounts::AccountsFault;
@@ -52,6 +53,7 @@ pub(crate) struct SettlingFiles<D: FolderDisk + Drop, C, W, L> {
     // The number of the promise that was made last, if its job didn't go out.
     unsaid: Option<u64>,
     attempts: Attempts,
+    failures: Failures,
 }
 
 impl<D: FolderDisk + Drop, C: Clock, W: Write, L: Write> SettlingFiles<D, C, W, L> {
@@ -80,6 +82,7 @@ impl<D: FolderDisk + Drop, C: Clock, W: Write, L: Write> SettlingFiles<D, C, W, 
             promised: None,
             unsaid: None,
             attempts: Attempts::new(),
+            failures: Failures::new(),
         }
     }
 

@@ -2,7 +2,7 @@
 ghost use Rattle.std.specs.Prelude.{◌≡◌, ◌≤◌, ◌<◌, ◌↔◌, IfOk, IsTrue, OnOk, string_bytes};
 ghost use Rattle.rje_settling.specs.Counting.{IsCounted, IsPromised};
 
-use crate::filing::{FiledJob, file_as_ready, file_as_sent};
+use crate::filing::{FiledJob, file_as_ready, file_as_sent, path_of_promised, was_marked};
 use crate::settling_fault::SettlingFault;
 use rje_accounts::{
     Accounts, BroughtIn, bring_in, drop_promise, finish_job, keep_job, note_sent, promise,
@@ -12,7 +12,7 @@ use rje_folder::{FileIdentity, FolderDisk};
 use rje_settle::{
     JobDigest, JobPlace, Promise, PromiseFault, Receipt, ReceivingAccount, SendingAccount, Verdict,
 };
-use rje_spool::{FolderSpool, GivenJob};
+use rje_spool::{FolderSpool, GivenJob, Notice, SettlingNotice};
 use std::alloc::Global;
 use std::io::{self, Write};
 use std::time::Clock;
@@ -125,13 +125,47 @@ impl<D: FolderDisk + Drop> StationAccounts<D> {
     ) -> Result<(), SettlingFault> {
         for promise in &accounts.promises {
             if accounts.is_over(*promise) {
-                self.file_sent(*promise, spool)?;
-                self.drop_promise(*promise)?;
+                self.finish_promise(*promise, spool)?;
             } else if accounts.sent.is_none() {
                 self.drop_promise(*promise)?;
             }
         }
         Ok(())
+    }
+
+    /// Deals with a promise whose job came. Where its file can't be dealt with, that is told, and the promise stays.
+    fn finish_promise<C: Clock, W: Write, L: Write>(
+        &mut self,
+        promise: Promise,
+        spool: &mut FolderSpool<D, C, W, L>,
+    ) -> Result<(), SettlingFault> {
+        match self.file_sent(promise, spool) {
+            Ok(_) => self.drop_promise(promise),
+            Err(SettlingFault::OutOfMemory) => Err(SettlingFault::OutOfMemory),
+            Err(fault) => {
+                self.leave(promise, &fault, spool);
+                Ok(())
+            }
+        }
+    }
+
+    /// The file of a promise whose job came can't be dealt with, for this reason: that is told, and where it lies in out/ it isn't sent.
+    pub(crate) fn leave<C: Clock, W: Write, L: Write>(
+        &mut self,
+        promise: Promise,
+        why: &SettlingFault,
+        spool: &mut FolderSpool<D, C, W, L>,
+    ) {
+        let path = self.path_of(promise);
+        let path = path.as_deref().unwrap_or("no file");
+        if let Some((folder, name)) = path.rsplit_once('/') {
+            if folder.ends_with("/out") {
+                spool.pass_over(name);
+            }
+        }
+        if let Ok(why) = format!(in self.alloc; "{why}") {
+            spool.tell(Notice::Settling(SettlingNotice::NotFiled(path, why.as_str())));
+        }
     }
 
     /// The account of what was sent; of nothing where the promises don't follow one another.
@@ -283,25 +317,46 @@ impl<D: FolderDisk + Drop> StationAccounts<D> {
         self.filed_from <= number && number < self.filed_to
     }
 
+    /// Whether the job of a promise was counted, as far as is known and as its file says.
+    pub(crate) fn was_counted(&self, promise: Promise) -> bool {
+        self.is_filed(promise) || was_marked(&self.disk, self.alloc, self.station.as_str(), promise)
+    }
+
+    /// The path of the file of a promised job; none, where somebody has taken it away.
+    pub(crate) fn path_of(&self, promise: Promise) -> Option<String> {
+        path_of_promised(&self.disk, self.alloc, self.station.as_str(), promise)
+    }
+
+    /// What the other end had said before it kept the job of a promise; none, where that isn't known any more.
+    fn said_before(&self, promise: Promise) -> Option<Receipt> {
+        let promises = self.sending.promises();
+        let place = promises.iter().position(|other| *other == promise)?;
+        match place.checked_sub(1) {
+            Some(before) => Some(promises.get(before)?.receipt),
+            None => self.sending.known(),
+        }
+    }
+
     /// The job of a promise came: its file is dealt with so. This spool takes its name in out/ away.
     pub(crate) fn file_sent<C: Clock, W: Write, L: Write>(
         &mut self,
         promise: Promise,
         spool: &mut FolderSpool<D, C, W, L>,
     ) -> Result<FiledJob, SettlingFault> {
-        let filed = file_as_sent(&mut self.disk, self.alloc, self.station.as_str(), promise)?;
-        if let Some(path) = &filed.path {
-            if let Some(name) = &filed.out {
-                spool.take_out(name.as_str(), path.as_str())?;
-            }
+        let before = self.said_before(promise);
+        let station = self.station.as_str();
+        let filed = file_as_sent(&mut self.disk, self.alloc, station, promise, before)?;
+        if let (Some(path), Some(name)) = (&filed.path, &filed.out) {
+            spool.take_out(name.as_str(), path.as_str())?;
         }
         Ok(filed)
     }
 
     /// The job of a promise hasn't come: its file is dealt with so.
     pub(crate) fn file_ready(&mut self, promise: Promise) -> Result<FiledJob, SettlingFault> {
-        let filed = file_as_ready(&mut self.disk, self.alloc, self.station.as_str(), promise)?;
-        Ok(filed)
+        let before = self.said_before(promise);
+        let station = self.station.as_str();
+        Ok(file_as_ready(&mut self.disk, self.alloc, station, promise, before)?)
     }
 
     /// Which file has this path.

@@ -55,6 +55,11 @@ abbrev pub IsDoubted : Standing → Type 0
 IsDoubted (Standing.Doubted doubt) = Unit {0}
 IsDoubted _ = ⊥
 
+-- it stands in sent/ under this path
+abbrev pub IsSentUnder : Standing → (path : List ℕ) → Type 0
+IsSentUnder (Standing.Sent sent) path = path ≡ string_bytes sent
+IsSentUnder _ path = ⊥
+
 -- it does so under this path
 abbrev pub IsDoubtedUnder : Standing → (path : List ℕ) → Type 0
 IsDoubtedUnder (Standing.Doubted doubt) path = path ≡ string_bytes doubt

@@ -6,6 +6,7 @@ use Rattle.rje_day.specs.declared.disposition.Disposition.TheVariants as disposi
 use Rattle.rje_folder.specs.declared.file_identity.FileIdentity.{FileIdentity}
 use Rattle.rje_folder.specs.Marking.{IsMarked, IsSaid}
 use Rattle.rje_store.specs.Disk.{Asked, Opened}
+use Rattle.rje_spool.specs.declared.file_job.FileJob.{FileJob}
 use Rattle.rje_spool.specs.declared.given_file.GivenFile.{GivenFile}
 use Rattle.rje_spool.specs.declared.given_file.Standing.{Standing}
 use Rattle.rje_spool.specs.declared.given_file.Standing.TheVariants.{Promised}
@@ -22,6 +23,10 @@ is_last_of job file = is_of job file && (file.count - (job - file.first) == 1)
 -- where a job is marked as sent in the file, if it is of a job file that has it
 abbrev pub mark_of : ℕ → GivenFile → Option ℕ
 mark_of job file = if nat_le file.first job then slice_get file.places.items (job - file.first) else None
+
+-- which job of its job file a job is, if the file is one that has it
+abbrev pub label_of : ℕ → GivenFile → Option FileJob
+label_of job file = if nat_le file.first job then slice_get file.labels.items (job - file.first) else None
 
 -- the job is marked as sent in its own place, and nowhere else, where the file has a name in doubt/: by that name, and on disk
 abbrev pub HasMark : (job : ℕ) → GivenFile → (before after : List Asked) → Type 0

@@ -9,10 +9,11 @@ ghost use Rattle.rje_folder.specs.Moving.{IsGone};
 ghost use Rattle.rje_folder.specs.Promising.{MayPromise, MaySettle};
 ghost use Rattle.rje_spool.specs.declared.given_file.Standing.TheVariants.{Promised, Ready};
 ghost use Rattle.rje_spool.specs.Backed.{GoesOn};
-ghost use Rattle.rje_spool.specs.GivenFile.{HasSecondName, HasSent, IsDoubted, IsDoubtedUnder, IsInSent, IsOfRead, IsUnsettled, OfPromised, StaysInDoubt};
-ghost use Rattle.rje_spool.specs.GivenFiles.{HasBeenCounted, HasGoneOut, HasMark, IsKnownAsMarked, WasMarked, is_last_of, is_of, mark_of};
+ghost use Rattle.rje_spool.specs.GivenFile.{HasSecondName, HasSent, IsDoubted, IsDoubtedUnder, IsInSent, IsOfRead, IsSentUnder, IsUnsettled, OfPromised, StaysInDoubt};
+ghost use Rattle.rje_spool.specs.GivenFiles.{HasBeenCounted, HasGoneOut, HasMark, IsKnownAsMarked, WasMarked, is_last_of, is_of, label_of, mark_of};
 ghost use Rattle.rje_spool.specs.GivenJob.{IsGivenJob};
 
+use crate::file_job::FileJob;
 use crate::given_job::GivenJob;
 use rje_day::Disposition;
 use rje_files::MARK;
@@ -44,6 +45,8 @@ pub(crate) struct GivenFile {
     pub(crate) count: usize,
     /// Of a job file, where each of them is marked as sent.
     pub(crate) places: Vec<usize>,
+    /// Of a job file, which job of it each of them is.
+    pub(crate) labels: Vec<FileJob>,
     /// Which file it is, as it was read or marked.
     pub(crate) file: FileIdentity,
     /// Where it stands.
@@ -72,6 +75,13 @@ impl GivenFile {
         ensures { result ≡ mark_of job self.now }
     {
         self.places.get(job.checked_sub(self.first)?).copied()
+    }
+
+    /// Which job of its job file a job of the transmission is, if it is of one.
+    pub(crate) fn label_of(&self, job: usize) -> Option<FileJob>
+        ensures { result ≡ label_of job self.now }
+    {
+        self.labels.get(job.checked_sub(self.first)?).copied()
     }
 
     /// Which job of it a job of the transmission is.
@@ -341,6 +351,16 @@ impl GivenFile {
         if let Standing::Promised(doubt) = &self.place {
             self.out = leave_in_doubt(folder, self.name.as_str(), doubt.as_str());
             self.place = doubted(mem::replace(&mut self.place, Standing::Ready));
+        }
+    }
+
+    /// Where it is in sent/, if it is.
+    pub(crate) fn sent_path(&self) -> Option<&str>
+        ensures { IfSome result (λ path. IsSentUnder self.now.place path.now) }
+    {
+        match &self.place {
+            Standing::Sent(path) => Some(path.as_str()),
+            _ => None,
         }
     }
 

@@ -6,6 +6,7 @@ ghost use Rattle.rje_spool.specs.Backed.{GoesOn};
 ghost use Rattle.rje_spool.specs.GivenFile.{HasSecondName, IsDoubted};
 ghost use Rattle.rje_spool.specs.GivenFiles.{HasBeenCounted, HasGoneOut, IsNext, OfFile, WasMarked, file_of, is_last_of, is_of, jobs_of};
 
+use crate::file_job::FileJob;
 use crate::given_file::{GivenFile, Standing};
 use rje_folder::{FileIdentity, FolderDisk, FolderFault, OutName, StationFolder};
 use std::alloc::{AllocError, Global};
@@ -36,17 +37,20 @@ impl GivenFiles {
         }
     }
 
-    /// This file of this name, with so many jobs, comes after these. Where each of them is marked in it, if it is a job file.
+    /// This file of this name, with so many jobs, comes after these. Where each of them is marked in it, and which of its jobs each is, if it is a job
+    /// file.
     pub(crate) fn add(
         &mut self,
         name: String,
         file: FileIdentity,
         count: usize,
         places: Vec<usize>,
+        labels: Vec<FileJob>,
     ) -> Result<(), AllocError>
         ensures added { OnOk result ((next : Item) × (self.new.files.items
             ≡ self.old.files.items ++ next ∷ []) × IsNext self.old.files.items count next
-            × (next.name ≡ name) × (next.file ≡ file) × (next.places ≡ places)) }
+            × (next.name ≡ name) × (next.file ≡ file) × (next.places ≡ places)
+            × (next.labels ≡ labels)) }
         ensures jobs { OnOk result (jobs_of self.new.files.items
             ≡ min (jobs_of self.old.files.items + count) 18446744073709551615) }
         ensures kept { OnErr result (self.new.files.items ≡ self.old.files.items) }
@@ -56,6 +60,7 @@ impl GivenFiles {
             first: self.jobs(),
             count,
             places,
+            labels,
             file,
             place: Standing::Ready,
             out: OutName::Stands,

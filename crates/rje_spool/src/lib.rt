@@ -5,6 +5,7 @@ mod brake;
 mod console;
 mod cut_job;
 mod due_paper;
+mod file_job;
 mod folder_spool;
 mod given_file;
 mod given_files;
@@ -28,6 +29,7 @@ mod unkept;
 mod watching;
 
 pub use console::Console;
+pub use file_job::FileJob;
 pub use folder_spool::FolderSpool;
 pub use given_job::GivenJob;
 pub use ledger::{Ledger, NoBook};

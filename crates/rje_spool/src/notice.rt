@@ -1,6 +1,7 @@
 //! What a station reports to its operator.
 ghost use Rattle.std.specs.Prelude.{◌≡◌, length};
 
+use crate::file_job::FileJob;
 use crate::refused_file::RefusedFile;
 use crate::settling_notice::SettlingNotice;
 use rje_folder::FolderFault;
@@ -60,16 +61,18 @@ pub enum Notice<'a> {
     Connected,
     /// The station bids.
     Bid,
-    /// A job of this file is sent.
-    Sending(&'a str, JobLabel),
-    /// It was counted.
-    Sent(&'a str),
+    /// A job of this file is sent: which one of it, if it is a job file.
+    Sending(&'a str, Option<FileJob>, JobLabel),
+    /// It was counted: which one of it, if it is a job file, and the path in sent/ that the file has now, if it has one.
+    Sent(&'a str, Option<FileJob>, Option<&'a str>),
     /// A job of this file may have arrived: the file is in doubt/, under this path.
     Doubt(&'a str, &'a str),
     /// The same, where the other end's next receipt tells whether it has.
     UntilReceipt(&'a str, &'a str),
     /// This file was taken out of out/ by others while its last block was out.
     TakenBack(&'a str),
+    /// This file of out/ is one that had this other name while its last block was out: it isn't sent again.
+    RenamedMeanwhile(&'a str, &'a str),
     /// The name of this file can't be taken out of out/, and why.
     Left(&'a str, ErrorKind),
     /// This file of out/ has another name there now, under this path, since another file has taken its own.
@@ -124,15 +127,23 @@ impl Display for Notice<'_> {
             Notice::NotConnected(kind) => write!(f, "can't connect: {kind}"),
             Notice::Connected => f.write_str("connected"),
             Notice::Bid => f.write_str("bid"),
-            Notice::Sending(name, label) => {
-                write!(
-                    f,
-                    "sending {name} {} {} cards",
-                    label.device(),
-                    label.records
-                )
+            Notice::Sending(name, which, label) => {
+                write!(f, "sending {name} ")?;
+                if let Some(which) = which {
+                    write!(f, "{which} ")?;
+                }
+                write!(f, "{} {} cards", label.device(), label.records)
             }
-            Notice::Sent(name) => write!(f, "sent {name}"),
+            Notice::Sent(name, which, path) => {
+                write!(f, "sent {name}")?;
+                if let Some(which) = which {
+                    write!(f, " {which}")?;
+                }
+                match path {
+                    Some(path) if !is_named(path, name) => write!(f, ": {}", in_folder(path)),
+                    _ => Ok(()),
+                }
+            }
             Notice::Doubt(name, path) => write!(
                 f,
                 "DOUBT {name} may have arrived: {}",
@@ -149,6 +160,10 @@ impl Display for Notice<'_> {
                     "{name} was taken out of out/ when its last block was out"
                 )
             }
+            Notice::RenamedMeanwhile(name, before) => write!(
+                f,
+                "out/{name} was {before} when its last block was out: it isn't sent again"
+            ),
             Notice::Left(name, kind) => {
                 write!(
                     f,
@@ -200,6 +215,14 @@ impl Display for Notice<'_> {
             Notice::Failed(why) => write!(f, "{why}"),
             Notice::Ended => f.write_str("ended"),
         }
+    }
+}
+
+/// Whether a path is one of this name in its folder.
+pub(crate) fn is_named(path: &str, name: &str) -> bool {
+    match path.strip_suffix(name) {
+        Some(folder) => folder.ends_with("/"),
+        None => false,
     }
 }
 

@@ -6,6 +6,7 @@ ghost use Rattle.rje_folder.specs.ReadyFile.{file_of_name};
 ghost use Rattle.rje_spool.specs.Holding.{CanBeHeld};
 ghost use Rattle.rje_spool.specs.Outgoing.{IsOfFile, IsOutgoing, IsRefusal};
 
+use crate::file_job::{FileJob, unsent_labels};
 use crate::holding::can_be_held;
 use crate::refused_file::RefusedFile;
 use rje_files::{first_unsendable, mark_places, read_entries, unsent_jobs};
@@ -21,6 +22,8 @@ pub struct Outgoing {
     pub jobs: Jobs,
     /// Of a job file, where each of them is marked as sent there; of a deck, nothing.
     pub places: Vec<usize>,
+    /// Of a job file, which job of it each of them is; of a deck, nothing.
+    pub labels: Vec<FileJob>,
 }
 
 /// What is to be sent of a file of out/ of this name, which has these bytes. Refused where it is neither a deck nor a job file, where not all
@@ -71,6 +74,7 @@ fn of_deck(alloc: Global, bytes: &[u8], select: Select, mode: Mode) -> Result<Ou
         Ok(()) => Ok(Outgoing {
             jobs: Jobs::from(jobs),
             places: Vec::new(alloc),
+            labels: Vec::new(alloc),
         }),
         Err(_) => Err(RefusedFile::OutOfMemory),
     }
@@ -91,11 +95,18 @@ fn of_job_file(alloc: Global, bytes: &[u8]) -> Result<Outgoing, RefusedFile>
     let Ok(places) = mark_places(alloc, entries.as_slice()) else {
         return Err(RefusedFile::OutOfMemory);
     };
+    let Ok(labels) = unsent_labels(alloc, entries.as_slice()) else {
+        return Err(RefusedFile::OutOfMemory);
+    };
     let Ok(jobs) = unsent_jobs(alloc, entries) else {
         return Err(RefusedFile::OutOfMemory);
     };
     if jobs.is_empty() {
         return Err(RefusedFile::NothingLeft);
     }
-    Ok(Outgoing { jobs, places })
+    Ok(Outgoing {
+        jobs,
+        places,
+        labels,
+    })
 }

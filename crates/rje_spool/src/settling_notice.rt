@@ -23,8 +23,14 @@ pub enum SettlingNotice<'a> {
     OutOfOrder,
     /// A job that may have arrived did: its file has this path.
     Came(&'a str),
+    /// It did, and somebody has written to its file since, which has this path: what that has now wasn't sent.
+    CameChanged(&'a str),
+    /// It did, and its file, which has this path, can't be put where it belongs, and why.
+    NotFiled(&'a str, &'a str),
     /// It hasn't: its file has this path.
     HasNotCome(&'a str),
+    /// It hasn't, and its file, which has this path, can't be put where it is sent from, and why.
+    NotReady(&'a str, &'a str),
     /// A job that was counted hasn't come: its file has this path.
     CountedInVain(&'a str),
     /// A job that was kept before the station was ended has this path in in/ now.
@@ -50,9 +56,24 @@ impl Display for SettlingNotice<'_> {
                 f.write_str("DOES NOT AGREE: promises in settle/ are out of order")
             }
             SettlingNotice::Came(path) => write!(f, "settled: it came: {}", in_folder(path)),
+            SettlingNotice::CameChanged(path) => write!(
+                f,
+                "WRITTEN TO since it was sent, and came: {}",
+                in_folder(path)
+            ),
+            SettlingNotice::NotFiled(path, why) => write!(
+                f,
+                "CAN'T BE FILED, and came: {}: {why}",
+                in_folder(path)
+            ),
             SettlingNotice::HasNotCome(path) => {
                 write!(f, "settled: it hasn't come: {}", in_folder(path))
             }
+            SettlingNotice::NotReady(path, why) => write!(
+                f,
+                "CAN'T BE SENT AGAIN, and hasn't come: {}: {why}",
+                in_folder(path)
+            ),
             SettlingNotice::CountedInVain(path) => write!(
                 f,
                 "COUNTED, AND HASN'T COME: sent again: {}",

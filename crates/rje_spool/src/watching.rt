@@ -89,7 +89,7 @@ impl Watching {
         self.sending = counted.saturating_add(1);
         if let Some(file) = files.of(counted) {
             let label = JobLabel::of(&sender.jobs()[counted]);
-            console.tell(Notice::Sending(file.name.as_str(), label));
+            console.tell(Notice::Sending(file.name.as_str(), file.label_of(counted), label));
         }
     }
 

@@ -1,5 +1,5 @@
 //! A file in a folder of a station.
-ghost use Rattle.std.specs.Prelude.{◌≡◌, ◌-◌, ◌↔◌, IsTrue};
+ghost use Rattle.std.specs.Prelude.{◌≡◌, ◌-◌, ◌↔◌, IsTrue, None};
 ghost use Rattle.rje_status.specs.QueuedFile.{seconds_of};
 
 use rje_folder::FileIdentity;
@@ -14,6 +14,8 @@ pub struct QueuedFile {
     pub bytes: u64,
     /// When these last changed, in seconds since 1970, and 0 if that was before.
     pub changed: u64,
+    /// How many cards it has, if they were counted.
+    pub cards: Option<u64>,
     /// Which file it is.
     #[serde(skip)]
     pub file: FileIdentity,
@@ -25,12 +27,14 @@ impl QueuedFile {
         ensures name { result.name ≡ name }
         ensures bytes { result.bytes ≡ file.len }
         ensures changed { result.changed ≡ seconds_of file.changed.seconds }
+        ensures uncounted { result.cards ≡ None }
         ensures file { result.file ≡ file }
     {
         QueuedFile {
             name,
             bytes: file.len,
             changed: u64::try_from(file.changed.seconds).unwrap_or(0),
+            cards: None,
             file,
         }
     }

@@ -76,7 +76,7 @@ fn report<E: Write>(fault: &StatusFault, folder: &str, err: &mut E) -> u8
 {
     match fault {
         StatusFault::OutOfMemory => tell(&CommandFault::OutOfMemory, err),
-        StatusFault::Failed(..) => {
+        _ => {
             let _ = writeln!(err, "rje: {}{fault}", PrintedName(folder));
             3
         }

@@ -9,12 +9,23 @@ pub enum StatusFault {
     /// There is no memory for it.
     #[error("out of memory")]
     OutOfMemory,
+    /// There is no such folder.
+    #[error(": no such folder")]
+    NoFolder,
     /// This part of it can't be read, or it itself where that is none, and why.
     #[error("{0}: {1}")]
     Failed(&'static str, ErrorKind),
 }
 
 impl StatusFault {
+    /// Why the folder itself can't be read.
+    pub(crate) fn of_folder(error: &io::Error) -> StatusFault {
+        match error.kind() {
+            ErrorKind::NotFound => StatusFault::NoFolder,
+            _ => StatusFault::of("", error),
+        }
+    }
+
     /// Why this part can't be read.
     pub(crate) fn of(part: &'static str, error: &io::Error) -> StatusFault {
         match error.kind() {

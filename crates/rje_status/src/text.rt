@@ -1,14 +1,17 @@
 //! What is printed of the folder of a station.
+use crate::age::Age;
+use crate::card_counting::MOST_COUNTED;
+use crate::line_text::put_line;
 use crate::queued_file::QueuedFile;
 use crate::station_status::StationStatus;
 use rje_names::PrintedName;
 use std::io::{self, Write};
 
-/// The most files of a folder that are printed.
-const MOST_FILES: usize = 20;
+/// The most files of a folder that are printed: those whose cards are counted.
+const MOST_FILES: usize = MOST_COUNTED;
 
-/// Prints whether a station has the folder, whether `hold` and `drain` are there, and for each folder how many files it has, and the oldest of them with
-/// their ages at this time, in seconds since 1970.
+/// Prints whether a station has the folder and what it is doing, whether `hold` and `drain` are there, for each folder how many files it has, and the
+/// oldest of them with their ages at this time, in seconds since 1970; and the lines of the log.
 pub(crate) fn put_status<O: Write>(
     status: &StationStatus,
     now: Option<u64>,
@@ -23,6 +26,9 @@ pub(crate) fn put_status<O: Write>(
             "not running"
         }
     )?;
+    if let Some(line) = &status.line {
+        put_line(line, now, out)?;
+    }
     if status.hold {
         writeln!(out, "hold: nothing is sent")?;
     }
@@ -36,7 +42,20 @@ pub(crate) fn put_status<O: Write>(
     put_files("cut", folders.cut.as_slice(), now, out)?;
     put_files("in", folders.came.as_slice(), now, out)?;
     put_files("print", folders.print.as_slice(), now, out)?;
-    put_files("punch", folders.punch.as_slice(), now, out)
+    put_files("punch", folders.punch.as_slice(), now, out)?;
+    put_log(status.log.as_slice(), out)
+}
+
+/// Prints lines of the log, if there are any.
+fn put_log<O: Write>(lines: &[String], out: &mut O) -> io::Result<()> {
+    if lines.is_empty() {
+        return Ok(());
+    }
+    writeln!(out, "log: what asked for you last")?;
+    for line in lines {
+        writeln!(out, "  {}", PrintedName(line.as_str()))?;
+    }
+    Ok(())
 }
 
 /// Prints how many files a folder has, and the oldest of them.
@@ -60,7 +79,7 @@ fn put_files<O: Write>(
     Ok(())
 }
 
-/// Prints the name of a file, its bytes, and for how long they have been so.
+/// Prints the name of a file, its bytes, for how long they have been so, and its cards.
 fn put_file<O: Write>(file: &QueuedFile, now: Option<u64>, out: &mut O) -> io::Result<()> {
     write!(
         out,
@@ -69,18 +88,11 @@ fn put_file<O: Write>(file: &QueuedFile, now: Option<u64>, out: &mut O) -> io::R
         file.bytes
     )?;
     if let Some(now) = now {
-        let (count, unit) = rounded(file.age(now));
-        write!(out, "  {count} {unit}")?;
+        write!(out, "  {}", Age(file.age(now)))?;
     }
-    writeln!(out)
-}
-
-/// A time in seconds, in whole ones of the largest unit of which it has one.
-fn rounded(seconds: u64) -> (u64, &'static str) {
-    match seconds {
-        0..=59 => (seconds, "s"),
-        60..=3_599 => (seconds / 60, "min"),
-        3_600..=86_399 => (seconds / 3_600, "h"),
-        _ => (seconds / 86_400, "d"),
+    match file.cards {
+        Some(1) => writeln!(out, "  1 card"),
+        Some(cards) => writeln!(out, "  {cards} cards"),
+        None => writeln!(out),
     }
 }

@@ -8,6 +8,7 @@ mod beside;
 mod growing;
 mod locks;
 mod marked;
+mod own_file;
 
 use crate::disk::{Disk, FileAccess, FileKind};
 use crate::reading::{MAX_INPUT, read_all};
@@ -80,15 +81,26 @@ impl<D: Disk> FileStore<D> {
         self.locks.clear();
     }
 
-    /// The file of this name was replaced: the lock of it is that of the file which is there now.
-    fn follow(&mut self, name: &str)
+    /// The file of this name was replaced by this one, if any: the lock of it is that of the new file.
+    fn follow(&mut self, name: &str, file: Option<D::File>)
         ensures disk { self.new.disk ≡ self.old.disk }
         ensures growing { self.new.growing ≡ self.old.growing }
     {
-        for lock in self.locks.iter_mut() {
-            if lock.is_of(name) {
-                lock.follow(self.disk.disk());
-            }
+        if let Some(lock) = self.locks.iter_mut().find(|lock| lock.is_of(name)) {
+            lock.follow(file);
+        }
+    }
+
+    /// The file of this name was replaced by one that has grown: the lock of it is that of the new file.
+    fn follow_grown(&mut self, name: &str)
+        ensures disk { self.new.disk ≡ self.old.disk }
+        ensures growing { self.new.growing ≡ self.old.growing }
+    {
+        let Some(growing) = &self.growing else {
+            return;
+        };
+        if let Some(lock) = self.locks.iter_mut().find(|lock| lock.is_of(name)) {
+            lock.follow_grown(self.disk.disk(), growing.newest());
         }
     }
 
@@ -105,13 +117,31 @@ impl<D: Disk> FileStore<D> {
         }
     }
 
-    /// The same before the file of this name is opened.
+    /// The same before a byte of it is set; busy as well if another file has the name by then, unless the one that had bytes set is elsewhere now.
     fn stays_locked(&self, name: &str) -> io::Result<()> {
-        let path = resolved(self.disk.disk(), self.alloc, name)?;
-        self.leads_as_locked(name, path.as_str())
+        if self.disk.has_open(name) {
+            let path = resolved(self.disk.disk(), self.alloc, name)?;
+            self.leads_as_locked(name, path.as_str())
+        } else {
+            self.stays_own(name)
+        }
     }
 
-    fn put(&mut self, name: &str, bytes: &[u8]) -> Result<(), StoreFault>
+    /// The same before it grows; busy as well if another file has the name by then.
+    fn stays_own(&self, name: &str) -> io::Result<()> {
+        let path = resolved(self.disk.disk(), self.alloc, name)?;
+        let path = path.as_str();
+        self.leads_as_locked(name, path)?;
+        match self.locks.iter().find(|lock| lock.is_of(name)) {
+            Some(lock) if !lock.own().still_has(self.disk.disk(), path)? => {
+                Err(io::Error::from(ErrorKind::ResourceBusy))
+            }
+            _ => Ok(()),
+        }
+    }
+
+    /// Puts a file of these bytes under the name. The new file, open and locked as the old one was; `None` where it is no file.
+    fn put(&mut self, name: &str, bytes: &[u8]) -> Result<Option<D::File>, StoreFault>
         ensures asks { D.discloses → Adds (MayPut D.leads name.now bytes.now)
             (D.asked self.old.disk) (D.asked self.new.disk) }
         ensures on_disk { D.discloses
@@ -121,13 +151,17 @@ impl<D: Disk> FileStore<D> {
         let path = resolved(self.disk.disk(), self.alloc, name)?;
         let path = path.as_str();
         self.leads_as_locked(name, path)?;
-        match target_of(self.disk.disk(), path)? {
-            Target::Device => Ok(self.disk.closed().write_device(path, bytes)?),
-            Target::New => replace(self.disk.closed(), self.alloc, path, None, bytes),
-            Target::File(access) => {
-                replace(self.disk.closed(), self.alloc, path, Some(access), bytes)
+        let lock = self.locks.iter().find(|lock| lock.is_of(name));
+        let access = match target_of(self.disk.disk(), path)? {
+            Target::Device => {
+                self.disk.closed().write_device(path, bytes)?;
+                return Ok(None);
             }
-        }
+            Target::New => None,
+            Target::File(access) => Some(access),
+        };
+        let file = replace(self.disk.closed(), self.alloc, path, lock, access, bytes)?;
+        Ok(Some(file))
     }
 
     fn place(&mut self, name: &str) -> io::Result<WriteMode>
@@ -242,8 +276,8 @@ impl<D: Disk> Store for FileStore<D> {
         ensures settled { self.new.growing ≡ None }
     {
         self.settle();
-        self.put(name, bytes)?;
-        self.follow(name);
+        let file = self.put(name, bytes)?;
+        self.follow(name, file);
         Ok(())
     }
 
@@ -285,9 +319,9 @@ impl<D: Disk> Store for FileStore<D> {
             → IsReady D.leads D.opened D.folder_of self.old.growing (D.asked self.old.disk)
             → IsReady D.leads D.opened D.folder_of self.new.growing (D.asked self.new.disk) }
     {
-        self.stays_locked(name)?;
+        self.stays_own(name)?;
         self.grow(name, front, tail)?;
-        self.follow(name);
+        self.follow_grown(name);
         Ok(())
     }
 

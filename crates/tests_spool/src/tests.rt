@@ -9,6 +9,7 @@ mod locks;
 mod page;
 mod passing;
 mod sending;
+mod step;
 mod telling;
 mod test_clock;
 mod watching;
@@ -74,10 +75,14 @@ impl Ground {
         }
     }
 
+    /// Whether a file of just these bytes is there.
+    fn has(&self, rt: &impl Abort, path: &str, bytes: &[u8]) -> bool {
+        self.disk().seen().expect(rt, "a disk").has(path, bytes)
+    }
+
     /// A file of just these bytes is there.
     fn assert_file(&self, rt: &impl Abort, path: &str, bytes: &[u8]) {
-        let disk = self.disk().seen().expect(rt, "a disk");
-        assert!(rt; disk.has(path, bytes));
+        assert!(rt; self.has(rt, path, bytes));
     }
 
     /// Whether a file is there.
@@ -86,11 +91,6 @@ impl Ground {
             Ok(disk) => disk.file_of(path).is_some(),
             Err(_) => false,
         }
-    }
-
-    /// Nothing is there.
-    fn assert_none(&self, rt: &impl Abort, path: &str) {
-        assert!(rt; !self.stands(path));
     }
 
     /// Puts another file of these bytes in the place of one.
@@ -113,14 +113,6 @@ impl Ground {
         disk.deny(file);
     }
 
-    /// The same of a file that can't be renamed either.
-    fn hold_fast(&self, rt: &impl Abort, path: &str) {
-        self.deny(rt, path);
-        let mut disk = self.disk().changed().expect(rt, "a disk");
-        let file = disk.file_of(path).expect(rt, "a file");
-        disk.stick(file);
-    }
-
     /// Takes a file away.
     fn remove(&self, rt: &impl Abort, path: &str) {
         assert!(rt; self.disk().remove(path).is_ok());
@@ -131,23 +123,11 @@ impl Ground {
         self.disk().changed().expect(rt, "a disk").fail_next();
     }
 
-    /// At the next call that changes something on the disk another file of these bytes is put in the place of one.
-    fn put_meanwhile(&self, rt: &impl Abort, path: &str, bytes: &[u8]) {
-        let mut disk = self.disk().changed().expect(rt, "a disk");
-        let next = disk.next_call();
-        assert!(rt; disk.put_bytes_meanwhile(next, path, bytes).is_ok());
-    }
-
     /// At the next call that changes something on the disk the first byte of a file becomes an X.
     fn write_meanwhile(&self, rt: &impl Abort, path: &str) {
         let mut disk = self.disk().changed().expect(rt, "a disk");
         let next = disk.next_call();
         assert!(rt; disk.write_meanwhile(next, path).is_ok());
-    }
-
-    /// Somebody took the folders away: each is made again where it is needed.
-    fn drop_folders(&self, rt: &impl Abort) {
-        self.disk().changed().expect(rt, "a disk").drop_folders();
     }
 
     /// The names in this folder can't be seen from now on.
@@ -183,10 +163,20 @@ impl Ground {
         self.console_on(false)
     }
 
+    /// Whether just this is on the page and in the log.
+    fn has_told(&self, lines: &[u8]) -> bool {
+        Page::new(&self.page).shows(lines) && Page::new(&self.log).shows(lines)
+    }
+
     /// Just this is on the page and in the log.
     fn assert_told(&self, rt: &impl Abort, lines: &[u8]) {
-        assert!(rt; Page::new(&self.page).shows(lines));
-        assert!(rt; Page::new(&self.log).shows(lines));
+        assert!(rt; self.has_told(lines));
+    }
+
+    /// The page and the log are empty.
+    fn clear(&self) {
+        Page::new(&self.page).clear();
+        Page::new(&self.log).clear();
     }
 
     /// The spool of the folder `s`.

@@ -14,7 +14,7 @@ use clap::{Arg, ArgAction, Command, value_parser};
 use std::alloc::{AllocError, Global};
 
 /// The program's version.
-const VERSION: &str = "1.9.0";
+const VERSION: &str = "1.10.0";
 
 /// What stands after the commands where help is given.
 const AFTER_HELP: &str = "\

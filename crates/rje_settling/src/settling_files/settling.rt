@@ -4,7 +4,7 @@ use super::SettlingFiles;
 use crate::filing::FiledJob;
 use crate::settling_fault::SettlingFault;
 use rje_folder::FolderDisk;
-use rje_settle::{Receipt, Verdict};
+use rje_settle::{Promise, Receipt, Verdict};
 use rje_spool::{RefusedFile, SettlingNotice};
 use std::io::Write;
 use std::time::Clock;
@@ -62,10 +62,22 @@ impl<D: FolderDisk + Drop, C: Clock, W: Write, L: Write> SettlingFiles<D, C, W, 
         for place in 0..came {
             self.settle_as_sent(place)?;
         }
-        for place in (came..self.accounts.promises()).rev() {
-            self.settle_as_ready(place)?;
+        // (only then, since a further job of that file may have lain before it)
+        match self.settle_rest_as_ready(came)? {
+            Some(filed) => self.refuse_filed(&filed),
+            None => Ok(()),
         }
-        Ok(())
+    }
+
+    /// The promised jobs from this place on haven't come. The file of one that was sent too often, if one was.
+    fn settle_rest_as_ready(&mut self, from: usize) -> Result<Option<FiledJob>, SettlingFault> {
+        let mut too_often = None;
+        for place in (from..self.accounts.promises()).rev() {
+            if let Some(filed) = self.settle_as_ready(place)? {
+                too_often = Some(filed);
+            }
+        }
+        Ok(too_often)
     }
 
     /// The promised job of this place came.
@@ -73,41 +85,79 @@ impl<D: FolderDisk + Drop, C: Clock, W: Write, L: Write> SettlingFiles<D, C, W, 
         let Some(promise) = self.accounts.promise_at(place) else {
             return Ok(());
         };
-        if !self.accounts.is_filed(promise) {
-            let filed = self.accounts.file_sent(promise, &mut self.spool)?;
-            if !filed.was_sent {
-                let path = filed.path.as_deref().unwrap_or(NO_FILE);
-                self.tell_of(SettlingNotice::Came(path));
-            }
-            self.spool.look_anew();
+        if self.accounts.is_filed(promise) {
+            return self.accounts.drop_promise(promise);
         }
-        self.accounts.drop_promise(promise)
+        self.spool.look_anew();
+        match self.accounts.file_sent(promise, &mut self.spool) {
+            Ok(filed) => {
+                self.tell_came(&filed);
+                self.accounts.drop_promise(promise)
+            }
+            Err(SettlingFault::OutOfMemory) => Err(SettlingFault::OutOfMemory),
+            // (its promise stays, and it is tried again when the accounts are read)
+            Err(fault) => {
+                self.accounts.leave(promise, &fault, &mut self.spool);
+                Ok(())
+            }
+        }
     }
 
-    /// The promised job of this place hasn't come. One that was sent too often is put aside.
-    fn settle_as_ready(&mut self, place: usize) -> Result<(), SettlingFault> {
+    /// Tells that a promised job came, whose file is dealt with so, unless it was told as sent already.
+    fn tell_came(&mut self, filed: &FiledJob) {
+        let path = filed.path.as_deref().unwrap_or(NO_FILE);
+        if filed.is_changed {
+            self.tell_of(SettlingNotice::CameChanged(path));
+        } else if !filed.was_sent {
+            self.tell_of(SettlingNotice::Came(path));
+        }
+    }
+
+    /// The promised job of this place hasn't come. Its file, if it was sent too often.
+    fn settle_as_ready(&mut self, place: usize) -> Result<Option<FiledJob>, SettlingFault> {
         let Some(promise) = self.accounts.promise_at(place) else {
-            return Ok(());
+            return Ok(None);
         };
-        let was_filed = self.accounts.is_filed(promise);
-        let filed = self.accounts.file_ready(promise)?;
+        let was_counted = self.accounts.was_counted(promise);
+        let filed = match self.accounts.file_ready(promise) {
+            Ok(filed) => filed,
+            Err(fault) if self.failures.may_pass(&fault) => return Err(fault),
+            // (its number is the next job's, so its promise doesn't stay)
+            Err(fault) => {
+                self.tell_not_ready(promise, &fault);
+                self.accounts.drop_promise(promise)?;
+                return Ok(None);
+            }
+        };
+        self.failures.forget();
         self.accounts.drop_promise(promise)?;
         let path = filed.path.as_deref().unwrap_or(NO_FILE);
         self.spool.lies_ready(file_name(path));
-        if was_filed || filed.was_sent {
+        if was_counted || filed.was_sent {
             self.tell_of(SettlingNotice::CountedInVain(path));
-            return Ok(());
+            return Ok(None);
         }
         self.tell_of(SettlingNotice::HasNotCome(path));
         // (one that didn't go out, since a file of the station's own couldn't be written, isn't the other end's to keep)
         if self.unsaid.take() == Some(promise.receipt.kept) {
-            return Ok(());
+            return Ok(None);
         }
         if self.attempts.are_too_many(filed.file, promise.place) {
             self.attempts.forget();
-            self.refuse_filed(&filed)?;
+            return Ok(Some(filed));
         }
-        Ok(())
+        Ok(None)
+    }
+
+    /// Tells that the job of a promise hasn't come, and that its file can't be made ready.
+    fn tell_not_ready(&mut self, promise: Promise, why: &SettlingFault) {
+        let path = self.accounts.path_of(promise);
+        if let Ok(why) = format!(in self.alloc; "{why}") {
+            self.tell_of(SettlingNotice::NotReady(
+                path.as_deref().unwrap_or(NO_FILE),
+                why.as_str(),
+            ));
+        }
     }
 
     /// Puts a file of out/ aside whose job the other end doesn't keep.

@@ -58,6 +58,13 @@ impl<D: FolderDisk + Drop, C: Clock, W: Write, L: Write, B: Ledger + Drop> Folde
         self.files.lies_ready(name);
     }
 
+    /// The file of this name in out/ isn't sent as long as it has the name: its job came, which can't be marked.
+    pub fn pass_over(&mut self, name: &str)
+        ensures same { self.new ≡ self.old }
+    {
+        self.files.pass_over_settled(name);
+    }
+
     /// The time, as it is in names.
     pub fn stamp(&self) -> Result<String, AllocError> {
         self.files.stamp()

@@ -7,11 +7,13 @@ ghost use Rattle.rje_spool.specs.GivenFiles.{HasBeenCounted, HasGoneOut, IsSettl
 ghost use Rattle.rje_spool.specs.Passing.{may_be_hidden};
 
 use super::SpoolFiles;
+use crate::console::Console;
+use crate::given_file::GivenFile;
 use crate::notice::Notice;
-use crate::passed_files::Until;
+use crate::passed_files::{PassedFiles, Until};
 use crate::spool_fault::SpoolFault;
 use rje_day::Disposition;
-use rje_folder::{FolderDisk, FolderFault, OutName};
+use rje_folder::{FolderDisk, FolderFault, OutName, StationFolder};
 use std::io::Write;
 use std::time::Clock;
 
@@ -28,11 +30,36 @@ impl<D: FolderDisk + Drop, C: Clock, W: Write, L: Write> SpoolFiles<D, C, W, L> 
     {
         match self.given.goes_out(job, &mut self.folder) {
             Ok(()) => Ok(()),
-            Err(FolderFault::OutOfMemory) => Err(SpoolFault::OutOfMemory),
-            Err(fault) => {
-                self.tell_of_file(job, &fault);
-                Err(SpoolFault::OfFile(fault))
-            }
+            Err(fault) => Err(self.told_fault(job, fault)),
+        }
+    }
+
+    /// Tells why the file of a job can't be dealt with, by its name; but not that there is no memory. One that was replaced is passed over for one look, so
+    /// that the files behind it go, however often it is.
+    fn told_fault(&mut self, job: usize, why: FolderFault) -> SpoolFault
+        ensures files { self.new.given ≡ self.old.given }
+        ensures folder { self.new.folder ≡ self.old.folder }
+    {
+        if why == FolderFault::OutOfMemory {
+            return SpoolFault::OutOfMemory;
+        }
+        self.tell_of_file(job, &why);
+        if why == FolderFault::Replaced {
+            self.pass_replaced(job);
+        }
+        SpoolFault::OfFile(why)
+    }
+
+    /// The file of a job, which was replaced, is passed over for one look.
+    fn pass_replaced(&mut self, job: usize)
+        ensures files { self.new.given ≡ self.old.given }
+        ensures folder { self.new.folder ≡ self.old.folder }
+    {
+        let Some(file) = self.given.of(job) else {
+            return;
+        };
+        if let Ok(name) = String::from_str(self.alloc, file.name.as_str()) {
+            let _ = self.passed.add(name, Until::NextLook);
         }
     }
 
@@ -84,7 +111,10 @@ impl<D: FolderDisk + Drop, C: Clock, W: Write, L: Write> SpoolFiles<D, C, W, L> 
             → GoesOn (D.asked self.old.folder.disk) (D.asked self.new.folder.disk) }
         ensures path { self.new.folder.path ≡ self.old.folder.path }
     {
-        let doubted = self.given.is_doubted(job, &mut self.folder)?;
+        let doubted = match self.given.is_doubted(job, &mut self.folder) {
+            Ok(doubted) => doubted,
+            Err(fault) => return Err(self.told_fault(job, fault)),
+        };
         if doubted {
             self.tell_doubt(job);
             self.tell_written(job);
@@ -92,7 +122,7 @@ impl<D: FolderDisk + Drop, C: Clock, W: Write, L: Write> SpoolFiles<D, C, W, L> 
         Ok(())
     }
 
-    /// Tells that the file of a job in doubt was written to when its last block was out, if it was: it isn't what was sent.
+    /// Tells that the file of a job that is in doubt, or was counted, was written to when its last block was out, if it was: it isn't what was sent.
     fn tell_written(&mut self, job: usize)
         ensures folder { self.new.folder ≡ self.old.folder }
         ensures given { self.new.given ≡ self.old.given }
@@ -100,7 +130,7 @@ impl<D: FolderDisk + Drop, C: Clock, W: Write, L: Write> SpoolFiles<D, C, W, L> 
         let Some(file) = self.given.of(job) else {
             return;
         };
-        let Some(path) = file.doubt_path() else {
+        let Some(path) = file.doubt_path().or(file.sent_path()) else {
             return;
         };
         if let Ok(false) = self.folder.has_file(path, file.file) {
@@ -181,8 +211,13 @@ impl<D: FolderDisk + Drop, C: Clock, W: Write, L: Write> SpoolFiles<D, C, W, L> 
         ensures given { self.new.given ≡ self.old.given }
     {
         if let Some(file) = self.given.of(job) {
-            self.console.tell(Notice::Sent(file.name.as_str()));
+            self.console.tell(Notice::Sent(
+                file.name.as_str(),
+                file.label_of(job),
+                file.sent_path(),
+            ));
         }
+        self.tell_written(job);
         self.brake.release();
         self.tell_left(job);
         if job.saturating_add(1) == self.given.jobs() {
@@ -214,6 +249,21 @@ impl<D: FolderDisk + Drop, C: Clock, W: Write, L: Write> SpoolFiles<D, C, W, L> 
             }
             OutName::Stands | OutName::TakenAway | OutName::OfAnother => {}
         }
+        self.pass_renamed(job);
+    }
+
+    /// Where the file of a job had lost its name in out/ when its last block was out, it isn't sent under another one that it has there.
+    fn pass_renamed(&mut self, job: usize)
+        ensures brake { self.new.brake ≡ self.old.brake }
+        ensures ready { self.new.ready ≡ self.old.ready }
+        ensures folder { self.new.folder ≡ self.old.folder }
+        ensures given { self.new.given ≡ self.old.given }
+    {
+        if let Some(file) = self.given.of(job) {
+            if matches!(file.out, OutName::Missing | OutName::OfAnother) {
+                pass_other_names(&self.folder, file, &mut self.console, &mut self.passed);
+            }
+        }
     }
 
     /// A job lies ready still. The folder is read anew, since its file comes before those that were to be next.
@@ -236,6 +286,27 @@ impl<D: FolderDisk + Drop, C: Clock, W: Write, L: Write> SpoolFiles<D, C, W, L> 
                 self.tell_doubt(job);
                 Err(SpoolFault::from(fault))
             }
+        }
+    }
+}
+
+/// Passes over the names of this file that lie ready in out/, and tells them.
+fn pass_other_names<D: FolderDisk + Drop, C: Clock, W: Write, L: Write>(
+    folder: &StationFolder<D>,
+    file: &GivenFile,
+    console: &mut Console<C, W, L>,
+    passed: &mut PassedFiles,
+) {
+    let Ok(names) = folder.names_ready() else {
+        return;
+    };
+    for name in names {
+        if folder
+            .identity(name.as_str())
+            .is_ok_and(|found| found == file.file)
+        {
+            console.tell(Notice::RenamedMeanwhile(name.as_str(), file.name.as_str()));
+            let _ = passed.add(name, Until::Replaced(Some(file.file)));
         }
     }
 }

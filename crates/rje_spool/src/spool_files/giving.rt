@@ -11,7 +11,7 @@ ghost use Rattle.rje_spool.specs.RefusedFile.{is_want_of_memory as is_want};
 
 use super::SpoolFiles;
 use crate::given_files::GivenFiles;
-use crate::notice::Notice;
+use crate::notice::{Notice, is_named};
 use crate::outgoing::{Outgoing, outgoing_of};
 use crate::pace::MOST_JOBS;
 use crate::passed_files::{Until, is_lasting};
@@ -185,6 +185,7 @@ impl<D: FolderDisk + Drop, C: Clock, W: Write, L: Write> SpoolFiles<D, C, W, L> 
             (FolderFault::NoSecondName(kind), _) if !is_lasting(kind) => self.try_later(
                 name, fault,
             ),
+            (FolderFault::NotLocked(_), _) => self.try_later(name, fault),
             (FolderFault::Failed(_, ErrorKind::StorageFull | ErrorKind::QuotaExceeded), _) => {
                 self.try_later(name, fault)
             }
@@ -247,9 +248,13 @@ impl<D: FolderDisk + Drop, C: Clock, W: Write, L: Write> SpoolFiles<D, C, W, L> 
         ensures numbered { OnOk result (jobs_of self.old.given.files.items ≡ length jobs.old.items
             → jobs_of self.new.given.files.items ≡ length jobs.new.items) }
     {
-        let Outgoing { jobs: more, places } = outgoing;
+        let Outgoing {
+            jobs: more,
+            places,
+            labels,
+        } = outgoing;
         let cards = cards_of(more.as_slice());
-        self.given.add(name, file, more.len(), places)?;
+        self.given.add(name, file, more.len(), places, labels)?;
         let mut more = more.into_vec();
         jobs.append(&mut more)?;
         Ok(cards)
@@ -442,14 +447,6 @@ impl<D: FolderDisk + Drop, C: Clock, W: Write, L: Write> SpoolFiles<D, C, W, L> 
             self.number = 1;
         }
         Ok(())
-    }
-}
-
-/// Whether a path is one of this name in its folder.
-fn is_named(path: &str, name: &str) -> bool {
-    match path.strip_suffix(name) {
-        Some(folder) => folder.ends_with("/"),
-        None => false,
     }
 }
 

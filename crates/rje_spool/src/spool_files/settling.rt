@@ -12,6 +12,7 @@ use crate::given_files::GivenFiles;
 use crate::given_job::GivenJob;
 use crate::notice::{JobLabel, Notice};
 use crate::paper::received_file;
+use crate::passed_files::Until;
 use crate::refused_file::RefusedFile;
 use crate::spool_fault::SpoolFault;
 use crate::watching::Watching;
@@ -67,6 +68,18 @@ impl<D: FolderDisk + Drop, C: Clock, W: Write, L: Write> SpoolFiles<D, C, W, L> 
         ensures given { self.new.given ≡ self.old.given }
     {
         self.passed.forget(name);
+        self.look_anew();
+    }
+
+    /// The file of this name in out/ isn't sent as long as it has the name.
+    pub(crate) fn pass_over_settled(&mut self, name: &str)
+        ensures folder { self.new.folder ≡ self.old.folder }
+        ensures given { self.new.given ≡ self.old.given }
+    {
+        let file = self.folder.identity(name).ok();
+        if let Ok(name) = String::from_str(self.alloc, name) {
+            let _ = self.passed.add(name, Until::Replaced(file));
+        }
         self.look_anew();
     }
 

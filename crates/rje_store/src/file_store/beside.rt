@@ -4,6 +4,7 @@ ghost use Rattle.rje_store.specs.Disk.{Asked, Call, SyncFolder, bytes_of, call_o
 ghost use Rattle.rje_store.specs.Replacing.{Adds, HasTried, IsBeside, IsNewBeside, IsOnDisk, IsPrivate, IsWhole, LeadsTo, MayReplace, MayTry};
 ghost use Rattle.rje_store.specs.Inside.Filling.{AddsSync, Fills, IsSecond, KeepsNames, MayFill, MayGive, MayLink, new_access};
 
+use super::locks::FileLock;
 use crate::disk::{Disk, FileAccess, FileKind};
 use crate::new_access::NewAccess;
 use crate::store::StoreFault;
@@ -83,15 +84,17 @@ pub(super) fn try_beside<D: Disk>(disk: &mut D, alloc: Global, path: &str) -> io
     disk.remove(beside.path.as_str())
 }
 
-/// Puts a file of these bytes in the place of this one, with this access, on disk: whole, or nothing changes. Unsynced where the new file is in
-/// its place and only its name may not be on disk.
+/// Puts a file of these bytes in the place of this one, with this access, on disk: whole, or nothing changes. The new file, open; it is locked before it
+/// has its place, if the one of this path is. Busy where another file has the path than the locked one. Unsynced where the new file is in its place and
+/// only its name may not be on disk.
 pub(super) fn replace<D: Disk>(
     disk: &mut D,
     alloc: Global,
     path: &str,
+    lock: Option<&FileLock<D::File>>,
     access: Option<FileAccess>,
     bytes: &[u8],
-) -> Result<(), StoreFault>
+) -> Result<D::File, StoreFault>
     ensures asks { D.discloses
         → Adds (MayReplace path.now bytes.now) (D.asked disk.old) (D.asked disk.new) }
     ensures on_disk { D.discloses → OnOk result (IsOnDisk path.now bytes.now (D.asked disk.new)) }
@@ -101,8 +104,11 @@ pub(super) fn replace<D: Disk>(
     // Opened before anything is written, since a name that was changed in a folder that can't be opened is not known to be on disk.
     let folder = disk.open_folder(path)?;
     let beside = create_beside(disk, alloc, path, access_until(access))?;
-    match put_in_place(disk, &beside, path, access, bytes) {
-        Ok(()) => sync_folder(disk, &folder),
+    match put_in_place(disk, &beside, path, lock, access, bytes) {
+        Ok(()) => {
+            sync_folder(disk, &folder)?;
+            Ok(beside.file)
+        }
         Err(error) => {
             let _ = disk.remove(beside.path.as_str());
             Err(StoreFault::from(error))
@@ -125,6 +131,7 @@ fn put_in_place<D: Disk>(
     disk: &mut D,
     beside: &Beside<D::File>,
     path: &str,
+    lock: Option<&FileLock<D::File>>,
     access: Option<FileAccess>,
     bytes: &[u8],
 ) -> io::Result<()>
@@ -135,7 +142,28 @@ fn put_in_place<D: Disk>(
     ensures whole { D.discloses → OnOk result (IsWhole path.now bytes.now (D.asked disk.new)) }
 {
     fill(disk, &beside.file, access, bytes)?;
+    succeeds(disk, &beside.file, path, lock)?;
     disk.rename(beside.path.as_str(), path)
+}
+
+/// Locks a new file that is to have this path, if the one there is locked: so it is at no moment anybody else's. Busy where another file has the path than
+/// the locked one, or where one has it that was nobody's when it was locked.
+fn succeeds<D: Disk>(
+    disk: &D,
+    new: &D::File,
+    path: &str,
+    lock: Option<&FileLock<D::File>>,
+) -> io::Result<()> {
+    let Some(lock) = lock else {
+        return Ok(());
+    };
+    // (where there are no locks the file beside keeps the other commands out)
+    let _ = disk.try_lock(new);
+    if lock.own().still_has(disk, path)? {
+        Ok(())
+    } else {
+        Err(io::Error::from(ErrorKind::ResourceBusy))
+    }
 }
 
 /// The name beside this one that has this number.

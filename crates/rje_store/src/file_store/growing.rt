@@ -77,6 +77,11 @@ impl<D: Disk> Growing<D> {
         self.name.as_str() == name
     }
 
+    /// The file as it is now, open.
+    pub(super) fn newest(&self) -> &D::File {
+        &self.newest
+    }
+
     /// Removes what is beside the file.
     pub(super) fn settle(self, disk: &mut D)
         ensures { D.discloses → Adds (MaySettle (older_name self.older))

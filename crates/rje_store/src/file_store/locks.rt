@@ -2,8 +2,9 @@
 //!
 //! A file is replaced by another one, so the lock is not the file's own: it is that of a hidden file beside it, which is removed when it is
 //! given up. The file itself is locked too, where it is there, since it may have a second name. The system gives up both when the process
-//! ends.
+//! ends. What a station was sending when it ended has a second name of the station's own until that begins again, and is in use as long.
 use super::beside::resolved;
+use super::own_file::{OwnFile, stands_at};
 use crate::disk::{Disk, FileKind};
 use crate::new_access::NewAccess;
 use crate::store::StoreFault;
@@ -22,7 +23,7 @@ pub(super) struct FileLock<F: Drop> {
     beside: String,
     // Locked as long as they are open.
     lock: F,
-    own: Option<F>,
+    own: OwnFile<F>,
 }
 
 impl<F: Drop> FileLock<F> {
@@ -52,13 +53,17 @@ impl<F: Drop> FileLock<F> {
             true => open_to_lock(disk, path.as_str()).ok(),
             false => None,
         };
-        match own_locked(disk, path.as_str(), own.as_ref()) {
+        match own_locked(disk, alloc, path.as_str(), own.as_ref()) {
             Ok(()) => Ok(Some(FileLock {
                 name,
                 path,
                 beside,
                 lock,
-                own,
+                own: match own {
+                    Some(file) => OwnFile::Locked(file),
+                    None if is_there => OwnFile::Unlocked,
+                    None => OwnFile::Free,
+                },
             })),
             Err(fault) => {
                 let _ = disk.remove(beside.as_str());
@@ -67,20 +72,36 @@ impl<F: Drop> FileLock<F> {
         }
     }
 
-    /// Locks the file that is there now in place of the one that it has replaced, which the disk would keep until the end. Where it can't
-    /// be locked, the file beside still is.
-    pub(super) fn follow<D: Disk<File = F>>(&mut self, disk: &D) {
-        self.own = None;
-        if let Ok(file) = open_to_lock(disk, self.path.as_str()) {
-            if locked(disk, &file).is_ok() {
-                self.own = Some(file);
-            }
-        }
+    /// The file that is there now is this one, if any, in place of the one that it has replaced, which the disk would keep until the end.
+    pub(super) fn follow(&mut self, file: Option<F>) {
+        self.own = match file {
+            Some(file) => OwnFile::Locked(file),
+            None => OwnFile::Unlocked,
+        };
+    }
+
+    /// The same of a file that has grown, which is locked, and lost where another one has the path, or another process has it.
+    pub(super) fn follow_grown<D: Disk<File = F>>(&mut self, disk: &D, grown: &F) {
+        self.own = match open_to_lock(disk, self.path.as_str()) {
+            Ok(file) if !are_one(disk, &file, grown) => OwnFile::Lost,
+            Ok(file) => match locked(disk, &file) {
+                Ok(()) => OwnFile::Locked(file),
+                Err(StoreFault::InUse) => OwnFile::Lost,
+                Err(_) => OwnFile::Unlocked,
+            },
+            Err(error) if error.kind() == ErrorKind::NotFound => OwnFile::Lost,
+            Err(_) => OwnFile::Unlocked,
+        };
     }
 
     /// Whether this is the lock of the file of this name.
     pub(super) fn is_of(&self, name: &str) -> bool {
         self.name.as_str() == name
+    }
+
+    /// The file itself.
+    pub(super) fn own(&self) -> &OwnFile<F> {
+        &self.own
     }
 
     /// Whether the name led to this path when it was taken.
@@ -162,8 +183,12 @@ fn found_lock<D: Disk>(disk: &D, path: &str) -> io::Result<Option<D::File>> {
         Err(error) => return Err(error),
     };
     let found = disk.status_of(&file)?;
-    if found.device != stands.device || found.inode != stands.inode || found.len != 0 {
+    if found.len != 0 {
         return Err(io::Error::from(ErrorKind::AlreadyExists));
+    }
+    // (another process made it anew in between)
+    if found.device != stands.device || found.inode != stands.inode {
+        return Ok(None);
     }
     Ok(Some(file))
 }
@@ -177,24 +202,54 @@ fn locked<D: Disk>(disk: &D, file: &D::File) -> Result<(), StoreFault> {
     }
 }
 
-/// Locks the file itself, where it is there. In use as well where another one has its path by then, as a station put it there or took it away.
-fn own_locked<D: Disk>(disk: &D, path: &str, own: Option<&D::File>) -> Result<(), StoreFault> {
+/// Whether two open files are one, as far as the disk says.
+fn are_one<D: Disk>(disk: &D, one: &D::File, other: &D::File) -> bool {
+    match (disk.status_of(one), disk.status_of(other)) {
+        (Ok(one), Ok(other)) => one.device == other.device && one.inode == other.inode,
+        _ => false,
+    }
+}
+
+/// Locks the file itself, where it is there. In use as well where another one has its path by then, as a station put it there or took it away, and where
+/// a station may be sending it.
+fn own_locked<D: Disk>(
+    disk: &D,
+    alloc: Global,
+    path: &str,
+    own: Option<&D::File>,
+) -> Result<(), StoreFault> {
     let Some(file) = own else {
         return Ok(());
     };
     locked(disk, file)?;
-    if stands_at(disk, path, file)? {
+    if stands_at(disk, path, file)? && !is_promised(disk, alloc, path, file)? {
         Ok(())
     } else {
         Err(StoreFault::InUse)
     }
 }
 
-/// Whether an open file is the one that has this path.
-fn stands_at<D: Disk>(disk: &D, path: &str, file: &D::File) -> io::Result<bool> {
-    let found = disk.status_of(file)?;
-    match disk.status(path) {
-        Ok(stands) => Ok(found.device == stands.device && found.inode == stands.inode),
+/// Whether an open file may be one of which a station is sending a job, or was when it ended: this path is one in its out/ or doubt/, and the file has a
+/// second name.
+fn is_promised<D: Disk>(disk: &D, alloc: Global, path: &str, file: &D::File) -> io::Result<bool> {
+    if disk.status_of(file)?.links < 2 {
+        return Ok(false);
+    }
+    let path = disk.whole_path(alloc, path)?;
+    let Some((folder, _)) = path.as_str().rsplit_once('/') else {
+        return Ok(false);
+    };
+    let Some((station, "out" | "doubt")) = folder.rsplit_once('/') else {
+        return Ok(false);
+    };
+    Ok(is_folder(disk, alloc, station, "out")? && is_folder(disk, alloc, station, "doubt")?)
+}
+
+/// Whether a folder of this name is in another one.
+fn is_folder<D: Disk>(disk: &D, alloc: Global, parent: &str, name: &str) -> io::Result<bool> {
+    let path = format!(in alloc; "{parent}/{name}")?;
+    match disk.status(path.as_str()) {
+        Ok(found) => Ok(found.kind == FileKind::Folder),
         Err(error) if error.kind() == ErrorKind::NotFound => Ok(false),
         Err(error) => Err(error),
     }

@@ -72,6 +72,14 @@ impl<D: Disk> MarkedDisk<D> {
         &mut self.disk
     }
 
+    /// Whether the file of this name is kept open, and has a name still.
+    pub(super) fn has_open(&self, name: &str) -> bool {
+        match &self.kept {
+            Some(file) => file.is_of(name) && has_name(&self.disk, &file.file),
+            None => false,
+        }
+    }
+
     /// Sets a byte where the file of this name is, on disk. Where that fails, the file is opened anew for the next one.
     pub(super) fn set_byte(
         &mut self,

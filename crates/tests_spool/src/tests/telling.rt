@@ -1,7 +1,8 @@
 //! The lines that a station tells.
 use super::Ground;
+use rje_files::NO_NAME;
 use rje_folder::FolderFault;
-use rje_spool::{JobLabel, Notice, RefusedFile};
+use rje_spool::{FileJob, JobLabel, Notice, RefusedFile};
 use rje_text::Select;
 use std::io::ErrorKind;
 use std::net::SocketAddr;
@@ -54,17 +55,62 @@ ended
     );
 }
 
-/// What is told of files (docs/FORMATS.md): names of the operator's have no control characters.
+/// What is told of jobs that are sent (docs/FORMATS.md): which job of its file each is, and where a file went that didn't keep its name. Names of the
+/// operator's have no control characters.
+#[test]
+fn jobs_are_told(rt: HostRuntime) {
+    let ground = Ground::new(rt.alloc());
+    ground.clock.set(None);
+    let mut console = ground.console();
+    let which = FileJob {
+        number: 2,
+        of: 3,
+        name: *b"PAY2    ",
+    };
+    for notice in [
+        Notice::Sending("a.deck", None, label(Select::Unset, 1)),
+        Notice::Sending("b.printer.deck", None, label(Select::Printer, 22)),
+        Notice::Sending(
+            "c\n2026-11-28 sent c.punch.deck",
+            None,
+            label(Select::Punch, 0),
+        ),
+        Notice::Sending("d.job", Some(which), label(Select::Punch, 7)),
+        Notice::Sent("a.deck", None, Some("/var/spool/rje/sent/a.deck")),
+        Notice::Sent("a.deck", None, Some("/var/spool/rje/sent/a.2.deck")),
+        Notice::Sent("d.job", Some(which), None),
+        Notice::Sent(
+            "d.job",
+            Some(FileJob {
+                name: NO_NAME,
+                ..which
+            }),
+            Some("sent/dd.job"),
+        ),
+    ] {
+        console.tell(notice);
+    }
+    ground.assert_told(
+        &rt,
+        b"sending a.deck unset 1 cards
+sending b.printer.deck printer 22 cards
+sending c?2026-11-28 sent c.punch.deck punch 0 cards
+sending d.job job 2 of 3 PAY2 punch 7 cards
+sent a.deck
+sent a.deck: sent/a.2.deck
+sent d.job job 2 of 3 PAY2
+sent d.job job 2 of 3: sent/dd.job
+",
+    );
+}
+
+/// What is told of files (docs/FORMATS.md).
 #[test]
 fn files_are_told(rt: HostRuntime) {
     let ground = Ground::new(rt.alloc());
     ground.clock.set(None);
     let mut console = ground.console();
     for notice in [
-        Notice::Sending("a.deck", label(Select::Unset, 1)),
-        Notice::Sending("b.printer.deck", label(Select::Printer, 22)),
-        Notice::Sending("c\n2026-11-28 sent c.punch.deck", label(Select::Punch, 0)),
-        Notice::Sent("a.deck"),
         Notice::Doubt("a.deck", "/var/spool/rje/doubt/a.2.deck"),
         Notice::TakenBack("a.deck"),
         Notice::Left("a.deck", ErrorKind::PermissionDenied),
@@ -89,11 +135,7 @@ fn files_are_told(rt: HostRuntime) {
     }
     ground.assert_told(
         &rt,
-        b"sending a.deck unset 1 cards
-sending b.printer.deck printer 22 cards
-sending c?2026-11-28 sent c.punch.deck punch 0 cards
-sent a.deck
-DOUBT a.deck may have arrived: doubt/a.2.deck
+        b"DOUBT a.deck may have arrived: doubt/a.2.deck
 a.deck was taken out of out/ when its last block was out
 out/a.deck can't be taken away and isn't sent again: permission denied
 out/.a.deck.taken-0 is out/a.2.deck now: another file has its name

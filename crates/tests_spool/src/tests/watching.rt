@@ -2,7 +2,7 @@
 use super::Ground;
 use super::holding::{BID, block, bring, hear, new_station};
 use super::page::Page;
-use super::sending::{given, settled};
+use super::step::{given, settled};
 use bsc_link::Rank;
 use line_world::MemoryLine;
 use rje_day::Disposition;

@@ -1,3 +1,5 @@
+-- A rename to a path that no file has asks for nothing else, and after `Ok` the file has that path alone, on disk.
+-- Each way out adds its calls to those before (`added_call`); `renamed_is` follows what stands under both names through them.
 use Rattle.std.proofs.Common.{inl, inr, refl}
 use Rattle.rje_store.proofs.Replacing.{added_call, added_none, added_twice}
 use Rattle.rje_store.specs.Disk.{Rename}

@@ -1,3 +1,5 @@
+-- What a promise asks of the disk at each way out, and that the file has its second name on disk after `Ok`.
+-- The calls of the four steps are joined by `added_twice`, each weakened to what a promise may ask; the lemmas of Seconds follow the name.
 use Rattle.std.proofs.Common.{◌≡◌, ◌∙◌, inl, inr, refl, rules, ap, List}
 use Rattle.rje_store.proofs.Replacing.{added_twice, added_weaker}
 use Rattle.rje_store.specs.Replacing.{Adds}

@@ -1,3 +1,5 @@
+-- A job that is kept with its count: what is asked, that both are on disk after `Ok`, and what the removal of the older count rests on.
+-- The new count is on disk before the older one is taken away; the lemmas of Received carry both through the calls that follow.
 use Rattle.std.proofs.Common.{◌∙◌}
 use Rattle.rje_store.proofs.Replacing.{added_twice}
 use Rattle.rje_store.specs.Replacing.{IsOnDisk}

@@ -1,3 +1,5 @@
+-- A new file of these bytes: what is asked at each way out, and that it is on disk after `Ok`.
+-- One call after another is added (`added_call`); an empty file that is filled, synced and named is on disk (lemmas of Received).
 use Rattle.std.proofs.Common.{inl, inr, refl, ap}
 use Rattle.rje_store.proofs.Replacing.{added_call, added_none, added_twice}
 use Rattle.rje_store.specs.declared.new_access.NewAccess.{NewAccess}

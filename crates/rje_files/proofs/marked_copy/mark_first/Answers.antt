@@ -1,3 +1,5 @@
+-- The bytes become the file of the entries of which so many more are marked as sent.
+-- An invariant says which entries are done; each entry's mark is one byte at a place that the lengths before it give (MarkedCopy).
 use Rattle.std.proofs.Common.{inl, inr, ◌+◌, ◌-◌, refl, ap, arith}
 use Rattle.rje_files.specs.declared.job_file.version.FileVersion.TheVariants.{Second}
 use Rattle.rje_files.specs.JobFile.{FitsFields}

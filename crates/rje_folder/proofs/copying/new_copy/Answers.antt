@@ -1,3 +1,5 @@
+-- A copy under a new name: what is asked, that it has the bytes and is on disk, and that nothing stood under its name.
+-- The calls are added one by one; a new file is empty, and what is filled and synced stands whole (NewFile, TakenOver).
 use Rattle.std.proofs.Common.{◌∙◌}
 use Rattle.std.specs.Prelude.{string_bytes}
 use Rattle.rje_store.specs.Disk.{Remove}

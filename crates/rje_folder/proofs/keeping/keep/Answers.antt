@@ -1,3 +1,5 @@
+-- A new file of a folder: what is asked, that it is on disk, that it is new, and under which name.
+-- The hidden file is made and filled, and then gets its name: the lemmas of NewFile carry it from the one to the other.
 use Rattle.std.proofs.Common.{inl}
 use Rattle.std.specs.Prelude.{string_bytes}
 use Rattle.rje_store.specs.Disk.{Remove, came_to}

@@ -1,3 +1,5 @@
+-- The same once the hidden file is made: it is filled, and gets the first free name.
+-- `kept_is` and its neighbours say of each way out what stands under the new name, and that its bytes are on disk.
 use Rattle.std.specs.Prelude.{string_bytes}
 use Rattle.rje_folder.specs.FileNames.{IsNameOf}
 use Rattle.rje_folder.specs.Inside.Calls.{MayWrite}

@@ -1,3 +1,5 @@
+-- Of a mark: what is asked at each way out, that the byte and no other is changed and on disk, and which file it is then.
+-- All ways out before the write ask for nothing; after it one call is added. The byte is followed by `length_of_opened` and its neighbours.
 use Rattle.std.proofs.Common.{◌≡◌, ◌<◌, ◌∷◌, [], List, Ok, true, length, inr, refl, ap, arith, rules, ◌∙◌}
 use Rattle.rje_store.specs.Disk.{Asked, Opened, Done, SyncBytes, WriteAt}
 use Rattle.rje_store.proofs.Replacing.{added_call}
@@ -33,8 +35,21 @@ returns-in_err-sync_bytes-clause-asks g c = λ told.
     (written_may c.open_to_write.result c.write_at.result c.args.path.now file c.args.place c.args.mark _ _ _ (c.open_to_write.ensures.asks told) is (c.write_at.ensures told))
     (c.sync_bytes.ensures told) (inr (file, is, inr refl))
 
-pub returns-in_err-identity_of-clause-asks : goal.returns-in_err-identity_of-clause-asks
-returns-in_err-identity_of-clause-asks g c = λ told.
+pub returns-in_err-marked-clause-asks : goal.returns-in_err-marked-clause-asks
+returns-in_err-marked-clause-asks g c = λ told.
+    written_may c.open_to_write.result c.write_at.result c.args.path.now (g.D.Disk.opened c.in_ok-opened.opened) c.args.place c.args.mark _ _ _ (c.open_to_write.ensures.asks told)
+    (ap (λ (f : Opened). f.name) (c.in_ok-opened.ensures.file told)) (c.write_at.ensures told)
+
+pub returns-in_err-is_open_as-clause-asks : goal.returns-in_err-is_open_as-clause-asks
+returns-in_err-is_open_as-clause-asks g c = λ told.
+    let file = g.D.Disk.opened c.in_ok-opened.opened in
+    let is = ap (λ (f : Opened). f.name) (c.in_ok-opened.ensures.file told) in
+    added_call (MayMark c.args.path.now c.args.place c.args.mark) _ _ _ c.sync_bytes.result (SyncBytes file)
+    (written_may c.open_to_write.result c.write_at.result c.args.path.now file c.args.place c.args.mark _ _ _ (c.open_to_write.ensures.asks told) is (c.write_at.ensures told))
+    (c.sync_bytes.ensures told) (inr (file, is, inr refl))
+
+pub returns-then-branch-clause-asks : goal.returns-then-branch-clause-asks
+returns-then-branch-clause-asks g c = λ told.
     let file = g.D.Disk.opened c.in_ok-opened.opened in
     let is = ap (λ (f : Opened). f.name) (c.in_ok-opened.ensures.file told) in
     added_call (MayMark c.args.path.now c.args.place c.args.mark) _ _ _ c.sync_bytes.result (SyncBytes file)
@@ -49,8 +64,8 @@ returns-clause-asks g c = λ told.
     (written_may c.open_to_write.result c.write_at.result c.args.path.now file c.args.place c.args.mark _ _ _ (c.open_to_write.ensures.asks told) is (c.write_at.ensures told))
     (c.sync_bytes.ensures told) (inr (file, is, inr refl))
 
-pub returns-clause-marked : goal.returns-clause-marked
-returns-clause-marked g c = λ told.
+pub returns-then-branch-clause-marked : goal.returns-then-branch-clause-marked
+returns-then-branch-clause-marked g c = λ told.
     let file = g.D.Disk.opened c.in_ok-opened.opened in
     let opened = c.in_ok-opened.ensures.asks told in
     let is = c.in_ok-opened.ensures.file told in
@@ -58,8 +73,8 @@ returns-clause-marked g c = λ told.
     let within : c.args.place < length opened.0 = omega (arith, len) in
     marked_done (Ok (tt {0})) c.args.path.now file c.args.place c.args.mark opened.0 _ _ _ _ opened.1 opened.2 is within (c.in_ok-write_at.ensures told) (c.in_ok-sync_bytes.ensures told)
 
-pub returns-clause-same : goal.returns-clause-same
-returns-clause-same g c = λ told.
+pub returns-then-branch-clause-same : goal.returns-then-branch-clause-same
+returns-then-branch-clause-same g c = λ told.
     let file = g.D.Disk.opened c.in_ok-opened.opened in
     let is : c.in_ok-same.same ≡ true = search rules in
     let said : g.D.FolderDisk.is_open (g.D.Disk.asked c.open_to_write.new.self) c.in_ok-opened.opened c.args.file = c.in_ok-same.ensures is in (

@@ -1,3 +1,5 @@
+-- A trial of a file: what is asked, that it was as long as was wanted, and that no name of it is left.
+-- Whatever fails, the name that was made is taken away again (lemmas of Tried).
 use Rattle.std.proofs.Common.{◌∙◌}
 use Rattle.std.specs.Prelude.{string_bytes}
 use Rattle.rje_store.specs.Disk.{Remove}

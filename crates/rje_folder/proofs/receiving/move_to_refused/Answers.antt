@@ -1,3 +1,5 @@
+-- A file that is put aside: what is asked at each way out, and that it is in refused/ and no more in out/ after `Ok`.
+-- Its second name is in refused/ and on disk first (`adds_aside`); then the name in out/ is taken away (`takes_aside`, `aside_is`).
 use Rattle.std.proofs.Common.{◌∙◌, ap, ℕ, List}
 use Rattle.std.specs.Prelude.{string_bytes}
 use Rattle.rje_store.specs.Disk.{has_synced_name}

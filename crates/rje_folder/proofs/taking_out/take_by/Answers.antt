@@ -1,3 +1,5 @@
+-- A name that is taken away by way of a hidden one: what is asked at each way out.
+-- The rename is added first, and then one of three things: the hidden name goes, the shown one comes back, or nothing more (TakenOut).
 use Rattle.std.proofs.Common.{◌≢◌, inl, refl, rules}
 use Rattle.rje_store.specs.Disk.{Rename}
 use Rattle.rje_store.proofs.Replacing.{added_call, added_none, added_twice}

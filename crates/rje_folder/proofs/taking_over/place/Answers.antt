@@ -1,3 +1,5 @@
+-- A copy that takes the place of a file: what is asked at each way out, and that it stands there whole, on disk.
+-- The copy keeps its bytes through the calls that don't touch it (`copy_synced` and its neighbours), and the rename moves it.
 use Rattle.std.proofs.Common.{◌∙◌, refl, rules}
 use Rattle.std.specs.Prelude.{string_bytes}
 use Rattle.rje_store.specs.Inside.Filling.{AddsSync}

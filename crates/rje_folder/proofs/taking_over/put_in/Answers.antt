@@ -1,3 +1,5 @@
+-- The same, and the name that the file had comes back: what is asked, and what stands under that name.
+-- The calls of the two steps are joined by `added_twice`; the lemmas of TakenOver say what each leaves.
 use Rattle.std.proofs.Common.{◌∙◌, refl}
 use Rattle.std.specs.Prelude.{string_bytes}
 use Rattle.rje_store.proofs.Replacing.{added_twice}

@@ -1,3 +1,5 @@
+-- A second name for one file: what is asked at each way out, and that the name is the file's, on disk, after `Ok`.
+-- The file is tried by a hidden name, named by that, and spared it again; SecondNames has a lemma for each of these steps.
 use Rattle.std.proofs.Common.{subst, sym}
 use Rattle.std.specs.Prelude.{string_bytes}
 use Rattle.rje_folder.specs.FileNames.{IsNameOf}

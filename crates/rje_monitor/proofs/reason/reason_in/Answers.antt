@@ -1,3 +1,5 @@
+-- Why a text is no transmission is told rightly at each way out.
+-- An invariant says what of the text was read as data; from there each item shows why no frame begins so (ItemsRead).
 use Rattle.std.proofs.Common.{◌≡◌, ◌<◌, ℕ, List, [], ◌∷◌, ◌++◌, length, subst, sym, rules, arith}
 use Rattle.std.proofs.lemmas.Bool.Decides.{nat_tests}
 use Rattle.bsc_frame.specs.Inside.Listening.HeardSoFar.{Text}

@@ -1,3 +1,5 @@
+-- The text of a stream is a line for each frame and one for the rest.
+-- The loop takes one frame after another off the front: Hearings says that one was taken, Streams that the text goes on.
 use Rattle.std.proofs.Common.{◌≡◌, ℕ, ◌+◌, ◌<◌, List, ◌++◌, None, take, drop, subst, sym, rules, arith, length}
 use Rattle.std.proofs.lemmas.Bool.Decides.{nat_tests}
 use Rattle.std.proofs.lemmas.Grind.{common_steps}

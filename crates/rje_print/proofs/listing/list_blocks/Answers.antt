@@ -1,3 +1,5 @@
+-- The lines of the blocks of a job, block by block.
+-- An invariant: what is printed is the listing of the cards so far, but for those in the block in hand (BlockListings).
 use Rattle.std.proofs.Common.{rules, ◌≡◌, true, ap, length, arith}
 use Rattle.std.proofs.lemmas.Result.{on_ok_weaker}
 use Rattle.rje_text.specs.Packing.{Packing, with_record}

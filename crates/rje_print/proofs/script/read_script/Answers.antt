@@ -1,3 +1,5 @@
+-- The turns of a script, or the first line that is none.
+-- One line after another: the turns so far are those of the lines so far (`turn_read`).
 use Rattle.std.proofs.Common.{◌≡◌, ◌+◌, ◌++◌, ◌∷◌, [], suc, length, subst, sym, rules, arith, List, ap}
 use Rattle.std.proofs.lemmas.List.{length_push}
 use Rattle.line_world.specs.declared.turn.Turn.{Turn}

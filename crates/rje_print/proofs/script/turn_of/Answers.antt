@@ -1,3 +1,5 @@
+-- A line is the turn that was read, or none, at each way out.
+-- The line is parted at its blanks, and each part is one of the words that a turn has, or not (lemmas of Turns).
 use Rattle.rje_print.specs.Script.{IsFate}
 use Rattle.rje_print.proofs.Turns.{no_blank, one_blank, two_blanks, words_are}
 use Rattle.rje_print.proofs.script.turn_of.Goals as goal

@@ -1,3 +1,5 @@
+-- The day goes on as it may after one hearing, at each way out.
+-- Each way out is one step of the day (`day_then`), or none.
 use Rattle.std.proofs.Common.{ap, refl, ◌∙◌}
 use Rattle.rje_day.specs.declared.next_action.NextAction.{NextAction}
 use Rattle.rje_day.specs.declared.day_event.DayEvent.{DayEvent}

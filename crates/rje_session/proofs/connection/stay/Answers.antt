@@ -1,3 +1,5 @@
+-- The day goes on as it may, transmission after transmission.
+-- An invariant over the loop: the day so far is one (`day_still`), and each step of the loop adds one to it.
 use Rattle.std.proofs.Common.{sym, ◌∙◌}
 use Rattle.rje_session.specs.Staying.{GoesOnAsDay}
 use Rattle.rje_session.proofs.DayOn.{day_still, day_then, gone_step}

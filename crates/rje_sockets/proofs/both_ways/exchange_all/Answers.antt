@@ -1,3 +1,5 @@
+-- Both ways at once: what came of all turns, what is marked and kept, and where it broke off.
+-- An invariant: the turns so far are those of two ends, with what was kept and marked of them; each way out adds its last turn (BothWays).
 use Rattle.std.proofs.Common.{rules, inl, refl}
 use Rattle.rje_sockets.specs.declared.transfer_error.TransferError.{TransferError}
 use Rattle.rje_sockets.specs.Inside.BothFiles.{BreaksBoth, progress_of}

@@ -1,3 +1,5 @@
+-- The other's turn: what it takes, what is kept of it, and what is left where the line or the file fails.
+-- The cases of the reply, one by one: `others_answered` says what the station took, BothFiles what that leaves in the file.
 use Rattle.std.proofs.Common.{rules, ◌≡◌, ap, refl, ◌∙◌}
 use Rattle.rje_station.specs.Receiving.{Receiving}
 use Rattle.rje_session.proofs.Passed.{others_answered}

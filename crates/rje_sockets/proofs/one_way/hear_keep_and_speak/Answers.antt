@@ -1,3 +1,5 @@
+-- One turn of a receiver: what it takes, keeps and replies, and what is left where it breaks off.
+-- The cases of what came, one by one: Answering says what the station took, Keeping what that leaves in the file.
 use Rattle.std.proofs.Common.{rules, ◌≡◌, inl, inr, ap, ◌∙◌, Err}
 use Rattle.rje_station.specs.declared.station_fault.StationFault.{StationFault}
 use Rattle.rje_station.specs.Line.{one_more}

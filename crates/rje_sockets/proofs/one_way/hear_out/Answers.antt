@@ -1,3 +1,5 @@
+-- A receiver's turns to the end: which they are, what is kept, and that patience ends them.
+-- An invariant over the turns so far and the quiet ones in a row (Patience); each way out adds its last turn.
 use Rattle.std.proofs.Common.{rules, ◌≡◌, Err, arith}
 use Rattle.rje_sockets.proofs.Answering.{took_answered}
 use Rattle.rje_sockets.proofs.Keeping.{goes_nowhere, goes_on_twice}

@@ -1,3 +1,5 @@
+-- A sender's turns to the end: which they are, and that each job is marked as it is counted.
+-- An invariant over the turns so far and the marks (Marked); each way out adds its last turn (OverLine).
 use Rattle.std.proofs.Common.{rules, ◌≡◌, refl, inl, Err, []}
 use Rattle.rje_sockets.proofs.Marked.{counts_on, marks_nothing, marks_on}
 use Rattle.rje_sockets.proofs.OverLine.{sends_fault, sends_long, sends_on, sends_over, so_far_took}

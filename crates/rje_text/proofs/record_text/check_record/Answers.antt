@@ -1,3 +1,5 @@
+-- A text is a record's, or its first fault is told with its place.
+-- An invariant: the bytes so far read as data, and so many of them (Expanding); each way out is the first byte that doesn't go on so.
 use Rattle.std.proofs.Common.{◌+◌, ◌-◌, ◌++◌, [], get_or, replicate, ap, sym, ◌∙◌, arith}
 use Rattle.std.specs.Option.{is_some}
 use Rattle.std.proofs.lemmas.List.{length-append, length-replicate}

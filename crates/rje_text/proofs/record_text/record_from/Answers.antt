@@ -1,3 +1,5 @@
+-- The data of a record's text.
+-- An invariant: what is built so far is what the bytes so far expand to (`IsBuilt`).
 use Rattle.std.proofs.Common.{arith, subst, sym, List, ℕ, ◌+◌, length}
 use Rattle.rje_text.proofs.Expanding.{IsBuilt, nothing_built, built_front, built_count}
 use Rattle.rje_text.proofs.record_text.record_from.Goals as goal

@@ -1,3 +1,5 @@
+-- Runs of blanks become counts.
+-- An invariant: what is written is the spelling of the bytes so far; a run is written at its end, and `behind` says what comes after it.
 use Rattle.std.proofs.Common.{◌≡◌, ℕ, ◌+◌, ◌++◌, [], List, length, take, drop, ap, sym, ◌∙◌, arith}
 use Rattle.std.proofs.lemmas.List.{append-nil, drop_all, drop-drop, length-append, length-take-le}
 use Rattle.rje_text.specs.Spelling.{compressed, written_run}

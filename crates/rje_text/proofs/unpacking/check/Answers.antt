@@ -1,3 +1,5 @@
+-- A text has so many records, or its first fault is told with its place.
+-- One record after another: those so far read (`piece_is_part`), and a fault within one is the text's, moved by its place (`lift_fault`).
 use Rattle.std.proofs.Common.{◌≡◌, ℕ, ◌+◌, ◌++◌, ◌∷◌, [], List, length, arith}
 use Rattle.std.proofs.lemmas.List.{length-append}
 use Rattle.rje_text.specs.declared.record.Record.{Record}

@@ -1,3 +1,5 @@
+-- The records of a text that has so many.
+-- One record after another is taken off the front (`piece_reads`), and the records so far are those of the front.
 use Rattle.std.proofs.Common.{◌++◌, ◌∷◌, [], List, ℕ, ap, sym, ◌∙◌, Some, arith}
 use Rattle.std.proofs.lemmas.List.{append_assoc, append-nil}
 use Rattle.rje_text.specs.Reading.{records_in}

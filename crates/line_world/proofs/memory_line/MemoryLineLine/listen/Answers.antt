@@ -1,3 +1,5 @@
+-- What a listen on a line in memory gives, and what is left of its pieces.
+-- Two cases: the piece at the front fits into the room, or as much of it is given as fits; `left_in` says what is left of it then.
 use Rattle.std.proofs.Common.{rules, ◌≡◌, ◌<◌, ◌≤◌, ◌++◌, length, take, drop, get_or, sym, ap, ◌∙◌, arith, length-append}
 use Rattle.line_world.specs.MemoryLine.{ready, pieces_in}
 use Rattle.line_world.proofs.Pieces.{left_in, counted, came, parts, no_piece, nothing_comes}

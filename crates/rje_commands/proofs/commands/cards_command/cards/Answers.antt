@@ -1,3 +1,5 @@
+-- The command does what the order says: its fault, its files, and what is printed.
+-- The deck and the job file that was read give the new file (lemmas of Inputs); nothing is written before all that may fail has passed.
 use Rattle.std.proofs.Common.{◌≡◌, List, length, ◌∙◌, subst, ap, inl, inr, OnOk}
 use Rattle.std.specs.Prelude.{None, option_map}
 use Rattle.std.specs.Io.KnownBytes.{Appends}

@@ -1,3 +1,5 @@
+-- The command does what the order says: its fault, its files, and what is printed.
+-- What was read and chosen is what the order asks for (lemmas of Inputs); all that is said of the files follows from the one write.
 use Rattle.std.proofs.Common.{ℕ, length, ◌∙◌, subst, ap, inl, inr, refl, OnOk}
 use Rattle.std.specs.Prelude.{None, option_map}
 use Rattle.std.specs.Io.KnownBytes.{Appends}

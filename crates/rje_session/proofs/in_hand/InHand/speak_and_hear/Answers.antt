@@ -1,3 +1,5 @@
+-- What is noted of the block that is out stays true of the station after its own turn.
+-- Four goals of one invariant; each follows from what a turn of the sender's does to its jobs (Places).
 use Rattle.std.proofs.Common.{◌≡◌, ◌≢◌, ap, drop, false, rules, subst, sym, ◌∙◌}
 use Rattle.bsc_link.specs.declared.say.Say.{Say}
 use Rattle.rje_station.specs.Receiving.{Receiving}

@@ -1,3 +1,5 @@
+-- What the other end's turn does: the job that came is kept once, before the reply, at each way out.
+-- What was answered begins as what was kept (Keeps), and an arrival is passed over or taken as Passed says.
 use Rattle.std.proofs.Common.{◌≡◌, false, rules}
 use Rattle.rje_session.proofs.Keeps.{answered_begins, answered_kept, failed_begins, failed_kept, others_begin, others_kept}
 use Rattle.rje_session.proofs.Passed.{others_answered}

@@ -1,3 +1,5 @@
+-- Turn after turn the ledger stays in step with the station, also where a line or a spool fails.
+-- An invariant: what the ledger has grown by is what the turns so far enter (LedgerInStep); each way out adds its last turn.
 use Rattle.std.proofs.Common.{◌≡◌, ◌∙◌, ap, arith, rules, slice_get, sym}
 use Rattle.rje_station.specs.Station.{Contending}
 use Rattle.rje_session.specs.Account.{UnlessSpoolFailed, IsInStep}

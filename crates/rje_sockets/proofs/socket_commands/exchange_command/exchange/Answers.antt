@@ -1,3 +1,5 @@
+-- The command comes to one connection and exchanges over it, or ends with the fault that the order says.
+-- Each fault comes before anything was said, so the files are as they were; the rest is `exchanged` over that connection.
 use Rattle.std.proofs.Common.{rules, inl, None, Err, ◌≡◌, ap}
 use Rattle.rje_station.specs.Station.{first_contending}
 use Rattle.rje_station.specs.StationFault.{IsNewCause}

@@ -1,3 +1,5 @@
+-- What is marked, kept and printed at the end of an exchange, whichever part of that fails.
+-- Four goals, one a clause; each is led through the steps of the end in their order (Exchanged, LeavingBoth).
 use Rattle.std.proofs.Common.{rules, ◌≡◌, ◌⊎◌, Bool, Err, IfOk, ap, inl, inr, length, subst}
 use Rattle.std.specs.Prelude.{List}
 use Rattle.std.specs.List.{flat_map}

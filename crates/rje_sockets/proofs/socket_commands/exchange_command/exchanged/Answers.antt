@@ -1,3 +1,5 @@
+-- The same over a line that is there: the jobs, the files, the fault at each way out.
+-- The faults before the first word leave the files as they were; the rest is `exchange_files`.
 use Rattle.std.proofs.Common.{rules, inl, Err, ◌≡◌, ap}
 use Rattle.rje_station.specs.Station.{first_contending}
 use Rattle.rje_station.specs.StationFault.{IsNewCause}

@@ -1,3 +1,5 @@
+-- The command comes to one connection and receives over it, or ends with the fault that the order says.
+-- Each fault comes before anything was heard, so the file is as it was; the rest is `received` over that connection.
 use Rattle.std.proofs.Common.{IfOk, ℕ, rules, refl, subst}
 use Rattle.std.specs.Prelude.{IfSome}
 use Rattle.rje_requests.specs.declared.order.Destination.{Destination}

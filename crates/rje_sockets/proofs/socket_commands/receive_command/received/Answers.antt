@@ -1,3 +1,5 @@
+-- What is kept and printed of a transmission that was received, whichever part of that fails.
+-- One goal a clause; what is kept of the turns is what the file has at the end (Received).
 use Rattle.std.proofs.Common.{rules, ◌≡◌, ◌∙◌, IfOk, OnOk, IfErr, refl, ap, sym, subst}
 use Rattle.rje_station.specs.Receiving.{Receiving}
 use Rattle.rje_session.specs.Stations.{LineTells}

@@ -1,3 +1,5 @@
+-- The command comes to one connection and sends over it, or ends with the fault that the order says.
+-- Each fault comes before anything was said, so no job is marked; the rest is `sent` over that connection.
 use Rattle.std.proofs.Common.{rules, inl, None, Err, ◌≡◌, ◌∙◌}
 use Rattle.rje_station.specs.Sending.{first_sending}
 use Rattle.rje_station.specs.StationFault.{IsNewCause}

@@ -1,3 +1,5 @@
+-- The same over a line that is there: the jobs, the marks, the fault at each way out.
+-- The faults before the first word mark nothing; the rest is `transmit`.
 use Rattle.std.proofs.Common.{rules, inl, Err, ◌≡◌, ◌∙◌}
 use Rattle.rje_station.specs.Sending.{first_sending}
 use Rattle.rje_station.specs.StationFault.{IsNewCause}

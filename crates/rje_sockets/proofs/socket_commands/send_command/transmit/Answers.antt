@@ -1,3 +1,5 @@
+-- What is marked and printed of a transmission that was sent, whichever part of that fails.
+-- One goal a clause; what was marked turn by turn is what was counted (Marked).
 use Rattle.std.proofs.Common.{rules, ◌≡◌, ℕ, Ok, Err, OnOk, subst, sym}
 use Rattle.rje_files.specs.Unsent.{IsLeft}
 use Rattle.rje_sockets.specs.Inside.Marking.{GoesOnMarking}

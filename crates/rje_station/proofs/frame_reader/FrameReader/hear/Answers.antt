@@ -1,3 +1,5 @@
+-- What is heard of a line until a frame came or it was quiet, and that the line only grew older.
+-- An invariant: the pieces so far were fed to the listener in order (`FedSo`); each way out adds its last piece (Hearings, Ages).
 use Rattle.std.proofs.Common.{rules, refl, sym}
 use Rattle.bsc_frame.specs.FrameKind.{frame_of}
 use Rattle.rje_station.specs.declared.came.Came.TheVariants.{Bytes, Quiet}

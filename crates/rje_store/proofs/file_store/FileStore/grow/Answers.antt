@@ -1,3 +1,5 @@
+-- A growth: what is asked at each way out, and that the file has both pieces on disk after `Ok`.
+-- What is opened for it is ready (Turning), and the calls of both steps are joined by `added_twice`.
 use Rattle.std.proofs.Common.{inr, List, ℕ, subst}
 use Rattle.std.specs.Prelude.{string_bytes}
 use Rattle.rje_files.specs.Growth.{grown}

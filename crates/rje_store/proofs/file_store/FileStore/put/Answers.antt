@@ -17,12 +17,12 @@ returns-in-Device-clause-asks g c =
     rw (← c.closed.ensures.disk) (λ told. added_call (MayPut g.D.Disk.leads c.args.name.now c.args.bytes.now) _ _ _ c.write_device.result (WriteDevice c.as_str-path.result.now c.args.bytes.now)
     (added_none (MayPut g.D.Disk.leads c.args.name.now c.args.bytes.now) _) (c.write_device.ensures told) (c.as_str-path.result.now, led, inr refl))
 
-pub returns-in-New-clause-asks : goal.returns-in-New-clause-asks
-returns-in-New-clause-asks g c =
+pub returns-in_err-file-clause-asks : goal.returns-in_err-file-clause-asks
+returns-in_err-file-clause-asks g c =
     let led : LeadsTo g.D.Disk.leads c.args.name.now c.as_str-path.result.now = subst (LeadsTo g.D.Disk.leads c.args.name.now) (sym c.as_str-path.ensures.value) c.in_ok-path.ensures in
-    rw (← c.closed-in-New.ensures.disk) (λ told. added_weaker (MayReplace c.as_str-path.result.now c.args.bytes.now) (MayPut g.D.Disk.leads c.args.name.now c.args.bytes.now) (λ call before may. (c.as_str-path.result.now, led, inl may)) _ _ (c.replace.ensures.asks told))
+    rw (← c.closed-2.ensures.disk) (λ told. added_weaker (MayReplace c.as_str-path.result.now c.args.bytes.now) (MayPut g.D.Disk.leads c.args.name.now c.args.bytes.now) (λ call before may. (c.as_str-path.result.now, led, inl may)) _ _ (c.replace.ensures.asks told))
 
 pub returns-clause-asks : goal.returns-clause-asks
 returns-clause-asks g c =
     let led : LeadsTo g.D.Disk.leads c.args.name.now c.as_str-path.result.now = subst (LeadsTo g.D.Disk.leads c.args.name.now) (sym c.as_str-path.ensures.value) c.in_ok-path.ensures in
-    rw (← c.closed-in-File.ensures.disk) (λ told. added_weaker (MayReplace c.as_str-path.result.now c.args.bytes.now) (MayPut g.D.Disk.leads c.args.name.now c.args.bytes.now) (λ call before may. (c.as_str-path.result.now, led, inl may)) _ _ (c.replace-in-File.ensures.asks told))
+    rw (← c.closed-2.ensures.disk) (λ told. added_weaker (MayReplace c.as_str-path.result.now c.args.bytes.now) (MayPut g.D.Disk.leads c.args.name.now c.args.bytes.now) (λ call before may. (c.as_str-path.result.now, led, inl may)) _ _ (c.replace.ensures.asks told))

@@ -1,3 +1,5 @@
+-- A second name beside a file: what is asked, that the other names stay, and that it is the file's.
+-- An invariant over the names that were tried and were taken (`keeps_twice`); the first that is free is the second name.
 use Rattle.std.proofs.Common.{refl, subst, sym}
 use Rattle.rje_store.specs.Disk.{Link}
 use Rattle.rje_store.specs.Replacing.{Adds, IsBeside}

@@ -1,3 +1,5 @@
+-- A new file takes a path: what is asked at each way out, and that it stands there whole after `Ok`.
+-- It was new and apart, so that what fills it touches nothing else; the rename then moves what it has.
 use Rattle.std.proofs.Common.{ℕ, List, Option, Some, None, refl}
 use Rattle.std.specs.Prelude.{IfSome, string_bytes}
 use Rattle.rje_store.specs.Disk.{Asked, Opened, Rename}
@@ -13,6 +15,13 @@ private_first (Some _) path file name asked new = new_private path file name ask
 
 pub returns-in_err-fill-clause-asks : goal.returns-in_err-fill-clause-asks
 returns-in_err-fill-clause-asks g c =
+    let file = g.D.Disk.opened c.args.beside.now.file in
+    λ told. filled_may c.args.path.now c.args.bytes.now file _ _ (new_is_apart _ _ file _ _ (c.requires told))
+    (c.fill.ensures.asks told (private_first c.args.access _ file _ _ (c.requires told)))
+
+-- (the same where another file has the path by then)
+pub returns-in_err-succeeds-clause-asks : goal.returns-in_err-succeeds-clause-asks
+returns-in_err-succeeds-clause-asks g c =
     let file = g.D.Disk.opened c.args.beside.now.file in
     λ told. filled_may c.args.path.now c.args.bytes.now file _ _ (new_is_apart _ _ file _ _ (c.requires told))
     (c.fill.ensures.asks told (private_first c.args.access _ file _ _ (c.requires told)))

@@ -1,3 +1,5 @@
+-- The file that grew: what is asked at each way out, that it has both pieces on disk, and that it can grow again.
+-- The older copy is brought up to date and takes its turn (Turning); where a step fails the newest one stands as it did.
 use Rattle.std.proofs.Common.{◌≤◌, length, subst, sym, arith}
 use Rattle.std.specs.Prelude.{IfSome, string_bytes}
 use Rattle.rje_files.specs.Growth.{grown}

@@ -1,3 +1,5 @@
+-- The older copy goes on and takes the file's name: what is asked, that it has grown, and which second name there is.
+-- It has the newest copy's bytes once it has gone on (`on_ok`); the rename moves them to the file's name.
 use Rattle.std.proofs.Common.{◌≡◌, ◌≤◌, ℕ, List, Option, length, subst, sym, arith}
 use Rattle.std.specs.Prelude.{IfSome, string_bytes}
 use Rattle.rje_files.specs.Growth.{grown}

@@ -1,3 +1,5 @@
+-- A byte that is set: what is asked at each way out, and that it and no other is changed, on disk.
+-- The file that is kept open is the one that the name leads to (Marking), so a mark in it is one in the file.
 use Rattle.std.proofs.Common.{List, ℕ, Option, subst, sym}
 use Rattle.std.specs.Prelude.{IfSome}
 use Rattle.rje_store.specs.declared.file_store.marked.MarkedFile.{MarkedFile}
